@@ -1,0 +1,12 @@
+-- The function in_window gives the one number, and numbers may be counted from an initial one.
+use Rattle.std.proofs.Common.{arith}
+use Rattle.std.proofs.lemmas.Bool.Decides.{nat_tests}
+use Rattle.srt_seq.specs.Window.{in_window, InWindowIsTheNumber, NumbersFromInitial}
+
+pub in_window_is : InWindowIsTheNumber
+unfolding in_window
+in_window_is word front width w = grind (arith, nat_tests)
+
+pub numbers_from_initial : NumbersFromInitial
+unfolding in_window
+numbers_from_initial initial word front width = grind (arith, nat_tests)

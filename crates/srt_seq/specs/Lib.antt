@@ -1,0 +1,5 @@
+pub mod Words
+pub mod Window
+pub mod Lift
+pub mod Counts
+pub mod Runs

@@ -1,0 +1,45 @@
+-- Ranges of words, and runs of numbers (appendix A, packet sequence list coding).
+use Rattle.std.specs.Prelude.{ℕ, zero, suc, ◌+◌, Bool, true, false, List, [], ◌∷◌, nat_le, ◌==◌, ◌||◌, if◌then◌else◌}
+use Rattle.srt_seq.specs.Window.{offset_of}
+
+-- the words from first on to last, both in, round the circle
+pub record Range : Type 0 where
+  pub first : ℕ
+  pub last : ℕ
+
+-- how far the last stands past the first
+abbrev pub span : Range → ℕ
+span r = offset_of r.last r.first
+
+-- whether the wire's word for n is in the range
+abbrev pub is_in : Range → ℕ → Bool
+is_in r n = nat_le (offset_of n r.first) (span r)
+
+-- whether it is in one of them
+abbrev pub is_asked : List Range → ℕ → Bool
+is_asked [] n = false
+is_asked (r ∷ rs) n = is_in r n || is_asked rs n
+
+-- the count numbers from this one on
+abbrev pub numbers_from : (from count : ℕ) → List ℕ
+numbers_from from zero = []
+numbers_from from (suc count) = from ∷ numbers_from (from + 1) count
+
+-- the least number from this one on that passes the test, looked for so many places far
+abbrev pub least_from : (ℕ → Bool) → (from places : ℕ) → ℕ
+least_from test from zero = from
+least_from test from (suc places) = elim (test from) [ true ↦ from | false ↦ least_from test (from + 1) places ]
+
+-- numbers in a row, both ends in
+pub record Run : Type 0 where
+  pub low : ℕ
+  pub high : ℕ
+
+abbrev pub run_before : ℕ → List Run → List Run
+run_before n [] = record { low = n; high = n } ∷ []
+run_before n (r ∷ rs) = if r.low == n + 1 then record { low = n; high = r.high } ∷ rs else record { low = n; high = n } ∷ r ∷ rs
+
+-- the longest runs of ascending numbers
+abbrev pub runs : List ℕ → List Run
+runs [] = []
+runs (n ∷ ns) = run_before n (runs ns)

@@ -1,0 +1,11 @@
+-- Words of 32 bits in network byte order (section 3).
+use Rattle.std.specs.Prelude.{ℕ, ◌+◌, List, [], ◌∷◌, slice_index}
+use Rattle.std.specs.Int.{w32, from_be_bytes, to_be_bytes}
+
+-- the word of the four bytes at this place, the greatest byte first
+abbrev pub word_at : List ℕ → ℕ → ℕ
+word_at bytes at = from_be_bytes w32 (slice_index bytes at ∷ slice_index bytes (at + 1) ∷ slice_index bytes (at + 2) ∷ slice_index bytes (at + 3) ∷ [])
+
+-- the four bytes of a word
+abbrev pub word : ℕ → List ℕ
+word n = to_be_bytes w32 n

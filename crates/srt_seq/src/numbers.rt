@@ -1,0 +1,110 @@
+//! Packet sequence numbers and message numbers (draft-sharabayko-srt-01, section 3.1).
+
+ghost use Rattle.std.specs.Prelude.{◌≡◌, ℕ, ◌+◌, ◌-◌, ◌%◌, ◌^◌, ◌<◌, ◌≤◌, ◌↔◌, IsSome, IfSome, if◌then◌else◌, ◌==◌};
+
+/// A packet sequence number as the wire carries it: 31 bits, which go round.
+#[derive(Clone, Copy, Debug, PartialEq, Eq)]
+pub struct Seq31 {
+    word: u32,
+    pub ghost small: { word < 2 ^ 31 },
+}
+
+impl Seq31 {
+    ghost use Rattle.std.specs.Option.{option_map};
+    ghost use Rattle.srt_seq.specs.Window.{IsWindowNumber, in_window, word_of};
+
+    /// The number 0.
+    pub const ZERO: Seq31 = Seq31 { word: 0 };
+
+    /// The number that a word says. None where the word's top bit is set: such a word is no sequence
+    /// number.
+    pub fn new(word: u32) -> Option<Seq31>
+        ensures some { IsSome result ↔ (word < 2 ^ 31) }
+        ensures value { IfSome result (λ s. word_of s ≡ word) }
+    {
+        if word < 1 << 31 {
+            Some(Seq31 { word })
+        } else {
+            None
+        }
+    }
+
+    /// The number as a word; its top bit is 0.
+    pub fn get(self) -> u32
+        ensures value { result ≡ word_of self }
+        ensures small { result < 2 ^ 31 }
+    {
+        self.word
+    }
+
+    /// The number so many packets on, round the circle of 2^31.
+    pub fn add(self, steps: u32) -> Seq31
+        // Of an unbounded number that is written so, it writes the one so many packets on.
+        ensures number { (n : ℕ) → n % 2 ^ 31 ≡ word_of self → word_of result ≡ (n + steps) % 2 ^ 31 }
+        ensures value { word_of result ≡ (word_of self + steps) % 2 ^ 31 }
+    {
+        Seq31 {
+            word: self.word.wrapping_add(steps) & 0x7fff_ffff,
+        }
+    }
+
+    /// How many packets the number stands past `front`, where that is below `width`. Takes the same time
+    /// whatever the width.
+    #[tactic(auto, unfolding(crate::specs::Window::in_window))]
+    pub fn offset_in(self, front: Seq31, width: u32) -> Option<u32>
+        requires { width ≤ 2 ^ 31 }
+        // Of the unbounded numbers that are written so, it is the one in the window.
+        ensures number { (a : ℕ) → a % 2 ^ 31 ≡ word_of front → IsWindowNumber (word_of self) a width (option_map (λ d. a + d) result) }
+        ensures value { (a : ℕ) → a % 2 ^ 31 ≡ word_of front → option_map (λ d. a + d) result ≡ in_window (word_of self) a width }
+        ensures below { IfSome result (λ d. d < width) }
+    {
+        let offset = if front.word <= self.word {
+            self.word - front.word
+        } else {
+            (1 << 31) - front.word + self.word
+        };
+        if offset < width { Some(offset) } else { None }
+    }
+}
+
+/// A message number as the wire carries it: 1 to 2^26 - 1, and then 1 again.
+#[derive(Clone, Copy, Debug, PartialEq, Eq)]
+pub struct Msg26 {
+    word: u32,
+    pub ghost some: { 0 < word },
+    pub ghost small: { word < 2 ^ 26 },
+}
+
+impl Msg26 {
+    ghost use Rattle.srt_seq.specs.Counts.{message_number, message_of};
+
+    /// The number of a subscriber's first packet: 1.
+    pub fn first() -> Msg26
+        ensures { message_of result ≡ message_number 0 }
+    {
+        Msg26 { word: 1 }
+    }
+
+    /// The number of the packet after the one that has this number.
+    pub fn next(self) -> Msg26
+        ensures number { (k : ℕ) → message_of self ≡ message_number k → message_of result ≡ message_number (k + 1) }
+        ensures value { message_of result ≡ (if message_of self == 2 ^ 26 - 1 then 1 else message_of self + 1) }
+    {
+        if self.word < (1 << 26) - 1 {
+            Msg26 {
+                word: self.word + 1,
+            }
+        } else {
+            Msg26 { word: 1 }
+        }
+    }
+
+    /// The number as a word; its upper six bits are 0.
+    pub fn get(self) -> u32
+        ensures value { result ≡ message_of self }
+        ensures some { 0 < result }
+        ensures small { result < 2 ^ 26 }
+    {
+        self.word
+    }
+}
