@@ -16,4 +16,4 @@ ack_number k = round_number (2 ^ 32 - 1) k
 
 -- what the wire writes for a message number
 abbrev pub message_of : Msg26 → ℕ
-message_of m = m.word
+message_of m = m.number

@@ -58,11 +58,7 @@ impl Seq31 {
         ensures value { (a : ℕ) → a % 2 ^ 31 ≡ word_of front → option_map (λ d. a + d) result ≡ in_window (word_of self) a width }
         ensures below { IfSome result (λ d. d < width) }
     {
-        let offset = if front.word <= self.word {
-            self.word - front.word
-        } else {
-            (1 << 31) - front.word + self.word
-        };
+        let offset = self.word.wrapping_sub(front.word) & 0x7fff_ffff;
         if offset < width { Some(offset) } else { None }
     }
 }
@@ -70,9 +66,9 @@ impl Seq31 {
 /// A message number as the wire carries it: 1 to 2^26 - 1, and then 1 again.
 #[derive(Clone, Copy, Debug, PartialEq, Eq)]
 pub struct Msg26 {
-    word: u32,
-    pub ghost some: { 0 < word },
-    pub ghost small: { word < 2 ^ 26 },
+    number: u32,
+    pub ghost some: { 0 < number },
+    pub ghost small: { number < 2 ^ 26 },
 }
 
 impl Msg26 {
@@ -82,7 +78,7 @@ impl Msg26 {
     pub fn first() -> Msg26
         ensures { message_of result ≡ message_number 0 }
     {
-        Msg26 { word: 1 }
+        Msg26 { number: 1 }
     }
 
     /// The number of the packet after the one that has this number.
@@ -90,12 +86,12 @@ impl Msg26 {
         ensures number { (k : ℕ) → message_of self ≡ message_number k → message_of result ≡ message_number (k + 1) }
         ensures value { message_of result ≡ (if message_of self == 2 ^ 26 - 1 then 1 else message_of self + 1) }
     {
-        if self.word < (1 << 26) - 1 {
+        if self.number < (1 << 26) - 1 {
             Msg26 {
-                word: self.word + 1,
+                number: self.number + 1,
             }
         } else {
-            Msg26 { word: 1 }
+            Msg26::first()
         }
     }
 
@@ -105,6 +101,6 @@ impl Msg26 {
         ensures some { 0 < result }
         ensures small { result < 2 ^ 26 }
     {
-        self.word
+        self.number
     }
 }
