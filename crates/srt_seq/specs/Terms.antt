@@ -1,0 +1,16 @@
+-- One route as the configuration gives it, as plain values.
+use Rattle.std.specs.Prelude.{ℕ, List, string_bytes}
+use Rattle.srt_seq.specs.declared.shared.Mode.{Mode}
+use Rattle.srt_seq.specs.declared.shared.Entry.{Entry}
+
+pub record Terms : Type 0 where
+  pub name : List ℕ
+  pub mode : Mode
+  pub latency_ms : ℕ
+  pub buffer : ℕ
+  pub sessions : ℕ
+  pub inbox : ℕ
+  pub outbox : ℕ
+
+abbrev pub terms_of : Entry → Terms
+terms_of e = record { name = string_bytes e.name; mode = e.mode; latency_ms = e.latency_ms; buffer = e.buffer; sessions = e.sessions; inbox = e.inbox; outbox = e.outbox }
