@@ -1,0 +1,36 @@
+//! Cookies (draft-sharabayko-srt-01, section 4.3.1.1).
+
+ghost use Rattle.std.specs.Prelude.{◌≡◌, ◌<◌, ◌↔◌, IsTrue};
+ghost use Rattle.srt_cookie.specs.Cookie.{cookie_of, IsRight, is_right, secret_bytes};
+
+use crate::Secret;
+use sha2::{Digest, Sha256};
+use srt_seq::Peer;
+
+const MICROSECONDS_OF_A_MINUTE: u64 = 60_000_000;
+
+/// The cookie of a peer in a minute, which is a moment in microseconds divided by 60,000,000.
+#[tactic(auto, unfolding(crate::specs::Cookie::cookie_of))]
+pub fn cookie(secret: &Secret, peer: Peer, minute: u64) -> u32
+    ensures some { 0 < result }
+    ensures value { result ≡ cookie_of (secret_bytes secret.now) peer minute }
+{
+    let mut hasher = Sha256::new();
+    hasher.update(&secret.bytes);
+    hasher.update(&peer.ip);
+    hasher.update(&peer.port.to_be_bytes());
+    hasher.update(&minute.to_be_bytes());
+    let hash = hasher.finalize();
+    let front = u32::from_be_bytes([hash[0], hash[1], hash[2], hash[3]]);
+    if front == 0 { 1 } else { front }
+}
+
+/// Whether the word that a peer sent back at a moment, in microseconds, is a cookie that it was given in
+/// the same minute or in the one before.
+pub fn right(secret: &Secret, peer: Peer, moment: u64, word: u32) -> bool
+    ensures cookie { IsTrue result ↔ IsRight (secret_bytes secret.now) peer moment word }
+    ensures value { result ≡ is_right (secret_bytes secret.now) peer moment word }
+{
+    let minute = moment / MICROSECONDS_OF_A_MINUTE;
+    word == cookie(secret, peer, minute) || minute > 0 && word == cookie(secret, peer, minute - 1)
+}

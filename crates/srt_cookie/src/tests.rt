@@ -1,0 +1,87 @@
+//! Cookies against hashes that were computed by Python's hashlib.
+
+use crate::{Secret, cookie, right};
+use srt_seq::{MOMENT_END, Peer};
+use std::test::Fail;
+
+/// The bytes 0 to 31.
+fn secret() -> Secret {
+    let mut bytes = [0u8; 32];
+    for i in 0..32 {
+        bytes[i] = i as u8;
+    }
+    Secret::new(bytes)
+}
+
+/// 127.0.0.1
+fn near(port: u16) -> Peer {
+    Peer {
+        ip: [0, 0, 0, 0, 0, 0, 0, 0, 0, 0, 0xff, 0xff, 127, 0, 0, 1],
+        port,
+    }
+}
+
+/// 2001:db8::1
+fn far(port: u16) -> Peer {
+    Peer {
+        ip: [0x20, 0x01, 0x0d, 0xb8, 0, 0, 0, 0, 0, 0, 0, 0, 0, 0, 0, 1],
+        port,
+    }
+}
+
+#[test]
+fn each_address_port_and_minute_has_its_cookie(rt: HostRuntime) -> Result<(), Fail> {
+    assert_eq!(rt; cookie(&secret(), near(5000), 0), 0xecc9_58a6);
+    assert_eq!(rt; cookie(&secret(), near(5001), 0), 0x6e46_80bd);
+    assert_eq!(rt; cookie(&secret(), near(65535), 0), 0x2d5c_6b41);
+    assert_eq!(rt; cookie(&secret(), near(5000), 3), 0xc3ac_78a5);
+    assert_eq!(rt; cookie(&secret(), near(5000), 4), 0xfad6_4f70);
+    assert_eq!(rt; cookie(&secret(), near(5000), 5), 0xf1ce_a869);
+    assert_eq!(rt; cookie(&secret(), far(5000), 0), 0x1bf3_a7c2);
+    assert_eq!(rt; cookie(&secret(), far(5001), 4), 0x50ee_d6d2);
+    assert_eq!(rt; cookie(&secret(), near(5000), 76_861_433_640), 0xb17f_884d);
+    assert_eq!(rt; cookie(&secret(), far(5001), 76_861_433_640), 0x86b4_02cc);
+    assert_eq!(rt; cookie(&secret(), near(5000), u64::MAX), 0x6a16_0f85);
+    Ok(())
+}
+
+#[test]
+fn another_secret_gives_another_cookie(rt: HostRuntime) -> Result<(), Fail> {
+    assert_eq!(rt;
+        cookie(&Secret::new([0xff; 32]), near(5000), 0),
+        0x9b29_01a3
+    );
+    Ok(())
+}
+
+#[test]
+fn right_in_its_minute_and_the_next(rt: HostRuntime) -> Result<(), Fail> {
+    let third = 0xc3ac_78a5;
+    assert!(rt; !right(&secret(), near(5000), 179_999_999, third));
+    assert!(rt; right(&secret(), near(5000), 180_000_000, third));
+    assert!(rt; right(&secret(), near(5000), 240_000_000, third));
+    assert!(rt; right(&secret(), near(5000), 299_999_999, third));
+    assert!(rt; !right(&secret(), near(5000), 300_000_000, third));
+    assert!(rt; !right(&secret(), near(5001), 240_000_000, third));
+    assert!(rt; !right(&secret(), far(5000), 240_000_000, third));
+    assert!(rt; right(&secret(), far(5001), 240_000_000, 0x12bc_3d2b));
+    Ok(())
+}
+
+#[test]
+fn minute_0_has_its_own_alone(rt: HostRuntime) -> Result<(), Fail> {
+    assert!(rt; right(&secret(), near(5000), 0, 0xecc9_58a6));
+    assert!(rt; right(&secret(), near(5000), 59_999_999, 0xecc9_58a6));
+    // the cookies of minute 1 and of the greatest number of 64 bits
+    assert!(rt; !right(&secret(), near(5000), 0, 0x3e9c_b415));
+    assert!(rt; !right(&secret(), near(5000), 0, 0x6a16_0f85));
+    assert!(rt; !right(&secret(), near(5000), 0, 0));
+    Ok(())
+}
+
+#[test]
+fn right_at_the_last_moment(rt: HostRuntime) -> Result<(), Fail> {
+    assert!(rt; right(&secret(), near(5000), MOMENT_END - 1, 0xb17f_884d));
+    assert!(rt; !right(&secret(), near(5001), MOMENT_END - 1, 0xb17f_884d));
+    Ok(())
+}

@@ -1,0 +1,30 @@
+-- One deadline; deadlines counted from the opening.
+use Rattle.std.proofs.Common.{◌≡◌, ℕ, ◌+◌, ◌-◌, ◌≤◌, ℤ, pos, ◌+ℤ◌, ◌∙◌, refl, sym, arith}
+use Rattle.std.proofs.lemmas.Int.{ints}
+use Rattle.srt_seq.specs.Lift.{lift, stamped_from}
+use Rattle.srt_seq.proofs.Lifts.{lift_is, times_from_first}
+use Rattle.srt_tsbpd.specs.Deadline.{sender_time, IsDeadline, deadline_at, due_time, DeadlineIsTheMoment, DeadlinesFromOpening}
+
+pub deadline_is : DeadlineIsTheMoment
+deadline_is opening first word now delay =
+    let l = lift_is word (sender_time opening first now) in
+    ((lift word (sender_time opening first now), l.0, refl), λ due h. omega (arith, ints, h.2, l.1 h.0 h.1))
+
+-- the sender's time is its first stamp and the time since the opening
+sender_time_is : (opening first time : ℕ) → sender_time opening first (opening + time) ≡ pos first +ℤ pos time
+sender_time_is opening first time = omega (arith, ints)
+
+pub deadlines_from_opening : DeadlinesFromOpening
+deadlines_from_opening opening first word time delay =
+    let e = sender_time_is opening first time in
+    let t = times_from_first first word (pos time) in
+    rw e (omega (arith, ints, t))
+
+-- the three ways to say when a packet is due
+pub due_from_opening : (opening first word now delay : ℕ) (due : ℤ) → opening ≤ now → due ≡ pos opening +ℤ due_time delay (now - opening) (stamped_from first word) →
+    IsDeadline opening first word now delay due × (due ≡ deadline_at opening first word now delay) × (due ≡ pos opening +ℤ due_time delay (now - opening) (stamped_from first word))
+due_from_opening opening first word now delay due le e =
+    let t : now ≡ opening + (now - opening) = omega arith in
+    let same : due ≡ deadline_at opening first word now delay = rw t (e ∙ sym (deadlines_from_opening opening first word (now - opening) delay)) in
+    let l = lift_is word (sender_time opening first now) in
+    ((lift word (sender_time opening first now), l.0, same), same, e)

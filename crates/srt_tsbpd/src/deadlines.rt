@@ -1,0 +1,46 @@
+//! When packets are due (draft-sharabayko-srt-01, section 4.5.1).
+
+ghost use Rattle.std.specs.Prelude.{◌≡◌, ◌-◌, ◌^◌, ◌<◌, ◌≤◌, pos, ◌+ℤ◌};
+
+use srt_seq::Stamp32;
+
+/// What ties the sender's clock to ours: the moment at which a session was opened, and the timestamp of
+/// the conclusion that opened it.
+#[derive(Clone, Copy, Debug)]
+pub struct Base {
+    opening: u64,
+    first: Stamp32,
+    pub ghost early: { opening < 2 ^ 62 },
+}
+
+impl Base {
+    ghost use Rattle.srt_seq.specs.Lift.{stamped_from};
+    ghost use Rattle.srt_tsbpd.specs.Deadline.{opening_of, first_of, IsDeadline, deadline_at, due_time};
+
+    /// A session that is opened at a moment, in microseconds, by a conclusion with this timestamp.
+    pub fn new(moment: u64, conclusion: Stamp32) -> Base
+        requires { moment < 2 ^ 62 }
+        ensures opening { opening_of result ≡ moment }
+        ensures first { first_of result ≡ conclusion.word }
+    {
+        Base {
+            opening: moment,
+            first: conclusion,
+        }
+    }
+
+    /// The moment at which a packet with this timestamp is due, where it comes now. All are
+    /// microseconds, the delay too. It is below 0 where the packet was due before moment 0.
+    pub fn deadline(self, stamp: Stamp32, now: u64, delay: u32) -> i64
+        requires early { now < 2 ^ 62 }
+        requires opened { opening_of self ≤ now }
+        ensures moment { IsDeadline (opening_of self) (first_of self) stamp.word now delay result }
+        ensures value { result ≡ deadline_at (opening_of self) (first_of self) stamp.word now delay }
+        // Counted from the session's own beginning.
+        ensures own { result ≡ pos (opening_of self) +ℤ due_time delay (now - opening_of self) (stamped_from (first_of self) stamp.word) }
+    {
+        let since_first = Stamp32::new(stamp.word.wrapping_sub(self.first.word));
+        let since_opening = since_first.lift((now - self.opening) as i64);
+        self.opening as i64 + since_opening + i64::from(delay)
+    }
+}
