@@ -1,0 +1,3 @@
+pub mod Places
+pub mod Confirmed
+pub mod Once

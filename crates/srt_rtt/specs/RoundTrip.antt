@@ -1,0 +1,41 @@
+-- Round-trip times and what follows from them (section 4.10).
+use Rattle.std.specs.Prelude.{◌≡◌, ℕ, ◌+◌, ◌-◌, ◌*◌, ◌/◌, max, List, [], ◌∷◌}
+use Rattle.srt_rtt.specs.declared.round_trip.Rtt.{Rtt}
+
+-- a round-trip time and its variance, in microseconds
+pub record RoundTrip : Type 0 where
+  pub time : ℕ
+  pub variance : ℕ
+
+-- before the first sample (section 4.10)
+abbrev pub start : RoundTrip
+start = record { time = 100_000; variance = 50_000 }
+
+-- how far two numbers stand apart
+abbrev pub distance : ℕ → ℕ → ℕ
+distance a b = (a - b) + (b - a)
+
+-- one eighth and one quarter of what is new (section 4.10); rounded down (this profile)
+abbrev pub with_sample : ℕ → RoundTrip → RoundTrip
+with_sample sample r = record { time = (7 * r.time + sample) / 8; variance = (3 * r.variance + distance r.time sample) / 4 }
+
+-- after these samples, which have the newest first
+abbrev pub after_samples : List ℕ → RoundTrip
+after_samples [] = start
+after_samples (sample ∷ samples) = with_sample sample (after_samples samples)
+
+-- the time between two NAKs of all gaps (section 4.8.2); rounded down (this profile)
+abbrev pub nak_interval : RoundTrip → ℕ
+nak_interval r = max ((r.time + 4 * r.variance) / 2) 20_000
+
+-- the time without an acknowledgement after which all is sent again (this profile)
+abbrev pub resend_after : RoundTrip → ℕ
+resend_after r = r.time + 4 * r.variance + 20_000
+
+-- what the code's value says
+abbrev pub round_trip_of : Rtt → RoundTrip
+round_trip_of r = record { time = r.time; variance = r.variance }
+
+-- the code's value after these samples
+abbrev pub StandsFor : Rtt → List ℕ → Type 0
+StandsFor r samples = round_trip_of r ≡ after_samples samples

@@ -1,0 +1,11 @@
+-- From the number of a Full ACK to how many were sent after it.
+use Rattle.std.specs.Prelude.{◌≡◌, ℕ, ◌+◌, ◌-◌, ◌<◌, Option, None, Some}
+use Rattle.srt_seq.specs.Counts.{ack_number}
+
+-- when so many were sent, the place, counted back from the newest, of the only one of the last 64 that can have this number;
+-- none where none of them has it
+abbrev pub IsStepsBack : (number count : ℕ) → Option ℕ → Type 0
+IsStepsBack number count (Some steps) =
+    (steps < count → ack_number (count - (steps + 1)) ≡ number)
+    × ((place : ℕ) → place < 64 → place < count → ack_number (count - (place + 1)) ≡ number → place ≡ steps)
+IsStepsBack number count None = (place : ℕ) → place < 64 → place < count → ack_number (count - (place + 1)) ≡ number → ⊥

@@ -1,0 +1,74 @@
+//! The round-trip time and its variance (draft-sharabayko-srt-01, section 4.10).
+
+ghost use Rattle.std.specs.Prelude.{◌≡◌, ℕ, ◌≤◌, List, [], ◌∷◌};
+ghost use Rattle.srt_rtt.specs.RoundTrip.{start as at_first, with_sample, nak_interval as interval_of, resend_after as resend_of, round_trip_of, StandsFor};
+
+/// A smoothed round-trip time and its variance, in microseconds.
+#[derive(Clone, Copy, Debug, PartialEq, Eq)]
+pub struct Rtt {
+    time: u32,
+    variance: u32,
+}
+
+impl Rtt {
+    /// Before the first sample: 100 ms, and a variance of 50 ms.
+    pub fn start() -> Rtt
+        ensures value { round_trip_of result ≡ at_first }
+        ensures stands { StandsFor result [] }
+    {
+        Rtt {
+            time: 100_000,
+            variance: 50_000,
+        }
+    }
+
+    /// Takes over what an ACK says, whatever stood here.
+    pub fn set(&mut self, time: u32, variance: u32)
+        ensures { round_trip_of self.new ≡ record { time = time; variance = variance } }
+    {
+        *self = Rtt { time, variance };
+    }
+
+    /// One more sample, in microseconds.
+    pub fn sample(&mut self, sample: u64)
+        requires { sample ≤ 10_000_000 }
+        ensures value { round_trip_of self.new ≡ with_sample sample (round_trip_of self.old) }
+        ensures stands { (samples : List ℕ) → StandsFor self.old samples → StandsFor self.new (sample ∷ samples) }
+    {
+        let time = u64::from(self.time);
+        let variance = u64::from(self.variance);
+        *self = Rtt {
+            time: ((7 * time + sample) / 8) as u32,
+            variance: ((3 * variance + time.abs_diff(sample)) / 4) as u32,
+        };
+    }
+
+    /// The time between two NAKs of all gaps, in microseconds: at least 20 ms (section 4.8.2).
+    pub fn nak_interval(&self) -> u64
+        ensures { result ≡ interval_of (round_trip_of self.now) }
+    {
+        ((u64::from(self.time) + 4 * u64::from(self.variance)) / 2).max(20_000)
+    }
+
+    /// The time without an acknowledgement after which everything in flight is sent again, in
+    /// microseconds. It can exceed 32 bits.
+    pub fn resend_after(&self) -> u64
+        ensures { result ≡ resend_of (round_trip_of self.now) }
+    {
+        u64::from(self.time) + 4 * u64::from(self.variance) + 20_000
+    }
+
+    /// The round-trip time in microseconds, as an ACK says it.
+    pub fn rtt(&self) -> u32
+        ensures { result ≡ (round_trip_of self.now).time }
+    {
+        self.time
+    }
+
+    /// The variance in microseconds, as an ACK says it.
+    pub fn var(&self) -> u32
+        ensures { result ≡ (round_trip_of self.now).variance }
+    {
+        self.variance
+    }
+}
