@@ -63,6 +63,17 @@ impl Seq31 {
     }
 }
 
+impl Default for Seq31 {
+    ghost use Rattle.srt_seq.specs.Window.{word_of};
+
+    /// The number 0.
+    fn default() -> Self
+        ensures { word_of result ≡ 0 }
+    {
+        Seq31::ZERO
+    }
+}
+
 /// A message number as the wire carries it: 1 to 2^26 - 1, and then 1 again.
 #[derive(Clone, Copy, Debug, PartialEq, Eq)]
 pub struct Msg26 {

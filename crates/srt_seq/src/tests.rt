@@ -15,6 +15,7 @@ fn a_sequence_number_has_31_bits(rt: HostRuntime) -> Result<(), Fail> {
     assert_eq!(rt; number(0x7fff_ffff)?.get(), 0x7fff_ffff);
     assert!(rt; Seq31::new(0x8000_0000).is_none());
     assert_eq!(rt; Seq31::ZERO.get(), 0);
+    assert_eq!(rt; Seq31::default().get(), 0);
     Ok(())
 }
 

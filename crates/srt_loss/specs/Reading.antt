@@ -1,0 +1,38 @@
+-- Loss lists as a function of their bytes (appendix A, packet sequence list coding).
+use Rattle.std.specs.Prelude.{ℕ, ◌-◌, ◌%◌, ◌^◌, Option, None, Some, Result, Ok, Err, List, [], ◌∷◌, length, nat_lt, ◌==◌, if◌then◌else◌}
+use Rattle.std.specs.Int.{w32, from_be_bytes}
+use Rattle.srt_seq.specs.Runs.{Range, span}
+use Rattle.srt_loss.specs.declared.reading.LossFault.{LossFault}
+use Rattle.srt_loss.specs.declared.reading.LossFault.TheVariants.{Ragged, Dangling, Backward}
+
+-- the words of bytes, four bytes each
+abbrev pub words_of : List ℕ → List ℕ
+words_of (a ∷ b ∷ c ∷ d ∷ bytes) = from_be_bytes w32 (a ∷ b ∷ c ∷ d ∷ []) ∷ words_of bytes
+words_of _ = []
+
+-- a range, and then those that were read after it
+abbrev pub then_those : Range → Result (List Range) LossFault → Result (List Range) LossFault
+then_those r (Ok rs) = Ok (r ∷ rs)
+then_those r (Err fault) = Err fault
+
+-- a number alone is a range of one
+abbrev pub alone : ℕ → Range
+alone n = record { first = n; last = n }
+
+-- a range whose last word was read, and then those after it: the last number is fewer than 2^30 on (this profile)
+abbrev pub ended : Range → Result (List Range) LossFault → Result (List Range) LossFault
+ended r those = if nat_lt (span r) (2 ^ 30) then then_those r those else Err Backward
+
+-- the ranges that words spell, or the first fault from the left. A word with top bit 1 begins a range, and the next one,
+-- with top bit 0, ends it
+abbrev pub ranges_in : (begun : Option ℕ) → List ℕ → Result (List Range) LossFault
+ranges_in None [] = Ok []
+ranges_in None (word ∷ words) =
+    if nat_lt word (2 ^ 31) then then_those (alone word) (ranges_in None words) else ranges_in (Some (word - 2 ^ 31)) words
+ranges_in (Some first) [] = Err Dangling
+ranges_in (Some first) (word ∷ words) =
+    if nat_lt word (2 ^ 31) then ended (record { first = first; last = word }) (ranges_in None words) else Err Dangling
+
+-- the ranges that bytes spell, or why they spell none
+abbrev pub losses_in : List ℕ → Result (List Range) LossFault
+losses_in bytes = if length bytes % 4 == 0 then ranges_in None (words_of bytes) else Err Ragged

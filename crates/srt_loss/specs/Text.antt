@@ -1,0 +1,34 @@
+-- The one output spelling of ranges (appendix A, packet sequence list coding).
+use Rattle.std.specs.Prelude.{◌≡◌, ℕ, ◌+◌, ◌^◌, ◌<◌, ◌==◌, List, [], ◌∷◌, All, Ok, if◌then◌else◌}
+use Rattle.std.specs.List.{flat_map}
+use Rattle.srt_seq.specs.Words.{word}
+use Rattle.srt_seq.specs.Runs.{Range, span}
+use Rattle.srt_seq.specs.Window.{word_of}
+use Rattle.srt_seq.specs.declared.numbers.Seq31.{Seq31}
+use Rattle.srt_loss.specs.Reading.{losses_in}
+
+-- a pair of numbers as a range
+abbrev pub range_of : Seq31 × Seq31 → Range
+range_of r = record { first = word_of r.0; last = word_of r.1 }
+
+-- a number alone is one word; a range is its first number with top bit 1, and its last
+abbrev pub range_words : Range → List ℕ
+range_words r = if r.first == r.last then r.first ∷ [] else (r.first + 2 ^ 31) ∷ r.last ∷ []
+
+-- the words of ranges, in order
+abbrev pub loss_words : List Range → List ℕ
+loss_words rs = flat_map range_words rs
+
+-- their bytes
+abbrev pub loss_text : List Range → List ℕ
+loss_text rs = flat_map word (loss_words rs)
+
+-- numbers of the wire, fewer than 2^30 apart
+pub record IsWritable (r : Range) : Type 0 where
+  pub first : r.first < 2 ^ 31
+  pub last : r.last < 2 ^ 31
+  pub near : span r < 2 ^ 30
+
+-- what is written reads back as just those ranges
+abbrev pub WrittenIsRead : Type 0
+WrittenIsRead = (rs : List Range) → All IsWritable rs → losses_in (loss_text rs) ≡ Ok rs

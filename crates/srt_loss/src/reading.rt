@@ -1,0 +1,168 @@
+//! Loss lists read from borrowed bytes.
+
+ghost use Rattle.std.specs.Prelude.{◌≡◌, List, [], ◌∷◌, ◌%◌, ◌^◌, ◌<◌, ◌≤◌, length, IfOk, IfErr, IsOkAnd, IfSome, IfNone};
+ghost use Rattle.srt_seq.specs.Window.{word_of};
+ghost use Rattle.srt_seq.specs.Runs.{Range, is_asked, span};
+ghost use Rattle.srt_loss.specs.Reading.{losses_in, then_those};
+ghost use Rattle.srt_loss.specs.Spelling.{Spells, HasFault};
+ghost use Rattle.srt_loss.specs.Text.{range_of};
+
+use crate::circle::{number_of, steps};
+use srt_seq::{Seq31, read_word};
+use std::marker::Model;
+
+/// Why bytes are no loss list: the first that applies, from left to right.
+#[derive(Clone, Copy, Debug, PartialEq, Eq)]
+pub enum LossFault {
+    /// The bytes aren't whole words. This is looked at first.
+    Ragged,
+    /// The first word of a range isn't followed by a last word.
+    Dangling,
+    /// The last number of a range is 2^30 or more past the first, round the circle (this profile).
+    Backward,
+}
+
+/// A loss list that reads; it borrows its bytes.
+#[derive(Debug, Drop)]
+pub struct LossRef<'a> {
+    bytes: &'a [u8],
+}
+
+// A loss list is its ranges, in order.
+impl<'a> Model for LossRef<'a> {
+    ghost use Rattle.std.specs.Prelude.{List, [], IsOk};
+    ghost use Rattle.std.specs.Result.{result_unwrap_or};
+    ghost use Rattle.srt_seq.specs.Runs.{Range};
+    ghost use Rattle.srt_loss.specs.Reading.{losses_in};
+
+    ghost Value = { List Range };
+
+    ghost view = { λ losses. result_unwrap_or (losses_in losses.bytes.now) [] };
+
+    ghost invariant = { λ losses. IsOk (losses_in losses.bytes.now) };
+}
+
+/// What is left of a loss list to go through, range by range.
+#[derive(Debug, Drop)]
+pub struct Ranges<'a> {
+    bytes: &'a [u8],
+}
+
+// They are the ranges that weren't taken yet, in order.
+impl<'a> Model for Ranges<'a> {
+    ghost use Rattle.std.specs.Prelude.{List, [], IsOk};
+    ghost use Rattle.std.specs.Result.{result_unwrap_or};
+    ghost use Rattle.srt_seq.specs.Runs.{Range};
+    ghost use Rattle.srt_loss.specs.Reading.{losses_in};
+
+    ghost Value = { List Range };
+
+    ghost view = { λ ranges. result_unwrap_or (losses_in ranges.bytes.now) [] };
+
+    ghost invariant = { λ ranges. IsOk (losses_in ranges.bytes.now) };
+}
+
+/// The range at the front of a text, and the text after it.
+#[derive(Clone, Copy)]
+struct Front<'a> {
+    range: (Seq31, Seq31),
+    rest: &'a [u8],
+}
+
+/// Reads the range that a text begins with. A single number is a range of one.
+fn read_front(text: &[u8]) -> Result<Front<'_>, LossFault>
+    requires some { 4 ≤ length text.now }
+    requires whole { length text.now % 4 ≡ 0 }
+    ensures ok { IfOk result (λ f. losses_in text.now ≡ then_those (range_of f.range) (losses_in f.rest.now)) }
+    ensures whole { IfOk result (λ f. length f.rest.now % 4 ≡ 0) }
+    ensures shorter { IfOk result (λ f. length f.rest.now < length text.now) }
+    ensures near { IfOk result (λ f. span (range_of f.range) < 2 ^ 30) }
+    ensures err { IfErr result (λ fault. losses_in text.now ≡ Err fault) }
+{
+    let word = read_word(text, 0);
+    let first = number_of(word);
+    if word < 1 << 31 {
+        return Ok(Front {
+            range: (first, first),
+            rest: &text[4..],
+        });
+    }
+    if text.len() < 8 {
+        return Err(LossFault::Dangling);
+    }
+    let end = read_word(text, 4);
+    if end >= 1 << 31 {
+        return Err(LossFault::Dangling);
+    }
+    let last = number_of(end);
+    if steps(first, last) >= 1 << 30 {
+        return Err(LossFault::Backward);
+    }
+    Ok(Front {
+        range: (first, last),
+        rest: &text[8..],
+    })
+}
+
+/// Reads a loss list. No bytes at all are the empty list.
+pub fn read(bytes: &[u8]) -> Result<LossRef<'_>, LossFault>
+    ensures value { result ≡ losses_in bytes.now }
+    // What is read is spelled so.
+    ensures found { IfOk result (λ losses. Spells bytes.now losses) }
+    // What is spelled so is read.
+    ensures only { (ranges : List Range) → Spells bytes.now ranges → IsOkAnd result (λ losses. losses ≡ ranges) }
+    // Which fault it is.
+    ensures fault { IfErr result (λ fault. HasFault bytes.now fault) }
+{
+    if bytes.len() % 4 != 0 {
+        return Err(LossFault::Ragged);
+    }
+    let mut rest = bytes;
+    while !rest.is_empty() {
+        rest = read_front(rest)?.rest;
+    }
+    Ok(LossRef { bytes })
+}
+
+impl<'a> LossRef<'a> {
+    /// Whether the list asks for a number. Each range takes the same time, however long it is.
+    pub fn asks(&self, number: Seq31) -> bool
+        ensures { result ≡ is_asked self.now (word_of number) }
+    {
+        let mut ranges = self.ranges();
+        while let Some((first, last)) = ranges.next_range() {
+            if steps(first, number) <= steps(first, last) {
+                return true;
+            }
+        }
+        false
+    }
+
+    /// All ranges, in the order in which they stand.
+    pub fn ranges(&self) -> Ranges<'a>
+        ensures { result ≡ self.now }
+    {
+        Ranges { bytes: self.bytes }
+    }
+}
+
+impl Ranges<'_> {
+    /// Takes the next range: its first and its last number, both in, fewer than 2^30 apart. They are
+    /// the same where one number is asked for.
+    pub fn next_range(&mut self) -> Option<(Seq31, Seq31)>
+        ensures some { IfSome result (λ r. self.old ≡ range_of r ∷ self.new) }
+        ensures near { IfSome result (λ r. span (range_of r) < 2 ^ 30) }
+        ensures none { IfNone result ((self.old ≡ []) × (self.new ≡ [])) }
+    {
+        if self.bytes.is_empty() {
+            return None;
+        }
+        match read_front(self.bytes) {
+            Ok(front) => {
+                self.bytes = front.rest;
+                Some(front.range)
+            }
+            Err(_) => None,
+        }
+    }
+}

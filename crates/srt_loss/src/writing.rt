@@ -1,0 +1,30 @@
+//! Loss lists written as words.
+
+ghost use Rattle.std.specs.Prelude.{◌≡◌, ◌^◌, ◌<◌, All, map};
+ghost use Rattle.std.specs.List.{flat_map};
+ghost use Rattle.srt_seq.specs.Words.{word};
+ghost use Rattle.srt_seq.specs.Runs.{span};
+ghost use Rattle.srt_loss.specs.Reading.{losses_in};
+ghost use Rattle.srt_loss.specs.Text.{loss_words, range_of};
+
+use arrayvec::ArrayVec;
+use srt_seq::Seq31;
+
+/// The words of runs, each its first and its last number.
+pub fn write(runs: &ArrayVec<(Seq31, Seq31), 32>) -> ArrayVec<u32, 64>
+    ensures value { result.items ≡ loss_words (map range_of runs.now.items) }
+    // The words in network byte order read back as just those runs.
+    ensures reads_back { All (λ r. span (range_of r) < 2 ^ 30) runs.now.items → losses_in (flat_map word result.items) ≡ Ok (map range_of runs.now.items) }
+{
+    let mut words = ArrayVec::new();
+    for run in runs.as_slice() {
+        let (first, last) = *run;
+        if first == last {
+            words.push(first.get());
+        } else {
+            words.push(first.get() + (1 << 31));
+            words.push(last.get());
+        }
+    }
+    words
+}
