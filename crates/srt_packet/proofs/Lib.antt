@@ -1,0 +1,4 @@
+pub mod Agreement
+pub mod Parts
+pub mod Words
+pub mod Sent

@@ -1,0 +1,5 @@
+pub mod Grammar
+pub mod Reading
+pub mod View
+pub mod Text
+pub mod Sent
