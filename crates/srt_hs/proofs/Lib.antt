@@ -1,0 +1,5 @@
+pub mod Groups
+pub mod Steps
+pub mod Blocks
+pub mod Spelled
+pub mod Back

@@ -1,0 +1,63 @@
+-- What is written reads back.
+use Rattle.std.specs.Prelude.{◌≡◌, ℕ, ◌^◌, ◌<◌, ◌≤◌, List, ◌++◌, length, slice_index, Option, option_map, IfSome, Ok}
+use Rattle.srt_seq.specs.declared.shared.Mode.{Mode}
+use Rattle.srt_hs.specs.declared.handshake.HsKind.{HsKind}
+use Rattle.srt_hs.specs.declared.handshake.HsKind.TheVariants as kinds
+use Rattle.srt_hs.specs.declared.writing.AnswerKind.{AnswerKind}
+use Rattle.srt_hs.specs.declared.writing.AnswerKind.TheVariants.{Induction, Refusal, Conclusion}
+use Rattle.srt_hs.specs.declared.writing.HsAnswer.{HsAnswer}
+use Rattle.srt_hs.specs.Grammar.{Handshake, Blocks, HasBlock, no_blocks, hsreq_in, type_of, contents_of, after_block}
+use Rattle.srt_hs.specs.Reading.{handshake_in}
+use Rattle.srt_hs.specs.Text.{code_of, extension_of, flags_of, hsrsp_text, answer_text}
+
+abbrev pub AreWords : List ℕ → Type 0
+AreWords words = (at : ℕ) → slice_index words at < 2 ^ 32
+
+-- one to four words
+pub record AreFewWords (words : List ℕ) : Type 0 where
+  pub some : 0 < length words
+  pub few : length words ≤ 4
+  pub fit : AreWords words
+
+-- what fits its fields
+abbrev pub KindFits : AnswerKind → Type 0
+KindFits (Induction cookie) = cookie < 2 ^ 32
+KindFits (Refusal code) = Unit {0}
+KindFits (Conclusion mtu window id mode recv_ms send_ms congestion) =
+    (mtu < 2 ^ 32) × (window < 2 ^ 32) × (id < 2 ^ 32) × IfSome congestion (λ words. AreFewWords words.items)
+
+pub record CanBeWritten (a : HsAnswer) : Type 0 where
+  pub initial : a.initial < 2 ^ 32
+  pub what : KindFits a.what
+
+abbrev pub fields : (extension initial mtu window : ℕ) (kind : HsKind) (id cookie : ℕ) → Blocks → Handshake
+fields extension initial mtu window kind id cookie blocks =
+    record { version = 5; encryption = 0; extension = extension; initial = initial; mtu = mtu; window = window; kind = kind; id = id; cookie = cookie; blocks = blocks }
+
+-- what a reader sees of a conclusion's blocks: an HSRSP is passed over
+abbrev pub answered_blocks : Option (List ℕ) → Blocks
+answered_blocks congestion = record no_blocks { congestion = congestion }
+
+abbrev pub answered_kind : (initial : ℕ) → AnswerKind → Handshake
+answered_kind initial (Induction cookie) = fields 0x4a17 initial 1500 8192 kinds.Induction 1 cookie no_blocks
+answered_kind initial (Refusal code) = fields 0 initial 1500 8192 (kinds.Refusal (code_of code)) 1 0 no_blocks
+answered_kind initial (Conclusion mtu window id mode recv_ms send_ms congestion) =
+    let words = option_map (λ words. words.items) congestion in
+    fields (extension_of words) initial mtu window kinds.Conclusion id 0 (answered_blocks words)
+
+-- what a reader sees of an answer
+abbrev pub answered : HsAnswer → Handshake
+answered a = answered_kind a.initial a.what
+
+abbrev pub WhatIsWrittenReadsBack : Type 0
+WhatIsWrittenReadsBack = (a : HsAnswer) → CanBeWritten a → handshake_in (answer_text a) ≡ Ok (answered a)
+
+-- an HSRSP block, read as an HSREQ is
+pub record IsHsrsp (mode : Mode) (recv_ms send_ms : ℕ) (rest bytes : List ℕ) : Type 0 where
+  pub whole : HasBlock bytes
+  pub type : type_of bytes ≡ 2
+  pub contents : hsreq_in (contents_of bytes) ≡ record { version = 0x0001_0500; flags = flags_of mode; receiver_ms = recv_ms; sender_ms = send_ms }
+  pub after : after_block bytes ≡ rest
+
+abbrev pub HsrspReadsBack : Type 0
+HsrspReadsBack = (mode : Mode) (recv_ms send_ms : ℕ) (rest : List ℕ) → recv_ms < 2 ^ 16 → send_ms < 2 ^ 16 → IsHsrsp mode recv_ms send_ms rest (hsrsp_text mode recv_ms send_ms ++ rest)

@@ -1,0 +1,12 @@
+-- What the bytes read as is what they spell.
+use Rattle.std.specs.Prelude.{◌≡◌, ◌↔◌, ℕ, List, Ok, Err}
+use Rattle.srt_hs.specs.declared.handshake.HsFault.{HsFault}
+use Rattle.srt_hs.specs.Grammar.{Handshake, Spells, HasFault}
+use Rattle.srt_hs.specs.Reading.{handshake_in}
+
+abbrev pub ReadingIsSpelling : Type 0
+ReadingIsSpelling = (bytes : List ℕ) (hs : Handshake) → (handshake_in bytes ≡ Ok hs) ↔ Spells bytes hs
+
+-- where nothing is spelled, the fault is the first
+abbrev pub FaultIsTheFirst : Type 0
+FaultIsTheFirst = (bytes : List ℕ) (fault : HsFault) → (handshake_in bytes ≡ Err fault) ↔ HasFault bytes fault

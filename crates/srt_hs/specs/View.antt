@@ -1,0 +1,48 @@
+-- What the crate's handshakes mean.
+use Rattle.std.specs.Prelude.{option_map, Result, Ok, Err}
+use Rattle.srt_hs.specs.Grammar.{Handshake, Blocks, stream_id_in, words_in}
+use Rattle.srt_hs.specs.declared.handshake.HsFault.{HsFault}
+use Rattle.srt_hs.specs.declared.handshake.HsRef.{HsRef}
+use Rattle.srt_hs.specs.declared.handshake.BlocksRef.{BlocksRef}
+
+-- the blocks, without where they lie in memory
+abbrev pub blocks_of : BlocksRef → Blocks
+blocks_of b =
+    record {
+      hsreq = b.hsreq;
+      stream_id = option_map (λ s. stream_id_in s.contents.now) b.stream_id;
+      congestion = option_map (λ c. words_in c.contents.now) b.congestion;
+      has_kmreq = b.has_kmreq;
+      has_filter = b.has_filter;
+      has_group = b.has_group;
+    }
+
+-- the handshake, without where it lies in memory
+abbrev pub handshake_of : HsRef → Handshake
+handshake_of h =
+    record {
+      version = h.version;
+      encryption = h.encryption;
+      extension = h.extension;
+      initial = h.initial;
+      mtu = h.mtu;
+      window = h.window;
+      kind = h.kind;
+      id = h.id;
+      cookie = h.cookie;
+      blocks = blocks_of h.blocks;
+    }
+
+abbrev pub seen_blocks : Result BlocksRef HsFault → Result Blocks HsFault
+seen_blocks (Ok b) = Ok (blocks_of b)
+seen_blocks (Err fault) = Err fault
+
+-- what a call of read answered
+abbrev pub seen : Result HsRef HsFault → Result Handshake HsFault
+seen (Ok h) = Ok (handshake_of h)
+seen (Err fault) = Err fault
+
+-- the answer without the bytes that are left
+abbrev pub first_of : {A B : Type 0} → Result (A × B) HsFault → Result A HsFault
+first_of (Ok x) = Ok x.0
+first_of (Err fault) = Err fault

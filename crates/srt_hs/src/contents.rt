@@ -1,0 +1,80 @@
+//! The contents of blocks that hold text.
+
+ghost use Rattle.std.specs.Prelude.{◌≡◌, ◌+◌, ◌%◌, ◌<◌, ◌≤◌, ◌++◌, length, take, IfSome, option_map};
+ghost use Rattle.srt_hs.specs.Grammar.{turned_words, without_zeros, words_in};
+ghost use Rattle.srt_hs.specs.View.{handshake_of};
+
+use crate::HsRef;
+use arrayvec::ArrayVec;
+use srt_seq::{read_word, write_at};
+
+/// Writes each group of four bytes the other way round.
+#[tactic(auto, using(crate::proofs::Groups::turned_step))]
+fn turn_words(contents: &[u8], out: &mut [u8]) -> usize
+    requires words { length contents.now % 4 ≡ 0 }
+    requires room { length contents.now ≤ length out.old }
+    ensures end { result ≡ length contents.now }
+    ensures written { take result out.new ≡ turned_words contents.now }
+{
+    let mut rest = contents;
+    let mut end = 0;
+    while !rest.is_empty() {
+        end = write_at(out, end, &[rest[3], rest[2], rest[1], rest[0]]);
+        rest = &rest[4..];
+    }
+    end
+}
+
+/// How many bytes stand before the zeros at the end.
+#[tactic(auto, using(crate::proofs::Groups::without_last_zero, crate::proofs::Groups::last_is_other))]
+fn len_before_zeros(bytes: &[u8]) -> usize
+    ensures within { result ≤ length bytes.now }
+    ensures value { take result bytes.now ≡ without_zeros bytes.now }
+{
+    let mut end = bytes.len();
+    while end > 0 && bytes[end - 1] == 0 {
+        end -= 1;
+    }
+    end
+}
+
+/// Writes the bytes of the Stream ID, without the zeros at their end, and answers how many they are.
+/// None where there is no such block.
+pub fn stream_id(hs: &HsRef<'_>, out: &mut [u8; 512]) -> Option<usize>
+    ensures within { IfSome result (λ n. n ≤ 512) }
+    ensures value { option_map (λ n. take n out.new) result ≡ (handshake_of hs.now).blocks.stream_id }
+{
+    match hs.blocks.stream_id {
+        None => None,
+        Some(block) => {
+            let end = turn_words(block.contents, out);
+            Some(len_before_zeros(&out[..end]))
+        }
+    }
+}
+
+/// The words of these bytes.
+#[tactic(auto, using(crate::proofs::Groups::words_step))]
+fn words_of(contents: &[u8]) -> ArrayVec<u32, 4>
+    requires words { length contents.now % 4 ≡ 0 }
+    requires room { length contents.now ≤ 16 }
+    ensures { result.items ≡ words_in contents.now }
+{
+    let mut words = ArrayVec::new();
+    let mut rest = contents;
+    while !rest.is_empty() {
+        words.push(read_word(rest, 0));
+        rest = &rest[4..];
+    }
+    words
+}
+
+/// The words of the CONGESTION block as they came. None where there is no such block.
+pub fn congestion(hs: &HsRef<'_>) -> Option<ArrayVec<u32, 4>>
+    ensures value { option_map (λ words. words.items) result ≡ (handshake_of hs.now).blocks.congestion }
+{
+    match hs.blocks.congestion {
+        None => None,
+        Some(block) => Some(words_of(block.contents)),
+    }
+}

@@ -1,0 +1,349 @@
+//! Rows of bytes: handshakes of callers as they were captured, answers, and each fault.
+
+use crate::{
+    AnswerKind, HsAnswer, HsFault, HsKind, HsReq, RefusalCode, congestion, read, stream_id, write,
+};
+use arrayvec::ArrayVec;
+use srt_seq::Mode;
+use std::alloc::Global;
+use std::test::Fail;
+
+const CONCLUSION: &str =
+    "00000005 00000005 63cf2f33 000005dc 00002000 ffffffff 1c2c57f4 cafebabe 0100007f 00000000 00000000 00000000";
+
+const HSREQ: &str = "00010003 00010501 000000bf 00780000";
+
+const STUDIO: &str = "00050002 64757473 00006f69";
+
+fn push_words(alloc: Global, bytes: &mut Vec<u8>, words: &str) -> Result<(), Fail> {
+    for word in words.split(' ') {
+        bytes.extend_from_slice(&hex::decode(alloc, word)?)?;
+    }
+    Ok(())
+}
+
+fn bytes_of(alloc: Global, parts: &[&str]) -> Result<Vec<u8>, Fail> {
+    let mut bytes = Vec::new(alloc);
+    for part in parts {
+        push_words(alloc, &mut bytes, part)?;
+    }
+    Ok(bytes)
+}
+
+fn fault_of(alloc: Global, parts: &[&str]) -> Result<HsFault, Fail> {
+    let bytes = bytes_of(alloc, parts)?;
+    match read(&bytes) {
+        Ok(_) => Err(Fail::from("a handshake")),
+        Err(fault) => Ok(fault),
+    }
+}
+
+#[test]
+fn induction_is_read(rt: HostRuntime) -> Result<(), Fail> {
+    let bytes = bytes_of(
+        rt.alloc(),
+        &[
+            "00000004 00000002 63cfb139 000005dc 00002000 00000001 17f5756c 00000000 0100007f 00000000 00000000 00000000",
+            "ffffff",
+        ],
+    )?;
+    let hs = read(&bytes).ok().ok_or("a handshake")?;
+    assert_eq!(rt; hs.version, 4);
+    assert_eq!(rt; hs.encryption, 0);
+    assert_eq!(rt; hs.extension, 2);
+    assert_eq!(rt; hs.initial, 0x63cf_b139);
+    assert_eq!(rt; hs.mtu, 1500);
+    assert_eq!(rt; hs.window, 8192);
+    assert_eq!(rt; hs.kind, HsKind::Induction);
+    assert_eq!(rt; hs.id, 0x17f5_756c);
+    assert_eq!(rt; hs.cookie, 0);
+    assert!(rt; hs.blocks.hsreq.is_none());
+    Ok(())
+}
+
+#[test]
+fn publisher_is_read(rt: HostRuntime) -> Result<(), Fail> {
+    let bytes = bytes_of(
+        rt.alloc(),
+        &[
+            CONCLUSION,
+            HSREQ,
+            "00050006 3a3a2123 74733d72 6f696475 703d6d2c 696c6275 00006873",
+        ],
+    )?;
+    let hs = read(&bytes).ok().ok_or("a handshake")?;
+    assert_eq!(rt; hs.kind, HsKind::Conclusion);
+    assert_eq!(rt; hs.extension, 5);
+    assert_eq!(rt; hs.cookie, 0xcafe_babe);
+    let wanted = HsReq {
+        version: 0x0001_0501,
+        flags: 0xbf,
+        receiver_ms: 120,
+        sender_ms: 0,
+    };
+    assert_eq!(rt; hs.blocks.hsreq, Some(wanted));
+    assert!(rt; !hs.blocks.has_kmreq && !hs.blocks.has_filter && !hs.blocks.has_group);
+    let mut text = [0; 512];
+    let len = stream_id(&hs, &mut text).ok_or("a Stream ID")?;
+    assert_eq!(rt; &text[..len], b"#!::r=studio,m=publish".as_slice());
+    assert!(rt; congestion(&hs).is_none());
+    Ok(())
+}
+
+#[test]
+fn subscribers_are_read(rt: HostRuntime) -> Result<(), Fail> {
+    let mut text = [0; 512];
+    let bytes = bytes_of(rt.alloc(), &[CONCLUSION, HSREQ, STUDIO])?;
+    let hs = read(&bytes).ok().ok_or("a handshake")?;
+    let len = stream_id(&hs, &mut text).ok_or("a Stream ID")?;
+    assert_eq!(rt; &text[..len], b"studio".as_slice());
+    let bytes = bytes_of(
+        rt.alloc(),
+        &[
+            CONCLUSION,
+            HSREQ,
+            "00050006 3a3a2123 74733d72 6f696475 723d6d2c 65757165 00007473",
+        ],
+    )?;
+    let hs = read(&bytes).ok().ok_or("a handshake")?;
+    let len = stream_id(&hs, &mut text).ok_or("a Stream ID")?;
+    assert_eq!(rt; &text[..len], b"#!::r=studio,m=request".as_slice());
+    let bytes = bytes_of(rt.alloc(), &[CONCLUSION, HSREQ, "00050001 00636261"])?;
+    let hs = read(&bytes).ok().ok_or("a handshake")?;
+    let len = stream_id(&hs, &mut text).ok_or("a Stream ID")?;
+    assert_eq!(rt; &text[..len], b"abc".as_slice());
+    let bytes = bytes_of(rt.alloc(), &[CONCLUSION, HSREQ])?;
+    let hs = read(&bytes).ok().ok_or("a handshake")?;
+    assert!(rt; stream_id(&hs, &mut text).is_none());
+    Ok(())
+}
+
+#[test]
+fn buffer_mode_is_read(rt: HostRuntime) -> Result<(), Fail> {
+    let bytes = bytes_of(
+        rt.alloc(),
+        &[
+            CONCLUSION,
+            "00010003 00010501 000000e4 00000000",
+            STUDIO,
+            "00060001 656c6966",
+        ],
+    )?;
+    let hs = read(&bytes).ok().ok_or("a handshake")?;
+    let words = congestion(&hs).ok_or("a CONGESTION block")?;
+    assert_eq!(rt; words.as_slice(), [0x656c_6966].as_slice());
+    Ok(())
+}
+
+#[test]
+fn unread_blocks_are_seen(rt: HostRuntime) -> Result<(), Fail> {
+    let key =
+        "0003000e 12202902 00000000 02000204 00000000 00000000 00000000 00000000 00000000 00000000 00000000 00000000 00000000 00000000 00000000";
+    let bytes = bytes_of(rt.alloc(), &[CONCLUSION, HSREQ, STUDIO, key])?;
+    let hs = read(&bytes).ok().ok_or("a handshake")?;
+    assert!(rt; hs.blocks.has_kmreq && !hs.blocks.has_filter && !hs.blocks.has_group);
+    let bytes = bytes_of(
+        rt.alloc(),
+        &[
+            CONCLUSION,
+            "00070001 00636566",
+            "00000000",
+            "00020001 00000000",
+            HSREQ,
+        ],
+    )?;
+    let hs = read(&bytes).ok().ok_or("a handshake")?;
+    assert!(rt; hs.blocks.has_filter && hs.blocks.hsreq.is_some());
+    let bytes = bytes_of(
+        rt.alloc(),
+        &[CONCLUSION, HSREQ, "00080002 00000001 00000002"],
+    )?;
+    let hs = read(&bytes).ok().ok_or("a handshake")?;
+    assert!(rt; hs.blocks.has_group && !hs.blocks.has_filter);
+    Ok(())
+}
+
+#[test]
+fn faults_are_told(rt: HostRuntime) -> Result<(), Fail> {
+    let short =
+        "00000005 00000005 63cf2f33 000005dc 00002000 ffffffff 1c2c57f4 cafebabe 0100007f 00000000 00000000 000000";
+    assert_eq!(rt; fault_of(rt.alloc(), &[short])?, HsFault::Short);
+    assert_eq!(rt;
+        fault_of(rt.alloc(), &[CONCLUSION, HSREQ, "000500"])?,
+        HsFault::TruncatedExtension
+    );
+    assert_eq!(rt;
+        fault_of(rt.alloc(), &[CONCLUSION, HSREQ, "00050002 64757473"])?,
+        HsFault::TruncatedExtension
+    );
+    assert_eq!(rt;
+        fault_of(rt.alloc(), &[CONCLUSION, "00010002 00010501 000000bf"])?,
+        HsFault::BadLength
+    );
+    assert_eq!(rt;
+        fault_of(rt.alloc(), &[CONCLUSION, "00060000"])?,
+        HsFault::BadLength
+    );
+    assert_eq!(rt;
+        fault_of(
+            rt.alloc(),
+            &[
+                CONCLUSION,
+                "00060005 656c6966 00000000 00000000 00000000 00000000"
+            ]
+        )?,
+        HsFault::BadLength
+    );
+    assert_eq!(rt;
+        fault_of(rt.alloc(), &[CONCLUSION, HSREQ, HSREQ])?,
+        HsFault::Repeated
+    );
+    assert_eq!(rt;
+        fault_of(rt.alloc(), &[CONCLUSION, STUDIO, STUDIO])?,
+        HsFault::Repeated
+    );
+    assert_eq!(rt;
+        fault_of(
+            rt.alloc(),
+            &[CONCLUSION, "00060001 656c6966 00060001 656c6966"]
+        )?,
+        HsFault::Repeated
+    );
+    Ok(())
+}
+
+#[test]
+fn long_stream_ids(rt: HostRuntime) -> Result<(), Fail> {
+    let eight = "61616161 61616161 61616161 61616161 61616161 61616161 61616161 61616161";
+    let half = [eight; 8];
+    let mut bytes = bytes_of(rt.alloc(), &[CONCLUSION, "00050080"])?;
+    bytes.extend_from_slice(&bytes_of(rt.alloc(), &half)?)?;
+    bytes.extend_from_slice(&bytes_of(rt.alloc(), &half)?)?;
+    let hs = read(&bytes).ok().ok_or("a handshake")?;
+    let mut text = [0; 512];
+    assert_eq!(rt; stream_id(&hs, &mut text), Some(512));
+    assert_eq!(rt; text, [b'a'; 512]);
+    let mut bytes = bytes_of(rt.alloc(), &[CONCLUSION, "00050081 61616161"])?;
+    bytes.extend_from_slice(&bytes_of(rt.alloc(), &half)?)?;
+    bytes.extend_from_slice(&bytes_of(rt.alloc(), &half)?)?;
+    assert_eq!(rt; read(&bytes).err(), Some(HsFault::BadLength));
+    Ok(())
+}
+
+#[test]
+fn the_first_fault_counts(rt: HostRuntime) -> Result<(), Fail> {
+    // Past the end before a bad length, a bad length before a second one.
+    assert_eq!(rt;
+        fault_of(rt.alloc(), &[CONCLUSION, "00010004 00010501 000000bf"])?,
+        HsFault::TruncatedExtension
+    );
+    assert_eq!(rt;
+        fault_of(
+            rt.alloc(),
+            &[CONCLUSION, HSREQ, "00010002 00010501 000000bf"]
+        )?,
+        HsFault::BadLength
+    );
+    // From left to right.
+    assert_eq!(rt;
+        fault_of(rt.alloc(), &[CONCLUSION, HSREQ, HSREQ, "00060000"])?,
+        HsFault::Repeated
+    );
+    assert_eq!(rt;
+        fault_of(rt.alloc(), &[CONCLUSION, "00060000", HSREQ, "00"])?,
+        HsFault::BadLength
+    );
+    Ok(())
+}
+
+fn text_of(answer: &HsAnswer, alloc: Global) -> Result<Vec<u8>, Fail> {
+    let mut out = [0xff; 84];
+    let len = write(answer, &mut out);
+    let mut bytes = Vec::new(alloc);
+    bytes.extend_from_slice(&out[..len])?;
+    Ok(bytes)
+}
+
+#[test]
+fn answers_are_written(rt: HostRuntime) -> Result<(), Fail> {
+    let answer = HsAnswer {
+        initial: 5,
+        what: AnswerKind::Induction(0x89ab_cdef),
+    };
+    let wanted =
+        "00000005 00004a17 00000005 000005dc 00002000 00000001 00000001 89abcdef 00000000 00000000 00000000 00000000";
+    assert_eq!(rt;
+        text_of(&answer, rt.alloc())?,
+        bytes_of(rt.alloc(), &[wanted])?
+    );
+    let answer = HsAnswer {
+        initial: 9,
+        what: AnswerKind::Refusal(RefusalCode::Peer),
+    };
+    let wanted =
+        "00000005 00000000 00000009 000005dc 00002000 000003ea 00000001 00000000 00000000 00000000 00000000 00000000";
+    assert_eq!(rt;
+        text_of(&answer, rt.alloc())?,
+        bytes_of(rt.alloc(), &[wanted])?
+    );
+    let answer = HsAnswer {
+        initial: 5,
+        what: AnswerKind::Conclusion {
+            mtu: 1500,
+            window: 1024,
+            id: 0x0010_0000,
+            mode: Mode::Live,
+            recv_ms: 200,
+            send_ms: 120,
+            congestion: None,
+        },
+    };
+    let wanted =
+        "00000005 00000001 00000005 000005dc 00000400 ffffffff 00100000 00000000 00000000 00000000 00000000 00000000 00020003 00010500 0000003f 00c80078";
+    assert_eq!(rt;
+        text_of(&answer, rt.alloc())?,
+        bytes_of(rt.alloc(), &[wanted])?
+    );
+    let mut words = ArrayVec::new();
+    words.push(0x656c_6966);
+    let answer = HsAnswer {
+        initial: 5,
+        what: AnswerKind::Conclusion {
+            mtu: 1500,
+            window: 32,
+            id: 0x0020_0000,
+            mode: Mode::Buffer,
+            recv_ms: 0,
+            send_ms: 0,
+            congestion: Some(words),
+        },
+    };
+    let wanted =
+        "00000005 00000005 00000005 000005dc 00000020 ffffffff 00200000 00000000 00000000 00000000 00000000 00000000 00020003 00010500 00000074 00000000 00060001 656c6966";
+    assert_eq!(rt;
+        text_of(&answer, rt.alloc())?,
+        bytes_of(rt.alloc(), &[wanted])?
+    );
+    Ok(())
+}
+
+fn code_of(reason: RefusalCode) -> [u8; 2] {
+    let answer = HsAnswer {
+        initial: 0,
+        what: AnswerKind::Refusal(reason),
+    };
+    let mut out = [0; 84];
+    write(&answer, &mut out);
+    [out[22], out[23]]
+}
+
+#[test]
+fn reasons_have_their_codes(rt: HostRuntime) {
+    assert_eq!(rt; code_of(RefusalCode::Resource), [0x03, 0xeb]);
+    assert_eq!(rt; code_of(RefusalCode::Rogue), [0x03, 0xec]);
+    assert_eq!(rt; code_of(RefusalCode::Version), [0x03, 0xf0]);
+    assert_eq!(rt; code_of(RefusalCode::Unsecure), [0x03, 0xf3]);
+    assert_eq!(rt; code_of(RefusalCode::MessageApi), [0x03, 0xf4]);
+    assert_eq!(rt; code_of(RefusalCode::Filter), [0x03, 0xf6]);
+    assert_eq!(rt; code_of(RefusalCode::Group), [0x03, 0xf7]);
+}
