@@ -7,7 +7,7 @@ ghost use Rattle.srt_packet.specs.Sent.{sent};
 ghost use Rattle.srt_packet.specs.Text.{text, word0_of, word1_of, rest_of, words, IsWritable};
 
 use arrayvec::ArrayVec;
-use srt_seq::{Msg26, Payload, Seq31};
+use srt_seq::{Msg26, Payload, Seq31, write_at};
 
 /// What a packet to be sent says beside its timestamp and its destination.
 #[derive(Drop)]
@@ -105,18 +105,6 @@ fn first_words(body: &Body) -> (u32, u32)
     }
 }
 
-/// Copies bytes to a place, and answers where they end. What stands before the place and after the end stays.
-fn put(out: &mut [u8], at: usize, bytes: &[u8]) -> usize
-    requires { at + length bytes.now ≤ length out.old }
-    ensures end { result ≡ at + length bytes.now }
-    ensures written { take result out.new ≡ take at out.old ++ bytes.now }
-    ensures kept { (k : ℕ) → result ≤ k → drop k out.new ≡ drop k out.old }
-{
-    let end = at + bytes.len();
-    out[at..end].copy_from_slice(bytes);
-    end
-}
-
 /// Writes words at a place, and answers where they end.
 fn write_words(out: &mut [u8], at: usize, list: &[u32]) -> usize
     requires { at + 4 * length list.now ≤ length out.old }
@@ -126,7 +114,7 @@ fn write_words(out: &mut [u8], at: usize, list: &[u32]) -> usize
 {
     let mut end = at;
     for word in list {
-        end = put(out, end, &word.to_be_bytes());
+        end = write_at(out, end, &word.to_be_bytes());
     }
     end
 }
@@ -141,8 +129,8 @@ fn write_rest(body: &Body, out: &mut [u8], at: usize) -> usize
     ensures kept { (k : ℕ) → result ≤ k → drop k out.new ≡ drop k out.old }
 {
     match body {
-        Body::Media { payload, .. } => put(out, at, payload.as_slice()),
-        Body::Handshake(info) => put(out, at, info.as_slice()),
+        Body::Media { payload, .. } => write_at(out, at, payload.as_slice()),
+        Body::Handshake(info) => write_at(out, at, info.as_slice()),
         Body::FullAck {
             number: _,
             point,
@@ -179,9 +167,9 @@ pub fn encode(packet: &Packet, out: &mut [u8; 1472]) -> usize
     let (word0, word1) = first_words(&packet.body);
     let stamp = packet.stamp;
     let dest = packet.dest;
-    let mut end = put(out, 0, &word0.to_be_bytes());
-    end = put(out, end, &word1.to_be_bytes());
-    end = put(out, end, &stamp.to_be_bytes());
-    end = put(out, end, &dest.to_be_bytes());
+    let mut end = write_at(out, 0, &word0.to_be_bytes());
+    end = write_at(out, end, &word1.to_be_bytes());
+    end = write_at(out, end, &stamp.to_be_bytes());
+    end = write_at(out, end, &dest.to_be_bytes());
     write_rest(&packet.body, out, end)
 }

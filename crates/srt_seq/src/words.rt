@@ -1,6 +1,6 @@
 //! Words of 32 bits in borrowed bytes, in network byte order.
 
-ghost use Rattle.std.specs.Prelude.{◌≡◌, ◌+◌, ◌≤◌, ◌++◌, length, take};
+ghost use Rattle.std.specs.Prelude.{◌≡◌, ℕ, ◌+◌, ◌≤◌, ◌++◌, length, take, drop};
 ghost use Rattle.srt_seq.specs.Words.{word_at};
 
 /// The word of the four bytes at a place.
@@ -11,11 +11,13 @@ pub fn read_word(bytes: &[u8], at: usize) -> u32
     u32::from_be_bytes([bytes[at], bytes[at + 1], bytes[at + 2], bytes[at + 3]])
 }
 
-/// Copies bytes to a place, and answers where they end. What stands before the place stays.
+/// Copies bytes to a place, and answers where they end. What stands before the place and behind the bytes
+/// stays.
 pub fn write_at(out: &mut [u8], at: usize, bytes: &[u8]) -> usize
     requires { at + length bytes.now ≤ length out.old }
     ensures end { result ≡ at + length bytes.now }
     ensures written { take result out.new ≡ take at out.old ++ bytes.now }
+    ensures kept { (k : ℕ) → result ≤ k → drop k out.new ≡ drop k out.old }
 {
     let end = at + bytes.len();
     out[at..end].copy_from_slice(bytes);
