@@ -1,0 +1,9 @@
+pub mod Splits
+pub mod Digits
+pub mod Taking
+pub mod FirstLine
+pub mod Writing
+pub mod Inductions
+pub mod Secrets
+pub mod Numbered
+pub mod Replays

@@ -1,0 +1,7 @@
+use Rattle.std.proofs.Common.{◌^◌, sym, ap, ◌∙◌, arith}
+use Rattle.srt_gateway.specs.Tape.{below}
+use Rattle.srt_gateway.proofs.Digits.{grows_over}
+use Rattle.srt_gateway.proofs.numbers.read_digits.Goals as goal
+
+pub returns-then-number : goal.returns-then-number
+returns-then-number c = sym (ap (below (2 ^ 62)) c.loop-b.invariant ∙ grows_over (2 ^ 62) c.loop-b.number c.args.text.now c.loop-b.b-index (omega arith) (omega arith))

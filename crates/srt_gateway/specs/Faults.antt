@@ -1,0 +1,43 @@
+-- How a configuration's faults are printed (this profile).
+use Rattle.std.specs.Prelude.{ℕ, List, codes}
+use Rattle.srt_gateway.specs.declared.config.Key.{Key}
+use Rattle.srt_gateway.specs.declared.config.Key.TheVariants.{Secret, Bind, Workers, Route, Name, Mode, LatencyMs, Buffer, Sessions, Inbox, Outbox}
+use Rattle.srt_gateway.specs.declared.config.ConfigFault.{ConfigFault}
+use Rattle.srt_gateway.specs.declared.config.ConfigFault.TheVariants.{Toml, UnknownKey, Missing, WrongKind, OutOfRange, BadName, RepeatedName, BadSecret, BadAddress, OutOfMemory}
+
+abbrev pub key_name : Key → List ℕ
+key_name Secret = codes "secret"
+key_name Bind = codes "bind"
+key_name Workers = codes "workers"
+key_name Route = codes "route"
+key_name Name = codes "name"
+key_name Mode = codes "mode"
+key_name LatencyMs = codes "latency_ms"
+key_name Buffer = codes "buffer"
+key_name Sessions = codes "sessions"
+key_name Inbox = codes "inbox"
+key_name Outbox = codes "outbox"
+
+abbrev pub number_of : ConfigFault → ℕ
+number_of Toml = 1
+number_of UnknownKey = 2
+number_of (Missing key) = 3
+number_of (WrongKind key) = 4
+number_of (OutOfRange key) = 5
+number_of BadName = 6
+number_of RepeatedName = 7
+number_of BadSecret = 8
+number_of BadAddress = 9
+number_of OutOfMemory = 10
+
+abbrev pub key_text : ConfigFault → List ℕ
+key_text Toml = codes "-"
+key_text UnknownKey = codes "-"
+key_text (Missing key) = key_name key
+key_text (WrongKind key) = key_name key
+key_text (OutOfRange key) = key_name key
+key_text BadName = codes "name"
+key_text RepeatedName = codes "name"
+key_text BadSecret = codes "secret"
+key_text BadAddress = codes "bind"
+key_text OutOfMemory = codes "-"

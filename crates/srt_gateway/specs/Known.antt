@@ -1,0 +1,52 @@
+-- Readers and writers that tell their bytes: what was taken of the ones, and written to the others.
+use Rattle.std.specs.Prelude.{◌≡◌, ◌≢◌, ℕ, ◌+◌, List, [], ◌∷◌, ◌++◌, length, take, All, Option, Some, ◌<◌, ◌≤◌}
+use Rattle.srt_gateway.specs.Tape.{lines_of}
+use Rattle.srt_gateway.specs.Events.{line_max}
+use Rattle.srt_gateway.specs.declared.lines.Taken.{Taken}
+use Rattle.srt_gateway.specs.declared.lines.Taken.TheVariants as taken
+use Rattle.srt_gateway.specs.declared.lines.Piece.{Piece}
+use Rattle.srt_gateway.specs.declared.lines.Piece.TheVariants.{Part, Line, Long, End}
+
+-- where the old bytes are known, they are these and the new ones
+abbrev pub Took : (old new : Option (List ℕ)) → List ℕ → Type 0
+Took old new bs = (xs : List ℕ) → old ≡ Some xs → (ys : List ℕ) × (new ≡ Some ys) × (xs ≡ bs ++ ys)
+
+-- where the bytes are known, they begin so
+abbrev pub BeginsWith : Option (List ℕ) → List ℕ → Type 0
+BeginsWith old bs = (xs : List ℕ) → old ≡ Some xs → (ys : List ℕ) × (xs ≡ bs ++ ys)
+
+-- where the bytes are known, none is left
+abbrev pub AtEnd : Option (List ℕ) → Type 0
+AtEnd old = (xs : List ℕ) → old ≡ Some xs → xs ≡ []
+
+-- where the old bytes are known, this line came first, and the new ones are the others
+abbrev pub TookLine : (old new : Option (List ℕ)) → List ℕ → Type 0
+TookLine old new line = (xs : List ℕ) → old ≡ Some xs → (ys : List ℕ) × (new ≡ Some ys) × (lines_of xs ≡ line ∷ lines_of ys)
+
+-- where the bytes are known, they have no line
+abbrev pub NoLine : Option (List ℕ) → Type 0
+NoLine old = (xs : List ℕ) → old ≡ Some xs → lines_of xs ≡ []
+
+-- where the bytes are known, their first line is too long
+abbrev pub LongLine : Option (List ℕ) → Type 0
+LongLine old = (xs : List ℕ) → old ≡ Some xs → (line : List ℕ) × (lines : List (List ℕ)) × (lines_of xs ≡ line ∷ lines) × (line_max < length line)
+
+-- where the old bytes are known, the new ones are these and the bytes written
+abbrev pub Wrote : (old new : Option (List ℕ)) → List ℕ → Type 0
+Wrote old new bs = (ws : List ℕ) → old ≡ Some ws → new ≡ Some (ws ++ bs)
+
+abbrev pub NoLf : List ℕ → Type 0
+NoLf bs = All (λ b. b ≢ 10) bs
+
+-- what one look at a reader gave: the line's bytes as far as they came before, and in the end those in the buffer
+abbrev pub TookPiece : (old new : Option (List ℕ)) (before buffer : List ℕ) → Piece → Type 0
+TookPiece old new before buffer (Part n) = (bs : List ℕ) × Took old new bs × (take n buffer ≡ before ++ bs) × NoLf bs × (n ≤ line_max)
+TookPiece old new before buffer (Line n) = (bs : List ℕ) × Took old new (bs ++ 10 ∷ []) × (take n buffer ≡ before ++ bs) × NoLf bs × (n ≤ line_max)
+TookPiece old new before buffer Long = (bs : List ℕ) × BeginsWith old bs × NoLf bs × (line_max < length before + length bs)
+TookPiece old new before buffer End = AtEnd old × Took old new [] × (take (length before) buffer ≡ before)
+
+-- what was taken in one call: a line at the front of the buffer, or none
+abbrev pub TookOne : (old new : Option (List ℕ)) (buffer : List ℕ) → Taken → Type 0
+TookOne old new buffer (taken.Line n) = TookLine old new (take n buffer) × (n ≤ line_max)
+TookOne old new buffer taken.Long = LongLine old
+TookOne old new buffer taken.End = NoLine old

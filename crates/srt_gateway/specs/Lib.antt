@@ -1,0 +1,11 @@
+pub mod Tape
+pub mod Events
+pub mod Lobby
+pub mod Answers
+pub mod Replay
+pub mod Faults
+pub mod Config
+pub mod Pieces
+pub mod Read
+pub mod Known
+pub mod Step

@@ -1,0 +1,34 @@
+//! The fields of a tape's line.
+
+ghost use Rattle.std.specs.Prelude.{◌≡◌, ◌∷◌, ◌≤◌, length, IfSome};
+ghost use Rattle.srt_gateway.specs.Tape.{fields_of};
+ghost use Rattle.srt_gateway.specs.Pieces.{fields_behind};
+
+use memchr::memchr;
+
+/// A text split at its first space.
+#[derive(Clone, Copy)]
+pub(crate) struct Split<'a> {
+    /// What stands before the space.
+    pub(crate) field: &'a [u8],
+    /// What stands behind it, if there is one.
+    pub(crate) rest: Option<&'a [u8]>,
+}
+
+/// The first field and what stands behind it.
+pub(crate) fn split_field(text: &[u8]) -> Split<'_>
+    ensures fields { fields_of text.now ≡ result.field.now ∷ fields_behind result.rest }
+    ensures field_within { length result.field.now ≤ length text.now }
+    ensures rest_within { IfSome result.rest (λ t. length t.now ≤ length text.now) }
+{
+    match memchr(b' ', text) {
+        Some(at) => Split {
+            field: &text[..at],
+            rest: Some(&text[at + 1..]),
+        },
+        None => Split {
+            field: text,
+            rest: None,
+        },
+    }
+}

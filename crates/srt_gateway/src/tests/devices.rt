@@ -1,0 +1,115 @@
+//! Readers and writers that are interrupted, give pieces and fail.
+
+ghost use Rattle.std.specs.Prelude.{◌≡◌, ◌≤◌, length};
+
+use std::io::{self, Error, ErrorKind, Read, Write};
+
+/// Gives its bytes one at a time, is interrupted before each, and fails in the end where it is told to.
+#[derive(Drop)]
+pub(super) struct Dripping<'a> {
+    pub(super) bytes: &'a [u8],
+    pub(super) is_ready: bool,
+    pub(super) fails: bool,
+}
+
+impl Read for Dripping<'_> {
+    fn read(&mut self, buf: &mut [u8]) -> io::Result<usize> {
+        if !self.is_ready {
+            self.is_ready = true;
+            return Err(Error::from(ErrorKind::Interrupted));
+        }
+        self.is_ready = false;
+        if buf.is_empty() {
+            return Ok(0);
+        }
+        if self.bytes.is_empty() {
+            if self.fails {
+                return Err(Error::from(ErrorKind::Other));
+            }
+            return Ok(0);
+        }
+        buf[0] = self.bytes[0];
+        self.bytes = &self.bytes[1..];
+        Ok(1)
+    }
+}
+
+/// Gives the same line so many times.
+#[derive(Drop)]
+pub(super) struct Repeating<'a> {
+    pub(super) line: &'a [u8],
+    pub(super) at: usize,
+    pub(super) times: u32,
+}
+
+impl Read for Repeating<'_> {
+    fn read(&mut self, buf: &mut [u8]) -> io::Result<usize> {
+        if self.at >= self.line.len() {
+            self.at = 0;
+            self.times = self.times.saturating_sub(1);
+        }
+        if self.times == 0 || self.at >= self.line.len() {
+            return Ok(0);
+        }
+        let rest = &self.line[self.at..];
+        let n = if rest.len() < buf.len() {
+            rest.len()
+        } else {
+            buf.len()
+        };
+        buf[..n].copy_from_slice(&rest[..n]);
+        self.at += n;
+        Ok(n)
+    }
+}
+
+/// Takes bytes one at a time, is interrupted before each, and fails where its room is used up.
+#[derive(Drop)]
+pub(super) struct Narrow {
+    pub(super) taken: Vec<u8>,
+    pub(super) room: usize,
+    pub(super) is_ready: bool,
+    pub(super) flushes: u32,
+    pub(super) flush_fails: bool,
+}
+
+impl Write for Narrow {
+    fn write(&mut self, buf: &[u8]) -> io::Result<usize> {
+        if !self.is_ready {
+            self.is_ready = true;
+            return Err(Error::from(ErrorKind::Interrupted));
+        }
+        self.is_ready = false;
+        if buf.is_empty() || self.room == 0 {
+            return Ok(0);
+        }
+        self.room -= 1;
+        self.taken.push(buf[0])?;
+        Ok(1)
+    }
+
+    fn flush(&mut self) -> io::Result<()> {
+        self.flushes = self.flushes.saturating_add(1);
+        if self.flush_fails {
+            return Err(Error::from(ErrorKind::Other));
+        }
+        Ok(())
+    }
+}
+
+/// Counts the bytes that it takes.
+#[derive(Drop)]
+pub(super) struct Counting {
+    pub(super) bytes: u64,
+}
+
+impl Write for Counting {
+    fn write(&mut self, buf: &[u8]) -> io::Result<usize> {
+        self.bytes = self.bytes.saturating_add(buf.len() as u64);
+        Ok(buf.len())
+    }
+
+    fn flush(&mut self) -> io::Result<()> {
+        Ok(())
+    }
+}

@@ -1,0 +1,176 @@
+//! Lines of tapes and their answers.
+
+use super::{assert_no_event, assert_replayed};
+use crate::ReplayFault;
+use std::test::Fail;
+
+#[test]
+fn an_induction_is_answered(rt: HostRuntime) {
+    assert_replayed(
+        &rt,
+        b"A 0 00000000000000000000ffff7f000001 5000 8000000000000000000000000000000000000004000000020000000\
+5000005dc000020000000000100bc614e0000000000000000000000000000000000000000\n",
+        "answer 80000000000000000000000000bc614e0000000500004a1700000005000005dc000020000000000100000001ecc958a\
+600000000000000000000000000000000\n",
+        Ok(()),
+    );
+}
+
+#[test]
+fn each_peer_and_minute_has_its_cookie(rt: HostRuntime) {
+    assert_replayed(
+        &rt,
+        b"A 0 00000000000000000000ffff7f000001 5000 8000000000000000000000000000000000000004000000020000000\
+5000005dc000020000000000100bc614e0000000000000000000000000000000000000000\n\
+A 59999999 00000000000000000000FFFF7F000001 5001 8000000000000000000000000000000000000004000000020000000\
+5000005DC000020000000000100BC614E0000000000000000000000000000000000000000\n\
+A 60000000 00000000000000000000ffff7f000001 5000 8000000000000000000000000000000000000004000000020000000\
+5000005dc000020000000000100bc614e0000000000000000000000000000000000000000",
+        "answer 80000000000000000000000000bc614e0000000500004a1700000005000005dc000020000000000100000001ecc958a\
+600000000000000000000000000000000\n\
+answer 80000000000000000000000000bc614e0000000500004a1700000005000005dc0000200000000001000000016e4680b\
+d00000000000000000000000000000000\n\
+answer 80000000000000000000000000bc614e0000000500004a1700000005000005dc0000200000000001000000013e9cb41\
+500000000000000000000000000000000\n",
+        Ok(()),
+    );
+}
+
+#[test]
+fn a_tape_of_nothing(rt: HostRuntime) {
+    assert_replayed(&rt, b"", "", Ok(()));
+}
+
+#[test]
+fn other_datagrams_are_dropped(rt: HostRuntime) {
+    // 15 bytes; a data header; a destination; a KEEPALIVE; a handshake of 47 bytes; an AGREEMENT; a CONCLUSION
+    assert_replayed(
+        &rt,
+        b"A 0 00000000000000000000ffff7f000001 5000 800000000000000000000000000000\n\
+A 0 00000000000000000000ffff7f000001 5000 00000005e00000010000000000000000\n\
+A 0 00000000000000000000ffff7f000001 5000 80000000000000000000000000400000\n\
+A 0 00000000000000000000ffff7f000001 5000 80010000000000000000000000000000\n\
+A 0 00000000000000000000ffff7f000001 5000 8000000000000000000000000000000000000004000000020000000\
+5000005dc000020000000000100bc614e00000000000000000000000000000000000000\n\
+A 0 00000000000000000000ffff7f000001 5000 8000000000000000000000000000000000000004000000020000000\
+5000005dc00002000fffffffe00bc614e0000000000000000000000000000000000000000\n\
+A 0 00000000000000000000ffff7f000001 5000 8000000000000000000000000000000000000005000000000000000\
+5000005dc00002000ffffffff00bc614e0000000000000000000000000000000000000000\n",
+        "dropped 1\ndropped 1\ndropped 2\ndropped 3\ndropped 4\ndropped 5\ndropped 5\n",
+        Ok(()),
+    );
+}
+
+#[test]
+fn a_datagram_of_1473_bytes_is_dropped(rt: HostRuntime) -> Result<(), Fail> {
+    let mut tape = Vec::new(rt.alloc());
+    tape.extend_from_slice(b"A 0 00000000000000000000ffff7f000001 5000 80000000")?;
+    for _ in 0..1469 {
+        tape.extend_from_slice(b"00")?;
+    }
+    assert_replayed(&rt, tape.as_slice(), "dropped 1\n", Ok(()));
+    Ok(())
+}
+
+#[test]
+fn numbers_just_below_their_limits(rt: HostRuntime) {
+    assert_replayed(
+        &rt,
+        b"A 4611686018427387903 00000000000000000000ffff7f000001 65535 \n\
+A 4611686018427387904 00000000000000000000ffff7f000001 65535 \n",
+        "dropped 1\n",
+        Err(ReplayFault::Tape(2)),
+    );
+}
+
+#[test]
+fn a_line_of_4096_bytes(rt: HostRuntime) -> Result<(), Fail> {
+    let mut tape = Vec::new(rt.alloc());
+    tape.extend_from_slice(b"A 0 00000000000000000000ffff7f000001 5000 ")?;
+    for _ in 0..2027 {
+        tape.extend_from_slice(b"00")?;
+    }
+    tape.extend_from_slice(b"\n")?;
+    assert_replayed(&rt, tape.as_slice(), "dropped 1\n", Ok(()));
+    Ok(())
+}
+
+#[test]
+fn a_line_of_4097_bytes(rt: HostRuntime) -> Result<(), Fail> {
+    let mut tape = Vec::new(rt.alloc());
+    tape.extend_from_slice(b"A 0 00000000000000000000ffff7f000001 5000 \n")?;
+    tape.extend_from_slice(b"A 10 00000000000000000000ffff7f000001 5000 ")?;
+    for _ in 0..2027 {
+        tape.extend_from_slice(b"00")?;
+    }
+    tape.extend_from_slice(b"\n")?;
+    assert_replayed(
+        &rt,
+        tape.as_slice(),
+        "dropped 1\n",
+        Err(ReplayFault::Tape(2)),
+    );
+    Ok(())
+}
+
+#[test]
+fn a_tape_of_one_empty_line(rt: HostRuntime) {
+    assert_replayed(&rt, b"\n", "", Err(ReplayFault::Tape(1)));
+}
+
+#[test]
+fn other_letters(rt: HostRuntime) -> Result<(), Fail> {
+    assert_no_event(&rt, "")?;
+    assert_no_event(&rt, "B 0 00000000000000000000ffff7f000001 5000 ")?;
+    assert_no_event(&rt, "a 0 00000000000000000000ffff7f000001 5000 ")?;
+    assert_no_event(&rt, "AA 0 00000000000000000000ffff7f000001 5000 ")?;
+    assert_no_event(&rt, "T 0 5")?;
+    assert_no_event(&rt, "U 0")?;
+    assert_no_event(&rt, "S 0")?;
+    Ok(())
+}
+
+#[test]
+fn other_numbers_of_fields(rt: HostRuntime) -> Result<(), Fail> {
+    assert_no_event(&rt, "A")?;
+    assert_no_event(&rt, " A 0 00000000000000000000ffff7f000001 5000 ")?;
+    assert_no_event(&rt, "A 0 00000000000000000000ffff7f000001 5000")?;
+    assert_no_event(&rt, "A 0 00000000000000000000ffff7f000001 5000 00 00")?;
+    assert_no_event(&rt, "A 0 00000000000000000000ffff7f000001 5000  ")?;
+    assert_no_event(&rt, "A  0 00000000000000000000ffff7f000001 5000 ")?;
+    Ok(())
+}
+
+#[test]
+fn other_forms_of_numbers(rt: HostRuntime) -> Result<(), Fail> {
+    assert_no_event(&rt, "A  00000000000000000000ffff7f000001 5000 ")?;
+    assert_no_event(&rt, "A 00 00000000000000000000ffff7f000001 5000 ")?;
+    assert_no_event(&rt, "A 0x1 00000000000000000000ffff7f000001 5000 ")?;
+    assert_no_event(&rt, "A +1 00000000000000000000ffff7f000001 5000 ")?;
+    assert_no_event(&rt, "A -1 00000000000000000000ffff7f000001 5000 ")?;
+    assert_no_event(
+        &rt,
+        "A 18446744073709551616 00000000000000000000ffff7f000001 5000 ",
+    )?;
+    assert_no_event(
+        &rt,
+        "A 340282366920938463463374607431768211456 00000000000000000000ffff7f000001 5000 ",
+    )?;
+    assert_no_event(&rt, "A 0 00000000000000000000ffff7f000001 65536 ")?;
+    assert_no_event(&rt, "A 0 00000000000000000000ffff7f000001 05000 ")?;
+    assert_no_event(&rt, "A 0 00000000000000000000ffff7f000001  ")?;
+    Ok(())
+}
+
+#[test]
+fn other_forms_of_digits(rt: HostRuntime) -> Result<(), Fail> {
+    assert_no_event(&rt, "A 0 00000000000000000000ffff7f00001 5000 ")?;
+    assert_no_event(&rt, "A 0 00000000000000000000ffff7f0000001 5000 ")?;
+    assert_no_event(&rt, "A 0 00000000000000000000ffff7f00000001 5000 ")?;
+    assert_no_event(&rt, "A 0 00000000000000000000ffff7g000001 5000 ")?;
+    assert_no_event(&rt, "A 0 00000000000000000000ffff7f000001 5000 0")?;
+    assert_no_event(&rt, "A 0 00000000000000000000ffff7f000001 5000 0g")?;
+    assert_no_event(&rt, "A 0 00000000000000000000ffff7f000001 5000 00\r")?;
+    assert_no_event(&rt, "A 0 00000000000000000000ffff7f000001 5000 \r")?;
+    Ok(())
+}

@@ -1,0 +1,97 @@
+//! `srtgw`: the gateway's program. It reads files, hands their bytes on, and prints what comes back.
+#![tactic(auto)]
+
+mod faults;
+mod files;
+mod words;
+
+use faults::Fault;
+use files::{CONFIG_MAX, TAPE_MAX, read_file};
+use srt_gateway::{Config, ConfigFault, read_config, replay};
+use std::io::{self, BufWriter, ErrorKind};
+use std::process::ExitCode;
+use std::rt::{Env, Files};
+use std::{env, str};
+use words::{Task, command, task_of};
+
+fn config_at(rt: &(impl Files + AllocGlobal), path: &str) -> Result<Config, Fault> {
+    let bytes = read_file(rt, path, CONFIG_MAX)?;
+    match str::from_utf8(&bytes) {
+        Ok(text) => Ok(read_config(rt.alloc(), text)?),
+        Err(_) => Err(Fault::Config(ConfigFault::Toml)),
+    }
+}
+
+fn replay_file(
+    rt: &(impl Print + Files + AllocGlobal),
+    config: &str,
+    tape: &str,
+) -> Result<(), Fault> {
+    let config = config_at(rt, config)?;
+    let bytes = read_file(rt, tape, TAPE_MAX)?;
+    match BufWriter::new(rt.alloc(), io::writer(rt)) {
+        Ok(mut writer) => Ok(replay(&config, &mut bytes.as_slice(), &mut writer)?),
+        Err(_) => Err(Fault::Memory),
+    }
+}
+
+fn run(rt: &(impl Print + Files + AllocGlobal), task: Task<'_>) -> Result<(), Fault> {
+    match task {
+        Task::Replay { config, tape } => replay_file(rt, config, tape),
+    }
+}
+
+/// The status of a run, whose fault is printed.
+fn status_of(rt: &impl Print, ended: Result<(), Fault>) -> ExitCode {
+    match ended {
+        Ok(()) => ExitCode::SUCCESS,
+        Err(fault) => {
+            let _ = fault.print(rt);
+            ExitCode::FAILURE
+        }
+    }
+}
+
+/// Does what the words of the command line ask for.
+fn obey(
+    rt: &(impl Print + Eprint + Files + AllocGlobal),
+    words: &[String],
+) -> Result<ExitCode, Fault> {
+    let Ok(command) = command(rt.alloc()) else {
+        return Err(Fault::Memory);
+    };
+    match command.try_get_matches_from(words) {
+        Ok(matches) => match task_of(&matches) {
+            Some(task) => Ok(status_of(rt, run(rt, task))),
+            None => Err(Fault::Memory),
+        },
+        Err(error) if error.kind() == clap::error::ErrorKind::OutOfMemory => Err(Fault::Memory),
+        Err(error) => match error.print(rt) {
+            Ok(()) => Ok(ExitCode::from(error.exit_code() as u8)),
+            Err(_) => Err(Fault::Output),
+        },
+    }
+}
+
+/// The words of the command line. Words that aren't UTF-8 are refused as a wrong command line is.
+fn words_given(rt: &(impl Env + Eprint + AllocGlobal)) -> Result<Vec<String>, ExitCode> {
+    match env::args(rt) {
+        Ok(words) => words.collect(rt.alloc()).map_err(|_| ExitCode::FAILURE),
+        Err(error) if error.kind() == ErrorKind::InvalidData => {
+            let _ = rt.eprintln("error: a word of the command line is not UTF-8");
+            Err(ExitCode::from(2))
+        }
+        Err(_) => Err(ExitCode::FAILURE),
+    }
+}
+
+fn main(rt: HostRuntime) -> ExitCode {
+    let words = match words_given(&rt) {
+        Ok(words) => words,
+        Err(status) => return status,
+    };
+    match obey(&rt, words.as_slice()) {
+        Ok(status) => status,
+        Err(fault) => status_of(&rt, Err(fault)),
+    }
+}
