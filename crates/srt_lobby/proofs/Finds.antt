@@ -1,0 +1,94 @@
+-- Names and their places.
+use Rattle.std.proofs.Common.{◌≡◌, ℕ, zero, suc, ◌+◌, ◌<◌, Bool, true, false, not, cond, ◌&&◌, List, [], ◌∷◌, length, get_or, take, drop, ◌++◌, map, None, Some, position, slice_get, nat_lt, refl, sym, ap, ◌∙◌, arith}
+use Rattle.std.specs.List.{position_or_len, list_any, list_all}
+use Rattle.std.specs.Str.{bytes_eq}
+use Rattle.std.proofs.lemmas.Bool.{false_from_ne_true}
+use Rattle.std.proofs.lemmas.Bool.Decides.{nat_tests}
+use Rattle.std.proofs.lemmas.Slice.Eq.{bytes_eq-Decides}
+use Rattle.std.proofs.lemmas.List.Folds.{list_all-map}
+use Rattle.std.proofs.lemmas.List.Sums.{position_or_len_is}
+use Rattle.std.proofs.lemmas.List.Quantifiers.{position-Some}
+use Rattle.std.proofs.lemmas.Option.{get_or_from_slice_get, slice_get-get_or, slice_get_within}
+use Rattle.srt_seq.specs.declared.shared.Entry.{Entry}
+use Rattle.srt_seq.specs.Terms.{Terms, terms_of}
+use Rattle.srt_lobby.specs.Opening.{is_between, is_name, is_taken, is_fresh, are_names, in_limits, are_in_limits}
+use Rattle.srt_lobby.specs.Names.{AreDistinct, index_of, name_of}
+
+same_length : {K X : Type 0} (f : K → X) (ks : List K) → length (map f ks) ≡ length ks
+same_length f [] = refl
+same_length f (k ∷ ks) = ap suc (same_length f ks)
+
+places_of : {K : Type 0} (p : List ℕ → Bool) (f : K → List ℕ) (ks : List K) → position_or_len p (map f ks) ≡ position_or_len (λ k. p (f k)) ks
+places_of p f [] = refl
+places_of p f (k ∷ ks) = ap (λ n. cond (not (p (f k))) (1 + n) 0) (places_of p f ks)
+
+pub position_of : {K : Type 0} (p : List ℕ → Bool) (f : K → List ℕ) (ks : List K) → position p (map f ks) ≡ position (λ k. p (f k)) ks
+position_of p f ks =
+    ap (λ n. cond (nat_lt n (length (map f ks))) (Some n) None) (places_of p f ks) ∙
+    ap (λ n. cond (nat_lt (position_or_len (λ k. p (f k)) ks) n) (Some (position_or_len (λ k. p (f k)) ks)) None) (same_length f ks)
+
+pub any_of : {K X : Type 0} (p : X → Bool) (f : K → X) (ks : List K) → list_any p (map f ks) ≡ list_any (λ k. p (f k)) ks
+any_of p f [] = refl
+any_of p f (k ∷ ks) = rw (any_of p f ks)
+
+-- what is found has the name
+pub found_name : (names : List (List ℕ)) (r : ℕ) (name asked : List ℕ) → slice_get names r ≡ Some name → index_of names asked ≡ Some r → asked ≡ name
+found_name names r name asked h e =
+    let same : bytes_eq asked (get_or names r []) ≡ true = (position-Some (λ other. bytes_eq asked other) names r [] e).1 in
+    (bytes_eq-Decides asked (get_or names r [])).0 same ∙ get_or_from_slice_get names r name [] h
+
+other_before : (names : List (List ℕ)) (r : ℕ) (name : List ℕ) → AreDistinct names → slice_get names r ≡ Some name → (k : ℕ) → k < r → bytes_eq name (get_or names k []) ≡ false
+other_before names r name distinct h k below =
+    false_from_ne_true _ (λ same.
+    let inside : r < length names = slice_get_within names r name h in
+    let there : slice_get names k ≡ Some name = slice_get-get_or names k [] (omega arith) ∙ ap Some (sym ((bytes_eq-Decides name (get_or names k [])).0 same)) in
+    let e : k ≡ r = distinct k r name there h in
+    omega arith)
+
+-- the name is found
+pub name_found : (names : List (List ℕ)) (r : ℕ) (name : List ℕ) → AreDistinct names → slice_get names r ≡ Some name → index_of names name ≡ Some r
+name_found names r name distinct h =
+    let inside : r < length names = slice_get_within names r name h in
+    let here : bytes_eq name (get_or names r []) ≡ true = (bytes_eq-Decides name (get_or names r [])).1 (sym (get_or_from_slice_get names r name [] h)) in
+    let at : position_or_len (λ other. bytes_eq name other) names ≡ r =
+    position_or_len_is (λ other. bytes_eq name other) names r [] (omega arith) (other_before names r name distinct h) (λ w. here) in
+    rw at (grind (arith, nat_tests))
+
+pub any_taken : (name : List ℕ) (es : List Entry) → list_any (λ (e : Entry). bytes_eq (terms_of e).name name) es ≡ is_taken name (map terms_of es)
+any_taken name es = sym (any_of (λ (e : Terms). bytes_eq e.name name) terms_of es)
+
+pub all_limited : (es : List Entry) → list_all (λ (e : Entry). in_limits (terms_of e)) es ≡ list_all in_limits (map terms_of es)
+all_limited es = sym (list_all-map in_limits terms_of es)
+
+-- the names of entries, the first apart
+pub names_step : (es : List Entry) (d : Entry) → 0 < length es → are_names (map terms_of es) ≡ (is_fresh (terms_of (get_or es 0 d)) (map terms_of (drop 1 es)) && are_names (map terms_of (drop 1 es)))
+names_step [] d h = absurd (omega arith)
+names_step (e ∷ es) d h = refl
+
+-- the name of an entry
+pub name_at : (es : List Entry) (i : ℕ) (d : Entry) → i < length es → slice_get (map name_of (map terms_of es)) i ≡ Some (terms_of (get_or es i d)).name
+name_at [] i d h = absurd (omega arith)
+name_at (e ∷ es) zero d h = refl
+name_at (e ∷ es) (suc i) d h = name_at es i d (omega arith)
+
+-- one name more
+pub take_next : (names : List (List ℕ)) (i : ℕ) (name : List ℕ) → slice_get names i ≡ Some name → take (suc i) names ≡ take i names ++ name ∷ []
+take_next [] i name h = cc
+take_next (x ∷ xs) zero name h = cc
+take_next (x ∷ xs) (suc i) name h = ap (λ (rest : List (List ℕ)). x ∷ rest) (take_next xs i name h)
+
+true_and : (a b : Bool) → a ≡ true → b ≡ (a && b)
+true_and true b h = refl
+true_and false b h = cc
+
+-- an entry whose name has the right form and isn't taken
+pub fresh : (e : Entry) (others : List Entry) (name : List ℕ) (good taken : Bool) → name ≡ (terms_of e).name → good ≡ is_name name → good ≡ true →
+    taken ≡ list_any (λ (f : Entry). bytes_eq (terms_of f).name name) others → not taken ≡ is_fresh (terms_of e) (map terms_of others)
+fresh e others name good taken p q h t =
+    ap not (t ∙ any_taken name others ∙ ap (λ n. is_taken n (map terms_of others)) p) ∙
+    true_and (is_name (terms_of e).name) _ (sym (ap is_name p) ∙ sym q ∙ h)
+
+-- entries whose numbers are within their limits
+pub limited : (es : List Entry) (fits all : Bool) → fits ≡ is_between 1 511 (length es) → fits ≡ true → all ≡ list_all (λ (e : Entry). in_limits (terms_of e)) es → all ≡ are_in_limits (map terms_of es)
+limited es fits all p h t =
+    t ∙ all_limited es ∙ true_and (is_between 1 511 (length (map terms_of es))) _ (ap (is_between 1 511) (same_length terms_of es) ∙ sym p ∙ h)

@@ -1,0 +1,200 @@
+-- What an arrival's class has to do with the routes.
+use Rattle.std.proofs.Common.{◌≡◌, ℕ, ◌-◌, ◌+◌, ◌/◌, ◌^◌, ◌<◌, ◌≤◌, Bool, true, false, cond, ◌&&◌, List, [], length, Option, None, Some, Result, Ok, Err, nat_lt, nat_le, ◌==◌, refl, ap, ◌∙◌, arith}
+use Rattle.std.proofs.lemmas.Bool.Decides.{nat_tests}
+use Rattle.std.proofs.lemmas.Option.{slice_get_within}
+use Rattle.std.proofs.lemmas.List.Quantifiers.{position-Some}
+use Rattle.std.specs.Str.{bytes_eq}
+use Rattle.srt_seq.specs.declared.shared.Peer.{Peer}
+use Rattle.srt_packet.specs.declared.reading.PacketFault.{PacketFault}
+use Rattle.srt_packet.specs.declared.reading.PacketFault.TheVariants as faults
+use Rattle.srt_packet.specs.Grammar as packets
+use Rattle.srt_packet.specs.Grammar.{Packet, Body}
+use Rattle.srt_packet.specs.Reading.{packet_in}
+use Rattle.srt_hs.specs.declared.handshake.HsKind.{HsKind}
+use Rattle.srt_hs.specs.declared.handshake.HsKind.TheVariants as kinds
+use Rattle.srt_hs.specs.declared.handshake.HsFault.{HsFault}
+use Rattle.srt_hs.specs.declared.writing.AnswerKind.{AnswerKind}
+use Rattle.srt_hs.specs.declared.writing.RefusalCode.{RefusalCode}
+use Rattle.srt_hs.specs.Grammar.{Handshake}
+use Rattle.srt_hs.specs.Reading.{handshake_in}
+use Rattle.srt_streamid.specs.declared.reading.Ask.{Ask}
+use Rattle.srt_streamid.specs.declared.reading.AskFault.{AskFault}
+use Rattle.srt_streamid.specs.Reading.{ask_in, name_of}
+use Rattle.srt_cookie.specs.Cookie.{is_right}
+use Rattle.srt_lobby.specs.declared.classes.Class.{Class}
+use Rattle.srt_lobby.specs.declared.classes.Class.TheVariants.{Route, Dropped}
+use Rattle.srt_lobby.specs.declared.classes.Cause.TheVariants as causes
+use Rattle.srt_lobby.specs.Names.{index_of}
+use Rattle.srt_lobby.specs.Lobby.{answered, reason_of, route_named, route_asked, by_route, by_reason, of_conclusion, by_kind, of_handshake, of_body, by_place, to_session, of_packet, class_of}
+use Rattle.srt_lobby.specs.Laws.{HasRoute, RouteIsItsOwn, RouteIsNamed, RouteHasHeader}
+use Rattle.srt_lobby.proofs.Finds.{found_name, name_found}
+
+-- what is r's is r's again
+abbrev Follows : (r : ℕ) → (x y : Class) → Type 0
+Follows r x y = x ≡ Route r → y ≡ Route r
+
+by_test : (r : ℕ) (b : Bool) (x y v w : Class) → Follows r x v → Follows r y w → Follows r (cond b x y) (cond b v w)
+by_test r true x y v w p q = p
+by_test r false x y v w p q = q
+
+never_answered : (r : ℕ) (hs : Handshake) (what : AnswerKind) → answered hs what ≡ Route r → ⊥
+unfolding answered
+never_answered r hs what h = cc
+
+route_is : (hs : Handshake) (r : ℕ) (found : Option ℕ) → by_route hs found ≡ Route r → found ≡ Some r
+route_is hs r (Some s) h = cc
+route_is hs r None h = absurd (never_answered r hs _ h)
+
+module _ (secret : List ℕ) (names others : List (List ℕ)) (r : ℕ) (name : List ℕ) (has : HasRoute names r name) (have : HasRoute others r name) (peer : Peer) (moment : ℕ) where
+  index_follows : (asked : List ℕ) → index_of names asked ≡ Some r → index_of others asked ≡ Some r
+  index_follows asked h =
+      let same : asked ≡ name = found_name names r name asked has.named h in
+      ap (index_of others) same ∙ name_found others r name have.distinct have.named
+
+  named_follows : (bytes : List ℕ) (ask : Result Ask AskFault) → route_named names bytes ask ≡ Some r → route_named others bytes ask ≡ Some r
+  named_follows bytes (Ok ask) h = index_follows (name_of bytes ask) h
+  named_follows bytes (Err fault) h = h
+
+  asked_follows : (id : Option (List ℕ)) → route_asked names id ≡ Some r → route_asked others id ≡ Some r
+  asked_follows (Some bytes) h = named_follows bytes (ask_in bytes) h
+  asked_follows None h = h
+
+  reason_follows : (hs : Handshake) (reason : Option RefusalCode) → Follows r (by_reason names hs reason) (by_reason others hs reason)
+  reason_follows hs (Some code) h = h
+  reason_follows hs None h = ap (by_route hs) (asked_follows hs.blocks.stream_id (route_is hs r (route_asked names hs.blocks.stream_id) h))
+
+  conclusion_follows : (hs : Handshake) → Follows r (of_conclusion names hs) (of_conclusion others hs)
+  unfolding of_conclusion
+  conclusion_follows hs = reason_follows hs (reason_of hs)
+
+  kind_follows : (hs : Handshake) (kind : HsKind) → Follows r (by_kind secret names peer moment hs kind) (by_kind secret others peer moment hs kind)
+  kind_follows hs kinds.Induction h = h
+  kind_follows hs kinds.WaveHand h = h
+  kind_follows hs kinds.Conclusion h = by_test r (is_right secret peer moment hs.cookie) _ _ _ _ (conclusion_follows hs) (λ e. e) h
+  kind_follows hs kinds.Agreement h = h
+  kind_follows hs kinds.Done h = h
+  kind_follows hs (kinds.Refusal number) h = h
+
+  handshake_follows : (hs : Result Handshake HsFault) → Follows r (of_handshake secret names peer moment hs) (of_handshake secret others peer moment hs)
+  handshake_follows (Ok hs) h = kind_follows hs hs.kind h
+  handshake_follows (Err fault) h = h
+
+  body_follows : (body : Body) → Follows r (of_body secret names peer moment body) (of_body secret others peer moment body)
+  body_follows (packets.Data number encryption payload) h = h
+  body_follows (packets.Handshake info) h = handshake_follows (handshake_in info) h
+  body_follows packets.KeepAlive h = h
+  body_follows (packets.Ack number info) h = h
+  body_follows (packets.Nak info) h = h
+  body_follows packets.CongestionWarning h = h
+  body_follows packets.Shutdown h = h
+  body_follows (packets.AckAck number) h = h
+  body_follows (packets.DropRequest message first last) h = h
+  body_follows packets.PeerError h = h
+  body_follows packets.UserDefined h = h
+
+record IsPlace (routes place r : ℕ) : Type 0 where
+  is : place ≡ r + 1
+  inside : r < routes
+
+place_is : (routes place r : ℕ) → by_place routes place ≡ Route r → IsPlace routes place r
+place_is routes place r h = by_cases (nat_lt 0 place) refl (nat_le place routes) refl h
+  where
+    by_cases : (a : Bool) → nat_lt 0 place ≡ a → (b : Bool) → nat_le place routes ≡ b → cond (a && b) (Route (place - 1)) (Dropped causes.UnknownId) ≡ Route r → IsPlace routes place r
+    by_cases true p true q h =
+        let e : place - 1 ≡ r = cc in
+        record { is = grind (arith, nat_tests); inside = grind (arith, nat_tests) }
+    by_cases true p false q h = cc
+    by_cases false p b q h = cc
+
+place_goes : (routes place r : ℕ) → IsPlace routes place r → by_place routes place ≡ Route r
+place_goes routes place r h = grind (arith, nat_tests, h.is, h.inside)
+
+session_follows : (names others : List (List ℕ)) (r : ℕ) (name : List ℕ) (have : HasRoute others r name) (dest : ℕ) → Follows r (to_session (length names) dest) (to_session (length others) dest)
+session_follows names others r name have dest h =
+    place_goes (length others) (dest / 2 ^ 20) r (record { is = (place_is (length names) (dest / 2 ^ 20) r h).is; inside = slice_get_within others r name have.named })
+
+packet_follows : (secret : List ℕ) (names others : List (List ℕ)) (r : ℕ) (name : List ℕ) → HasRoute names r name → HasRoute others r name → (peer : Peer) (moment : ℕ) (packet : Result Packet PacketFault) →
+    Follows r (of_packet secret names peer moment packet) (of_packet secret others peer moment packet)
+packet_follows secret names others r name has have peer moment (Ok packet) h =
+    by_test r (packet.dest == 0) _ _ _ _ (body_follows secret names others r name has have peer moment packet.body) (session_follows names others r name have packet.dest) h
+packet_follows secret names others r name has have peer moment (Err fault) h = h
+
+pub own : RouteIsItsOwn
+unfolding class_of
+own secret names others r name has have datagram moment = (
+  packet_follows secret names others r name has have datagram.peer moment (packet_in datagram.bytes),
+  packet_follows secret others names r name have has datagram.peer moment (packet_in datagram.bytes),
+)
+
+-- of a route that there is
+abbrev Inside : (names : List (List ℕ)) (r : ℕ) → Class → Type 0
+Inside names r x = x ≡ Route r → r < length names
+
+either : (names : List (List ℕ)) (r : ℕ) (b : Bool) (x y : Class) → Inside names r x → Inside names r y → Inside names r (cond b x y)
+either names r true x y p q = p
+either names r false x y p q = q
+
+module _ (secret : List ℕ) (names : List (List ℕ)) (r : ℕ) (peer : Peer) (moment : ℕ) where
+  named_inside : (bytes : List ℕ) (ask : Result Ask AskFault) → route_named names bytes ask ≡ Some r → r < length names
+  named_inside bytes (Ok ask) h = (position-Some (λ other. bytes_eq (name_of bytes ask) other) names r [] h).0
+  named_inside bytes (Err fault) h = cc
+
+  asked_inside : (id : Option (List ℕ)) → route_asked names id ≡ Some r → r < length names
+  asked_inside (Some bytes) h = named_inside bytes (ask_in bytes) h
+  asked_inside None h = cc
+
+  reason_inside : (hs : Handshake) (reason : Option RefusalCode) → Inside names r (by_reason names hs reason)
+  reason_inside hs (Some code) h = absurd (never_answered r hs _ h)
+  reason_inside hs None h = asked_inside hs.blocks.stream_id (route_is hs r (route_asked names hs.blocks.stream_id) h)
+
+  conclusion_inside : (hs : Handshake) → Inside names r (of_conclusion names hs)
+  unfolding of_conclusion
+  conclusion_inside hs = reason_inside hs (reason_of hs)
+
+  kind_inside : (hs : Handshake) (kind : HsKind) → Inside names r (by_kind secret names peer moment hs kind)
+  kind_inside hs kinds.Induction h = absurd (never_answered r hs _ h)
+  kind_inside hs kinds.WaveHand h = cc
+  kind_inside hs kinds.Conclusion h = either names r (is_right secret peer moment hs.cookie) _ _ (conclusion_inside hs) (λ e. cc) h
+  kind_inside hs kinds.Agreement h = cc
+  kind_inside hs kinds.Done h = cc
+  kind_inside hs (kinds.Refusal number) h = cc
+
+  handshake_inside : (hs : Result Handshake HsFault) → Inside names r (of_handshake secret names peer moment hs)
+  handshake_inside (Ok hs) h = kind_inside hs hs.kind h
+  handshake_inside (Err fault) h = cc
+
+  body_inside : (body : Body) → Inside names r (of_body secret names peer moment body)
+  body_inside (packets.Data number encryption payload) h = cc
+  body_inside (packets.Handshake info) h = handshake_inside (handshake_in info) h
+  body_inside packets.KeepAlive h = cc
+  body_inside (packets.Ack number info) h = cc
+  body_inside (packets.Nak info) h = cc
+  body_inside packets.CongestionWarning h = cc
+  body_inside packets.Shutdown h = cc
+  body_inside (packets.AckAck number) h = cc
+  body_inside (packets.DropRequest message first last) h = cc
+  body_inside packets.PeerError h = cc
+  body_inside packets.UserDefined h = cc
+
+  packet_inside : (packet : Result Packet PacketFault) → Inside names r (of_packet secret names peer moment packet)
+  packet_inside (Ok packet) h = either names r (packet.dest == 0) _ _ (body_inside packet.body) (λ e. (place_is (length names) (packet.dest / 2 ^ 20) r e).inside) h
+  packet_inside (Err fault) h = cc
+
+pub inside : RouteIsNamed
+unfolding class_of
+inside secret names datagram moment r h = packet_inside secret names r datagram.peer moment (packet_in datagram.bytes) h
+
+no_route : (secret : List ℕ) (names : List (List ℕ)) (peer : Peer) (moment r : ℕ) (packet : Result Packet PacketFault) (fault : PacketFault) → packet ≡ Err fault → of_packet secret names peer moment packet ≡ Route r → ⊥
+no_route secret names peer moment r packet fault e h =
+    let dropped : of_packet secret names peer moment packet ≡ Dropped causes.Packet = ap (of_packet secret names peer moment) e in
+    cc
+
+packet_is_short : (bytes : List ℕ) → length bytes < 16 → packet_in bytes ≡ Err faults.Short
+packet_is_short bytes h = grind (arith, nat_tests)
+
+not_less : (n : ℕ) → (n < 16 → ⊥) → 16 ≤ n
+not_less n f = omega (arith, f)
+
+pub header : RouteHasHeader
+unfolding class_of
+header secret names datagram moment r h = not_less (length datagram.bytes) (λ short. no_route secret names datagram.peer moment r (packet_in datagram.bytes) faults.Short (packet_is_short datagram.bytes short) h)

@@ -1,0 +1,4 @@
+pub mod Finds
+pub mod Distinct
+pub mod Kept
+pub mod Bytes

@@ -1,0 +1,5 @@
+pub mod Numbers
+pub mod Opening
+pub mod Names
+pub mod Lobby
+pub mod Laws

@@ -1,0 +1,107 @@
+-- What the lobby makes of an arrival. It looks at the secret, the names of the routes and the arrival, and at nothing else.
+-- The order of the tests is this profile's.
+use Rattle.std.specs.Prelude.{ℕ, ◌-◌, ◌/◌, ◌^◌, List, length, Option, None, Some, is_some, not, Result, Ok, Err, nat_le, nat_lt, ◌==◌, ◌++◌, ◌&&◌, ◌||◌, if◌then◌else◌}
+use Rattle.srt_seq.specs.declared.shared.Peer.{Peer}
+use Rattle.srt_seq.specs.Items.{Datagram}
+use Rattle.srt_seq.specs.Words.{word}
+use Rattle.srt_packet.specs.declared.reading.PacketFault.{PacketFault}
+use Rattle.srt_packet.specs.Grammar as packets
+use Rattle.srt_packet.specs.Grammar.{Packet, Body}
+use Rattle.srt_packet.specs.Reading.{packet_in}
+use Rattle.srt_hs.specs.declared.handshake.HsKind.{HsKind}
+use Rattle.srt_hs.specs.declared.handshake.HsKind.TheVariants as kinds
+use Rattle.srt_hs.specs.declared.handshake.HsFault.{HsFault}
+use Rattle.srt_hs.specs.declared.writing.HsAnswer.{HsAnswer}
+use Rattle.srt_hs.specs.declared.writing.AnswerKind.{AnswerKind}
+use Rattle.srt_hs.specs.declared.writing.AnswerKind.TheVariants as answers
+use Rattle.srt_hs.specs.declared.writing.RefusalCode.{RefusalCode}
+use Rattle.srt_hs.specs.declared.writing.RefusalCode.TheVariants as codes
+use Rattle.srt_hs.specs.Grammar.{Handshake}
+use Rattle.srt_hs.specs.Reading.{handshake_in}
+use Rattle.srt_hs.specs.Text.{answer_text}
+use Rattle.srt_streamid.specs.declared.reading.Ask.{Ask}
+use Rattle.srt_streamid.specs.declared.reading.AskFault.{AskFault}
+use Rattle.srt_streamid.specs.Reading.{ask_in, name_of}
+use Rattle.srt_cookie.specs.Cookie.{cookie_of, is_right, minute_of}
+use Rattle.srt_lobby.specs.declared.classes.Class.{Class}
+use Rattle.srt_lobby.specs.declared.classes.Class.TheVariants.{Answer, Route, Dropped}
+use Rattle.srt_lobby.specs.declared.classes.Cause.TheVariants as causes
+use Rattle.srt_lobby.specs.Names.{index_of}
+
+-- the 64 bytes of an answer: a handshake packet (section 3.2) with timestamp 0, to the caller's socket
+abbrev pub answer_bytes : (id : ℕ) → HsAnswer → List ℕ
+answer_bytes id answer = word 0x8000_0000 ++ word 0 ++ word 0 ++ word id ++ answer_text answer
+
+-- a handshake is answered so; the caller's initial number is repeated as it came
+unfoldable pub answered : Handshake → AnswerKind → Class
+answered hs what = Answer (answer_bytes hs.id (record { initial = hs.initial; what = what }))
+
+abbrev pub refused : Handshake → RefusalCode → Class
+refused hs code = answered hs (answers.Refusal code)
+
+-- why a conclusion is refused whatever route it asks for: not version 5, a false number or no HSREQ, encryption,
+-- a packet filter, a connection group (section 4.3, table 7)
+unfoldable pub reason_of : Handshake → Option RefusalCode
+reason_of hs =
+    if not (hs.version == 5) then Some codes.Version
+    else if nat_le (2 ^ 31) hs.initial || not (is_some hs.blocks.hsreq) then Some codes.Rogue
+    else if hs.blocks.has_kmreq then Some codes.Unsecure
+    else if hs.blocks.has_filter then Some codes.Filter
+    else if hs.blocks.has_group then Some codes.Group
+    else None
+
+-- the index of the route that these bytes ask for, in either role
+abbrev pub route_named : (names : List (List ℕ)) → (bytes : List ℕ) → Result Ask AskFault → Option ℕ
+route_named names bytes (Ok ask) = index_of names (name_of bytes ask)
+route_named names bytes (Err fault) = None
+
+-- the index of the route that a Stream ID asks for, where there is one (appendix B)
+abbrev pub route_asked : (names : List (List ℕ)) → Option (List ℕ) → Option ℕ
+route_asked names (Some bytes) = route_named names bytes (ask_in bytes)
+route_asked names None = None
+
+-- a conclusion that asks for this route, or for none
+abbrev pub by_route : Handshake → Option ℕ → Class
+by_route hs (Some r) = Route r
+by_route hs None = refused hs codes.Peer
+
+-- a conclusion that is refused for this reason, or for none yet
+abbrev pub by_reason : (names : List (List ℕ)) → Handshake → Option RefusalCode → Class
+by_reason names hs (Some code) = refused hs code
+by_reason names hs None = by_route hs (route_asked names hs.blocks.stream_id)
+
+-- a conclusion whose cookie is right
+unfoldable pub of_conclusion : (names : List (List ℕ)) → Handshake → Class
+of_conclusion names hs = by_reason names hs (reason_of hs)
+
+-- a handshake of this type (section 4.3.1)
+abbrev pub by_kind : (secret : List ℕ) → (names : List (List ℕ)) → Peer → (moment : ℕ) → Handshake → HsKind → Class
+by_kind secret names peer moment hs kinds.Induction = answered hs (answers.Induction (cookie_of secret peer (minute_of moment)))
+by_kind secret names peer moment hs kinds.Conclusion = if is_right secret peer moment hs.cookie then of_conclusion names hs else Dropped causes.WrongCookie
+by_kind secret names peer moment hs _ = Dropped causes.WrongKind
+
+abbrev pub of_handshake : (secret : List ℕ) → (names : List (List ℕ)) → Peer → (moment : ℕ) → Result Handshake HsFault → Class
+of_handshake secret names peer moment (Ok hs) = by_kind secret names peer moment hs hs.kind
+of_handshake secret names peer moment (Err fault) = Dropped causes.Handshake
+
+-- what has no destination is a handshake
+abbrev pub of_body : (secret : List ℕ) → (names : List (List ℕ)) → Peer → (moment : ℕ) → Body → Class
+of_body secret names peer moment (packets.Handshake info) = of_handshake secret names peer moment (handshake_in info)
+of_body secret names peer moment _ = Dropped causes.NotHandshake
+
+-- the route of this index plus 1, where there are so many
+abbrev pub by_place : (routes place : ℕ) → Class
+by_place routes place = if nat_lt 0 place && nat_le place routes then Route (place - 1) else Dropped causes.UnknownId
+
+-- a session's socket ID tells its route: the index plus 1 stands at bit 20 (this profile)
+abbrev pub to_session : (routes dest : ℕ) → Class
+to_session routes dest = by_place routes (dest / 2 ^ 20)
+
+abbrev pub of_packet : (secret : List ℕ) → (names : List (List ℕ)) → Peer → (moment : ℕ) → Result Packet PacketFault → Class
+of_packet secret names peer moment (Ok packet) =
+    if packet.dest == 0 then of_body secret names peer moment packet.body else to_session (length names) packet.dest
+of_packet secret names peer moment (Err fault) = Dropped causes.Packet
+
+-- what the lobby makes of an arrival
+unfoldable pub class_of : (secret : List ℕ) → (names : List (List ℕ)) → Datagram → (moment : ℕ) → Class
+class_of secret names datagram moment = of_packet secret names datagram.peer moment (packet_in datagram.bytes)

@@ -1,0 +1,178 @@
+//! What becomes of an arrival.
+
+ghost use Rattle.std.specs.Prelude.{◌≡◌, ℕ, ◌^◌, ◌<◌, ◌≤◌, [], length};
+ghost use Rattle.srt_seq.specs.Items.{Datagram};
+ghost use Rattle.srt_packet.specs.View.{packet_of};
+ghost use Rattle.srt_packet.specs.Reading.{packet_in};
+ghost use Rattle.srt_hs.specs.Text.{blocks_text};
+ghost use Rattle.srt_hs.specs.View.{handshake_of};
+ghost use Rattle.srt_hs.specs.Reading.{handshake_in};
+ghost use Rattle.srt_streamid.specs.Reading.{ask_in};
+ghost use Rattle.srt_cookie.specs.Cookie.{secret_bytes};
+ghost use Rattle.srt_lobby.specs.Names.{names_of};
+ghost use Rattle.srt_lobby.specs.Lobby.{answer_bytes, answered as is_answered, refused as is_refused, reason_of, route_named, route_asked, by_kind, of_conclusion, of_handshake, of_body, to_session, of_packet, class_of};
+
+use crate::{Cause, Class, Names};
+use srt_cookie::{Secret, cookie, right};
+use srt_hs::{AnswerKind, HsAnswer, HsKind, HsRef, RefusalCode, stream_id, write};
+use srt_packet::{Kind, PacketRef, decode};
+use srt_seq::{Peer, write_at};
+
+const MICROSECONDS_OF_A_MINUTE: u64 = 60_000_000;
+
+/// The packet of an answer, to this socket.
+fn answer(id: u32, initial: u32, what: AnswerKind) -> [u8; 64]
+    requires { blocks_text what ≡ [] }
+    ensures { result ≡ answer_bytes id (record { initial = initial; what = what }) }
+{
+    let mut text = [0; 84];
+    let len = write(&HsAnswer { initial, what }, &mut text);
+    let mut out = [0; 64];
+    let end = write_at(&mut out, 0, &[0x80, 0, 0, 0, 0, 0, 0, 0, 0, 0, 0, 0]);
+    let end = write_at(&mut out, end, &id.to_be_bytes());
+    write_at(&mut out, end, &text[..len]);
+    out
+}
+
+#[tactic(auto, unfolding(crate::specs::Lobby::answered))]
+fn answered(hs: &HsRef<'_>, what: AnswerKind) -> Class
+    requires { blocks_text what ≡ [] }
+    ensures { result ≡ is_answered (handshake_of hs.now) what }
+{
+    Class::Answer(answer(hs.id, hs.initial, what))
+}
+
+fn refused(hs: &HsRef<'_>, code: RefusalCode) -> Class
+    ensures { result ≡ is_refused (handshake_of hs.now) code }
+{
+    answered(hs, AnswerKind::Refusal(code))
+}
+
+/// Why a conclusion is refused, whatever it asks for.
+#[tactic(auto, unfolding(crate::specs::Lobby::reason_of))]
+fn reason(hs: &HsRef<'_>) -> Option<RefusalCode>
+    ensures { result ≡ reason_of (handshake_of hs.now) }
+{
+    if hs.version != 5 {
+        Some(RefusalCode::Version)
+    } else if hs.initial >= 1 << 31 || hs.blocks.hsreq.is_none() {
+        Some(RefusalCode::Rogue)
+    } else if hs.blocks.has_kmreq {
+        Some(RefusalCode::Unsecure)
+    } else if hs.blocks.has_filter {
+        Some(RefusalCode::Filter)
+    } else if hs.blocks.has_group {
+        Some(RefusalCode::Group)
+    } else {
+        None
+    }
+}
+
+/// The index of the route that a Stream ID asks for.
+fn route_by_text(names: &Names, bytes: &[u8]) -> Option<usize>
+    ensures { result ≡ route_named (names_of names.now) bytes.now (ask_in bytes.now) }
+{
+    match srt_streamid::read(bytes) {
+        Ok(ask) => names.find(&bytes[ask.start..ask.start + ask.len]),
+        Err(_) => None,
+    }
+}
+
+/// The index of the route that a conclusion asks for.
+fn route_of(names: &Names, hs: &HsRef<'_>) -> Option<usize>
+    ensures { result ≡ route_asked (names_of names.now) (handshake_of hs.now).blocks.stream_id }
+{
+    let mut text = [0; 512];
+    match stream_id(hs, &mut text) {
+        Some(len) => route_by_text(names, &text[..len]),
+        None => None,
+    }
+}
+
+/// What becomes of a conclusion whose cookie is right.
+#[tactic(auto, unfolding(crate::specs::Lobby::of_conclusion))]
+fn of_conclusion(names: &Names, hs: &HsRef<'_>) -> Class
+    ensures { result ≡ of_conclusion (names_of names.now) (handshake_of hs.now) }
+{
+    if let Some(code) = reason(hs) {
+        return refused(hs, code);
+    }
+    match route_of(names, hs) {
+        Some(route) => Class::Route(route),
+        None => refused(hs, RefusalCode::Peer),
+    }
+}
+
+fn of_handshake(secret: &Secret, names: &Names, peer: Peer, moment: u64, hs: &HsRef<'_>) -> Class
+    ensures { result ≡ by_kind (secret_bytes secret.now) (names_of names.now) peer moment (handshake_of hs.now) hs.now.kind }
+{
+    match hs.kind {
+        HsKind::Induction => {
+            let cookie = cookie(secret, peer, moment / MICROSECONDS_OF_A_MINUTE);
+            answered(hs, AnswerKind::Induction(cookie))
+        }
+        HsKind::Conclusion => {
+            if right(secret, peer, moment, hs.cookie) {
+                of_conclusion(names, hs)
+            } else {
+                Class::Dropped(Cause::WrongCookie)
+            }
+        }
+        _ => Class::Dropped(Cause::WrongKind),
+    }
+}
+
+/// What becomes of a handshake packet without a destination.
+fn of_info(secret: &Secret, names: &Names, peer: Peer, moment: u64, info: &[u8]) -> Class
+    ensures { result ≡ of_handshake (secret_bytes secret.now) (names_of names.now) peer moment (handshake_in info.now) }
+{
+    match srt_hs::read(info) {
+        Ok(hs) => of_handshake(secret, names, peer, moment, &hs),
+        Err(_) => Class::Dropped(Cause::Handshake),
+    }
+}
+
+/// What becomes of a packet to this socket ID, which isn't 0.
+fn to_session(names: &Names, dest: u32) -> Class
+    ensures { result ≡ to_session (length (names_of names.now)) dest }
+{
+    let place = (dest >> 20) as usize;
+    if 0 < place && place <= names.count() {
+        Class::Route(place - 1)
+    } else {
+        Class::Dropped(Cause::UnknownId)
+    }
+}
+
+fn of_packet(
+    secret: &Secret,
+    names: &Names,
+    peer: Peer,
+    moment: u64,
+    packet: PacketRef<'_>,
+) -> Class
+    ensures { result ≡ of_packet (secret_bytes secret.now) (names_of names.now) peer moment (Ok (packet_of packet.entry)) }
+{
+    if packet.dest != 0 {
+        return to_session(names, packet.dest);
+    }
+    match packet.kind {
+        Kind::Handshake { info } => of_info(secret, names, peer, moment, info),
+        _ => Class::Dropped(Cause::NotHandshake),
+    }
+}
+
+/// What becomes of an arrival at this moment, in microseconds. Takes no memory, and looks at nothing but
+/// what it is given.
+#[tactic(auto, unfolding(crate::specs::Lobby::class_of))]
+pub fn classify(secret: &Secret, names: &Names, peer: Peer, bytes: &[u8], moment: u64) -> Class
+    requires { moment < 2 ^ 62 }
+    ensures class { result ≡ class_of (secret_bytes secret.now) (names_of names.now) (record { peer = peer; bytes = bytes.now }) moment }
+    // What is for a route has a whole header.
+    ensures header { (r : ℕ) → result ≡ Class.Route r → 16 ≤ length bytes.now }
+{
+    match decode(bytes) {
+        Ok(packet) => of_packet(secret, names, peer, moment, packet),
+        Err(_) => Class::Dropped(Cause::Packet),
+    }
+}

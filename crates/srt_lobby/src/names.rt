@@ -1,0 +1,62 @@
+//! The names of the routes.
+
+use crate::opening::fault;
+use indexmap::IndexSet;
+use srt_seq::{Entry, OpenFault};
+use std::alloc::{AllocError, Global};
+
+/// The names of the routes, each with the route's index. To find one takes a look-up, however many there are.
+#[derive(Drop)]
+pub struct Names {
+    pub(crate) set: IndexSet<Vec<u8>>,
+}
+
+impl Names {
+    ghost use Rattle.std.specs.Prelude.{◌≡◌, true, None, Some, Err, IfOk, IfErr, map, length};
+    ghost use Rattle.srt_seq.specs.declared.shared.OpenFault.{OpenFault as TheFault};
+    ghost use Rattle.srt_seq.specs.Terms.{terms_of};
+    ghost use Rattle.srt_lobby.specs.Opening.{are_names, fault_of};
+    ghost use Rattle.srt_lobby.specs.Names.{name_of, names_of, index_of};
+
+    fn copied(alloc: Global, entries: &[Entry]) -> Result<Names, AllocError>
+        requires { are_names (map terms_of entries.now) ≡ true }
+        ensures { IfOk result (λ names. names_of names ≡ map name_of (map terms_of entries.now)) }
+    {
+        let mut set = IndexSet::new(alloc);
+        for entry in entries {
+            let name = Vec::from_slice(alloc, entry.name.as_bytes())?;
+            set.insert(name)?;
+        }
+        Ok(Names { set })
+    }
+
+    /// The names of these entries, of which there are 1 to 511. Nothing is kept after a fault.
+    pub fn open(alloc: Global, entries: &[Entry]) -> Result<Names, OpenFault>
+        ensures opened { IfOk result (λ names. names_of names ≡ map name_of (map terms_of entries.now)) }
+        ensures sound { IfOk result (λ _. fault_of (map terms_of entries.now) ≡ None) }
+        ensures fault { (fault : TheFault) → fault_of (map terms_of entries.now) ≡ Some fault → result ≡ Err fault }
+        ensures memory { fault_of (map terms_of entries.now) ≡ None → IfErr result (λ fault. fault ≡ OpenFault.OutOfMemory) }
+    {
+        if let Some(fault) = fault(entries) {
+            return Err(fault);
+        }
+        match Names::copied(alloc, entries) {
+            Ok(names) => Ok(names),
+            Err(_) => Err(OpenFault::OutOfMemory),
+        }
+    }
+
+    /// How many there are.
+    pub(crate) fn count(&self) -> usize
+        ensures { result ≡ length (names_of self.now) }
+    {
+        self.set.len()
+    }
+
+    /// The index of the route with this name.
+    pub(crate) fn find(&self, name: &[u8]) -> Option<usize>
+        ensures { result ≡ index_of (names_of self.now) name.now }
+    {
+        self.set.get_index_of(name)
+    }
+}

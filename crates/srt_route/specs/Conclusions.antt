@@ -1,0 +1,69 @@
+-- What a route reads of a conclusion (sections 3.2.1 and 4.3.1.2). Its cookie, the route's name, and the blocks that
+-- a caller is refused for at once are not looked at again.
+use Rattle.std.specs.Prelude.{ℕ, ◌/◌, ◌%◌, ◌^◌, Bool, true, false, Option, None, Some, option_map, List, Result, Ok, Err, nat_lt, ◌==◌, ◌&&◌, if◌then◌else◌}
+use Rattle.arrayvec.specs.ArrayVec.{ArrayVec}
+use Rattle.srt_seq.specs.declared.shared.Role.{Role}
+use Rattle.srt_hs.specs.declared.handshake.HsKind.{HsKind}
+use Rattle.srt_hs.specs.declared.handshake.HsKind.TheVariants as kinds
+use Rattle.srt_hs.specs.declared.handshake.HsReq.{HsReq}
+use Rattle.srt_hs.specs.declared.handshake.HsFault.{HsFault}
+use Rattle.srt_hs.specs.Grammar.{Handshake}
+use Rattle.srt_hs.specs.Reading.{handshake_in}
+use Rattle.srt_streamid.specs.declared.reading.Ask.{Ask}
+use Rattle.srt_streamid.specs.declared.reading.AskFault.{AskFault}
+use Rattle.srt_streamid.specs.Reading.{ask_in}
+use Rattle.srt_route.specs.declared.conclusions.Conclusion.{Conclusion}
+
+-- the flag STREAM (section 3.2.1.1.1)
+abbrev pub wants_stream : (flags : ℕ) → Bool
+wants_stream flags = flags / 2 ^ 6 % 2 == 1
+
+abbrev pub words_of : Option (List ℕ) → Option (ArrayVec ℕ)
+words_of words = option_map (λ ws. record { items = ws }) words
+
+abbrev pub with_role : Handshake → HsReq → Role → Conclusion
+with_role hs req role =
+    record {
+      initial = hs.initial;
+      mtu = hs.mtu;
+      window = hs.window;
+      caller = hs.id;
+      wants_stream = wants_stream req.flags;
+      receiver_ms = req.receiver_ms;
+      sender_ms = req.sender_ms;
+      role = role;
+      congestion = words_of hs.blocks.congestion;
+    }
+
+-- what a Stream ID asks for, where it reads (appendix B)
+abbrev pub role_in : Result Ask AskFault → Option Role
+role_in (Ok ask) = Some ask.role
+role_in (Err fault) = None
+
+abbrev pub role_asked : Option (List ℕ) → Option Role
+role_asked None = None
+role_asked (Some bytes) = role_in (ask_in bytes)
+
+-- with an HSREQ and a Stream ID that reads
+abbrev pub with_blocks : Handshake → Option HsReq → Option Role → Option Conclusion
+with_blocks hs (Some req) (Some role) = Some (with_role hs req role)
+with_blocks hs (Some req) None = None
+with_blocks hs None role = None
+
+abbrev pub is_conclusion : HsKind → Bool
+is_conclusion kinds.Conclusion = true
+is_conclusion _ = false
+
+-- of version 5, with a sequence number to start from
+unfoldable pub conclusion_of : Handshake → Option Conclusion
+conclusion_of hs =
+    if is_conclusion hs.kind && hs.version == 5 && nat_lt hs.initial (2 ^ 31)
+    then with_blocks hs hs.blocks.hsreq (role_asked hs.blocks.stream_id) else None
+
+abbrev pub conclusion_read : Result Handshake HsFault → Option Conclusion
+conclusion_read (Ok hs) = conclusion_of hs
+conclusion_read (Err fault) = None
+
+-- the conclusion that the bytes after a packet's header are
+unfoldable pub conclusion_in : List ℕ → Option Conclusion
+conclusion_in info = conclusion_read (handshake_in info)

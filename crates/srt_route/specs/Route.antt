@@ -1,0 +1,173 @@
+-- A route, from all that it was told. Lists of items and of sessions have the newest first, replies the oldest.
+use Rattle.std.specs.Prelude.{ℕ, ◌+◌, ◌*◌, ◌≤◌, Bool, true, false, Option, None, Some, Result, Ok, Err, List, [], ◌∷◌, length, map, max, find, not, nat_lt, ◌==◌, ◌&&◌, ◌||◌, if◌then◌else◌}
+use Rattle.std.specs.List.{list_any}
+use Rattle.srt_seq.specs.declared.shared.Peer.{Peer}
+use Rattle.srt_seq.specs.declared.shared.Mode.{Mode}
+use Rattle.srt_seq.specs.declared.shared.Mode.TheVariants.{Live, Buffer}
+use Rattle.srt_seq.specs.Terms.{Terms}
+use Rattle.srt_seq.specs.Items.{Datagram, Item, Received, Tick, moment_of}
+use Rattle.srt_packet.specs.declared.reading.PacketFault.{PacketFault}
+use Rattle.srt_packet.specs.declared.writing.Body.TheVariants as out
+use Rattle.srt_packet.specs.Grammar.{Packet, Body, Handshake, Shutdown}
+use Rattle.srt_packet.specs.Reading.{packet_in}
+use Rattle.srt_packet.specs.Text.{text}
+use Rattle.srt_hs.specs.declared.writing.HsAnswer.{HsAnswer}
+use Rattle.srt_hs.specs.declared.writing.AnswerKind.TheVariants as answers
+use Rattle.srt_hs.specs.declared.writing.RefusalCode.{RefusalCode}
+use Rattle.srt_hs.specs.declared.writing.RefusalCode.TheVariants as codes
+use Rattle.srt_hs.specs.Text.{answer_text}
+use Rattle.srt_route.specs.declared.conclusions.Conclusion.{Conclusion}
+use Rattle.srt_route.specs.Conclusions.{conclusion_in}
+use Rattle.srt_route.specs.Sessions.{Session, is_same_peer, session_id, answer_of, publishes, is_publisher, free_slot, generation_of}
+
+-- every session that was ever opened, and the clock
+pub record Route : Type 0 where
+  pub clock : ℕ
+  pub sessions : List Session
+
+abbrev pub opened : Route
+opened = record { clock = 0; sessions = [] }
+
+-- what is sent: to the socket with this ID this answer to its handshake
+pub data Output : Type 0 where
+  Answers : (caller : ℕ) (answer : HsAnswer) → Output
+
+pub record Reply : Type 0 where
+  pub peer : Peer
+  pub packet : Output
+
+-- its bytes. The timestamp of a handshake is 0 (this profile)
+abbrev pub output_text : Output → List ℕ
+output_text (Answers caller answer) = text (record { stamp = 0; dest = caller; body = out.Handshake (record { items = answer_text answer }) })
+
+abbrev pub sent : Reply → Datagram
+sent r = record { peer = r.peer; bytes = output_text r.packet }
+
+-- the sessions after an item, and the answers to it
+pub record Taken : Type 0 where
+  pub sessions : List Session
+  pub answers : List Reply
+
+abbrev pub nothing_taken : List Session → Taken
+nothing_taken sessions = record { sessions = sessions; answers = [] }
+
+-- time never goes back (this profile)
+abbrev pub clock_after : Item → Route → ℕ
+clock_after item route = max route.clock (moment_of item)
+
+abbrev pub answered : Peer → (caller : ℕ) → HsAnswer → List Reply
+answered peer caller answer = record { peer = peer; packet = Answers caller answer } ∷ []
+
+-- a conclusion is refused for this reason (section 4.3)
+abbrev pub refusal : Conclusion → RefusalCode → HsAnswer
+refusal c reason = record { initial = c.initial; what = answers.Refusal reason }
+
+abbrev pub is_buffer : Mode → Bool
+is_buffer Live = false
+is_buffer Buffer = true
+
+abbrev pub differ : Bool → Bool → Bool
+differ true b = not b
+differ false b = b
+
+-- what keeps a conclusion from opening a session, the first that applies (this profile)
+abbrev pub refused : Mode → (has_publisher : Bool) → Conclusion → Option RefusalCode
+refused mode has_publisher c =
+    if differ c.wants_stream (is_buffer mode) then Some codes.MessageApi
+    else if nat_lt c.mtu 76 || c.window == 0 || (not (publishes c.role) && is_buffer mode && nat_lt c.mtu 1500) then Some codes.Rogue
+    else if publishes c.role && has_publisher then Some codes.Peer else None
+
+abbrev pub session_opened : (clock : ℕ) → Peer → (stamp : ℕ) → Conclusion → (slot generation : ℕ) → Session
+session_opened clock peer stamp c slot generation =
+    record { slot = slot; generation = generation; peer = peer; stamp = stamp; conclusion = c; opening = clock; heard = clock; is_open = true }
+
+abbrev pub with_session : Terms → (index : ℕ) → Session → List Session → Taken
+with_session e index s sessions = record { sessions = s ∷ sessions; answers = answered s.peer s.conclusion.caller (answer_of e index s) }
+
+-- a session opens in the least free slot (this profile)
+abbrev pub opens : Terms → (index clock : ℕ) → Peer → (stamp : ℕ) → Conclusion → List Session → Option ℕ → Taken
+opens e index clock peer stamp c sessions None = record { sessions = sessions; answers = answered peer c.caller (refusal c codes.Resource) }
+opens e index clock peer stamp c sessions (Some slot) = with_session e index (session_opened clock peer stamp c slot (generation_of sessions slot)) sessions
+
+abbrev pub considered : Terms → (index clock : ℕ) → Peer → (stamp : ℕ) → Conclusion → List Session → Option RefusalCode → Taken
+considered e index clock peer stamp c sessions (Some reason) = record { sessions = sessions; answers = answered peer c.caller (refusal c reason) }
+considered e index clock peer stamp c sessions None = opens e index clock peer stamp c sessions (free_slot e sessions)
+
+-- an open session of this caller
+abbrev pub is_of : Peer → (caller : ℕ) → Session → Bool
+is_of peer caller s = s.is_open && is_same_peer s.peer peer && s.conclusion.caller == caller
+
+abbrev pub heard_if : Bool → (clock : ℕ) → Session → Session
+heard_if mine clock s = if mine then record s { heard = clock } else s
+
+-- a conclusion that comes again is answered again, with the same bytes (section 4.3.1.2)
+abbrev pub concluded : Terms → (index clock : ℕ) → Peer → (stamp : ℕ) → Conclusion → List Session → Option Session → Taken
+concluded e index clock peer stamp c sessions (Some s) =
+    record { sessions = map (λ t. heard_if (is_of peer c.caller t) clock t) sessions; answers = answered peer c.caller (answer_of e index s) }
+concluded e index clock peer stamp c sessions None = considered e index clock peer stamp c sessions (refused e.mode (list_any is_publisher sessions) c)
+
+-- a packet is the session's whose ID is its destination, if it is open and its peer is the sender (section 3)
+abbrev pub is_for : (index : ℕ) → Peer → (dest : ℕ) → Session → Bool
+is_for index peer dest s = s.is_open && is_same_peer s.peer peer && session_id index s == dest
+
+-- a shutdown ends a session (section 3.2.7)
+abbrev pub is_shutdown : Body → Bool
+is_shutdown Shutdown = true
+is_shutdown _ = false
+
+abbrev pub took : (clock : ℕ) → Body → Session → Session
+took clock body s = record s { heard = clock; is_open = not (is_shutdown body) }
+
+abbrev pub took_if : Bool → (clock : ℕ) → Body → Session → Session
+took_if mine clock body s = if mine then took clock body s else s
+
+abbrev pub arrived : (index clock : ℕ) → Peer → Packet → List Session → Taken
+arrived index clock peer packet sessions = nothing_taken (map (λ s. took_if (is_for index peer packet.dest s) clock packet.body s) sessions)
+
+abbrev pub with_conclusion : Terms → (index clock : ℕ) → Peer → (stamp : ℕ) → List Session → Option Conclusion → Taken
+with_conclusion e index clock peer stamp sessions None = nothing_taken sessions
+with_conclusion e index clock peer stamp sessions (Some c) = concluded e index clock peer stamp c sessions (find (is_of peer c.caller) sessions)
+
+-- of packets to no socket, conclusions alone are taken
+abbrev pub without_destination : Terms → (index clock : ℕ) → Peer → (stamp : ℕ) → Body → List Session → Taken
+without_destination e index clock peer stamp (Handshake info) sessions = with_conclusion e index clock peer stamp sessions (conclusion_in info)
+without_destination e index clock peer stamp _ sessions = nothing_taken sessions
+
+abbrev pub packet_taken : Terms → (index clock : ℕ) → Peer → Packet → List Session → Taken
+packet_taken e index clock peer packet sessions =
+    if packet.dest == 0
+    then without_destination e index clock peer packet.stamp packet.body sessions
+    else arrived index clock peer packet sessions
+
+-- what doesn't read changes nothing
+abbrev pub read_taken : Terms → (index clock : ℕ) → Peer → Result Packet PacketFault → List Session → Taken
+read_taken e index clock peer (Ok packet) sessions = packet_taken e index clock peer packet sessions
+read_taken e index clock peer (Err fault) sessions = nothing_taken sessions
+
+abbrev pub taken : Terms → (index clock : ℕ) → Item → List Session → Taken
+taken e index clock (Received datagram moment) sessions = read_taken e index clock datagram.peer (packet_in datagram.bytes) sessions
+taken e index clock (Tick moment) sessions = nothing_taken sessions
+
+abbrev pub taken_by : Terms → (index : ℕ) → Item → Route → Taken
+taken_by e index item route = taken e index (clock_after item route) item route.sessions
+
+-- the route after one item more, and the replies to it
+abbrev pub told_more : Terms → (index : ℕ) → Item → Route → Route
+told_more e index item route = record { clock = clock_after item route; sessions = (taken_by e index item route).sessions }
+
+abbrev pub replies_to : Terms → (index : ℕ) → Item → Route → List Reply
+replies_to e index item route = (taken_by e index item route).answers
+
+-- the route after these items
+abbrev pub after : Terms → (index : ℕ) → List Item → Route
+after e index [] = opened
+after e index (item ∷ items) = told_more e index item (after e index items)
+
+-- the datagrams that the newest item is answered with
+abbrev pub reply : Terms → (index : ℕ) → List Item → List Datagram
+reply e index [] = []
+reply e index (item ∷ items) = map sent (replies_to e index item (after e index items))
+
+-- they are no more than a route has places for
+abbrev pub RepliesHavePlaces : Type 0
+RepliesHavePlaces = (e : Terms) (index : ℕ) (items : List Item) → length (reply e index items) ≤ 4 + 66 * e.sessions

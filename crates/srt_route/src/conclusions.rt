@@ -1,0 +1,90 @@
+//! Conclusions (draft-sharabayko-srt-01, sections 3.2.1 and 4.3.1.2).
+
+ghost use Rattle.std.specs.Prelude.{◌≡◌};
+ghost use Rattle.srt_hs.specs.View.{handshake_of};
+ghost use Rattle.srt_route.specs.Conclusions.{conclusion_in, conclusion_of, is_conclusion, role_asked, words_of};
+
+use arrayvec::ArrayVec;
+use srt_hs::{HsKind, HsRef, congestion, read, stream_id};
+use srt_seq::Role;
+
+/// What a route reads of a conclusion.
+#[derive(Drop)]
+pub struct Conclusion {
+    /// The initial packet sequence number: below 2^31.
+    pub initial: u32,
+    /// The greatest packet, in bytes, with the headers of IP and UDP.
+    pub mtu: u32,
+    /// The flow window, in packets.
+    pub window: u32,
+    /// The caller's socket ID.
+    pub caller: u32,
+    /// The flag STREAM: the caller wants buffer mode.
+    pub wants_stream: bool,
+    /// The caller's delay as a receiver, in milliseconds.
+    pub receiver_ms: u16,
+    /// The caller's delay as a sender, in milliseconds.
+    pub sender_ms: u16,
+    /// What the caller wants of the route.
+    pub role: Role,
+    /// The words of the CONGESTION block as they came.
+    pub congestion: Option<ArrayVec<u32, 4>>,
+}
+
+fn is_conclusion(kind: HsKind) -> bool
+    ensures { result ≡ is_conclusion kind }
+{
+    matches!(kind, HsKind::Conclusion)
+}
+
+/// The role that a handshake's Stream ID asks for. None where there is no Stream ID, or one that doesn't read.
+fn role_asked(hs: &HsRef<'_>) -> Option<Role>
+    ensures { result ≡ role_asked (handshake_of hs.now).blocks.stream_id }
+{
+    let mut text = [0u8; 512];
+    let len = stream_id(hs, &mut text)?;
+    match srt_streamid::read(&text[..len]) {
+        Ok(ask) => Some(ask.role),
+        Err(_) => None,
+    }
+}
+
+fn words_of(hs: &HsRef<'_>) -> Option<ArrayVec<u32, 4>>
+    ensures { result ≡ words_of (handshake_of hs.now).blocks.congestion }
+{
+    congestion(hs)
+}
+
+#[tactic(auto, unfolding(crate::specs::Conclusions::conclusion_of))]
+fn conclusion_of(hs: &HsRef<'_>) -> Option<Conclusion>
+    ensures { result ≡ conclusion_of (handshake_of hs.now) }
+{
+    if !is_conclusion(hs.kind) || hs.version != 5 || hs.initial >= 1 << 31 {
+        return None;
+    }
+    let req = hs.blocks.hsreq?;
+    let role = role_asked(hs)?;
+    Some(Conclusion {
+        initial: hs.initial,
+        mtu: hs.mtu,
+        window: hs.window,
+        caller: hs.id,
+        wants_stream: (req.flags >> 6) & 1 == 1,
+        receiver_ms: req.receiver_ms,
+        sender_ms: req.sender_ms,
+        role,
+        congestion: words_of(hs),
+    })
+}
+
+/// The conclusion that the bytes after a packet's header are. None where they are no handshake, or one that no
+/// session can be opened with.
+#[tactic(auto, unfolding(crate::specs::Conclusions::conclusion_in))]
+pub fn conclusion_in(info: &[u8]) -> Option<Conclusion>
+    ensures { result ≡ conclusion_in info.now }
+{
+    match read(info) {
+        Ok(hs) => conclusion_of(&hs),
+        Err(_) => None,
+    }
+}

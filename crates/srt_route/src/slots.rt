@@ -1,0 +1,167 @@
+//! Places for sessions.
+
+ghost use Rattle.std.specs.Prelude.{◌≡◌, ℕ, ◌+◌, ◌*◌, ◌%◌, ◌^◌, ◌<◌, true, false, None, Some, position, length, option_map};
+ghost use Rattle.std.specs.List.{list_any};
+ghost use Rattle.srt_route.specs.Sessions.{is_same_peer, id_of, publishes};
+ghost use Rattle.srt_route.specs.Stands.{is_session_of, session_passes, holds, has_publisher, is_vacant, heard_at, again_of, is_stored_for, slot_after, written_of};
+
+use crate::answers::answer_to;
+use crate::replies::Reply;
+use srt_hs::HsAnswer;
+use srt_seq::{Peer, Role};
+
+/// An open session.
+#[derive(Drop)]
+pub struct Session {
+    /// Who has it.
+    pub peer: Peer,
+    /// The caller's socket ID.
+    pub caller: u32,
+    /// Its own socket ID.
+    pub id: u32,
+    /// What the caller does.
+    pub role: Role,
+    /// The timestamp of its conclusion.
+    pub stamp: u32,
+    /// When it was opened, in microseconds.
+    pub opening: u64,
+    /// When it was last heard of, in microseconds.
+    pub heard: u64,
+    /// The answer to its conclusion.
+    pub answer: HsAnswer,
+}
+
+/// A place for a session.
+#[derive(Drop)]
+pub struct Slot {
+    /// How many sessions the place had, modulo 2^16.
+    pub generation: u16,
+    /// The open one.
+    pub session: Option<Session>,
+}
+
+fn publishes(role: Role) -> bool
+    ensures { result ≡ publishes role }
+{
+    matches!(role, Role::Publish)
+}
+
+/// Whether two addresses are one.
+pub fn is_same_peer(peer: Peer, other: Peer) -> bool
+    ensures { result ≡ is_same_peer peer other }
+{
+    peer.ip == other.ip && peer.port == other.port
+}
+
+impl Slot {
+    fn holds(&self, peer: Peer, caller: u32) -> bool
+        ensures { result ≡ holds peer caller self.now }
+    {
+        match &self.session {
+            Some(session) => is_same_peer(session.peer, peer) && session.caller == caller,
+            None => false,
+        }
+    }
+
+    fn has_publisher(&self) -> bool
+        ensures { result ≡ has_publisher self.now }
+    {
+        match &self.session {
+            Some(session) => publishes(session.role),
+            None => false,
+        }
+    }
+
+    fn is_vacant(&self) -> bool
+        ensures { result ≡ is_vacant self.now }
+    {
+        self.session.is_none()
+    }
+
+    /// A place that had no session yet.
+    pub fn vacant() -> Slot
+        ensures { result ≡ record { generation = 0; session = None } }
+    {
+        Slot {
+            generation: 0,
+            session: None,
+        }
+    }
+
+    /// A session opens here.
+    pub fn fill(&mut self, session: Session)
+        ensures { self.new ≡ record { generation = (self.old.generation + 1) % 65536; session = Some session } }
+    {
+        self.generation = self.generation.wrapping_add(1);
+        self.session = Some(session);
+    }
+
+    /// The session's conclusion comes again: it is heard of, and answered as it was.
+    pub fn again(&mut self, clock: u64, peer: Peer) -> Option<Reply>
+        ensures slot { self.new ≡ record { generation = self.old.generation; session = option_map (heard_at clock) self.old.session } }
+        ensures answer { written_of result ≡ again_of peer self.old.session }
+    {
+        match &mut self.session {
+            Some(session) => {
+                session.heard = clock;
+                Some(answer_to(peer, session.caller, &session.answer))
+            }
+            None => None,
+        }
+    }
+
+    fn is_for(&self, peer: Peer, dest: u32) -> bool
+        ensures { result ≡ session_passes (is_stored_for peer dest) self.now.session }
+    {
+        match &self.session {
+            Some(session) => is_same_peer(session.peer, peer) && session.id == dest,
+            None => false,
+        }
+    }
+
+    /// A packet comes: the session that it is for is heard of, or ends.
+    pub fn take(&mut self, clock: u64, peer: Peer, dest: u32, ends: bool)
+        ensures { self.new ≡ record { generation = self.old.generation; session = slot_after peer dest clock ends self.old.session } }
+    {
+        if !self.is_for(peer, dest) {
+            return;
+        }
+        if ends {
+            self.session = None;
+            return;
+        }
+        if let Some(session) = &mut self.session {
+            session.heard = clock;
+        }
+    }
+}
+
+/// The first place with a session of this caller.
+pub fn place_of(slots: &[Slot], peer: Peer, caller: u32) -> Option<usize>
+    ensures { result ≡ position (holds peer caller) slots.now }
+{
+    slots.iter().position(|slot| slot.holds(peer, caller))
+}
+
+/// Whether a publisher has a session.
+pub fn have_publisher(slots: &[Slot]) -> bool
+    ensures { result ≡ list_any has_publisher slots.now }
+{
+    slots.iter().any(|slot| slot.has_publisher())
+}
+
+/// The first place without a session.
+pub fn free_place(slots: &[Slot]) -> Option<usize>
+    ensures { result ≡ position is_vacant slots.now }
+{
+    slots.iter().position(|slot| slot.is_vacant())
+}
+
+/// The socket ID of a session (this profile): the route, the generation modulo 4096, and the place.
+pub fn id_at(index: u32, generation: u16, at: usize) -> u32
+    requires index { index < 511 }
+    requires place { at < 17 }
+    ensures { (count : ℕ) → generation ≡ count % 65536 → result ≡ id_of index count at }
+{
+    (index + 1) * (1 << 20) + u32::from(generation % 4096) * 256 + at as u32
+}
