@@ -13,9 +13,9 @@ too_great limit n [] h = grind (arith, nat_tests)
 too_great limit n (b ∷ bs) h = next limit (is_digit b) (digits_from (n * 10 + (b - 48)) bs) (too_great limit (n * 10 + (b - 48)) bs (omega arith))
 
 -- one more digit reaches it
-pub grows_over : (limit n : ℕ) (bs : List ℕ) (i : ℕ) → i < length bs → limit ≤ n * 10 → below limit (digits_from n (drop i bs)) ≡ None
+pub grows_over : (limit n : ℕ) (bs : List ℕ) (i : ℕ) → i < length bs → limit ≤ n * 10 + (slice_index bs i - 48) → below limit (digits_from n (drop i bs)) ≡ None
 grows_over limit n [] i within h = absurd (omega arith)
-grows_over limit n (b ∷ bs) zero within h = next limit (is_digit b) (digits_from (n * 10 + (b - 48)) bs) (too_great limit (n * 10 + (b - 48)) bs (omega arith))
+grows_over limit n (b ∷ bs) zero within h = next limit (is_digit b) (digits_from (n * 10 + (b - 48)) bs) (too_great limit (n * 10 + (b - 48)) bs h)
 grows_over limit n (b ∷ bs) (suc i) within h = grows_over limit n bs i (omega arith) h
 
 -- another byte ends the number

@@ -3,7 +3,10 @@ pub mod Digits
 pub mod Taking
 pub mod FirstLine
 pub mod Writing
-pub mod Inductions
-pub mod Secrets
+pub mod EventTexts
 pub mod Numbered
 pub mod Replays
+pub mod Parted
+pub mod TableKeys
+pub mod RouteItems
+pub mod Sound

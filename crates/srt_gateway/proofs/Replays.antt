@@ -1,130 +1,181 @@
--- A replay goes on and ends.
-use Rattle.std.proofs.Common.{◌≡◌, ℕ, zero, suc, ◌+◌, false, List, [], ◌∷◌, ◌++◌, length, take, drop, Option, Some, None, Result, Ok, Err, refl, sym, ap, subst, ◌∙◌, append_assoc, arith, length-append}
+-- A replay over a gateway goes on and ends.
+use Rattle.std.proofs.Common.{◌≡◌, ℕ, zero, suc, ◌+◌, Bool, true, false, List, [], ◌∷◌, ◌++◌, length, take, drop, Option, Some, None, Result, Ok, Err, refl, sym, ap, subst, ◌∙◌, append_assoc, arith, length-append}
 use Rattle.std.proofs.lemmas.List.{append-nil, take-append-drop}
 use Rattle.std.proofs.Math.Seq.{take-append_seam}
 use Rattle.std.specs.Io.KnownBytes.{Keeps}
+use Rattle.srt_seq.specs.Terms.{Terms}
+use Rattle.srt_hub.specs.World.{Event, Sorting, Meaning}
 use Rattle.srt_gateway.specs.declared.replaying.ReplayFault.{ReplayFault}
 use Rattle.srt_gateway.specs.declared.replaying.ReplayFault.TheVariants.{Tape, OutOfMemory, Read, Write}
 use Rattle.srt_gateway.specs.Tape.{lines_of}
-use Rattle.srt_gateway.specs.Events.{Event}
-use Rattle.srt_gateway.specs.Answers.{event_text}
+use Rattle.srt_gateway.specs.Texts.{event_text}
 use Rattle.srt_gateway.specs.Known.{NoLine, Wrote}
-use Rattle.srt_gateway.specs.Replay.{event_at, text_on, text_from, fault_on, fault_from, tape_text, front_text, Replays}
-use Rattle.srt_gateway.specs.Step.{NoEvent, TookEvent, Answered, IsReplaying}
+use Rattle.srt_gateway.specs.Replay.{event_at, events_on, events_from, fault_on, fault_from, text_after, text_of, tape_text, front_text, Replays}
+use Rattle.srt_gateway.specs.Step.{History, NoEvent, TookEvent, Answered, with_past, IsReplaying}
 
 abbrev Known : List ℕ → Option (List ℕ)
 Known xs = Some xs
+
+abbrev past_of : List Terms → List (List ℕ) → List Event
+past_of entries lines = with_past [] (events_from (length entries) 1 lines)
 
 -- lines of which each says an event, and those behind them
 fault_first : (n : ℕ) (event : Option Event) (others : Option ℕ) → fault_on n event others ≡ None → (e : Event) × (event ≡ Some e) × (others ≡ None)
 fault_first n None others h = absurd cc
 fault_first n (Some e) others h = (e, refl, h)
 
-text_behind : (secret : List ℕ) (n m : ℕ) (lines behind : List (List ℕ)) → fault_from n lines ≡ None → m ≡ n + length lines → text_from secret n (lines ++ behind) ≡ text_from secret n lines ++ text_from secret m behind
-text_behind secret n m [] behind none is = let same : m ≡ n = omega (arith, is) in rw same refl
-text_behind secret n m (line ∷ lines) behind none is =
-    let p = fault_first n (event_at n line) (fault_from (n + 1) lines) none in
-    let h = text_behind secret (n + 1) m lines behind p.2 (omega (arith, is)) in
-    rw p.1 (ap (λ (xs : List ℕ). event_text secret p.0 ++ xs) h ∙ sym (append_assoc (event_text secret p.0) (text_from secret (n + 1) lines) (text_from secret m behind)))
+events_behind : (routes n m : ℕ) (lines behind : List (List ℕ)) → fault_from routes n lines ≡ None → m ≡ n + length lines → events_from routes n (lines ++ behind) ≡ events_from routes n lines ++ events_from routes m behind
+events_behind routes n m [] behind none is = let same : m ≡ n = omega (arith, is) in rw same refl
+events_behind routes n m (line ∷ lines) behind none is =
+    let p = fault_first n (event_at routes n line) (fault_from routes (n + 1) lines) none in
+    rw p.1 (ap (λ (es : List Event). p.0 ∷ es) (events_behind routes (n + 1) m lines behind p.2 (omega (arith, is))))
 
-fault_behind : (n m : ℕ) (lines behind : List (List ℕ)) → fault_from n lines ≡ None → m ≡ n + length lines → fault_from n (lines ++ behind) ≡ fault_from m behind
-fault_behind n m [] behind none is = let same : m ≡ n = omega (arith, is) in rw same refl
-fault_behind n m (line ∷ lines) behind none is =
-    let p = fault_first n (event_at n line) (fault_from (n + 1) lines) none in
-    rw p.1 (fault_behind (n + 1) m lines behind p.2 (omega (arith, is)))
+fault_behind : (routes n m : ℕ) (lines behind : List (List ℕ)) → fault_from routes n lines ≡ None → m ≡ n + length lines → fault_from routes n (lines ++ behind) ≡ fault_from routes m behind
+fault_behind routes n m [] behind none is = let same : m ≡ n = omega (arith, is) in rw same refl
+fault_behind routes n m (line ∷ lines) behind none is =
+    let p = fault_first n (event_at routes n line) (fault_from routes (n + 1) lines) none in
+    rw p.1 (fault_behind routes (n + 1) m lines behind p.2 (omega (arith, is)))
 
-text_one : (secret : List ℕ) (n : ℕ) (line : List ℕ) (lines : List (List ℕ)) (event : Event) → event_at n line ≡ Some event → text_from secret n (line ∷ lines) ≡ event_text secret event ++ text_from secret (n + 1) lines
-text_one secret n line lines event is = rw is refl
+events_one : (routes n : ℕ) (line : List ℕ) (lines : List (List ℕ)) (event : Event) → event_at routes n line ≡ Some event → events_from routes n (line ∷ lines) ≡ event ∷ events_from routes (n + 1) lines
+events_one routes n line lines event is = rw is refl
 
-text_none : (secret : List ℕ) (n : ℕ) (line : List ℕ) (lines : List (List ℕ)) → event_at n line ≡ None → text_from secret n (line ∷ lines) ≡ []
-text_none secret n line lines is = rw is refl
+events_none : (routes n : ℕ) (line : List ℕ) (lines : List (List ℕ)) → event_at routes n line ≡ None → events_from routes n (line ∷ lines) ≡ []
+events_none routes n line lines is = rw is refl
 
-fault_one : (n : ℕ) (line : List ℕ) (lines : List (List ℕ)) (event : Event) → event_at n line ≡ Some event → fault_from n (line ∷ lines) ≡ fault_from (n + 1) lines
-fault_one n line lines event is = rw is refl
+fault_one : (routes n : ℕ) (line : List ℕ) (lines : List (List ℕ)) (event : Event) → event_at routes n line ≡ Some event → fault_from routes n (line ∷ lines) ≡ fault_from routes (n + 1) lines
+fault_one routes n line lines event is = rw is refl
 
-fault_none : (n : ℕ) (line : List ℕ) (lines : List (List ℕ)) → event_at n line ≡ None → fault_from n (line ∷ lines) ≡ Some n
-fault_none n line lines is = rw is refl
+fault_none : (routes n : ℕ) (line : List ℕ) (lines : List (List ℕ)) → event_at routes n line ≡ None → fault_from routes n (line ∷ lines) ≡ Some n
+fault_none routes n line lines is = rw is refl
+
+-- the text of some events, and of those that come after them
+text_behind : (class : Sorting) (reply : Meaning) (entries : List Terms) (past xs ys : List Event) → text_after class reply entries past (xs ++ ys) ≡ text_after class reply entries past xs ++ text_after class reply entries (with_past past xs) ys
+text_behind class reply entries past [] ys = refl
+text_behind class reply entries past (x ∷ xs) ys =
+    let t = event_text class reply entries past x in
+    ap (λ (bs : List ℕ). t ++ bs) (text_behind class reply entries (x ∷ past) xs ys) ∙ sym (append_assoc t (text_after class reply entries (x ∷ past) xs) (text_after class reply entries (with_past (x ∷ past) xs) ys))
+
+past_behind : (past xs ys : List Event) → with_past past (xs ++ ys) ≡ with_past (with_past past xs) ys
+past_behind past [] ys = refl
+past_behind past (x ∷ xs) ys = past_behind (x ∷ past) xs ys
 
 -- the text of a tape, of which some lines were answered
-tape_text_is : (secret tape : List ℕ) (lines behind : List (List ℕ)) (m : ℕ) → lines_of tape ≡ lines ++ behind → fault_from 1 lines ≡ None → m ≡ 1 + length lines → tape_text secret tape ≡ text_from secret 1 lines ++ text_from secret m behind
-tape_text_is secret tape lines behind m are none is = ap (text_from secret 1) are ∙ text_behind secret 1 m lines behind none is
+tape_text_is : (class : Sorting) (reply : Meaning) (entries : List Terms) (tape : List ℕ) (lines behind : List (List ℕ)) (m : ℕ) → lines_of tape ≡ lines ++ behind → fault_from (length entries) 1 lines ≡ None → m ≡ 1 + length lines →
+    tape_text class reply entries tape ≡ text_of class reply entries lines ++ text_after class reply entries (past_of entries lines) (events_from (length entries) m behind)
+tape_text_is class reply entries tape lines behind m are none is =
+    ap (text_of class reply entries) are
+    ∙ ap (text_after class reply entries []) (events_behind (length entries) 1 m lines behind none is)
+    ∙ text_behind class reply entries [] (events_from (length entries) 1 lines) (events_from (length entries) m behind)
 
-fault_line_is : (tape : List ℕ) (lines behind : List (List ℕ)) (m : ℕ) → lines_of tape ≡ lines ++ behind → fault_from 1 lines ≡ None → m ≡ 1 + length lines → fault_from 1 (lines_of tape) ≡ fault_from m behind
-fault_line_is tape lines behind m are none is = ap (fault_from 1) are ∙ fault_behind 1 m lines behind none is
+fault_line_is : (routes : ℕ) (tape : List ℕ) (lines behind : List (List ℕ)) (m : ℕ) → lines_of tape ≡ lines ++ behind → fault_from routes 1 lines ≡ None → m ≡ 1 + length lines → fault_from routes 1 (lines_of tape) ≡ fault_from routes m behind
+fault_line_is routes tape lines behind m are none is = ap (fault_from routes 1) are ∙ fault_behind routes 1 m lines behind none is
 
-pub started : (secret : List ℕ) (r w : Option (List ℕ)) → IsReplaying secret r w r w 1
-started secret r w tape before e f =
-    record { lines = []; left = tape; lines_are = refl; number_is = refl; events = refl; reader_is = e; writer_is = f ∙ ap Known (sym (append-nil before)) }
+pub started : (class : Sorting) (reply : Meaning) (entries : List Terms) (Now : History) (r w : Option (List ℕ)) → Now [] → IsReplaying class reply entries Now r w r w 1
+started class reply entries Now r w stands tape before e f =
+    record { lines = []; left = tape; lines_are = refl; number_is = refl; no_fault = refl; reader_is = e; writer_is = f ∙ ap Known (sym (append-nil before)); stands = stands }
 
-pub goes_on : (secret : List ℕ) (r0 w0 r w r' w' : Option (List ℕ)) (n : ℕ) (event : Event) → IsReplaying secret r0 w0 r w n → TookEvent r r' n event → Wrote w w' (event_text secret event) → IsReplaying secret r0 w0 r' w' (n + 1)
-goes_on secret r0 w0 r w r' w' n event h took wrote tape before e f =
+-- what a line's turn did, whatever happened before
+abbrev pub Step : Sorting → Meaning → List Terms → (Now Next : History) → (old new held holds : Option (List ℕ)) (number : ℕ) → Result Bool ReplayFault → Type 0
+Step class reply entries Now Next old new held holds number result = (past : List Event) → Now past → Answered class reply entries past Next old new held holds number result
+
+pub goes_on : (class : Sorting) (reply : Meaning) (entries : List Terms) (Now Next : History) (r0 w0 r w r' w' : Option (List ℕ)) (n : ℕ) → IsReplaying class reply entries Now r0 w0 r w n → Step class reply entries Now Next r r' w w' n (Ok true) → IsReplaying class reply entries Next r0 w0 r' w' (n + 1)
+goes_on class reply entries Now Next r0 w0 r w r' w' n h step tape before e f =
     let a = h tape before e f in
+    let routes = length entries in
+    let past = past_of entries a.lines in
+    let s = step past a.stands in
+    let event = s.0 in
+    let took = s.1 in
     let b = took.took a.left a.reader_is in
     let line = took.line in
-    let one : text_from secret n (line ∷ []) ≡ event_text secret event = text_one secret n line [] event took.event_is ∙ append-nil (event_text secret event) in
-    let text : text_from secret 1 (a.lines ++ line ∷ []) ≡ text_from secret 1 a.lines ++ event_text secret event = text_behind secret 1 n a.lines (line ∷ []) a.events a.number_is ∙ ap (λ (xs : List ℕ). text_from secret 1 a.lines ++ xs) one in
+    let t = event_text class reply entries past event in
+    let done = text_of class reply entries a.lines in
+    let came : events_from routes 1 (a.lines ++ line ∷ []) ≡ events_from routes 1 a.lines ++ event ∷ [] = events_behind routes 1 n a.lines (line ∷ []) a.no_fault a.number_is ∙ ap (λ (es : List Event). events_from routes 1 a.lines ++ es) (events_one routes n line [] event took.event_is) in
+    let text : text_of class reply entries (a.lines ++ line ∷ []) ≡ done ++ t = ap (text_after class reply entries []) came ∙ text_behind class reply entries [] (events_from routes 1 a.lines) (event ∷ []) ∙ ap (λ (xs : List ℕ). done ++ xs) (append-nil t) in
+    let gone : with_past [] (events_from routes 1 (a.lines ++ line ∷ [])) ≡ event ∷ past = ap (with_past []) came ∙ past_behind [] (events_from routes 1 a.lines) (event ∷ []) in
     record {
       lines = a.lines ++ line ∷ [];
       left = b.0;
       lines_are = a.lines_are ∙ ap (λ (ls : List (List ℕ)). a.lines ++ ls) b.2 ∙ sym (append_assoc a.lines (line ∷ []) (lines_of b.0));
       number_is = omega (arith, a.number_is, length-append a.lines (line ∷ []));
-      events = fault_behind 1 n a.lines (line ∷ []) a.events a.number_is ∙ fault_one n line [] event took.event_is;
+      no_fault = fault_behind routes 1 n a.lines (line ∷ []) a.no_fault a.number_is ∙ fault_one routes n line [] event took.event_is;
       reader_is = b.1;
-      writer_is = wrote (before ++ text_from secret 1 a.lines) a.writer_is ∙ ap Known (append_assoc before (text_from secret 1 a.lines) (event_text secret event) ∙ ap (λ (xs : List ℕ). before ++ xs) (sym text));
+      writer_is = s.2 (before ++ done) a.writer_is ∙ ap Known (append_assoc before done t ∙ ap (λ (xs : List ℕ). before ++ xs) (sym text));
+      stands = subst Next (sym gone) s.3;
     }
 
-pub ends : (secret : List ℕ) (r0 w0 r w : Option (List ℕ)) (n : ℕ) → IsReplaying secret r0 w0 r w n → NoLine r → Replays secret r0 w0 w (Ok tt)
-ends secret r0 w0 r w n h none tape before e f =
+ends : (class : Sorting) (reply : Meaning) (entries : List Terms) (Now : History) (r0 w0 r w : Option (List ℕ)) (n : ℕ) → IsReplaying class reply entries Now r0 w0 r w n → NoLine r → Replays class reply entries r0 w0 w (Ok tt)
+ends class reply entries Now r0 w0 r w n h none tape before e f =
     let a = h tape before e f in
+    let routes = length entries in
     let b = none a.left a.reader_is in
-    let text : tape_text secret tape ≡ text_from secret 1 a.lines = tape_text_is secret tape a.lines (lines_of a.left) n a.lines_are a.events a.number_is ∙ ap (λ (ls : List (List ℕ)). text_from secret 1 a.lines ++ text_from secret n ls) b ∙ append-nil (text_from secret 1 a.lines) in
-    (a.writer_is ∙ ap (λ (xs : List ℕ). Known (before ++ xs)) (sym text), fault_line_is tape a.lines (lines_of a.left) n a.lines_are a.events a.number_is ∙ ap (fault_from n) b)
+    let done = text_of class reply entries a.lines in
+    let text : tape_text class reply entries tape ≡ done = tape_text_is class reply entries tape a.lines (lines_of a.left) n a.lines_are a.no_fault a.number_is ∙ ap (λ (ls : List (List ℕ)). done ++ text_after class reply entries (past_of entries a.lines) (events_from routes n ls)) b ∙ append-nil done in
+    (a.writer_is ∙ ap (λ (xs : List ℕ). Known (before ++ xs)) (sym text), fault_line_is routes tape a.lines (lines_of a.left) n a.lines_are a.no_fault a.number_is ∙ ap (fault_from routes n) b)
 
-pub ends_at_fault : (secret : List ℕ) (r0 w0 r w : Option (List ℕ)) (n : ℕ) → IsReplaying secret r0 w0 r w n → NoEvent r n → Replays secret r0 w0 w (Err (Tape n))
-ends_at_fault secret r0 w0 r w n h none tape before e f =
+ends_at_fault : (class : Sorting) (reply : Meaning) (entries : List Terms) (Now : History) (r0 w0 r w : Option (List ℕ)) (n : ℕ) → IsReplaying class reply entries Now r0 w0 r w n → NoEvent r (length entries) n → Replays class reply entries r0 w0 w (Err (Tape n))
+ends_at_fault class reply entries Now r0 w0 r w n h none tape before e f =
     let a = h tape before e f in
+    let routes = length entries in
     let b = none a.left a.reader_is in
-    let text : tape_text secret tape ≡ text_from secret 1 a.lines = tape_text_is secret tape a.lines (lines_of a.left) n a.lines_are a.events a.number_is ∙ ap (λ (xs : List ℕ). text_from secret 1 a.lines ++ xs) (ap (text_from secret n) b.2 ∙ text_none secret n b.0 b.1 b.3) ∙ append-nil (text_from secret 1 a.lines) in
-    (a.writer_is ∙ ap (λ (xs : List ℕ). Known (before ++ xs)) (sym text), fault_line_is tape a.lines (lines_of a.left) n a.lines_are a.events a.number_is ∙ ap (fault_from n) b.2 ∙ fault_none n b.0 b.1 b.3)
+    let done = text_of class reply entries a.lines in
+    let rest : events_from routes n (lines_of a.left) ≡ [] = ap (events_from routes n) b.2 ∙ events_none routes n b.0 b.1 b.3 in
+    let text : tape_text class reply entries tape ≡ done = tape_text_is class reply entries tape a.lines (lines_of a.left) n a.lines_are a.no_fault a.number_is ∙ ap (λ (es : List Event). done ++ text_after class reply entries (past_of entries a.lines) es) rest ∙ append-nil done in
+    (a.writer_is ∙ ap (λ (xs : List ℕ). Known (before ++ xs)) (sym text), fault_line_is routes tape a.lines (lines_of a.left) n a.lines_are a.no_fault a.number_is ∙ ap (fault_from routes n) b.2 ∙ fault_none routes n b.0 b.1 b.3)
 
 -- some whole lines were answered
-whole_lines : (secret : List ℕ) (r0 w0 r w : Option (List ℕ)) (n : ℕ) → IsReplaying secret r0 w0 r w n → (tape before : List ℕ) → r0 ≡ Some tape → w0 ≡ Some before → (lines : ℕ) × (w ≡ Some (before ++ front_text secret tape lines))
-whole_lines secret r0 w0 r w n h tape before e f =
+whole_lines : (class : Sorting) (reply : Meaning) (entries : List Terms) (Now : History) (r0 w0 r w : Option (List ℕ)) (n : ℕ) → IsReplaying class reply entries Now r0 w0 r w n → (tape before : List ℕ) → r0 ≡ Some tape → w0 ≡ Some before → (lines : ℕ) × (w ≡ Some (before ++ front_text class reply entries tape lines))
+whole_lines class reply entries Now r0 w0 r w n h tape before e f =
     let a = h tape before e f in
     let front : take (length a.lines) (lines_of tape) ≡ a.lines = ap (take (length a.lines)) a.lines_are ∙ take-append_seam a.lines (lines_of a.left) in
-    (length a.lines, a.writer_is ∙ ap (λ (ls : List (List ℕ)). Known (before ++ text_from secret 1 ls)) (sym front))
+    (length a.lines, a.writer_is ∙ ap (λ (ls : List (List ℕ)). Known (before ++ text_of class reply entries ls)) (sym front))
 
-pub ends_at_read : (secret : List ℕ) (r0 w0 r w : Option (List ℕ)) (n : ℕ) → IsReplaying secret r0 w0 r w n → Replays secret r0 w0 w (Err Read)
-ends_at_read secret r0 w0 r w n h tape before e f = whole_lines secret r0 w0 r w n h tape before e f
+pub ends_at_read : (class : Sorting) (reply : Meaning) (entries : List Terms) (Now : History) (r0 w0 r w : Option (List ℕ)) (n : ℕ) → IsReplaying class reply entries Now r0 w0 r w n → Replays class reply entries r0 w0 w (Err Read)
+ends_at_read class reply entries Now r0 w0 r w n h tape before e f = whole_lines class reply entries Now r0 w0 r w n h tape before e f
 
-pub ends_at_memory : (secret : List ℕ) (r0 w0 r w : Option (List ℕ)) (n : ℕ) → IsReplaying secret r0 w0 r w n → Replays secret r0 w0 w (Err OutOfMemory)
-ends_at_memory secret r0 w0 r w n h tape before e f = whole_lines secret r0 w0 r w n h tape before e f
+ends_at_memory : (class : Sorting) (reply : Meaning) (entries : List Terms) (Now : History) (r0 w0 r w : Option (List ℕ)) (n : ℕ) → IsReplaying class reply entries Now r0 w0 r w n → Replays class reply entries r0 w0 w (Err OutOfMemory)
+ends_at_memory class reply entries Now r0 w0 r w n h tape before e f = whole_lines class reply entries Now r0 w0 r w n h tape before e f
 
-pub ends_at_write : (secret : List ℕ) (r0 w0 r w r' w' : Option (List ℕ)) (n : ℕ) (event : Event) → IsReplaying secret r0 w0 r w n → TookEvent r r' n event → (k : ℕ) × Wrote w w' (take k (event_text secret event)) → Replays secret r0 w0 w' (Err Write)
-ends_at_write secret r0 w0 r w r' w' n event h took wrote tape before e f =
+ends_at_write : (class : Sorting) (reply : Meaning) (entries : List Terms) (Now Next : History) (r0 w0 r w r' w' : Option (List ℕ)) (n : ℕ) → IsReplaying class reply entries Now r0 w0 r w n → Step class reply entries Now Next r r' w w' n (Err Write) → Replays class reply entries r0 w0 w' (Err Write)
+ends_at_write class reply entries Now Next r0 w0 r w r' w' n h step tape before e f =
     let a = h tape before e f in
+    let routes = length entries in
+    let past = past_of entries a.lines in
+    let s = step past a.stands in
+    let event = s.0 in
+    let took = s.1 in
     let b = took.took a.left a.reader_is in
-    let k = wrote.0 in
-    let text = event_text secret event in
-    let rest = text_from secret (n + 1) (lines_of b.0) in
-    let done = text_from secret 1 a.lines in
+    let k = s.2.0 in
+    let text = event_text class reply entries past event in
+    let rest = text_after class reply entries (event ∷ past) (events_from routes (n + 1) (lines_of b.0)) in
+    let done = text_of class reply entries a.lines in
     let more = drop k text ++ rest in
     let parts : take k text ++ more ≡ text ++ rest = sym (append_assoc (take k text) (drop k text) rest) ∙ ap (λ (xs : List ℕ). xs ++ rest) (take-append-drop k text) in
-    let whole : tape_text secret tape ≡ done ++ (text ++ rest) = tape_text_is secret tape a.lines (lines_of a.left) n a.lines_are a.events a.number_is ∙ ap (λ (xs : List ℕ). done ++ xs) (ap (text_from secret n) b.2 ∙ text_one secret n took.line (lines_of b.0) event took.event_is) in
-    (done ++ take k text, more, wrote.1 (before ++ done) a.writer_is ∙ ap Known (append_assoc before done (take k text)), append_assoc done (take k text) more ∙ ap (λ (xs : List ℕ). done ++ xs) parts ∙ sym whole)
+    let coming : events_from routes n (lines_of a.left) ≡ event ∷ events_from routes (n + 1) (lines_of b.0) = ap (events_from routes n) b.2 ∙ events_one routes n took.line (lines_of b.0) event took.event_is in
+    let whole : tape_text class reply entries tape ≡ done ++ (text ++ rest) = tape_text_is class reply entries tape a.lines (lines_of a.left) n a.lines_are a.no_fault a.number_is ∙ ap (λ (es : List Event). done ++ text_after class reply entries past es) coming in
+    (done ++ take k text, more, s.2.1 (before ++ done) a.writer_is ∙ ap Known (append_assoc before done (take k text)), append_assoc done (take k text) more ∙ ap (λ (xs : List ℕ). done ++ xs) parts ∙ sym whole)
 
-the_writer : (secret : List ℕ) (r0 w0 w w' : Option (List ℕ)) (answer : Result (Unit {0}) ReplayFault) → w' ≡ w → Replays secret r0 w0 w answer → Replays secret r0 w0 w' answer
-the_writer secret r0 w0 w w' answer same h = subst (λ (v : Option (List ℕ)). Replays secret r0 w0 v answer) (sym same) h
+the_writer : (class : Sorting) (reply : Meaning) (entries : List Terms) (r0 w0 w w' : Option (List ℕ)) (answer : Result (Unit {0}) ReplayFault) → w' ≡ w → Replays class reply entries r0 w0 w answer → Replays class reply entries r0 w0 w' answer
+the_writer class reply entries r0 w0 w w' answer same h = subst (λ (v : Option (List ℕ)). Replays class reply entries r0 w0 v answer) (sym same) h
 
-pub stops : (secret : List ℕ) (r0 w0 r w r' w' : Option (List ℕ)) (n : ℕ) (fault : ReplayFault) → IsReplaying secret r0 w0 r w n → Answered secret r r' w w' n (Err fault) → Replays secret r0 w0 w' (Err fault)
-stops secret r0 w0 r w r' w' n (Tape line) h s =
-    the_writer secret r0 w0 w w' (Err (Tape line)) s.2 (subst (λ (m : ℕ). Replays secret r0 w0 w (Err (Tape m))) (sym s.0) (ends_at_fault secret r0 w0 r w n h s.1))
-stops secret r0 w0 r w r' w' n OutOfMemory h s = the_writer secret r0 w0 w w' (Err OutOfMemory) s (ends_at_memory secret r0 w0 r w n h)
-stops secret r0 w0 r w r' w' n Read h s = the_writer secret r0 w0 w w' (Err Read) s (ends_at_read secret r0 w0 r w n h)
-stops secret r0 w0 r w r' w' n Write h s = ends_at_write secret r0 w0 r w r' w' n s.0 h s.1 s.2
+pub stops : (class : Sorting) (reply : Meaning) (entries : List Terms) (Now Next : History) (r0 w0 r w r' w' : Option (List ℕ)) (n : ℕ) (fault : ReplayFault) → IsReplaying class reply entries Now r0 w0 r w n → Step class reply entries Now Next r r' w w' n (Err fault) → Replays class reply entries r0 w0 w' (Err fault)
+stops class reply entries Now Next r0 w0 r w r' w' n (Tape line) h step tape before e f =
+    let a = h tape before e f in
+    let s = step (past_of entries a.lines) a.stands in
+    the_writer class reply entries r0 w0 w w' (Err (Tape line)) s.2 (subst (λ (m : ℕ). Replays class reply entries r0 w0 w (Err (Tape m))) (sym s.0) (ends_at_fault class reply entries Now r0 w0 r w n h s.1)) tape before e f
+stops class reply entries Now Next r0 w0 r w r' w' n OutOfMemory h step tape before e f =
+    let a = h tape before e f in
+    the_writer class reply entries r0 w0 w w' (Err OutOfMemory) (step (past_of entries a.lines) a.stands) (ends_at_memory class reply entries Now r0 w0 r w n h) tape before e f
+stops class reply entries Now Next r0 w0 r w r' w' n Read h step tape before e f =
+    let a = h tape before e f in
+    the_writer class reply entries r0 w0 w w' (Err Read) (step (past_of entries a.lines) a.stands) (ends_at_read class reply entries Now r0 w0 r w n h) tape before e f
+stops class reply entries Now Next r0 w0 r w r' w' n Write h step tape before e f = ends_at_write class reply entries Now Next r0 w0 r w r' w' n h step tape before e f
 
-pub no_more : (secret : List ℕ) (r0 w0 r w r' w' : Option (List ℕ)) (n : ℕ) → IsReplaying secret r0 w0 r w n → Answered secret r r' w w' n (Ok false) → Replays secret r0 w0 w' (Ok tt)
-no_more secret r0 w0 r w r' w' n h s = the_writer secret r0 w0 w w' (Ok tt) s.1 (ends secret r0 w0 r w n h s.0)
+pub no_more : (class : Sorting) (reply : Meaning) (entries : List Terms) (Now Next : History) (r0 w0 r w r' w' : Option (List ℕ)) (n : ℕ) → IsReplaying class reply entries Now r0 w0 r w n → Step class reply entries Now Next r r' w w' n (Ok false) → Replays class reply entries r0 w0 w' (Ok tt)
+no_more class reply entries Now Next r0 w0 r w r' w' n h step tape before e f =
+    let a = h tape before e f in
+    let s = step (past_of entries a.lines) a.stands in
+    the_writer class reply entries r0 w0 w w' (Ok tt) s.1 (ends class reply entries Now r0 w0 r w n h s.0) tape before e f
 
 -- a flush changes nothing
 kept : (w w' : Option (List ℕ)) (ws : List ℕ) → w ≡ Some ws → Keeps w w' → w' ≡ Some ws
@@ -132,27 +183,32 @@ kept None w' ws e k = absurd cc
 kept (Some xs) None ws e k = absurd k
 kept (Some xs) (Some ys) ws e k = ap Known k ∙ e
 
-pub flushed : (secret : List ℕ) (r0 w0 w w' : Option (List ℕ)) (answer : Result (Unit {0}) ReplayFault) → Replays secret r0 w0 w answer → Keeps w w' → Replays secret r0 w0 w' answer
-flushed secret r0 w0 w w' (Ok u) h k tape before e f = let a = h tape before e f in (kept w w' _ a.0 k, a.1)
-flushed secret r0 w0 w w' (Err (Tape line)) h k tape before e f = let a = h tape before e f in (kept w w' _ a.0 k, a.1)
-flushed secret r0 w0 w w' (Err OutOfMemory) h k tape before e f = let a = h tape before e f in (a.0, kept w w' _ a.1 k)
-flushed secret r0 w0 w w' (Err Read) h k tape before e f = let a = h tape before e f in (a.0, kept w w' _ a.1 k)
-flushed secret r0 w0 w w' (Err Write) h k tape before e f = let a = h tape before e f in (a.0, a.1, kept w w' _ a.2 k, a.3)
+pub flushed : (class : Sorting) (reply : Meaning) (entries : List Terms) (r0 w0 w w' : Option (List ℕ)) (answer : Result (Unit {0}) ReplayFault) → Replays class reply entries r0 w0 w answer → Keeps w w' → Replays class reply entries r0 w0 w' answer
+flushed class reply entries r0 w0 w w' (Ok u) h k tape before e f = let a = h tape before e f in (kept w w' _ a.0 k, a.1)
+flushed class reply entries r0 w0 w w' (Err (Tape line)) h k tape before e f = let a = h tape before e f in (kept w w' _ a.0 k, a.1)
+flushed class reply entries r0 w0 w w' (Err OutOfMemory) h k tape before e f = let a = h tape before e f in (a.0, kept w w' _ a.1 k)
+flushed class reply entries r0 w0 w w' (Err Read) h k tape before e f = let a = h tape before e f in (a.0, kept w w' _ a.1 k)
+flushed class reply entries r0 w0 w w' (Err Write) h k tape before e f = let a = h tape before e f in (a.0, a.1, kept w w' _ a.2 k, a.3)
 
 -- the text of some first lines is a part of the text
-front_is_part : (secret : List ℕ) (n k : ℕ) (lines : List (List ℕ)) → (more : List ℕ) × (text_from secret n (take k lines) ++ more ≡ text_from secret n lines)
-front_is_part secret n zero lines = (text_from secret n lines, refl)
-front_is_part secret n (suc k) [] = ([], refl)
-front_is_part secret n (suc k) (line ∷ lines) = onward (event_at n line) (front_is_part secret (n + 1) k lines)
+front_is_part : (class : Sorting) (reply : Meaning) (entries : List Terms) (past : List Event) (n k : ℕ) (lines : List (List ℕ)) → (more : List ℕ) × (text_after class reply entries past (events_from (length entries) n (take k lines)) ++ more ≡ text_after class reply entries past (events_from (length entries) n lines))
+front_is_part class reply entries past n zero lines = (text_after class reply entries past (events_from (length entries) n lines), refl)
+front_is_part class reply entries past n (suc k) [] = ([], refl)
+front_is_part class reply entries past n (suc k) (line ∷ lines) = onward (event_at (length entries) n line) (λ (p : List Event). front_is_part class reply entries p (n + 1) k lines)
   where
-    onward : (event : Option Event) → (more : List ℕ) × (text_from secret (n + 1) (take k lines) ++ more ≡ text_from secret (n + 1) lines) → (more : List ℕ) × (text_on secret event (text_from secret (n + 1) (take k lines)) ++ more ≡ text_on secret event (text_from secret (n + 1) lines))
+    onward : (event : Option Event) →
+        ((p : List Event) → (more : List ℕ) × (text_after class reply entries p (events_from (length entries) (n + 1) (take k lines)) ++ more ≡ text_after class reply entries p (events_from (length entries) (n + 1) lines))) →
+        (more : List ℕ) × (text_after class reply entries past (events_on event (events_from (length entries) (n + 1) (take k lines))) ++ more ≡ text_after class reply entries past (events_on event (events_from (length entries) (n + 1) lines)))
     onward None h = ([], refl)
-    onward (Some e) h = (h.0, append_assoc (event_text secret e) (text_from secret (n + 1) (take k lines)) h.0 ∙ ap (λ (xs : List ℕ). event_text secret e ++ xs) h.1)
+    onward (Some e) h =
+        let p = h (e ∷ past) in
+        let t = event_text class reply entries past e in
+        (p.0, append_assoc t (text_after class reply entries (e ∷ past) (events_from (length entries) (n + 1) (take k lines))) p.0 ∙ ap (λ (xs : List ℕ). t ++ xs) p.1)
 
 -- whatever was written is a part of the text
-pub is_part : (secret : List ℕ) (r0 w0 w : Option (List ℕ)) (answer : Result (Unit {0}) ReplayFault) → Replays secret r0 w0 w answer → Replays secret r0 w0 w (Err Write)
-is_part secret r0 w0 w (Ok u) h tape before e f = let a = h tape before e f in (tape_text secret tape, [], a.0, append-nil (tape_text secret tape))
-is_part secret r0 w0 w (Err (Tape line)) h tape before e f = let a = h tape before e f in (tape_text secret tape, [], a.0, append-nil (tape_text secret tape))
-is_part secret r0 w0 w (Err OutOfMemory) h tape before e f = let a = h tape before e f in let p = front_is_part secret 1 a.0 (lines_of tape) in (front_text secret tape a.0, p.0, a.1, p.1)
-is_part secret r0 w0 w (Err Read) h tape before e f = let a = h tape before e f in let p = front_is_part secret 1 a.0 (lines_of tape) in (front_text secret tape a.0, p.0, a.1, p.1)
-is_part secret r0 w0 w (Err Write) h tape before e f = h tape before e f
+pub is_part : (class : Sorting) (reply : Meaning) (entries : List Terms) (r0 w0 w : Option (List ℕ)) (answer : Result (Unit {0}) ReplayFault) → Replays class reply entries r0 w0 w answer → Replays class reply entries r0 w0 w (Err Write)
+is_part class reply entries r0 w0 w (Ok u) h tape before e f = let a = h tape before e f in (tape_text class reply entries tape, [], a.0, append-nil (tape_text class reply entries tape))
+is_part class reply entries r0 w0 w (Err (Tape line)) h tape before e f = let a = h tape before e f in (tape_text class reply entries tape, [], a.0, append-nil (tape_text class reply entries tape))
+is_part class reply entries r0 w0 w (Err OutOfMemory) h tape before e f = let a = h tape before e f in let p = front_is_part class reply entries [] 1 a.0 (lines_of tape) in (front_text class reply entries tape a.0, p.0, a.1, p.1)
+is_part class reply entries r0 w0 w (Err Read) h tape before e f = let a = h tape before e f in let p = front_is_part class reply entries [] 1 a.0 (lines_of tape) in (front_text class reply entries tape a.0, p.0, a.1, p.1)
+is_part class reply entries r0 w0 w (Err Write) h tape before e f = h tape before e f

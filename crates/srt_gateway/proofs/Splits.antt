@@ -46,3 +46,14 @@ pub not_four : (fields : List (List ℕ)) (text p q r s a b c d : List ℕ) → 
 not_four fields text p q r s a b c d h e =
     let same : fields_of text ≡ [] = cc in
     has_field text same
+
+-- nor just one, where one stands behind its first
+pub not_one : (fields : List (List ℕ)) (text p a : List ℕ) → fields ≡ p ∷ fields_of text → fields ≡ a ∷ [] → ⊥
+not_one fields text p a h e =
+    let same : fields_of text ≡ [] = cc in
+    has_field text same
+
+pub not_two : (fields : List (List ℕ)) (text p q a b : List ℕ) → fields ≡ p ∷ q ∷ fields_of text → fields ≡ a ∷ b ∷ [] → ⊥
+not_two fields text p q a b h e =
+    let same : fields_of text ≡ [] = cc in
+    has_field text same

@@ -1,46 +1,63 @@
 -- What a configuration's text says (this profile).
-use Rattle.std.specs.Prelude.{◌≡◌, ℕ, ◌⊎◌, codes, List, Option, None, Some, Result, Ok, Err}
-use Rattle.toml.specs.Data.{Data, Members, get_member, as_str}
+use Rattle.std.specs.Prelude.{ℕ, List, [], ◌∷◌, map, Option, None, Some, Result, Ok, Err}
+use Rattle.toml.specs.Data.{Members}
 use Rattle.toml.specs.Parse.{parse_document}
 use Rattle.hex.specs.Hex.{decode_sized}
 use Rattle.hex.specs.declared.error.FromHexError.{FromHexError}
-use Rattle.srt_cookie.specs.declared.secret.Secret.{Secret}
 use Rattle.srt_cookie.specs.Cookie.{secret_bytes}
+use Rattle.srt_seq.specs.Terms.{Terms, terms_of}
 use Rattle.srt_gateway.specs.declared.config.Config.{Config}
-use Rattle.srt_gateway.specs.declared.config.Key.TheVariants as key
-use Rattle.srt_gateway.specs.declared.config.ConfigFault.{ConfigFault}
-use Rattle.srt_gateway.specs.declared.config.ConfigFault.TheVariants.{Toml, Missing, WrongKind, BadSecret, OutOfMemory}
+use Rattle.srt_gateway.specs.declared.config.faults.Key.{Key}
+use Rattle.srt_gateway.specs.declared.config.faults.Key.TheVariants.{Secret, Bind, Workers, Route}
+use Rattle.srt_gateway.specs.Address.{Address, address_in}
+use Rattle.srt_gateway.specs.AddressParts.{address_of}
+use Rattle.srt_gateway.specs.FirstFault.{Fault, Toml, BadSecret, BadAddress, ◌>>=◌}
+use Rattle.srt_gateway.specs.Keys.{known, text_at, number_at}
+use Rattle.srt_gateway.specs.Routes.{routes_at}
 
-abbrev pub decoded : Result (List ℕ) FromHexError → Result (List ℕ) ConfigFault
+abbrev pub decoded : Result (List ℕ) FromHexError → Result (List ℕ) Fault
 decoded (Ok bytes) = Ok bytes
 decoded (Err e) = Err BadSecret
 
 -- the 32 bytes that 64 hexadecimal digits say, in either case
-unfoldable pub secret_in : List ℕ → Result (List ℕ) ConfigFault
+unfoldable pub secret_in : List ℕ → Result (List ℕ) Fault
 secret_in text = decoded (decode_sized text 32)
 
-abbrev pub secret_text : Option (List ℕ) → Result (List ℕ) ConfigFault
-secret_text None = Err (WrongKind key.Secret)
-secret_text (Some text) = secret_in text
+unfoldable pub secret_at : Members → Result (List ℕ) Fault
+secret_at table = text_at Secret table >>= λ text. secret_in text
 
-abbrev pub secret_value : Option Data → Result (List ℕ) ConfigFault
-secret_value None = Err (Missing key.Secret)
-secret_value (Some value) = secret_text (as_str value)
+abbrev pub addressed : Option Address → Result Address Fault
+addressed (Some address) = Ok address
+addressed None = Err BadAddress
 
--- the secret of a table
-abbrev pub table_secret : Option Members → Result (List ℕ) ConfigFault
-table_secret None = Err Toml
-table_secret (Some members) = secret_value (get_member (codes "secret") members)
+unfoldable pub bind_at : Members → Result Address Fault
+bind_at table = text_at Bind table >>= λ text. addressed (address_in text)
 
--- the secret of the table that the text is, or the first fault
-abbrev pub config_in : List ℕ → Result (List ℕ) ConfigFault
-config_in text = table_secret (parse_document text)
+-- what the gateway is told when it starts, as plain values
+pub record Settings : Type 0 where
+  pub secret : List ℕ
+  pub bind : Address
+  pub workers : ℕ
+  pub routes : List Terms
 
-abbrev pub secret_read : Result Secret ConfigFault → Result (List ℕ) ConfigFault
-secret_read (Ok secret) = Ok (secret_bytes secret)
-secret_read (Err fault) = Err fault
+-- the keys of the table
+abbrev pub top_keys : List Key
+top_keys = Secret ∷ Bind ∷ Workers ∷ Route ∷ []
 
--- the answer is what the text says, unless memory was refused
-abbrev pub Gives : Result Config ConfigFault → Result (List ℕ) ConfigFault → Type 0
-Gives (Ok config) said = said ≡ Ok (secret_bytes config.secret)
-Gives (Err fault) said = (fault ≡ OutOfMemory) ⊎ (said ≡ Err fault)
+-- the configuration that a table says, or its first fault
+unfoldable pub settings_at : Members → Result Settings Fault
+settings_at table =
+    known top_keys table >>= λ _.
+    secret_at table >>= λ secret.
+    bind_at table >>= λ bind.
+    number_at Workers 1 16 table >>= λ workers.
+    routes_at table >>= λ routes.
+    Ok (record { secret = secret; bind = bind; workers = workers; routes = routes })
+
+-- the same of a text that is a table or none
+abbrev pub config_in : Option Members → Result Settings Fault
+config_in (Some table) = settings_at table
+config_in None = Err Toml
+
+abbrev pub settings_of : Config → Settings
+settings_of config = record { secret = secret_bytes config.secret; bind = address_of config.bind; workers = config.workers; routes = map terms_of config.entries.items }

@@ -1,25 +1,50 @@
--- The events that a tape's lines say (this profile).
+-- The events that a tape's lines say, to a gateway with so many routes (this profile).
 use Rattle.std.specs.Prelude.{ℕ, ◌^◌, List, [], ◌∷◌, length, nat_le, Option, None, Some, if◌then◌else◌, ◌==◌, Bool, false}
-use Rattle.srt_seq.specs.declared.shared.Peer.{Peer}
-use Rattle.srt_gateway.specs.Tape.{fields_of, number_in, address_in, bytes_in}
-
--- what happens to the gateway
-pub data Event : Type 0 where
-  -- a datagram came
-  Arrival : (peer : Peer) (moment : ℕ) (bytes : List ℕ) → Event
+use Rattle.srt_hub.specs.World.{Event, Arrives, Ticks, Turns, Sends}
+use Rattle.srt_gateway.specs.Tape.{fields_of, line_max, number_in, address_in, bytes_in}
 
 -- an arrival, where each of its fields is of its form
 abbrev pub arrival_of : (moment : Option ℕ) (address : Option (List ℕ)) (port : Option ℕ) (bytes : Option (List ℕ)) → Option Event
-arrival_of (Some moment) (Some ip) (Some port) (Some bytes) = Some (Arrival (record { ip = ip; port = port }) moment bytes)
+arrival_of (Some moment) (Some ip) (Some port) (Some bytes) = Some (Arrives (record { peer = record { ip = ip; port = port }; bytes = bytes }) moment false)
 arrival_of (Some moment) (Some ip) (Some port) None = None
 arrival_of (Some moment) (Some ip) None bytes = None
 arrival_of (Some moment) None port bytes = None
 arrival_of None ip port bytes = None
 
--- moment, address, port and bytes: moments below 2^62, ports below 2^16
+abbrev pub tick_of : (route moment : Option ℕ) → Option Event
+tick_of (Some r) (Some moment) = Some (Ticks r moment)
+tick_of (Some r) None = None
+tick_of None moment = None
+
+abbrev pub turn_of : (route : Option ℕ) → Option Event
+turn_of (Some r) = Some (Turns r)
+turn_of None = None
+
+abbrev pub send_of : (route : Option ℕ) → Option Event
+send_of (Some r) = Some (Sends r)
+send_of None = None
+
+-- moments lie below 2^62
+abbrev pub moment_in : List ℕ → Option ℕ
+moment_in text = number_in (2 ^ 62) text
+
+-- moment, address, port and bytes: ports lie below 2^16
 abbrev pub arrival_in : List (List ℕ) → Option Event
-arrival_in (moment ∷ address ∷ port ∷ bytes ∷ []) = arrival_of (number_in (2 ^ 62) moment) (address_in address) (number_in (2 ^ 16) port) (bytes_in bytes)
+arrival_in (moment ∷ address ∷ port ∷ bytes ∷ []) = arrival_of (moment_in moment) (address_in address) (number_in (2 ^ 16) port) (bytes_in bytes)
 arrival_in _ = None
+
+-- route and moment: the numbers of routes lie below their count
+abbrev pub tick_in : (routes : ℕ) → List (List ℕ) → Option Event
+tick_in routes (route ∷ moment ∷ []) = tick_of (number_in routes route) (moment_in moment)
+tick_in routes _ = None
+
+abbrev pub turn_in : (routes : ℕ) → List (List ℕ) → Option Event
+turn_in routes (route ∷ []) = turn_of (number_in routes route)
+turn_in routes _ = None
+
+abbrev pub send_in : (routes : ℕ) → List (List ℕ) → Option Event
+send_in routes (route ∷ []) = send_of (number_in routes route)
+send_in routes _ = None
 
 -- whether a field is this one letter
 abbrev pub is_letter : ℕ → List ℕ → Bool
@@ -27,15 +52,15 @@ is_letter letter [] = false
 is_letter letter (b ∷ []) = b == letter
 is_letter letter (b ∷ c ∷ bytes) = false
 
--- the event of a line's fields: `A` begins an arrival
-unfoldable pub event_in : List (List ℕ) → Option Event
-event_in [] = None
-event_in (letter ∷ fields) = if is_letter 65 letter then arrival_in fields else None
+-- the event of a line's fields: `A` begins an arrival, `T` a tick, `U` a turn and `S` a send
+unfoldable pub event_in : (routes : ℕ) → List (List ℕ) → Option Event
+event_in routes [] = None
+event_in routes (letter ∷ fields) =
+    if is_letter 65 letter then arrival_in fields else
+    if is_letter 84 letter then tick_in routes fields else
+    if is_letter 85 letter then turn_in routes fields else
+    if is_letter 83 letter then send_in routes fields else None
 
--- the most bytes of a line
-abbrev pub line_max : ℕ
-line_max = 4096
-
--- the event that a line says
-unfoldable pub event_of : List ℕ → Option Event
-event_of line = if nat_le (length line) line_max then event_in (fields_of line) else None
+-- the event that a line says; there is memory for every arrival
+unfoldable pub event_of : (routes : ℕ) → List ℕ → Option Event
+event_of routes line = if nat_le (length line) line_max then event_in routes (fields_of line) else None

@@ -1,9 +1,9 @@
 -- How a configuration's faults are printed (this profile).
-use Rattle.std.specs.Prelude.{ℕ, List, codes}
-use Rattle.srt_gateway.specs.declared.config.Key.{Key}
-use Rattle.srt_gateway.specs.declared.config.Key.TheVariants.{Secret, Bind, Workers, Route, Name, Mode, LatencyMs, Buffer, Sessions, Inbox, Outbox}
-use Rattle.srt_gateway.specs.declared.config.ConfigFault.{ConfigFault}
-use Rattle.srt_gateway.specs.declared.config.ConfigFault.TheVariants.{Toml, UnknownKey, Missing, WrongKind, OutOfRange, BadName, RepeatedName, BadSecret, BadAddress, OutOfMemory}
+use Rattle.std.specs.Prelude.{ℕ, List, codes, string_bytes}
+use Rattle.srt_gateway.specs.declared.config.faults.Key.{Key}
+use Rattle.srt_gateway.specs.declared.config.faults.Key.TheVariants.{Secret, Bind, Workers, Route, Name, Mode, LatencyMs, Buffer, Sessions, Inbox, Outbox}
+use Rattle.srt_gateway.specs.declared.config.faults.ConfigFault.{ConfigFault}
+use Rattle.srt_gateway.specs.declared.config.faults.ConfigFault.TheVariants.{Toml, UnknownKey, Missing, WrongKind, OutOfRange, BadName, RepeatedName, BadSecret, BadAddress, OutOfMemory}
 
 abbrev pub key_name : Key → List ℕ
 key_name Secret = codes "secret"
@@ -20,7 +20,7 @@ key_name Outbox = codes "outbox"
 
 abbrev pub number_of : ConfigFault → ℕ
 number_of Toml = 1
-number_of UnknownKey = 2
+number_of (UnknownKey key) = 2
 number_of (Missing key) = 3
 number_of (WrongKind key) = 4
 number_of (OutOfRange key) = 5
@@ -32,7 +32,7 @@ number_of OutOfMemory = 10
 
 abbrev pub key_text : ConfigFault → List ℕ
 key_text Toml = codes "-"
-key_text UnknownKey = codes "-"
+key_text (UnknownKey key) = string_bytes key
 key_text (Missing key) = key_name key
 key_text (WrongKind key) = key_name key
 key_text (OutOfRange key) = key_name key

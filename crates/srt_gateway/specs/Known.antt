@@ -1,7 +1,6 @@
 -- Readers and writers that tell their bytes: what was taken of the ones, and written to the others.
 use Rattle.std.specs.Prelude.{◌≡◌, ◌≢◌, ℕ, ◌+◌, List, [], ◌∷◌, ◌++◌, length, take, All, Option, Some, ◌<◌, ◌≤◌}
-use Rattle.srt_gateway.specs.Tape.{lines_of}
-use Rattle.srt_gateway.specs.Events.{line_max}
+use Rattle.srt_gateway.specs.Tape.{lines_of, line_max}
 use Rattle.srt_gateway.specs.declared.lines.Taken.{Taken}
 use Rattle.srt_gateway.specs.declared.lines.Taken.TheVariants as taken
 use Rattle.srt_gateway.specs.declared.lines.Piece.{Piece}

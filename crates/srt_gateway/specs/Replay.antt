@@ -1,62 +1,74 @@
 -- What the replay of a tape writes (this profile).
-use Rattle.std.specs.Prelude.{◌≡◌, ℕ, ◌+◌, nat_le, List, [], ◌∷◌, ◌++◌, take, Option, None, Some, Result, Ok, Err, if◌then◌else◌}
+use Rattle.std.specs.Prelude.{◌≡◌, ℕ, ◌+◌, nat_le, List, [], ◌∷◌, ◌++◌, take, length, Option, None, Some, Result, Ok, Err, if◌then◌else◌}
+use Rattle.srt_seq.specs.Terms.{Terms}
+use Rattle.srt_hub.specs.World.{Event, Sorting, Meaning}
 use Rattle.srt_gateway.specs.declared.replaying.ReplayFault.{ReplayFault}
 use Rattle.srt_gateway.specs.declared.replaying.ReplayFault.TheVariants.{Tape, OutOfMemory, Read, Write}
 use Rattle.srt_gateway.specs.Tape.{lines_of}
-use Rattle.srt_gateway.specs.Events.{Event, event_of}
-use Rattle.srt_gateway.specs.Answers.{event_text}
+use Rattle.srt_gateway.specs.Events.{event_of}
+use Rattle.srt_gateway.specs.Texts.{event_text}
 
 -- the most lines of a tape
 abbrev pub lines_max : ℕ
 lines_max = 1_000_000
 
 -- the event of the line of this number, counted from 1
-unfoldable pub event_at : (number : ℕ) → (line : List ℕ) → Option Event
-event_at number line = if nat_le number lines_max then event_of line else None
+unfoldable pub event_at : (routes number : ℕ) → (line : List ℕ) → Option Event
+event_at routes number line = if nat_le number lines_max then event_of routes line else None
 
--- the text goes on behind an event, and ends where there is none
-abbrev pub text_on : (secret : List ℕ) → Option Event → (others : List ℕ) → List ℕ
-text_on secret None others = []
-text_on secret (Some event) others = event_text secret event ++ others
+-- events go on behind an event, and end where there is none
+abbrev pub events_on : Option Event → (others : List Event) → List Event
+events_on None others = []
+events_on (Some event) others = event ∷ others
 
--- what is written for lines, the first of which has this number, as far as the first that says no event
-abbrev pub text_from : (secret : List ℕ) (number : ℕ) → List (List ℕ) → List ℕ
-text_from secret number [] = []
-text_from secret number (line ∷ lines) = text_on secret (event_at number line) (text_from secret (number + 1) lines)
+-- the events of lines, the oldest first, as far as the first line that says none; the first line has this number
+abbrev pub events_from : (routes number : ℕ) → List (List ℕ) → List Event
+events_from routes number [] = []
+events_from routes number (line ∷ lines) = events_on (event_at routes number line) (events_from routes (number + 1) lines)
 
 abbrev pub fault_on : (number : ℕ) → Option Event → (others : Option ℕ) → Option ℕ
 fault_on number None others = Some number
 fault_on number (Some event) others = others
 
 -- the number of the first line that says no event
-abbrev pub fault_from : (number : ℕ) → List (List ℕ) → Option ℕ
-fault_from number [] = None
-fault_from number (line ∷ lines) = fault_on number (event_at number line) (fault_from (number + 1) lines)
+abbrev pub fault_from : (routes number : ℕ) → List (List ℕ) → Option ℕ
+fault_from routes number [] = None
+fault_from routes number (line ∷ lines) = fault_on number (event_at routes number line) (fault_from routes (number + 1) lines)
+
+-- what is written for coming events, the oldest first, after past events, the newest first: each is answered by the
+-- world, and then belongs to the past
+abbrev pub text_after : Sorting → Meaning → List Terms → (past coming : List Event) → List ℕ
+text_after class reply entries past [] = []
+text_after class reply entries past (event ∷ coming) = event_text class reply entries past event ++ text_after class reply entries (event ∷ past) coming
+
+-- what is written for lines
+abbrev pub text_of : Sorting → Meaning → List Terms → List (List ℕ) → List ℕ
+text_of class reply entries lines = text_after class reply entries [] (events_from (length entries) 1 lines)
 
 -- what is written for a tape
-abbrev pub tape_text : (secret tape : List ℕ) → List ℕ
-tape_text secret tape = text_from secret 1 (lines_of tape)
+abbrev pub tape_text : Sorting → Meaning → List Terms → (tape : List ℕ) → List ℕ
+tape_text class reply entries tape = text_of class reply entries (lines_of tape)
 
 -- what is written for its first lines
-abbrev pub front_text : (secret tape : List ℕ) (lines : ℕ) → List ℕ
-front_text secret tape lines = text_from secret 1 (take lines (lines_of tape))
+abbrev pub front_text : Sorting → Meaning → List Terms → (tape : List ℕ) (lines : ℕ) → List ℕ
+front_text class reply entries tape lines = text_of class reply entries (take lines (lines_of tape))
 
 -- the number of its first line that says no event, counted from 1
-abbrev pub fault_line : (tape : List ℕ) → Option ℕ
-fault_line tape = fault_from 1 (lines_of tape)
+abbrev pub fault_line : (routes : ℕ) → (tape : List ℕ) → Option ℕ
+fault_line routes tape = fault_from routes 1 (lines_of tape)
 
 -- what a writer that held some bytes holds after the replay of a tape, by the answer
-abbrev pub HasReplayed : (secret tape before : List ℕ) (after : Option (List ℕ)) → Result (Unit {0}) ReplayFault → Type 0
+abbrev pub HasReplayed : Sorting → Meaning → List Terms → (tape before : List ℕ) (after : Option (List ℕ)) → Result (Unit {0}) ReplayFault → Type 0
 -- the whole text
-HasReplayed secret tape before after (Ok u) = (after ≡ Some (before ++ tape_text secret tape)) × (fault_line tape ≡ None)
+HasReplayed class reply entries tape before after (Ok u) = (after ≡ Some (before ++ tape_text class reply entries tape)) × (fault_line (length entries) tape ≡ None)
 -- the text of the lines before the first that says no event
-HasReplayed secret tape before after (Err (Tape line)) = (after ≡ Some (before ++ tape_text secret tape)) × (fault_line tape ≡ Some line)
+HasReplayed class reply entries tape before after (Err (Tape line)) = (after ≡ Some (before ++ tape_text class reply entries tape)) × (fault_line (length entries) tape ≡ Some line)
 -- the text of some first lines
-HasReplayed secret tape before after (Err OutOfMemory) = (lines : ℕ) × (after ≡ Some (before ++ front_text secret tape lines))
-HasReplayed secret tape before after (Err Read) = (lines : ℕ) × (after ≡ Some (before ++ front_text secret tape lines))
+HasReplayed class reply entries tape before after (Err OutOfMemory) = (lines : ℕ) × (after ≡ Some (before ++ front_text class reply entries tape lines))
+HasReplayed class reply entries tape before after (Err Read) = (lines : ℕ) × (after ≡ Some (before ++ front_text class reply entries tape lines))
 -- a part of the text from its beginning
-HasReplayed secret tape before after (Err Write) = (text more : List ℕ) × (after ≡ Some (before ++ text)) × (text ++ more ≡ tape_text secret tape)
+HasReplayed class reply entries tape before after (Err Write) = (text more : List ℕ) × (after ≡ Some (before ++ text)) × (text ++ more ≡ tape_text class reply entries tape)
 
 -- the same of a reader and a writer, where they tell their bytes
-abbrev pub Replays : (secret : List ℕ) (reader writer after : Option (List ℕ)) → Result (Unit {0}) ReplayFault → Type 0
-Replays secret reader writer after result = (tape before : List ℕ) → reader ≡ Some tape → writer ≡ Some before → HasReplayed secret tape before after result
+abbrev pub Replays : Sorting → Meaning → List Terms → (reader writer after : Option (List ℕ)) → Result (Unit {0}) ReplayFault → Type 0
+Replays class reply entries reader writer after result = (tape before : List ℕ) → reader ≡ Some tape → writer ≡ Some before → HasReplayed class reply entries tape before after result

@@ -1,42 +1,72 @@
 -- One line of a replay.
-use Rattle.std.specs.Prelude.{◌≡◌, ℕ, ◌+◌, List, ◌∷◌, ◌++◌, length, take, Bool, true, false, Option, None, Some, Result, Ok, Err}
+use Rattle.std.specs.Prelude.{◌≡◌, ℕ, ◌+◌, List, [], ◌∷◌, ◌++◌, length, take, Bool, true, false, Option, None, Some, Result, Ok, Err}
+use Rattle.srt_hub.specs.declared.answers.OutOfMemory.{OutOfMemory as NoMemory}
+use Rattle.srt_lobby.specs.declared.classes.Class.TheVariants.{Route}
+use Rattle.srt_seq.specs.Items.{Datagram}
+use Rattle.srt_seq.specs.Terms.{Terms}
+use Rattle.srt_hub.specs.World.{Event, Arrives, Sorting, Meaning}
 use Rattle.srt_gateway.specs.declared.replaying.ReplayFault.{ReplayFault}
 use Rattle.srt_gateway.specs.declared.replaying.ReplayFault.TheVariants.{Tape, OutOfMemory, Read, Write}
 use Rattle.srt_gateway.specs.Tape.{lines_of}
-use Rattle.srt_gateway.specs.Events.{Event}
-use Rattle.srt_gateway.specs.Answers.{event_text}
+use Rattle.srt_gateway.specs.Events.{event_of}
+use Rattle.srt_gateway.specs.Texts.{event_text}
 use Rattle.srt_gateway.specs.Known.{TookLine, NoLine, Wrote}
-use Rattle.srt_gateway.specs.Replay.{event_at, text_from, fault_from}
+use Rattle.srt_gateway.specs.Replay.{event_at, events_from, text_after, text_of, fault_from}
+
+-- what a gateway stands for, by its events, the newest first
+abbrev pub History : Type 1
+History = List Event → Type 0
+
+-- an event after these events was answered with this text, and belongs to the past now
+abbrev pub WasAnswered : Sorting → Meaning → List Terms → (past : List Event) (event : Event) (text : List ℕ) → History → Type 0
+WasAnswered class reply entries past event text After = (text ≡ event_text class reply entries past event) × After (event ∷ past)
+
+-- an event's answer stands at the front of a buffer, or there was no memory for it
+abbrev pub EventAnswered : Sorting → Meaning → List Terms → (past : List Event) (event : Event) (buffer : List ℕ) → History → Result ℕ NoMemory → Type 0
+EventAnswered class reply entries past event buffer After (Ok n) = WasAnswered class reply entries past event (take n buffer) After
+EventAnswered class reply entries past event buffer After (Err fault) = Unit {0}
+
+-- a line's answer stands at the front of a buffer, or the line says no event, or there was no memory
+abbrev pub LineAnswered : Sorting → Meaning → List Terms → (past : List Event) (line buffer : List ℕ) → History → Result (Option ℕ) NoMemory → Type 0
+LineAnswered class reply entries past line buffer After (Ok (Some n)) = (event : Event) × (event_of (length entries) line ≡ Some event) × WasAnswered class reply entries past event (take n buffer) After
+LineAnswered class reply entries past line buffer After (Ok None) = event_of (length entries) line ≡ None
+LineAnswered class reply entries past line buffer After (Err fault) = Unit {0}
 
 -- where the bytes are known, their first line, of this number, says no event
-abbrev pub NoEvent : Option (List ℕ) → (number : ℕ) → Type 0
-NoEvent old number = (xs : List ℕ) → old ≡ Some xs → (line : List ℕ) × (lines : List (List ℕ)) × (lines_of xs ≡ line ∷ lines) × (event_at number line ≡ None)
+abbrev pub NoEvent : Option (List ℕ) → (routes number : ℕ) → Type 0
+NoEvent old routes number = (xs : List ℕ) → old ≡ Some xs → (line : List ℕ) × (lines : List (List ℕ)) × (lines_of xs ≡ line ∷ lines) × (event_at routes number line ≡ None)
 
 -- a line was taken that says this event
-pub record TookEvent (old new : Option (List ℕ)) (number : ℕ) (event : Event) : Type 0 where
+pub record TookEvent (old new : Option (List ℕ)) (routes number : ℕ) (event : Event) : Type 0 where
   pub line : List ℕ
   pub took : TookLine old new line
-  pub event_is : event_at number line ≡ Some event
+  pub event_is : event_at routes number line ≡ Some event
 
 -- what one line's turn did: true where a line was answered, false where there is none
-abbrev pub Answered : (secret : List ℕ) (old new held holds : Option (List ℕ)) (number : ℕ) → Result Bool ReplayFault → Type 0
-Answered secret old new held holds number (Ok true) = (event : Event) × TookEvent old new number event × Wrote held holds (event_text secret event)
-Answered secret old new held holds number (Ok false) = NoLine old × (holds ≡ held)
-Answered secret old new held holds number (Err (Tape line)) = (line ≡ number) × NoEvent old number × (holds ≡ held)
-Answered secret old new held holds number (Err OutOfMemory) = holds ≡ held
-Answered secret old new held holds number (Err Read) = holds ≡ held
-Answered secret old new held holds number (Err Write) = (event : Event) × TookEvent old new number event × ((n : ℕ) × Wrote held holds (take n (event_text secret event)))
+abbrev pub Answered : Sorting → Meaning → List Terms → (past : List Event) → History → (old new held holds : Option (List ℕ)) (number : ℕ) → Result Bool ReplayFault → Type 0
+Answered class reply entries past After old new held holds number (Ok true) = (event : Event) × TookEvent old new (length entries) number event × Wrote held holds (event_text class reply entries past event) × After (event ∷ past)
+Answered class reply entries past After old new held holds number (Ok false) = NoLine old × (holds ≡ held)
+Answered class reply entries past After old new held holds number (Err (Tape line)) = (line ≡ number) × NoEvent old (length entries) number × (holds ≡ held)
+Answered class reply entries past After old new held holds number (Err OutOfMemory) = holds ≡ held
+Answered class reply entries past After old new held holds number (Err Read) = holds ≡ held
+Answered class reply entries past After old new held holds number (Err Write) = (event : Event) × TookEvent old new (length entries) number event × ((n : ℕ) × Wrote held holds (take n (event_text class reply entries past event)))
+
+-- past events, the newest first, with those that came since, the oldest first
+abbrev pub with_past : (past came : List Event) → List Event
+with_past past [] = past
+with_past past (event ∷ came) = with_past (event ∷ past) came
 
 -- a replay under way, before the line of this number
-pub record Replayed (secret tape before : List ℕ) (reader writer : Option (List ℕ)) (number : ℕ) : Type 0 where
+pub record Replayed (class : Sorting) (reply : Meaning) (entries : List Terms) (Now : History) (tape before : List ℕ) (reader writer : Option (List ℕ)) (number : ℕ) : Type 0 where
   -- the lines that were answered, and the bytes that are left
   pub lines : List (List ℕ)
   pub left : List ℕ
   pub lines_are : lines_of tape ≡ lines ++ lines_of left
   pub number_is : number ≡ 1 + length lines
-  pub events : fault_from 1 lines ≡ None
+  pub no_fault : fault_from (length entries) 1 lines ≡ None
   pub reader_is : reader ≡ Some left
-  pub writer_is : writer ≡ Some (before ++ text_from secret 1 lines)
+  pub writer_is : writer ≡ Some (before ++ text_of class reply entries lines)
+  pub stands : Now (with_past [] (events_from (length entries) 1 lines))
 
-abbrev pub IsReplaying : (secret : List ℕ) (old held reader writer : Option (List ℕ)) (number : ℕ) → Type 0
-IsReplaying secret old held reader writer number = (tape before : List ℕ) → old ≡ Some tape → held ≡ Some before → Replayed secret tape before reader writer number
+abbrev pub IsReplaying : Sorting → Meaning → List Terms → (Now : History) → (old held reader writer : Option (List ℕ)) (number : ℕ) → Type 0
+IsReplaying class reply entries Now old held reader writer number = (tape before : List ℕ) → old ≡ Some tape → held ≡ Some before → Replayed class reply entries Now tape before reader writer number

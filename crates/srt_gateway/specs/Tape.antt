@@ -13,6 +13,10 @@ abbrev pub lines_of : List ℕ → List (List ℕ)
 lines_of [] = []
 lines_of (b ∷ bytes) = if b == 10 then [] ∷ lines_of bytes else onto b (lines_of bytes)
 
+-- the most bytes of a line
+abbrev pub line_max : ℕ
+line_max = 4096
+
 -- the fields of a line, parted by one space each
 abbrev pub fields_of : List ℕ → List (List ℕ)
 fields_of [] = [] ∷ []

@@ -1,17 +1,17 @@
 //! The gateway: its configuration, and tapes of events replayed to their answers.
 #![tactic(auto)]
 
-mod answers;
 mod config;
 mod events;
 mod fields;
 mod lines;
-mod lobby;
 mod numbers;
+mod output;
 mod replaying;
+mod texts;
 
-pub use config::{Config, ConfigFault, Key, read_config};
-pub use replaying::{ReplayFault, replay};
+pub use config::{BindAddress, Config, ConfigFault, Key, read_config};
+pub use replaying::{ReplayFault, replay, replay_over};
 
 #[cfg(test)]
 mod tests;

@@ -3,10 +3,12 @@
 ghost use Rattle.std.specs.Prelude.{◌≡◌, ◌≢◌, ◌-◌, ◌<◌, ◌≤◌, IfOk, All, take, length};
 ghost use Rattle.srt_gateway.specs.Known.{TookPiece, TookOne};
 
-use crate::events::LINE_MAX;
 use memchr::memchr;
 use srt_seq::write_at;
 use std::io::{BufRead, Error, ErrorKind};
+
+/// The most bytes of a line.
+pub(crate) const LINE_MAX: usize = 4096;
 
 fn is_interrupted(e: &Error) -> bool {
     e.kind() == ErrorKind::Interrupted

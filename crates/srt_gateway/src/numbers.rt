@@ -9,28 +9,27 @@ fn has_leading_zero(text: &[u8]) -> bool
     text.len() > 1 && text[0] == b'0'
 }
 
-/// The number that decimal digits say, where it is below 2^62.
+/// The number that decimal digits say, where it is below 2^64.
 fn read_digits(text: &[u8]) -> Option<u64>
-    ensures { result ≡ under (2 ^ 62) (digits_from 0 text.now) }
+    ensures { result ≡ under (2 ^ 64) (digits_from 0 text.now) }
 {
-    let mut number = 0;
+    let mut number: u64 = 0;
     for b in text {
         if !b.is_ascii_digit() {
             return None;
         }
-        // Ten times as much is beyond the limit, and the next digit is still no overflow.
-        if number >= 1 << 60 {
+        let digit = u64::from(*b - b'0');
+        if number > (u64::MAX - digit) / 10 {
             return None;
         }
-        number = number * 10 + u64::from(*b - b'0');
+        number = number * 10 + digit;
     }
-    if number < 1 << 62 { Some(number) } else { None }
+    Some(number)
 }
 
 /// The number that decimal digits say, where it is below the limit and has no leading zero.
 #[tactic(auto, unfolding(crate::specs::Tape::number_in))]
 pub(crate) fn read_number(text: &[u8], limit: u64) -> Option<u64>
-    requires { limit ≤ 2 ^ 62 }
     ensures value { result ≡ number_in limit text.now }
     ensures below { IfSome result (λ n. n < limit) }
 {

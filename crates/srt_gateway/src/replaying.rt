@@ -1,22 +1,31 @@
-//! Tapes replayed: each event's answer is written as a line.
+//! Tapes replayed over a hub: each line's event happens, and its answer is written as a line.
 
-ghost use Rattle.std.specs.Prelude.{◌≡◌, ◌≢◌, ◌≤◌, ℕ, Err, OnOk, OnErr, take, length};
+ghost use Rattle.std.specs.Prelude.{◌≡◌, ◌≤◌, ◌<◌, ◌^◌, ℕ, List, [], IfOk, IfSome, take, length, map, false};
+ghost use Rattle.srt_seq.specs.Terms.{Terms, terms_of};
 ghost use Rattle.srt_cookie.specs.Cookie.{secret_bytes};
-ghost use Rattle.srt_gateway.specs.Known.{Wrote};
-ghost use Rattle.srt_gateway.specs.Step.{Answered, IsReplaying};
+ghost use Rattle.srt_lobby.specs.Lobby.{class_of};
+ghost use Rattle.srt_route.specs.Route.{reply};
+ghost use Rattle.srt_hub.specs.World.{Event, Arrives, Ticks, Turns, Sends};
+ghost use Rattle.srt_hub.specs.Hubs.{names};
+ghost use Rattle.srt_gateway.specs.Said.{event_said, IsSound};
 ghost use Rattle.srt_gateway.specs.Replay.{Replays};
+ghost use Rattle.srt_gateway.specs.Step.{WasAnswered, EventAnswered, LineAnswered, Answered, IsReplaying};
 
-use crate::answers::{TEXT_MAX, answer_line};
 use crate::config::Config;
-use crate::events::LINE_MAX;
-use crate::lines::{Taken, next_line};
-use std::io::{BufRead, ErrorKind, Write};
+use crate::events::{Said, read_event};
+use crate::lines::{LINE_MAX, Taken, next_line};
+use crate::output::write_bytes;
+use crate::texts::{TEXT_MAX, write_arrived, write_none, write_sent, write_ticked, write_turned};
+use srt_hub::{Gateway, Hub, Lobby, OutOfMemory, RouteStep, SrtGateway};
+use srt_seq::{OpenFault, Peer};
+use std::alloc::Global;
+use std::io::{BufRead, Write};
 
 /// The most lines of a tape.
-const LINES_MAX: u32 = 1_000_000;
+pub(crate) const LINES_MAX: u32 = 1_000_000;
 
 /// The most looks at a reader, and the most tries to write one line.
-const TRIES_MAX: u64 = 1 << 33;
+pub(crate) const TRIES_MAX: u64 = 1 << 33;
 
 /// Why a replay ended early. What was written before stands.
 #[derive(Clone, Copy, Debug, PartialEq, Eq)]
@@ -31,31 +40,72 @@ pub enum ReplayFault {
     Write,
 }
 
-/// The writer failed.
-#[derive(Clone, Copy)]
-struct WriteFailed;
-
-/// Writes bytes, or some first of them where the writer fails.
-fn write_bytes<W: Write>(writer: &mut W, bytes: &[u8]) -> Result<(), WriteFailed>
-    ensures ok { OnOk result (Wrote (W.contents writer.old) (W.contents writer.new) bytes.now) }
-    ensures err { OnErr result ((n : ℕ) × Wrote (W.contents writer.old) (W.contents writer.new) (take n bytes.now)) }
+/// A datagram comes, and its answer's line is put at the front of `out`. Answers the line's length.
+#[tactic(auto, unfolding(crate::specs::Texts::event_text))]
+fn answer_arrival<R: RouteStep, L: Lobby>(
+    alloc: Global,
+    hub: &mut Hub<R, L>,
+    peer: Peer,
+    moment: u64,
+    bytes: &[u8],
+    out: &mut [u8; TEXT_MAX],
+) -> Result<usize, OutOfMemory>
+    requires { moment < 2 ^ 62 }
+    ensures within { IfOk result (λ n. n ≤ 4096) }
+    ensures answered { (secret : List ℕ) (entries : List Terms) (past : List Event) → ⟦<Hub<R, L> as Gateway>⟧.stands hub.old secret entries past → EventAnswered (L.class secret (names entries)) R.reply entries past (Arrives (record { peer = peer; bytes = bytes.now }) moment false) out.new (⟦<Hub<R, L> as Gateway>⟧.stands hub.new secret entries) result }
 {
-    let mut at = 0;
-    for _ in 0..TRIES_MAX {
-        if at >= bytes.len() {
-            return Ok(());
-        }
-        match writer.write(&bytes[at..]) {
-            Ok(0) => return Err(WriteFailed),
-            Ok(n) => at += n,
-            Err(e) => {
-                if e.kind() != ErrorKind::Interrupted {
-                    return Err(WriteFailed);
-                }
-            }
-        }
+    let answer = hub.arrive(alloc, peer, bytes, moment)?;
+    Ok(write_arrived(&answer, out))
+}
+
+/// A route is told the time, and its answer's line is put at the front of `out`. Answers the line's length.
+#[tactic(auto, unfolding(crate::specs::Texts::event_text))]
+fn answer_tick<R: RouteStep, L: Lobby>(
+    hub: &mut Hub<R, L>,
+    route: usize,
+    moment: u64,
+    out: &mut [u8; TEXT_MAX],
+) -> usize
+    requires route { route < ⟦<Hub<R, L> as Gateway>⟧.routes hub.old }
+    requires moment { moment < 2 ^ 62 }
+    ensures within { result ≤ 4096 }
+    ensures answered { (secret : List ℕ) (entries : List Terms) (past : List Event) → ⟦<Hub<R, L> as Gateway>⟧.stands hub.old secret entries past → WasAnswered (L.class secret (names entries)) R.reply entries past (Ticks route moment) (take result out.new) (⟦<Hub<R, L> as Gateway>⟧.stands hub.new secret entries) }
+{
+    let answer = hub.tick(route, moment);
+    write_ticked(route, answer, out)
+}
+
+/// A route takes a turn, and its answer's line is put at the front of `out`. Answers the line's length.
+#[tactic(auto, unfolding(crate::specs::Texts::event_text))]
+fn answer_turn<R: RouteStep, L: Lobby>(
+    hub: &mut Hub<R, L>,
+    route: usize,
+    out: &mut [u8; TEXT_MAX],
+) -> usize
+    requires { route < ⟦<Hub<R, L> as Gateway>⟧.routes hub.old }
+    ensures within { result ≤ 4096 }
+    ensures answered { (secret : List ℕ) (entries : List Terms) (past : List Event) → ⟦<Hub<R, L> as Gateway>⟧.stands hub.old secret entries past → WasAnswered (L.class secret (names entries)) R.reply entries past (Turns route) (take result out.new) (⟦<Hub<R, L> as Gateway>⟧.stands hub.new secret entries) }
+{
+    let answer = hub.turn(route);
+    write_turned(answer, out)
+}
+
+/// A route's first reply is sent, and its line is put at the front of `out`. Answers the line's length.
+#[tactic(auto, unfolding(crate::specs::Texts::event_text))]
+fn answer_send<R: RouteStep, L: Lobby>(
+    hub: &mut Hub<R, L>,
+    route: usize,
+    packet: &mut [u8; 1472],
+    out: &mut [u8; TEXT_MAX],
+) -> usize
+    requires { route < ⟦<Hub<R, L> as Gateway>⟧.routes hub.old }
+    ensures within { result ≤ 4096 }
+    ensures answered { (secret : List ℕ) (entries : List Terms) (past : List Event) → ⟦<Hub<R, L> as Gateway>⟧.stands hub.old secret entries past → WasAnswered (L.class secret (names entries)) R.reply entries past (Sends route) (take result out.new) (⟦<Hub<R, L> as Gateway>⟧.stands hub.new secret entries) }
+{
+    match hub.send(route, packet) {
+        Some((peer, len)) => write_sent(peer, &packet[..len], out),
+        None => write_none(out),
     }
-    Err(WriteFailed)
 }
 
 /// What a replay works in, made once.
@@ -63,21 +113,65 @@ fn write_bytes<W: Write>(writer: &mut W, bytes: &[u8]) -> Result<(), WriteFailed
 struct Buffers {
     line: [u8; LINE_MAX],
     datagram: [u8; 2048],
+    packet: [u8; 1472],
     text: [u8; TEXT_MAX],
+}
+
+/// An event happens, and its answer's line is put at the front of `out`. Answers the line's length.
+fn answer_event<R: RouteStep, L: Lobby>(
+    alloc: Global,
+    hub: &mut Hub<R, L>,
+    event: Said,
+    datagram: &[u8; 2048],
+    packet: &mut [u8; 1472],
+    out: &mut [u8; TEXT_MAX],
+) -> Result<usize, OutOfMemory>
+    requires { IsSound (⟦<Hub<R, L> as Gateway>⟧.routes hub.old) event }
+    ensures within { IfOk result (λ n. n ≤ 4096) }
+    ensures answered { (secret : List ℕ) (entries : List Terms) (past : List Event) → ⟦<Hub<R, L> as Gateway>⟧.stands hub.old secret entries past → EventAnswered (L.class secret (names entries)) R.reply entries past (event_said datagram.now event) out.new (⟦<Hub<R, L> as Gateway>⟧.stands hub.new secret entries) result }
+{
+    match event {
+        Said::Arrival { peer, moment, len } => {
+            answer_arrival(alloc, hub, peer, moment, &datagram[..len], out)
+        }
+        Said::Tick { route, moment } => Ok(answer_tick(hub, route, moment, out)),
+        Said::Turn { route } => Ok(answer_turn(hub, route, out)),
+        Said::Send { route } => Ok(answer_send(hub, route, packet, out)),
+    }
+}
+
+/// The event of a line happens, and its answer's line is put at the front of `out`. Answers the line's length;
+/// None where the line says no event.
+fn answer_line<R: RouteStep, L: Lobby>(
+    alloc: Global,
+    hub: &mut Hub<R, L>,
+    line: &[u8],
+    datagram: &mut [u8; 2048],
+    packet: &mut [u8; 1472],
+    out: &mut [u8; TEXT_MAX],
+) -> Result<Option<usize>, OutOfMemory>
+    ensures within { IfOk result (λ answer. IfSome answer (λ n. n ≤ 4096)) }
+    ensures answered { (secret : List ℕ) (entries : List Terms) (past : List Event) → ⟦<Hub<R, L> as Gateway>⟧.stands hub.old secret entries past → LineAnswered (L.class secret (names entries)) R.reply entries past line.now out.new (⟦<Hub<R, L> as Gateway>⟧.stands hub.new secret entries) result }
+{
+    let Some(event) = read_event(line, hub.routes(), datagram) else {
+        return Ok(None);
+    };
+    let end = answer_event(alloc, hub, event, datagram, packet, out)?;
+    Ok(Some(end))
 }
 
 /// Takes the next line, which has this number, and writes its answer. False where there is none.
 #[tactic(auto, unfolding(crate::specs::Replay::event_at))]
-fn answer_next<R: BufRead, W: Write>(
-    config: &Config,
-    reader: &mut R,
+fn answer_next<R: RouteStep, L: Lobby, B: BufRead, W: Write>(
+    alloc: Global,
+    hub: &mut Hub<R, L>,
+    reader: &mut B,
     writer: &mut W,
     budget: &mut u64,
     buffers: &mut Buffers,
     number: u32,
 ) -> Result<bool, ReplayFault>
-    ensures line { Answered (secret_bytes config.now.secret) (R.remaining reader.old) (R.remaining reader.new) (W.contents writer.old) (W.contents writer.new) number result }
-    ensures memory { result ≢ Err ReplayFault.OutOfMemory }
+    ensures { (secret : List ℕ) (entries : List Terms) (past : List Event) → ⟦<Hub<R, L> as Gateway>⟧.stands hub.old secret entries past → Answered (L.class secret (names entries)) R.reply entries past (⟦<Hub<R, L> as Gateway>⟧.stands hub.new secret entries) (B.remaining reader.old) (B.remaining reader.new) (W.contents writer.old) (W.contents writer.new) number result }
 {
     let len = match next_line(reader, budget, &mut buffers.line) {
         Ok(Taken::Line(len)) => len,
@@ -88,14 +182,17 @@ fn answer_next<R: BufRead, W: Write>(
     if number > LINES_MAX {
         return Err(ReplayFault::Tape(number));
     }
-    let answer = answer_line(
-        &config.secret,
+    let end = match answer_line(
+        alloc,
+        hub,
         &buffers.line[..len],
         &mut buffers.datagram,
+        &mut buffers.packet,
         &mut buffers.text,
-    );
-    let Some(end) = answer else {
-        return Err(ReplayFault::Tape(number));
+    ) {
+        Ok(Some(end)) => end,
+        Ok(None) => return Err(ReplayFault::Tape(number)),
+        Err(_) => return Err(ReplayFault::OutOfMemory),
     };
     match write_bytes(writer, &buffers.text[..end]) {
         Ok(()) => Ok(true),
@@ -104,23 +201,25 @@ fn answer_next<R: BufRead, W: Write>(
 }
 
 /// Answers the lines of a tape one after the other.
-fn answer_lines<R: BufRead, W: Write>(
-    config: &Config,
-    reader: &mut R,
+fn answer_lines<R: RouteStep, L: Lobby, B: BufRead, W: Write>(
+    alloc: Global,
+    hub: &mut Hub<R, L>,
+    reader: &mut B,
     writer: &mut W,
 ) -> Result<(), ReplayFault>
-    ensures text { Replays (secret_bytes config.now.secret) (R.remaining reader.old) (W.contents writer.old) (W.contents writer.new) result }
-    ensures memory { result ≢ Err ReplayFault.OutOfMemory }
+    ensures { (secret : List ℕ) (entries : List Terms) → ⟦<Hub<R, L> as Gateway>⟧.stands hub.old secret entries [] → Replays (L.class secret (names entries)) R.reply entries (B.remaining reader.old) (W.contents writer.old) (W.contents writer.new) result }
 {
     let mut budget = TRIES_MAX;
     let mut buffers = Buffers {
         line: [0; LINE_MAX],
         datagram: [0; 2048],
+        packet: [0; 1472],
         text: [0; TEXT_MAX],
     };
     for before in 0..LINES_MAX + 1 {
         match answer_next(
-            config,
+            alloc,
+            hub,
             reader,
             writer,
             &mut budget,
@@ -136,23 +235,42 @@ fn answer_lines<R: BufRead, W: Write>(
     Err(ReplayFault::Read)
 }
 
-/// Replays a tape: each line's event happens, and its answer is written as a line. The tape is read and the
-/// text written in blocks as the reader and the writer hold them, so hand in ones with buffers. The writer is
-/// flushed in the end, unless it failed. No memory is taken so far, so want of memory isn't answered.
-pub fn replay<R: BufRead, W: Write>(
-    config: &Config,
-    reader: &mut R,
+/// Replays a tape over a hub to which nothing has happened: each line's event happens, and its answer is written
+/// as a line. The tape is read and the text written in blocks as the reader and the writer hold them, so hand in
+/// ones with buffers. The writer is flushed in the end, unless it failed. Memory is taken for the copies of
+/// routes' datagrams alone.
+pub fn replay_over<R: RouteStep, L: Lobby, B: BufRead, W: Write>(
+    alloc: Global,
+    hub: &mut Hub<R, L>,
+    reader: &mut B,
     writer: &mut W,
 ) -> Result<(), ReplayFault>
-    ensures text { Replays (secret_bytes config.now.secret) (R.remaining reader.old) (W.contents writer.old) (W.contents writer.new) result }
-    ensures memory { result ≢ Err ReplayFault.OutOfMemory }
+    ensures { (secret : List ℕ) (entries : List Terms) → ⟦<Hub<R, L> as Gateway>⟧.stands hub.old secret entries [] → Replays (L.class secret (names entries)) R.reply entries (B.remaining reader.old) (W.contents writer.old) (W.contents writer.new) result }
 {
-    let answered = answer_lines(config, reader, writer);
+    let answered = answer_lines(alloc, hub, reader, writer);
     if answered == Err(ReplayFault::Write) {
         return answered;
     }
     match writer.flush() {
         Ok(()) => answered,
         Err(_) => Err(ReplayFault::Write),
+    }
+}
+
+/// Replays a tape over the gateway of a configuration, to which nothing has happened. It takes the memory of the
+/// configuration's routes first.
+pub fn replay<B: BufRead, W: Write>(
+    alloc: Global,
+    config: &Config,
+    reader: &mut B,
+    writer: &mut W,
+) -> Result<(), ReplayFault>
+    ensures { Replays (class_of (secret_bytes config.now.secret) (names (map terms_of config.now.entries.items))) reply (map terms_of config.now.entries.items) (B.remaining reader.old) (W.contents writer.old) (W.contents writer.new) result }
+{
+    match SrtGateway::open(alloc, config.secret, config.entries.as_slice()) {
+        Ok(mut hub) => replay_over(alloc, &mut hub, reader, writer),
+        Err(OpenFault::OutOfMemory) => Err(ReplayFault::OutOfMemory),
+        // A configuration has names and numbers that can be opened.
+        Err(OpenFault::Names | OpenFault::Limits) => unreachable!(),
     }
 }

@@ -4,20 +4,43 @@ mod configs;
 mod devices;
 mod ends;
 mod events;
+mod hubs;
+mod toys;
 
-use crate::{Config, ReplayFault, replay};
-use srt_cookie::Secret;
+use crate::{Config, ReplayFault, read_config, replay};
 use std::process::Abort;
 use std::test::Fail;
 
-/// The configuration whose secret is the bytes 0 to 31.
-fn config() -> Config {
-    let mut bytes = [0u8; 32];
-    for i in 0..32 {
-        bytes[i] = i as u8;
-    }
-    Config {
-        secret: Secret::new(bytes),
+/// A configuration of two routes. Its secret is the bytes 0 to 31.
+const RIGHT: &str = "\
+secret = \"000102030405060708090a0b0c0d0e0f101112131415161718191A1B1C1D1E1F\"
+bind = \"127.0.0.1:0\"
+workers = 1
+
+[[route]]
+name = \"studio\"
+mode = \"live\"
+latency_ms = 120
+buffer = 1024
+sessions = 5
+inbox = 16
+outbox = 16
+
+[[route]]
+name = \"files\"
+mode = \"buffer\"
+latency_ms = 120
+buffer = 32
+sessions = 3
+inbox = 16
+outbox = 16
+";
+
+/// The configuration that a text says.
+fn config_of(rt: &(impl AllocGlobal + Abort), text: &str) -> Result<Config, Fail> {
+    match read_config(rt.alloc(), text) {
+        Ok(config) => Ok(config),
+        Err(_) => Err(Fail::from("a right configuration")),
     }
 }
 
@@ -30,9 +53,14 @@ fn assert_replayed(
 ) {
     let mut reader = tape;
     let mut writer = Vec::new(rt.alloc());
-    let ended = replay(&config(), &mut reader, &mut writer);
-    assert_eq!(rt; writer.as_slice(), text.as_bytes());
-    assert_eq!(rt; ended, end);
+    match read_config(rt.alloc(), RIGHT) {
+        Ok(config) => {
+            let ended = replay(rt.alloc(), &config, &mut reader, &mut writer);
+            assert_eq!(rt; writer.as_slice(), text.as_bytes());
+            assert_eq!(rt; ended, end);
+        }
+        Err(_) => assert!(rt; false, "the configuration was refused"),
+    }
 }
 
 /// Asserts that a line, behind one that is dropped as no packet, says no event.

@@ -1,3 +1,4 @@
 pub mod Found
 pub mod Stored
 pub mod Steps
+pub mod Rows

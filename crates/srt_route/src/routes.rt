@@ -1,6 +1,6 @@
 //! Routes: the clock, the sessions, and the replies that wait.
 
-ghost use Rattle.std.specs.Prelude.{◌≡◌, ◌↔◌, ℕ, ◌+◌, ◌*◌, ◌<◌, ◌≤◌, ◌^◌, ◌++◌, ◌∷◌, [], List, length, None, Some, Err, IfOk, IfErr, IfNone, map, true};
+ghost use Rattle.std.specs.Prelude.{◌≡◌, ◌↔◌, ℕ, ◌+◌, ◌*◌, ◌<◌, ◌≤◌, ◌^◌, ◌++◌, ◌∷◌, [], List, length, None, Some, Err, IfOk, IfErr, IfNone, map, max, true};
 ghost use Rattle.std.specs.Option.{option_to_list};
 ghost use Rattle.std.specs.VecDeque.{deque_capacity};
 ghost use Rattle.srt_seq.specs.declared.shared.OpenFault.{OpenFault as TheFault};
@@ -18,6 +18,12 @@ use srt_packet::decode_parts;
 use srt_seq::{Entry, Item, OpenFault};
 use std::alloc::Global;
 use std::collections::VecDeque;
+
+fn later(clock: u64, moment: u64) -> u64
+    ensures { result ≡ max clock moment }
+{
+    clock.max(moment)
+}
 
 impl Route {
     /// A route that was told nothing. It takes the memory of all its sessions and of 66 replies for each and 4 more.
@@ -51,7 +57,7 @@ impl Route {
     {
         match item {
             Item::Tick { moment } => {
-                self.clock = self.clock.max(moment);
+                self.clock = later(self.clock, moment);
                 None
             }
             Item::Datagram {
@@ -60,7 +66,7 @@ impl Route {
                 head,
                 body,
             } => {
-                self.clock = self.clock.max(moment);
+                self.clock = later(self.clock, moment);
                 match decode_parts(&head, &body) {
                     Ok(packet) => self.table.takes(self.clock, peer, &packet),
                     Err(_) => None,

@@ -295,6 +295,9 @@ fn what_opens_nothing_is_not_answered(rt: HostRuntime) -> Result<(), Fail> {
     ] {
         assert_told(&rt, &mut route, peer(5000), text, "")?;
     }
+    if route.waits() {
+        return Err(Fail::from("no reply waits"));
+    }
     assert_eq!(rt; route.step(Item::Tick { moment: 5 }), 0);
     Ok(())
 }

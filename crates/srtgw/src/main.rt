@@ -30,13 +30,24 @@ fn replay_file(
     let config = config_at(rt, config)?;
     let bytes = read_file(rt, tape, TAPE_MAX)?;
     match BufWriter::new(rt.alloc(), io::writer(rt)) {
-        Ok(mut writer) => Ok(replay(&config, &mut bytes.as_slice(), &mut writer)?),
+        Ok(mut writer) => Ok(replay(rt.alloc(), &config, &mut bytes.as_slice(), &mut writer)?),
         Err(_) => Err(Fault::Memory),
+    }
+}
+
+/// `srtgw check CONFIG`: prints how many routes the configuration has.
+fn check_file(rt: &(impl Print + Files + AllocGlobal), config: &str) -> Result<(), Fault> {
+    let config = config_at(rt, config)?;
+    let routes = config.entries.len();
+    match println!(rt; "routes {routes}") {
+        Ok(()) => Ok(()),
+        Err(_) => Err(Fault::Output),
     }
 }
 
 fn run(rt: &(impl Print + Files + AllocGlobal), task: Task<'_>) -> Result<(), Fault> {
     match task {
+        Task::Check { config } => check_file(rt, config),
         Task::Replay { config, tape } => replay_file(rt, config, tape),
     }
 }

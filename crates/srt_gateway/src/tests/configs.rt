@@ -1,115 +1,282 @@
 //! Configurations.
 
-use crate::{Config, ConfigFault, Key, read_config, replay};
+use super::{RIGHT, config_of};
+use crate::{ConfigFault, Key, read_config};
+use srt_cookie::{Secret, cookie};
+use srt_seq::{Mode, Peer};
 use std::process::Abort;
 use std::test::Fail;
 
-/// Asserts that a configuration has this fault, and that it is printed so.
-fn assert_fault(
+/// The text, with the first place of one line changed to another.
+fn changed(
     rt: &(impl AllocGlobal + Abort),
     text: &str,
-    fault: ConfigFault,
-    number: u8,
-    key: &str,
-) {
+    from: &str,
+    to: &str,
+) -> Result<String, Fail> {
+    match text.split_once(from) {
+        Some((before, behind)) => {
+            let mut out = String::from_str(rt.alloc(), before)?;
+            out.push_str(to)?;
+            out.push_str(behind)?;
+            Ok(out)
+        }
+        None => Err(Fail::from("nothing to change")),
+    }
+}
+
+/// Asserts that a text has this fault, and how it is printed.
+fn assert_fault(rt: &(impl AllocGlobal + Abort), text: &str, number: u8, key: &str) {
     match read_config(rt.alloc(), text) {
         Ok(_) => assert!(rt; false, "{text} was read"),
-        Err(found) => {
-            assert_eq!(rt; found, fault);
-            assert_eq!(rt; found.number(), number);
-            assert_eq!(rt; found.key(), key);
+        Err(fault) => {
+            assert_eq!(rt; fault.key(), key);
+            assert_eq!(rt; fault.number(), number);
         }
     }
 }
 
-/// Asserts that the cookies are those of the bytes 0 to 31.
-fn assert_secret(rt: &(impl AllocGlobal + Abort), config: &Config) {
-    let tape =
-        b"A 0 00000000000000000000ffff7f000001 5000 800000000000000000000000000000000000000400000002000000\
-05000005dc000020000000000100bc614e0000000000000000000000000000000000000000\n";
-    let text =
-        "answer 80000000000000000000000000bc614e0000000500004a1700000005000005dc00002000000000010000000\
-1ecc958a600000000000000000000000000000000\n";
-    let mut reader = tape.as_slice();
-    let mut writer = Vec::new(rt.alloc());
-    let _ = replay(config, &mut reader, &mut writer);
-    assert_eq!(rt; writer.as_slice(), text.as_bytes());
+/// Asserts that the right configuration with this change has this fault.
+fn assert_changed(
+    rt: &(impl AllocGlobal + Abort),
+    from: &str,
+    to: &str,
+    number: u8,
+    key: &str,
+) -> Result<(), Fail> {
+    let text = changed(rt, RIGHT, from, to)?;
+    assert_fault(rt, text.as_str(), number, key);
+    Ok(())
+}
+
+/// Asserts that the right configuration with this change has this fault, the change being made behind the first route.
+fn assert_second(
+    rt: &(impl AllocGlobal + Abort),
+    from: &str,
+    to: &str,
+    number: u8,
+    key: &str,
+) -> Result<(), Fail> {
+    match RIGHT.split_once("outbox = 16\n\n") {
+        Some((before, behind)) => {
+            let second = changed(rt, behind, from, to)?;
+            let mut text = String::from_str(rt.alloc(), before)?;
+            text.push_str("outbox = 16\n\n")?;
+            text.push_str(second.as_str())?;
+            assert_fault(rt, text.as_str(), number, key);
+            Ok(())
+        }
+        None => Err(Fail::from("no first route")),
+    }
 }
 
 #[test]
-fn the_secret_is_read(rt: HostRuntime) -> Result<(), Fail> {
-    for text in [
-        "secret = \"000102030405060708090a0b0c0d0e0f101112131415161718191a1b1c1d1e1f\"",
-        "secret = \"000102030405060708090A0b0C0d0E0f101112131415161718191a1B1c1D1e1F\"\n",
-        "workers = \"none\"\n\
-secret = '000102030405060708090a0b0c0d0e0f101112131415161718191a1b1c1d1e1f'\n[[route]]\nname = 5\n",
+fn a_right_configuration(rt: HostRuntime) -> Result<(), Fail> {
+    let config = config_of(&rt, RIGHT)?;
+    let mut bytes = [0u8; 32];
+    for i in 0..32 {
+        bytes[i] = i as u8;
+    }
+    let peer = Peer {
+        ip: [0, 0, 0, 0, 0, 0, 0, 0, 0, 0, 255, 255, 127, 0, 0, 1],
+        port: 5000,
+    };
+    assert_eq!(rt;
+        cookie(&config.secret, peer, 0),
+        cookie(&Secret::new(bytes), peer, 0)
+    );
+    assert_eq!(rt; config.bind.ip, [127, 0, 0, 1]);
+    assert_eq!(rt; config.bind.port, 0);
+    assert_eq!(rt; config.workers, 1);
+    assert_eq!(rt; config.entries.len(), 2);
+    let first = &config.entries.as_slice()[0];
+    assert_eq!(rt; first.name.as_str(), "studio");
+    assert_eq!(rt; first.mode, Mode::Live);
+    assert_eq!(rt; first.latency_ms, 120);
+    assert_eq!(rt; first.buffer, 1024);
+    assert_eq!(rt; first.sessions, 5);
+    assert_eq!(rt; first.inbox, 16);
+    assert_eq!(rt; first.outbox, 16);
+    let second = &config.entries.as_slice()[1];
+    assert_eq!(rt; second.name.as_str(), "files");
+    assert_eq!(rt; second.mode, Mode::Buffer);
+    assert_eq!(rt; second.buffer, 32);
+    assert_eq!(rt; second.sessions, 3);
+    Ok(())
+}
+
+#[test]
+fn limits_that_are_kept(rt: HostRuntime) -> Result<(), Fail> {
+    for (from, to) in [
+        ("127.0.0.1:0", "255.255.255.255:65535"),
+        ("workers = 1", "workers = 16"),
+        ("latency_ms = 120", "latency_ms = 20"),
+        ("latency_ms = 120", "latency_ms = 8_000"),
+        ("buffer = 1024", "buffer = 0x2000"),
+        ("sessions = 5", "sessions = 17"),
+        ("sessions = 5", "sessions = 1"),
+        ("inbox = 16", "inbox = 4096"),
+        ("outbox = 16", "outbox = 4096"),
+        ("\"studio\"", "\"Az09-_./\""),
+        ("\"studio\"", "\"filet\""),
+        (
+            "\"studio\"",
+            "\"aaaaaaaaaaaaaaaaaaaaaaaaaaaaaaaaaaaaaaaaaaaaaaaaaaaaaaaaaaaaaaaa\"",
+        ),
     ] {
-        match read_config(rt.alloc(), text) {
-            Ok(config) => assert_secret(&rt, &config),
-            Err(_) => return Err(Fail::from("a right configuration")),
-        }
+        let text = changed(&rt, RIGHT, from, to)?;
+        let config = config_of(&rt, text.as_str())?;
+        assert_eq!(rt; config.entries.len(), 2);
     }
     Ok(())
 }
 
 #[test]
-fn each_fault(rt: HostRuntime) {
-    assert_fault(&rt, "secret", ConfigFault::Toml, 1, "-");
-    assert_fault(&rt, "secret = 1\nsecret = 2\n", ConfigFault::Toml, 1, "-");
-    assert_fault(&rt, "", ConfigFault::Missing(Key::Secret), 3, "secret");
-    assert_fault(
-        &rt,
-        "[secret2]\n",
-        ConfigFault::Missing(Key::Secret),
-        3,
-        "secret",
-    );
-    assert_fault(
-        &rt,
-        "secret = 1\n",
-        ConfigFault::WrongKind(Key::Secret),
-        4,
-        "secret",
-    );
-    assert_fault(
-        &rt,
-        "[secret]\n",
-        ConfigFault::WrongKind(Key::Secret),
-        4,
-        "secret",
-    );
-    assert_fault(&rt, "secret = \"\"\n", ConfigFault::BadSecret, 8, "secret");
-    assert_fault(
-        &rt,
-        "secret = \"000102030405060708090a0b0c0d0e0f101112131415161718191a1b1c1d1e1\"",
-        ConfigFault::BadSecret,
-        8,
-        "secret",
-    );
-    assert_fault(
-        &rt,
-        "secret = \"000102030405060708090a0b0c0d0e0f101112131415161718191a1b1c1d1e1f20\"",
-        ConfigFault::BadSecret,
-        8,
-        "secret",
-    );
-    assert_fault(
-        &rt,
-        "secret = \"000102030405060708090a0b0c0d0e0f101112131415161718191a1b1c1d1e1g\"",
-        ConfigFault::BadSecret,
-        8,
-        "secret",
-    );
+fn faults_of_the_table(rt: HostRuntime) -> Result<(), Fail> {
+    assert_fault(&rt, "secret", 1, "-");
+    assert_fault(&rt, "secret = 1\nsecret = 2\n", 1, "-");
+    assert_fault(&rt, "", 3, "secret");
+    assert_fault(&rt, "[secret]\n", 4, "secret");
+    for (from, to, number, key) in [
+        ("secret = \"00", "extra = 1\n# \"00", 2, "extra"),
+        ("secret = \"00", "secret = 5 # \"00", 4, "secret"),
+        ("secret = \"00", "secret = \"0", 8, "secret"),
+        ("secret = \"00", "secret = \"0000", 8, "secret"),
+        ("secret = \"00", "secret = \"0g", 8, "secret"),
+        ("workers = 1", "workers = 1\nb = 1\n\"\" = 1\na = 1", 2, ""),
+        ("workers = 1", "workers = 1\nb = 1\nZ = 1\na = 1", 2, "Z"),
+        ("workers = 1", "Workers = 1", 2, "Workers"),
+        ("workers = 1", "open_round = 1", 2, "open_round"),
+        ("bind", "# bind", 3, "bind"),
+        ("\"127.0.0.1:0\"", "[127, 0, 0, 1]", 4, "bind"),
+        ("127.0.0.1:0", "127.0.0.1", 9, "bind"),
+        ("127.0.0.1:0", "127.0.0.1:", 9, "bind"),
+        ("127.0.0.1:0", "127.0.0.1:65536", 9, "bind"),
+        ("127.0.0.1:0", "127.0.0:0", 9, "bind"),
+        ("127.0.0.1:0", "127.0.0.256:0", 9, "bind"),
+        ("127.0.0.1:0", "127.0.0.01:0", 9, "bind"),
+        ("127.0.0.1:0", "127.0.0.1:0:0", 9, "bind"),
+        ("127.0.0.1:0", "[::1]:0", 9, "bind"),
+        ("127.0.0.1:0", " 127.0.0.1:0", 9, "bind"),
+        ("workers = 1", "", 3, "workers"),
+        ("workers = 1", "workers = true", 4, "workers"),
+        ("workers = 1", "workers = 1.0", 4, "workers"),
+        ("workers = 1", "workers = \"1\"", 4, "workers"),
+        ("workers = 1", "workers = 0", 5, "workers"),
+        ("workers = 1", "workers = 17", 5, "workers"),
+        ("workers = 1", "workers = -1", 5, "workers"),
+        ("workers = 1", "workers = 4294967297", 5, "workers"),
+        ("workers = 1", "workers = 9223372036854775808", 1, "-"),
+    ] {
+        assert_changed(&rt, from, to, number, key)?;
+    }
+    Ok(())
+}
+
+#[test]
+fn faults_of_the_routes(rt: HostRuntime) -> Result<(), Fail> {
+    let Some((top, _)) = RIGHT.split_once("[[route]]") else {
+        return Err(Fail::from("no route"));
+    };
+    for (routes, number) in [
+        ("", 3),
+        ("[route]\n", 4),
+        ("route = 5\n", 4),
+        ("route = []\n", 5),
+        ("route = [5]\n", 4),
+        ("route = [{ name = 5 }, 5]\n", 4),
+    ] {
+        let mut text = String::from_str(rt.alloc(), top)?;
+        text.push_str(routes)?;
+        assert_fault(&rt, text.as_str(), number, "route");
+    }
+    let mut text = String::from_str(rt.alloc(), top)?;
+    for _ in 0..512 {
+        text.push_str("[[route]]\n")?;
+    }
+    assert_fault(&rt, text.as_str(), 5, "route");
+    for (from, to, number, key) in [
+        ("name = \"studio\"", "nam = 5\n\"a b\" = 1", 2, "a b"),
+        ("name = \"studio\"", "close_round = 1", 2, "close_round"),
+        ("name = \"studio\"", "", 3, "name"),
+        ("\"studio\"", "5", 4, "name"),
+        ("\"studio\"", "\"a b\"", 6, "name"),
+        ("\"studio\"", "\"\"", 6, "name"),
+        ("\"studio\"", "\"a:\"", 6, "name"),
+        (
+            "\"studio\"",
+            "\"aaaaaaaaaaaaaaaaaaaaaaaaaaaaaaaaaaaaaaaaaaaaaaaaaaaaaaaaaaaaaaaaa\"",
+            6,
+            "name",
+        ),
+        ("mode = \"live\"", "", 3, "mode"),
+        ("\"live\"", "true", 4, "mode"),
+        ("\"live\"", "\"file\"", 5, "mode"),
+        ("\"live\"", "\"Live\"", 5, "mode"),
+        ("latency_ms = 120", "", 3, "latency_ms"),
+        ("latency_ms = 120", "latency_ms = 120.0", 4, "latency_ms"),
+        ("latency_ms = 120", "latency_ms = 19", 5, "latency_ms"),
+        ("latency_ms = 120", "latency_ms = 8001", 5, "latency_ms"),
+        ("buffer = 1024", "", 3, "buffer"),
+        ("buffer = 1024", "buffer = []", 4, "buffer"),
+        ("buffer = 1024", "buffer = 31", 5, "buffer"),
+        ("buffer = 1024", "buffer = 8193", 5, "buffer"),
+        ("sessions = 5", "", 3, "sessions"),
+        ("sessions = 5", "sessions = false", 4, "sessions"),
+        ("sessions = 5", "sessions = 0", 5, "sessions"),
+        ("sessions = 5", "sessions = 18", 5, "sessions"),
+        ("inbox = 16", "", 3, "inbox"),
+        ("inbox = 16", "inbox = {}", 4, "inbox"),
+        ("inbox = 16", "inbox = 15", 5, "inbox"),
+        ("inbox = 16", "inbox = 4097", 5, "inbox"),
+        ("outbox = 16", "", 3, "outbox"),
+        ("outbox = 16", "outbox = 1979-05-27", 4, "outbox"),
+        ("outbox = 16", "outbox = 15", 5, "outbox"),
+        ("outbox = 16", "outbox = 4097", 5, "outbox"),
+    ] {
+        assert_changed(&rt, from, to, number, key)?;
+    }
+    for (from, to, number, key) in [
+        ("\"files\"", "\"studio\"", 7, "name"),
+        ("\"files\"", "\"files \"", 6, "name"),
+        ("buffer = 32\n", "", 3, "buffer"),
+        ("latency_ms = 120\n", "", 3, "latency_ms"),
+        ("latency_ms = 120\n", "latency_ms = 0\n", 5, "latency_ms"),
+    ] {
+        assert_second(&rt, from, to, number, key)?;
+    }
+    Ok(())
+}
+
+#[test]
+fn the_first_fault_is_told(rt: HostRuntime) -> Result<(), Fail> {
+    assert_fault(&rt, "extra = 1\nsecret = 5\n", 2, "extra");
+    assert_fault(&rt, "secret = 5\nworkers = 17\n", 4, "secret");
+    let wrong = changed(&rt, RIGHT, "workers = 1", "workers = 17")?;
+    let wrong = changed(&rt, wrong.as_str(), "127.0.0.1", "127.0.0")?;
+    assert_fault(&rt, wrong.as_str(), 9, "bind");
+    let wrong = changed(&rt, RIGHT, "\"files\"", "\"studio\"")?;
+    assert_fault(&rt, wrong.as_str(), 7, "name");
+    let worse = changed(&rt, wrong.as_str(), "mode = \"buffer\"", "mode = \"file\"")?;
+    assert_fault(&rt, worse.as_str(), 7, "name");
+    let worse = changed(&rt, wrong.as_str(), "buffer = 32", "buffer = 32\nbuf = 1")?;
+    assert_fault(&rt, worse.as_str(), 2, "buf");
+    let worse = changed(&rt, wrong.as_str(), "sessions = 5", "sessions = 18")?;
+    assert_fault(&rt, worse.as_str(), 5, "sessions");
+    Ok(())
 }
 
 #[test]
 fn numbers_and_keys(rt: HostRuntime) {
     for (fault, number, key) in [
-        (ConfigFault::UnknownKey, 2, "-"),
+        (ConfigFault::Toml, 1, "-"),
+        (ConfigFault::Missing(Key::Secret), 3, "secret"),
+        (ConfigFault::WrongKind(Key::Route), 4, "route"),
         (ConfigFault::OutOfRange(Key::Workers), 5, "workers"),
         (ConfigFault::OutOfRange(Key::LatencyMs), 5, "latency_ms"),
         (ConfigFault::BadName, 6, "name"),
         (ConfigFault::RepeatedName, 7, "name"),
+        (ConfigFault::BadSecret, 8, "secret"),
         (ConfigFault::BadAddress, 9, "bind"),
         (ConfigFault::OutOfMemory, 10, "-"),
     ] {
@@ -117,7 +284,6 @@ fn numbers_and_keys(rt: HostRuntime) {
         assert_eq!(rt; fault.key(), key);
     }
     for (key, name) in [
-        (Key::Route, "route"),
         (Key::Mode, "mode"),
         (Key::Buffer, "buffer"),
         (Key::Sessions, "sessions"),

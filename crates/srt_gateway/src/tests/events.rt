@@ -56,7 +56,7 @@ A 0 00000000000000000000ffff7f000001 5000 80000000000000000000000000000000000000
 5000005dc00002000fffffffe00bc614e0000000000000000000000000000000000000000\n\
 A 0 00000000000000000000ffff7f000001 5000 8000000000000000000000000000000000000005000000000000000\
 5000005dc00002000ffffffff00bc614e0000000000000000000000000000000000000000\n",
-        "dropped 1\ndropped 1\ndropped 2\ndropped 3\ndropped 4\ndropped 5\ndropped 5\n",
+        "dropped 1\ndropped 1\ndropped 2\ndropped 3\ndropped 4\ndropped 5\ndropped 6\n",
         Ok(()),
     );
 }
@@ -124,9 +124,9 @@ fn other_letters(rt: HostRuntime) -> Result<(), Fail> {
     assert_no_event(&rt, "B 0 00000000000000000000ffff7f000001 5000 ")?;
     assert_no_event(&rt, "a 0 00000000000000000000ffff7f000001 5000 ")?;
     assert_no_event(&rt, "AA 0 00000000000000000000ffff7f000001 5000 ")?;
-    assert_no_event(&rt, "T 0 5")?;
-    assert_no_event(&rt, "U 0")?;
-    assert_no_event(&rt, "S 0")?;
+    assert_no_event(&rt, "T 2 5")?;
+    assert_no_event(&rt, "U 2")?;
+    assert_no_event(&rt, "S 2")?;
     Ok(())
 }
 

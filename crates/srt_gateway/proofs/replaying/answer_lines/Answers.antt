@@ -1,23 +1,31 @@
-use Rattle.std.proofs.Common.{◌+◌}
-use Rattle.srt_cookie.specs.Cookie.{secret_bytes}
+use Rattle.std.proofs.Common.{◌+◌, List, map}
+use Rattle.srt_hub.specs.World.{Event}
+use Rattle.srt_hub.specs.Queued.{item_in}
+use Rattle.srt_route.specs.Written.{written}
+use Rattle.srt_hub.specs.Stands.{IsLane}
+use Rattle.srt_hub.specs.Hubs.{AreLanes, IsHub, names}
 use Rattle.srt_gateway.proofs.Replays.{started, goes_on, stops, no_more, ends_at_read}
 use Rattle.srt_gateway.proofs.replaying.answer_lines.Goals as goal
 
 pub loop-before-init : goal.loop-before-init
-loop-before-init g c = started (secret_bytes c.args.config.now.secret) (g.R.Read.remaining c.args.reader.now) (g.W.Write.contents c.args.writer.now)
+loop-before-init g c secret entries h = started (g.L.Lobby.class secret (names entries)) g.R.RouteStep.reply entries _ (g.B.Read.remaining c.args.reader.now) (g.W.Write.contents c.args.writer.now) h
 
-pub returns-clause-text : goal.returns-clause-text
-returns-clause-text g c = ends_at_read (secret_bytes c.args.config.now.secret) (g.R.Read.remaining c.args.reader.now) (g.W.Write.contents c.args.writer.now) (g.R.Read.remaining c.loop-before.reader) (g.W.Write.contents c.loop-before.writer) (c.loop-before.before + 1) c.loop-before.invariant
+pub returns : goal.returns
+returns g c secret entries h = ends_at_read (g.L.Lobby.class secret (names entries)) g.R.RouteStep.reply entries _ (g.B.Read.remaining c.args.reader.now) (g.W.Write.contents c.args.writer.now) (g.B.Read.remaining c.loop-before.reader) (g.W.Write.contents c.loop-before.writer) (c.loop-before.before + 1) (c.loop-before.invariant secret entries h)
 
-pub returns-in-Ok-false-clause-text : goal.returns-in-Ok-false-clause-text
-returns-in-Ok-false-clause-text g c =
-    no_more (secret_bytes c.args.config.now.secret) (g.R.Read.remaining c.args.reader.now) (g.W.Write.contents c.args.writer.now) (g.R.Read.remaining c.loop-before.reader) (g.W.Write.contents c.loop-before.writer) (g.R.Read.remaining c.answer_next.new.reader) (g.W.Write.contents c.answer_next.new.writer) (c.loop-before.before + 1) c.loop-before.invariant (rw c.in-Ok-false.field-0-test at c.in-Ok-false.ensures.line)
+pub returns-in-Ok-false : goal.returns-in-Ok-false
+returns-in-Ok-false g c secret entries h =
+    no_more (g.L.Lobby.class secret (names entries)) g.R.RouteStep.reply entries _ (λ (events : List Event). Unit {0}) (g.B.Read.remaining c.args.reader.now) (g.W.Write.contents c.args.writer.now) (g.B.Read.remaining c.loop-before.reader) (g.W.Write.contents c.loop-before.writer) (g.B.Read.remaining c.answer_next.new.reader) (g.W.Write.contents c.answer_next.new.writer) (c.loop-before.before + 1) (c.loop-before.invariant secret entries h)
+    (λ past s. rw c.in-Ok-false.field-0-test at (c.in-Ok-false.ensures secret entries past s))
 
-pub returns-in-Err-clause-text : goal.returns-in-Err-clause-text
-returns-in-Err-clause-text g c =
-    stops (secret_bytes c.args.config.now.secret) (g.R.Read.remaining c.args.reader.now) (g.W.Write.contents c.args.writer.now) (g.R.Read.remaining c.loop-before.reader) (g.W.Write.contents c.loop-before.writer) (g.R.Read.remaining c.answer_next.new.reader) (g.W.Write.contents c.answer_next.new.writer) (c.loop-before.before + 1) c.in-Err.fault c.loop-before.invariant c.in-Err.ensures.line
+pub returns-in-Err : goal.returns-in-Err
+returns-in-Err g c secret entries h =
+    stops (g.L.Lobby.class secret (names entries)) g.R.RouteStep.reply entries _
+    (λ (events : List Event). IsHub (g.L.Lobby.knows c.answer_next.new.hub.lobby secret (names entries)) (AreLanes (λ lane e r m. IsLane e (λ items. g.R.RouteStep.stands lane.route e r items) (g.R.RouteStep.waiting lane.route) (map item_in lane.inbox.items) (map written lane.outbox.items) lane.inbox_room lane.outbox_room m) (g.L.Lobby.class secret (names entries)) g.R.RouteStep.reply entries c.answer_next.new.hub.lanes.items events))
+    (g.B.Read.remaining c.args.reader.now) (g.W.Write.contents c.args.writer.now) (g.B.Read.remaining c.loop-before.reader) (g.W.Write.contents c.loop-before.writer) (g.B.Read.remaining c.answer_next.new.reader) (g.W.Write.contents c.answer_next.new.writer) (c.loop-before.before + 1) c.in-Err.fault (c.loop-before.invariant secret entries h)
+    (λ past s. c.in-Err.ensures secret entries past s)
 
 pub loop-before-preserved : goal.loop-before-preserved
-loop-before-preserved g c =
-    let s = rw c.in-Ok-true.field-0-test at c.in-Ok-true.ensures.line in
-    goes_on (secret_bytes c.args.config.now.secret) (g.R.Read.remaining c.args.reader.now) (g.W.Write.contents c.args.writer.now) (g.R.Read.remaining c.loop-before.reader) (g.W.Write.contents c.loop-before.writer) (g.R.Read.remaining c.answer_next.new.reader) (g.W.Write.contents c.answer_next.new.writer) (c.loop-before.before + 1) s.0 c.loop-before.invariant s.1 s.2
+loop-before-preserved g c secret entries h =
+    goes_on (g.L.Lobby.class secret (names entries)) g.R.RouteStep.reply entries _ _ (g.B.Read.remaining c.args.reader.now) (g.W.Write.contents c.args.writer.now) (g.B.Read.remaining c.loop-before.reader) (g.W.Write.contents c.loop-before.writer) (g.B.Read.remaining c.answer_next.new.reader) (g.W.Write.contents c.answer_next.new.writer) (c.loop-before.before + 1) (c.loop-before.invariant secret entries h)
+    (λ past s. rw c.in-Ok-true.field-0-test at (c.in-Ok-true.ensures secret entries past s))

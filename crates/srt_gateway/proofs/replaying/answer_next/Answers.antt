@@ -1,38 +1,39 @@
-use Rattle.std.proofs.Common.{ℕ, List, take, arith, subst, refl, ◌∙◌}
-use Rattle.srt_cookie.specs.Cookie.{secret_bytes}
+use Rattle.std.proofs.Common.{ℕ, List, take, length, arith, subst, refl, ◌∙◌}
+use Rattle.srt_gateway.specs.Tape.{lines_of}
 use Rattle.srt_gateway.specs.Known.{Wrote}
-use Rattle.srt_gateway.specs.Events.{event_of}
-use Rattle.srt_gateway.specs.Answers.{event_text}
-use Rattle.srt_gateway.proofs.Numbered.{long_at, at_event, some_text}
+use Rattle.srt_gateway.proofs.Numbered.{long_at, at_event}
 use Rattle.srt_gateway.proofs.replaying.answer_next.Goals as goal
 
-pub returns-in-Ok-Long-clause-line : goal.returns-in-Ok-Long-clause-line
-returns-in-Ok-Long-clause-line g c =
+pub returns-in-Ok-Long : goal.returns-in-Ok-Long
+returns-in-Ok-Long g c secret entries past h =
     let long = rw c.in-Ok-Long.field-0-is at c.in-Ok-Long.ensures in
-    (refl, λ xs e. let p = long xs e in (p.0, p.1, p.2, long_at c.args.number p.0 p.3), refl)
+    (refl, λ xs e. let p = long xs e in (p.0, p.1, p.2, long_at (length entries) c.args.number p.0 p.3), refl)
 
-pub returns-in-Ok-clause-line : goal.returns-in-Ok-clause-line
-returns-in-Ok-clause-line g c =
-    let h = rw c.in-Ok-Line.field-0-is at c.in-Ok-Line.ensures in
-    let len = c.in-Ok-Line.len in
-    let t = c.in-Some.ensures.text in
-    let s = secret_bytes c.args.config.now.secret in
-    let p = some_text (event_text s) (event_of (take len c.next_line.new.line)) _ t in
-    let w = c.in-Ok.ensures.ok in (
+pub returns-in-Ok-None : goal.returns-in-Ok-None
+returns-in-Ok-None g c secret entries past h =
+    let took = rw c.in-Ok-Line.field-0-is at c.in-Ok-Line.ensures in
+    let line = take c.in-Ok-Line.len c.next_line.new.line in
+    let none = rw c.in-Ok-None.field-0-is at (c.in-Ok-None.ensures.answered secret entries past h) in
+    (refl, λ xs e. let p = took.0 xs e in (line, lines_of p.0, p.2, at_event (length entries) c.args.number line (omega arith) ∙ none), refl)
+
+pub returns-in-Ok : goal.returns-in-Ok
+returns-in-Ok g c secret entries past h =
+    let took = rw c.in-Ok-Line.field-0-is at c.in-Ok-Line.ensures in
+    let line = take c.in-Ok-Line.len c.next_line.new.line in
+    let p = rw c.in-Ok-Some.field-0-is at (c.in-Ok-Some.ensures.answered secret entries past h) in (
       p.0,
-      record { line = take len c.next_line.new.line; took = h.0; event_is = at_event c.args.number _ (omega arith) ∙ p.1 },
-      subst (Wrote (g.W.Write.contents c.args.writer.now) (g.W.Write.contents c.write_bytes.new.writer)) p.2 w,
+      record { line = line; took = took.0; event_is = at_event (length entries) c.args.number line (omega arith) ∙ p.1 },
+      subst (Wrote (g.W.Write.contents c.args.writer.now) (g.W.Write.contents c.write_bytes.new.writer)) p.2.0 c.in-Ok.ensures.ok,
+      p.2.1,
     )
 
-pub returns-in-Err-write_bytes-clause-line : goal.returns-in-Err-write_bytes-clause-line
-returns-in-Err-write_bytes-clause-line g c =
-    let h = rw c.in-Ok-Line.field-0-is at c.in-Ok-Line.ensures in
-    let len = c.in-Ok-Line.len in
-    let t = c.in-Some.ensures.text in
-    let s = secret_bytes c.args.config.now.secret in
-    let p = some_text (event_text s) (event_of (take len c.next_line.new.line)) _ t in
+pub returns-in-Err-write_bytes : goal.returns-in-Err-write_bytes
+returns-in-Err-write_bytes g c secret entries past h =
+    let took = rw c.in-Ok-Line.field-0-is at c.in-Ok-Line.ensures in
+    let line = take c.in-Ok-Line.len c.next_line.new.line in
+    let p = rw c.in-Ok-Some.field-0-is at (c.in-Ok-Some.ensures.answered secret entries past h) in
     let w = c.in-Err-write_bytes.ensures.err in (
       p.0,
-      record { line = take len c.next_line.new.line; took = h.0; event_is = at_event c.args.number _ (omega arith) ∙ p.1 },
-      (w.0, subst (λ (bs : List ℕ). Wrote (g.W.Write.contents c.args.writer.now) (g.W.Write.contents c.write_bytes.new.writer) (take w.0 bs)) p.2 w.1),
+      record { line = line; took = took.0; event_is = at_event (length entries) c.args.number line (omega arith) ∙ p.1 },
+      (w.0, subst (λ (bs : List ℕ). Wrote (g.W.Write.contents c.args.writer.now) (g.W.Write.contents c.write_bytes.new.writer) (take w.0 bs)) p.2.0 w.1),
     )

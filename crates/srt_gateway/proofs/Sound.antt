@@ -1,0 +1,164 @@
+-- Routes that were read can be opened: their names are of the right form and distinct, and their numbers within limits.
+use Rattle.std.proofs.Common.{◌≡◌, ℕ, suc, ◌+◌, ℤ, pos, negsuc, Bool, true, false, not, cond, ◌&&◌, ◌||◌, List, [], ◌∷◌, ◌++◌, length, map, Option, None, Some, Result, Ok, Err, IfOk, Vec, Global, refl, sym, ap, subst, ◌∙◌, inl, inr, arith}
+use Rattle.std.specs.List.{list_any, list_all}
+use Rattle.std.specs.Str.{bytes_eq}
+use Rattle.std.proofs.lemmas.Bool.{and_parts, or_parts, false_from_ne_true, false≢true}
+use Rattle.std.proofs.lemmas.Slice.Eq.{bytes_eq-Decides}
+use Rattle.std.proofs.lemmas.List.Folds.{list_all-append}
+use Rattle.toml.specs.Data.{Data, Items, no_items, item, Members, as_integer, as_array, as_table}
+use Rattle.srt_seq.specs.declared.shared.Entry.{Entry}
+use Rattle.srt_seq.specs.declared.shared.Mode.{Mode as TheMode}
+use Rattle.srt_seq.specs.Terms.{Terms, terms_of}
+use Rattle.srt_lobby.specs.Opening.{is_between, is_name, is_taken, is_fresh, are_names, in_limits, are_in_limits, fault_of}
+use Rattle.srt_gateway.specs.declared.config.faults.Key.{Key}
+use Rattle.srt_gateway.specs.declared.config.faults.Key.TheVariants.{Route, Name, Mode, LatencyMs, Buffer, Sessions, Inbox, Outbox}
+use Rattle.srt_gateway.specs.declared.config.faults.ConfigFault.{ConfigFault}
+use Rattle.srt_gateway.specs.FirstFault.{Fault, WrongKind, OutOfRange, BadName, RepeatedName, Gives, ◌>>=◌}
+use Rattle.srt_gateway.specs.Keys.{known, value_at, text_at, within, number_at, of_kind}
+use Rattle.srt_gateway.specs.Routes.{name_in, name_at, mode_at, Numbers, numbers_at, route_keys, terms_with, terms_at, are_tables, count, routes_from, routes_in, routes_at}
+use Rattle.srt_gateway.specs.RouteParts.{entries_seen}
+
+-- steps that gave a value in the end gave one first
+passed : {A B : Type 0} (said : Result A Fault) (next : A → Result B Fault) (b : B) → said >>= next ≡ Ok b → (a : A) × (said ≡ Ok a) × (next a ≡ Ok b)
+passed (Ok a) next b h = (a, refl, h)
+passed (Err f) next b h = absurd cc
+
+chosen : {A : Type 0} (t : Bool) (x y : A) (f : Fault) → cond t (Ok x) (Err f) ≡ Ok y → (t ≡ true) × (x ≡ y)
+chosen true x y f h = (refl, cc)
+chosen false x y f h = absurd cc
+
+within_fits : (key : Key) (low high : ℕ) (z : ℤ) (n : ℕ) → within key low high z ≡ Ok n → is_between low high n ≡ true
+within_fits key low high (pos m) n h =
+    let c = chosen (is_between low high m) m n (OutOfRange key) h in
+    subst (λ (k : ℕ). is_between low high k ≡ true) c.1 c.0
+within_fits key low high (negsuc m) n h = absurd cc
+
+number_fits : (key : Key) (low high : ℕ) (table : Members) (n : ℕ) → number_at key low high table ≡ Ok n → is_between low high n ≡ true
+unfolding number_at
+number_fits key low high table n h =
+    let v = passed (value_at key table) _ n h in
+    let z = passed (of_kind key (as_integer v.0)) _ n v.2 in
+    within_fits key low high z.0 n z.2
+
+numbers_fit : (name : List ℕ) (mode : TheMode) (table : Members) (n : Numbers) → numbers_at table ≡ Ok n → in_limits (terms_with name mode n) ≡ true
+unfolding numbers_at
+numbers_fit name mode table n h =
+    let a = passed (number_at LatencyMs 20 8000 table) _ n h in
+    let b = passed (number_at Buffer 32 8192 table) _ n a.2 in
+    let c = passed (number_at Sessions 1 17 table) _ n b.2 in
+    let d = passed (number_at Inbox 16 4096 table) _ n c.2 in
+    let e = passed (number_at Outbox 16 4096 table) _ n d.2 in
+    let all : Numbers = record { latency_ms = a.0; buffer = b.0; sessions = c.0; inbox = d.0; outbox = e.0 } in
+    let same : all ≡ n = cc in
+    subst (λ (m : Numbers). in_limits (terms_with name mode m) ≡ true) same
+    (rw (number_fits LatencyMs 20 8000 table a.0 a.1, number_fits Buffer 32 8192 table b.0 b.1, number_fits Sessions 1 17 table c.0 c.1, number_fits Inbox 16 4096 table d.0 d.1, number_fits Outbox 16 4096 table e.0 e.1) refl)
+
+named : (good taken : Bool) (text name : List ℕ) → cond (not good) (Err BadName) (cond taken (Err RepeatedName) (Ok text)) ≡ Ok name → (good ≡ true) × (taken ≡ false) × (text ≡ name)
+named true true text name h = absurd cc
+named true false text name h = (refl, refl, cc)
+named false taken text name h = absurd cc
+
+name_fits : (before : List Terms) (table : Members) (name : List ℕ) → name_at before table ≡ Ok name → (is_name name ≡ true) × (is_taken name before ≡ false)
+unfolding name_at name_in
+name_fits before table name h =
+    let t = passed (text_at Name table) _ name h in
+    let n = named (is_name t.0) (is_taken t.0 before) t.0 name t.2 in
+    subst (λ (text : List ℕ). (is_name text ≡ true) × (is_taken text before ≡ false)) n.2 (n.0, n.1)
+
+-- a route behind these
+record Fits (before : List Terms) (e : Terms) : Type 0 where
+  named : is_name e.name ≡ true
+  free : is_taken e.name before ≡ false
+  limited : in_limits e ≡ true
+
+terms_fit : (before : List Terms) (table : Members) (e : Terms) → terms_at before table ≡ Ok e → Fits before e
+unfolding terms_at
+terms_fit before table e h =
+    let k = passed (known route_keys table) _ e h in
+    let n = passed (name_at before table) _ e k.2 in
+    let m = passed (mode_at table) _ e n.2 in
+    let s = passed (numbers_at table) _ e m.2 in
+    let fits = name_fits before table n.0 n.1 in
+    let same : terms_with n.0 m.0 s.0 ≡ e = cc in
+    subst (λ (t : Terms). Fits before t) same (record { named = fits.0; free = fits.1; limited = numbers_fit n.0 m.0 table s.0 s.1 })
+
+turned : (a b : List ℕ) → bytes_eq a b ≡ false → bytes_eq b a ≡ false
+turned a b h = false_from_ne_true _ (λ same. false≢true (sym h ∙ (bytes_eq-Decides a b).1 (sym ((bytes_eq-Decides b a).0 same))))
+
+taken_last : (name : List ℕ) (es : List Terms) (e : Terms) → is_taken name es ≡ false → bytes_eq e.name name ≡ false → is_taken name (es ++ e ∷ []) ≡ false
+taken_last name [] e h k = rw k refl
+taken_last name (x ∷ es) e h k =
+    let p = or_parts (bytes_eq x.name name) (is_taken name es) h in
+    rw (p.0, taken_last name es e p.1 k) refl
+
+fresh_first : (good taken : Bool) → good ≡ true → taken ≡ false → (good && not taken) ≡ true
+fresh_first good taken h k = rw (h, k) refl
+
+is_free : (good taken : Bool) → (good && not taken) ≡ true → (good ≡ true) × (taken ≡ false)
+is_free true true h = absurd cc
+is_free true false h = (refl, refl)
+is_free false taken h = absurd cc
+
+names_last : (es : List Terms) (e : Terms) → are_names es ≡ true → is_name e.name ≡ true → is_taken e.name es ≡ false → are_names (es ++ e ∷ []) ≡ true
+names_last [] e h n t = rw n refl
+names_last (x ∷ es) e h n t =
+    let p = and_parts (is_fresh x es) (are_names es) h in
+    let q = or_parts (bytes_eq x.name e.name) (is_taken e.name es) t in
+    let f = is_free (is_name x.name) (is_taken x.name es) p.0 in
+    let one : is_fresh x (es ++ e ∷ []) ≡ true = fresh_first (is_name x.name) (is_taken x.name (es ++ e ∷ [])) f.0 (taken_last x.name es e f.1 (turned x.name e.name q.0)) in
+    rw (one, names_last es e p.1 n q.1) refl
+
+limits_last : (es : List Terms) (e : Terms) → list_all in_limits es ≡ true → in_limits e ≡ true → list_all in_limits (es ++ e ∷ []) ≡ true
+limits_last [] e h k = rw k refl
+limits_last (x ∷ es) e h k =
+    let p = and_parts (in_limits x) (list_all in_limits es) h in
+    rw (p.0, limits_last es e p.1 k) refl
+
+length_last : (es : List Terms) (e : Terms) → length (es ++ e ∷ []) ≡ suc (length es)
+length_last [] e = refl
+length_last (x ∷ es) e = ap suc (length_last es e)
+
+record AreSound (es : List Terms) (n : ℕ) : Type 0 where
+  names : are_names es ≡ true
+  limits : list_all in_limits es ≡ true
+  many : length es ≡ n
+
+from_sound : (before : List Terms) (items : Items) (all : List Terms) (n : ℕ) → routes_from before items ≡ Ok all → AreSound before n → AreSound all (n + count items)
+from_sound before no_items all n h s =
+    let same : before ≡ all = cc in
+    subst (λ (es : List Terms). AreSound es (n + 0)) same (record { names = s.names; limits = s.limits; many = omega (arith, s.many) })
+from_sound before (item value rest) all n h s =
+    let t = passed (of_kind Route (as_table value)) _ all h in
+    let e = passed (terms_at before t.0) _ all t.2 in
+    let f = terms_fit before t.0 e.0 e.1 in
+    let more : AreSound (before ++ e.0 ∷ []) (suc n) = record { names = names_last before e.0 s.names f.named f.free; limits = limits_last before e.0 s.limits f.limited; many = length_last before e.0 ∙ ap suc s.many } in
+    let last = from_sound (before ++ e.0 ∷ []) rest all (suc n) e.2 more in
+    record { names = last.names; limits = last.limits; many = omega (arith, last.many) }
+
+counted : {A : Type 0} (tables counts : Bool) (f g : Fault) (read : Result A Fault) (x : A) → cond (not tables) (Err f) (cond (not counts) (Err g) read) ≡ Ok x → (counts ≡ true) × (read ≡ Ok x)
+counted true true f g read x h = (refl, h)
+counted true false f g read x h = absurd cc
+counted false counts f g read x h = absurd cc
+
+no_fault : (es : List Terms) → are_names es ≡ true → list_all in_limits es ≡ true → is_between 1 511 (length es) ≡ true → fault_of es ≡ None
+no_fault es n l b = rw (n, l, b) refl
+
+in_sound : (items : Items) (all : List Terms) → routes_in items ≡ Ok all → fault_of all ≡ None
+unfolding routes_in
+in_sound items all h =
+    let c = counted (are_tables items) (is_between 1 511 (count items)) (WrongKind Route) (OutOfRange Route) (routes_from [] items) all h in
+    let s = from_sound [] items all 0 c.1 (record { names = refl; limits = refl; many = refl }) in
+    let many : length all ≡ count items = omega (arith, s.many) in
+    no_fault all s.names s.limits (ap (is_between 1 511) many ∙ c.0)
+
+at_sound : (table : Members) (all : List Terms) → routes_at table ≡ Ok all → fault_of all ≡ None
+unfolding routes_at
+at_sound table all h =
+    let v = passed (value_at Route table) _ all h in
+    let i = passed (of_kind Route (as_array v.0)) _ all v.2 in
+    in_sound i.0 all i.2
+
+pub sound_of : (table : Members) (r : Result (Vec Entry Global) ConfigFault) → Gives entries_seen r (routes_at table) → IfOk r (λ entries. fault_of (map terms_of entries.items) ≡ None)
+sound_of table (Ok entries) (inl m) = absurd cc
+sound_of table (Ok entries) (inr h) = at_sound table (map terms_of entries.items) (sym h)
+sound_of table (Err f) g = tt

@@ -1,0 +1,11 @@
+use Rattle.std.proofs.Common.{ℕ, sym, ap, ◌∙◌}
+use Rattle.srt_gateway.specs.Events.{event_of}
+use Rattle.srt_gateway.specs.Said.{event_said}
+use Rattle.srt_gateway.proofs.replaying.answer_line.Goals as goal
+
+pub returns-clause-answered : goal.returns-clause-answered
+returns-clause-answered g c secret entries past h = (
+  event_said c.read_event.new.buffer c.in-Some.event,
+  sym (c.in-Some.ensures.value ∙ ap (λ (n : ℕ). event_of n c.args.line.now) (c.routes.ensures.entries secret entries past h)),
+  c.in_ok-end.ensures.answered secret entries past h,
+)

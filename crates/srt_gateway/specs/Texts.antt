@@ -1,0 +1,61 @@
+-- What is written for the answer to each event (this profile).
+use Rattle.std.specs.Prelude.{ℕ, List, [], ◌∷◌, ◌++◌, Option, None, Some, codes, decimal}
+use Rattle.hex.specs.Hex.{encode_lower}
+use Rattle.srt_seq.specs.declared.shared.Turned.{Turned}
+use Rattle.srt_seq.specs.declared.shared.Turned.TheVariants.{Moved, Applied, Blocked, Idle}
+use Rattle.srt_lobby.specs.declared.classes.Cause.{Cause}
+use Rattle.srt_lobby.specs.declared.classes.Cause.TheVariants.{Packet, UnknownId, NotHandshake, Handshake, WrongKind, WrongCookie}
+use Rattle.srt_hub.specs.declared.answers.Arrived.{Arrived}
+use Rattle.srt_hub.specs.declared.answers.Arrived.TheVariants as arrived
+use Rattle.srt_hub.specs.declared.answers.Ticked.{Ticked}
+use Rattle.srt_hub.specs.declared.answers.Ticked.TheVariants as ticked
+use Rattle.srt_seq.specs.Items.{Datagram}
+use Rattle.srt_seq.specs.Terms.{Terms}
+use Rattle.srt_hub.specs.World.{Event, Arrives, Ticks, Turns, Sends, Sorting, Meaning, arrival_of, tick, turn, first}
+use Rattle.srt_hub.specs.Hubs.{terms_at, lane_at, room_at}
+
+-- the digit of a cause
+abbrev pub digit_of : Cause → ℕ
+digit_of Packet = 49
+digit_of UnknownId = 50
+digit_of NotHandshake = 51
+digit_of Handshake = 52
+digit_of WrongKind = 53
+digit_of WrongCookie = 54
+
+-- a word and a route's number as a line, with its LF
+abbrev pub route_text : (words : List ℕ) (route : ℕ) → List ℕ
+route_text words route = words ++ decimal route ++ 10 ∷ []
+
+-- the line of an arrival's answer
+abbrev pub arrived_text : Arrived → List ℕ
+arrived_text (arrived.Answer bytes) = codes "answer " ++ encode_lower bytes ++ 10 ∷ []
+arrived_text (arrived.Accepted route) = route_text (codes "accepted ") route
+arrived_text (arrived.Full route) = route_text (codes "full ") route
+arrived_text (arrived.Dropped cause) = codes "dropped " ++ digit_of cause ∷ 10 ∷ []
+
+abbrev pub ticked_text : (route : ℕ) → Ticked → List ℕ
+ticked_text route ticked.Accepted = route_text (codes "accepted ") route
+ticked_text route ticked.Full = route_text (codes "full ") route
+
+abbrev pub turned_text : Turned → List ℕ
+turned_text Moved = codes "moved" ++ 10 ∷ []
+turned_text Applied = codes "applied" ++ 10 ∷ []
+turned_text Blocked = codes "blocked" ++ 10 ∷ []
+turned_text Idle = codes "idle" ++ 10 ∷ []
+
+abbrev pub sent_text : Option Datagram → List ℕ
+sent_text None = codes "none" ++ 10 ∷ []
+sent_text (Some d) = codes "sent " ++ encode_lower d.peer.ip ++ 32 ∷ decimal d.peer.port ++ 32 ∷ encode_lower d.bytes ++ 10 ∷ []
+
+-- an arrival for which there was no memory has no line
+abbrev pub arrival_text : Option Arrived → List ℕ
+arrival_text None = []
+arrival_text (Some answer) = arrived_text answer
+
+-- the line that is written for an event after these events, the newest first
+unfoldable pub event_text : Sorting → Meaning → List Terms → List Event → Event → List ℕ
+event_text class reply entries events (Arrives d moment refused) = arrival_text (arrival_of refused (room_at class reply entries events) (class d moment))
+event_text class reply entries events (Ticks r moment) = ticked_text r (tick (terms_at entries r) (lane_at class reply entries r events))
+event_text class reply entries events (Turns r) = turned_text (turn (terms_at entries r) (lane_at class reply entries r events))
+event_text class reply entries events (Sends r) = sent_text (first (lane_at class reply entries r events).outbox)

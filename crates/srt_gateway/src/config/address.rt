@@ -1,0 +1,71 @@
+//! The address to bind.
+
+ghost use Rattle.std.specs.Prelude.{◌≡◌, ◌^◌, ◌<◌, option_map, IfSome};
+ghost use Rattle.srt_gateway.specs.Address.{parted, octet_to, address_in};
+ghost use Rattle.srt_gateway.specs.AddressParts.{both, octet_seen, address_of};
+
+use crate::numbers::read_number;
+use memchr::memchr;
+
+/// An IPv4 address and a port.
+#[derive(Clone, Copy, Debug, PartialEq, Eq)]
+pub struct BindAddress {
+    /// The address, the greatest byte first.
+    pub ip: [u8; 4],
+    /// The UDP port; 0 for any.
+    pub port: u16,
+}
+
+/// A text split at the first such byte.
+#[derive(Clone, Copy)]
+pub(crate) struct Parts<'a> {
+    pub(crate) before: &'a [u8],
+    pub(crate) behind: &'a [u8],
+}
+
+fn parted(at: u8, text: &[u8]) -> Option<Parts<'_>>
+    ensures { option_map both result ≡ parted at text.now }
+{
+    match memchr(at, text) {
+        Some(k) => Some(Parts {
+            before: &text[..k],
+            behind: &text[k + 1..],
+        }),
+        None => None,
+    }
+}
+
+/// An octet and what stands behind it.
+#[derive(Clone, Copy)]
+pub(crate) struct Octet<'a> {
+    pub(crate) octet: u8,
+    pub(crate) behind: &'a [u8],
+}
+
+#[tactic(auto, unfolding(crate::specs::Address::octet_to))]
+fn octet_to(end: u8, text: &[u8]) -> Option<Octet<'_>>
+    ensures { option_map octet_seen result ≡ octet_to end text.now }
+{
+    let parts = parted(end, text)?;
+    let octet = read_number(parts.before, 256)?;
+    Some(Octet {
+        octet: octet as u8,
+        behind: parts.behind,
+    })
+}
+
+/// The address and port that `a.b.c.d:port` says.
+#[tactic(auto, unfolding(crate::specs::Address::address_in))]
+pub(crate) fn read_bind(text: &[u8]) -> Option<BindAddress>
+    ensures { option_map address_of result ≡ address_in text.now }
+{
+    let a = octet_to(b'.', text)?;
+    let b = octet_to(b'.', a.behind)?;
+    let c = octet_to(b'.', b.behind)?;
+    let d = octet_to(b':', c.behind)?;
+    let port = read_number(d.behind, 1 << 16)?;
+    Some(BindAddress {
+        ip: [a.octet, b.octet, c.octet, d.octet],
+        port: port as u16,
+    })
+}

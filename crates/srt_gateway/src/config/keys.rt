@@ -1,0 +1,84 @@
+//! The keys of a table and their values.
+
+ghost use Rattle.std.specs.Prelude.{◌≡◌, ◌<◌, ◌^◌, option_map};
+ghost use Rattle.toml.specs.View.{table_view};
+ghost use Rattle.srt_gateway.specs.FirstFault.{seen, Gives};
+ghost use Rattle.srt_gateway.specs.Keys.{is_key, least_unknown, known, value_at, value_seen, text_at, within, number_at};
+
+use super::faults::{ConfigFault, Key};
+use std::alloc::Global;
+use toml::{Table, Value};
+
+fn is_key(keys: &[Key], text: &str) -> bool
+    ensures { result ≡ is_key keys.now text.now }
+{
+    keys.iter().any(|key| key.name() == text)
+}
+
+#[tactic(auto, using(crate::proofs::TableKeys::view_keys))]
+fn least_unknown<'a>(keys: &[Key], table: &'a Table) -> Option<&'a str>
+    ensures { option_map (λ t. t.now) result ≡ least_unknown keys.now (table_view table.now) }
+{
+    for key in table.keys() {
+        if !is_key(keys, key.as_str()) {
+            return Some(key.as_str());
+        }
+    }
+    None
+}
+
+/// That a table has no key but these.
+#[tactic(auto, unfolding(crate::specs::Keys::known))]
+pub(crate) fn only_known(alloc: Global, keys: &[Key], table: &Table) -> Result<(), ConfigFault>
+    ensures { Gives (λ u. u) result (known keys.now (table_view table.now)) }
+{
+    let Some(key) = least_unknown(keys, table) else {
+        return Ok(());
+    };
+    match String::from_str(alloc, key) {
+        Ok(key) => Err(ConfigFault::UnknownKey(key)),
+        Err(_) => Err(ConfigFault::OutOfMemory),
+    }
+}
+
+/// The value at a key.
+#[tactic(auto, unfolding(crate::specs::Keys::value_at))]
+pub(crate) fn value_at(table: &Table, key: Key) -> Result<&Value, ConfigFault>
+    ensures { seen value_seen result ≡ value_at key (table_view table.now) }
+{
+    match table.get(key.name()) {
+        Some(value) => Ok(value),
+        None => Err(ConfigFault::Missing(key)),
+    }
+}
+
+/// The text at a key.
+#[tactic(auto, unfolding(crate::specs::Keys::text_at))]
+pub(crate) fn text_at(table: &Table, key: Key) -> Result<&str, ConfigFault>
+    ensures { seen (λ t. t.now) result ≡ text_at key (table_view table.now) }
+{
+    match value_at(table, key)?.as_str() {
+        Some(text) => Ok(text),
+        None => Err(ConfigFault::WrongKind(key)),
+    }
+}
+
+fn within(key: Key, low: u32, high: u32, number: i64) -> Result<u32, ConfigFault>
+    ensures { seen (λ n. n) result ≡ within key low high number }
+{
+    if number < i64::from(low) || i64::from(high) < number {
+        return Err(ConfigFault::OutOfRange(key));
+    }
+    Ok(number as u32)
+}
+
+/// The number at a key, which is to lie within these limits.
+#[tactic(auto, unfolding(crate::specs::Keys::number_at))]
+pub(crate) fn number_at(table: &Table, key: Key, low: u32, high: u32) -> Result<u32, ConfigFault>
+    ensures { seen (λ n. n) result ≡ number_at key low high (table_view table.now) }
+{
+    match value_at(table, key)?.as_integer() {
+        Some(number) => within(key, low, high, number),
+        None => Err(ConfigFault::WrongKind(key)),
+    }
+}

@@ -1,0 +1,238 @@
+//! The routes of a configuration.
+
+ghost use Rattle.std.specs.Prelude.{◌≡◌, [], map, None, Ok, IfOk};
+ghost use Rattle.std.specs.List.{list_all, list_any};
+ghost use Rattle.std.specs.Str.{bytes_eq};
+ghost use Rattle.toml.specs.View.{table_view, items_view};
+ghost use Rattle.srt_seq.specs.Terms.{terms_of};
+ghost use Rattle.srt_lobby.specs.Opening.{is_between, is_name_byte, is_name, is_taken, fault_of};
+ghost use Rattle.srt_gateway.specs.FirstFault.{seen, Gives};
+ghost use Rattle.srt_gateway.specs.Routes.{name_in, name_at, mode_in, mode_at, numbers_at, terms_with, terms_at, are_tables, count, routes_from, routes_in, routes_at};
+ghost use Rattle.srt_gateway.specs.RouteParts.{numbers_of, entries_seen};
+
+use super::faults::{ConfigFault, Key};
+use super::keys::{number_at, only_known, text_at, value_at};
+use srt_seq::{Entry, Mode};
+use std::alloc::Global;
+use toml::{Table, Value};
+
+/// The keys of a route.
+const ROUTE_KEYS: [Key; 7] = [
+    Key::Name,
+    Key::Mode,
+    Key::LatencyMs,
+    Key::Buffer,
+    Key::Sessions,
+    Key::Inbox,
+    Key::Outbox,
+];
+
+fn is_name_byte(byte: u8) -> bool
+    ensures { result ≡ is_name_byte byte }
+{
+    (b'a'..=b'z').contains(&byte)
+        || (b'A'..=b'Z').contains(&byte)
+        || (b'0'..=b'9').contains(&byte)
+        || (b'-'..=b'/').contains(&byte)
+        || byte == b'_'
+}
+
+fn are_name_bytes(bytes: &[u8]) -> bool
+    ensures { result ≡ list_all is_name_byte bytes.now }
+{
+    bytes.iter().all(|b| is_name_byte(*b))
+}
+
+fn is_between(low: usize, high: usize, n: usize) -> bool
+    ensures { result ≡ is_between low high n }
+{
+    low <= n && n <= high
+}
+
+fn is_name(name: &[u8]) -> bool
+    ensures { result ≡ is_name name.now }
+{
+    is_between(1, 64, name.len()) && are_name_bytes(name)
+}
+
+fn stands_in(name: &[u8], entries: &[Entry]) -> bool
+    ensures { result ≡ list_any (λ e. bytes_eq (terms_of e).name name.now) entries.now }
+{
+    entries.iter().any(|e| e.name.as_bytes() == name)
+}
+
+fn is_taken(name: &[u8], entries: &[Entry]) -> bool
+    ensures { result ≡ is_taken name.now (map terms_of entries.now) }
+{
+    stands_in(name, entries)
+}
+
+/// A name of the right form that no route before has.
+#[tactic(auto, unfolding(crate::specs::Routes::name_in))]
+fn read_name<'a>(before: &[Entry], text: &'a str) -> Result<&'a str, ConfigFault>
+    ensures { seen (λ t. t.now) result ≡ name_in (map terms_of before.now) text.now }
+{
+    if !is_name(text.as_bytes()) {
+        return Err(ConfigFault::BadName);
+    }
+    if is_taken(text.as_bytes(), before) {
+        return Err(ConfigFault::RepeatedName);
+    }
+    Ok(text)
+}
+
+#[tactic(auto, unfolding(crate::specs::Routes::name_at))]
+fn name_at<'a>(before: &[Entry], table: &'a Table) -> Result<&'a str, ConfigFault>
+    ensures { seen (λ t. t.now) result ≡ name_at (map terms_of before.now) (table_view table.now) }
+{
+    read_name(before, text_at(table, Key::Name)?)
+}
+
+#[tactic(auto, unfolding(crate::specs::Routes::mode_in))]
+fn read_mode(text: &str) -> Result<Mode, ConfigFault>
+    ensures { seen (λ m. m) result ≡ mode_in text.now }
+{
+    if text == "live" {
+        return Ok(Mode::Live);
+    }
+    if text == "buffer" {
+        return Ok(Mode::Buffer);
+    }
+    Err(ConfigFault::OutOfRange(Key::Mode))
+}
+
+#[tactic(auto, unfolding(crate::specs::Routes::mode_at))]
+fn mode_at(table: &Table) -> Result<Mode, ConfigFault>
+    ensures { seen (λ m. m) result ≡ mode_at (table_view table.now) }
+{
+    read_mode(text_at(table, Key::Mode)?)
+}
+
+/// The numbers of a route.
+#[derive(Clone, Copy)]
+pub(crate) struct RouteNumbers {
+    pub(crate) latency_ms: u32,
+    pub(crate) buffer: u32,
+    pub(crate) sessions: u32,
+    pub(crate) inbox: u32,
+    pub(crate) outbox: u32,
+}
+
+#[tactic(auto, unfolding(crate::specs::Routes::numbers_at))]
+fn numbers_at(table: &Table) -> Result<RouteNumbers, ConfigFault>
+    ensures { seen numbers_of result ≡ numbers_at (table_view table.now) }
+{
+    Ok(RouteNumbers {
+        latency_ms: number_at(table, Key::LatencyMs, 20, 8000)?,
+        buffer: number_at(table, Key::Buffer, 32, 8192)?,
+        sessions: number_at(table, Key::Sessions, 1, 17)?,
+        inbox: number_at(table, Key::Inbox, 16, 4096)?,
+        outbox: number_at(table, Key::Outbox, 16, 4096)?,
+    })
+}
+
+/// The entry of these terms.
+fn entry_with(
+    alloc: Global,
+    name: &str,
+    mode: Mode,
+    numbers: RouteNumbers,
+) -> Result<Entry, ConfigFault>
+    ensures { Gives terms_of result (Ok (terms_with name.now mode (numbers_of numbers))) }
+{
+    match String::from_str(alloc, name) {
+        Ok(name) => Ok(Entry {
+            name,
+            mode,
+            latency_ms: numbers.latency_ms,
+            buffer: numbers.buffer,
+            sessions: numbers.sessions,
+            inbox: numbers.inbox,
+            outbox: numbers.outbox,
+        }),
+        Err(_) => Err(ConfigFault::OutOfMemory),
+    }
+}
+
+/// The route that a table says, where these stand before it.
+#[tactic(auto, unfolding(crate::specs::Routes::terms_at))]
+fn entry_at(alloc: Global, before: &[Entry], table: &Table) -> Result<Entry, ConfigFault>
+    ensures { Gives terms_of result (terms_at (map terms_of before.now) (table_view table.now)) }
+{
+    only_known(alloc, &ROUTE_KEYS, table)?;
+    let name = name_at(before, table)?;
+    let mode = mode_at(table)?;
+    let numbers = numbers_at(table)?;
+    entry_with(alloc, name, mode, numbers)
+}
+
+#[tactic(auto, using(crate::proofs::RouteItems::items_step))]
+fn are_tables(values: &[Value]) -> bool
+    ensures { result ≡ are_tables (items_view values.now) }
+{
+    let mut rest = values;
+    while !rest.is_empty() {
+        if rest[0].as_table().is_none() {
+            return false;
+        }
+        rest = &rest[1..];
+    }
+    true
+}
+
+fn is_count(values: &[Value]) -> bool
+    ensures { result ≡ is_between 1 511 (count (items_view values.now)) }
+{
+    is_between(1, 511, values.len())
+}
+
+/// The routes of these values.
+#[tactic(auto, unfolding(crate::specs::Routes::routes_in))]
+fn read_routes(alloc: Global, values: &[Value]) -> Result<Vec<Entry>, ConfigFault>
+    ensures { Gives entries_seen result (routes_in (items_view values.now)) }
+{
+    if !are_tables(values) {
+        return Err(ConfigFault::WrongKind(Key::Route));
+    }
+    if !is_count(values) {
+        return Err(ConfigFault::OutOfRange(Key::Route));
+    }
+    routes_from(alloc, values)
+}
+
+/// The routes of these values, which are tables.
+fn routes_from(alloc: Global, values: &[Value]) -> Result<Vec<Entry>, ConfigFault>
+    ensures { Gives entries_seen result (routes_from [] (items_view values.now)) }
+{
+    let mut entries = Vec::new(alloc);
+    let mut rest = values;
+    while !rest.is_empty() {
+        let Some(table) = rest[0].as_table() else {
+            return Err(ConfigFault::WrongKind(Key::Route));
+        };
+        let entry = entry_at(alloc, entries.as_slice(), table)?;
+        if entries.push(entry).is_err() {
+            return Err(ConfigFault::OutOfMemory);
+        }
+        rest = &rest[1..];
+    }
+    Ok(entries)
+}
+
+#[tactic(auto, unfolding(crate::specs::Routes::routes_at))]
+fn all_routes(alloc: Global, table: &Table) -> Result<Vec<Entry>, ConfigFault>
+    ensures { Gives entries_seen result (routes_at (table_view table.now)) }
+{
+    match value_at(table, Key::Route)?.as_array() {
+        Some(values) => read_routes(alloc, values.as_slice()),
+        None => Err(ConfigFault::WrongKind(Key::Route)),
+    }
+}
+
+/// The routes of a table.
+pub(crate) fn routes_at(alloc: Global, table: &Table) -> Result<Vec<Entry>, ConfigFault>
+    ensures gives { Gives entries_seen result (routes_at (table_view table.now)) }
+    ensures sound { IfOk result (λ entries. fault_of (map terms_of entries.items) ≡ None) }
+{
+    all_routes(alloc, table)
+}

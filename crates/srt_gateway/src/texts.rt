@@ -1,0 +1,123 @@
+//! The lines of answers.
+
+ghost use Rattle.std.specs.Prelude.{◌≡◌, ◌+◌, ◌*◌, ◌++◌, ◌∷◌, [], ◌≤◌, None, Some, take, length, decimal};
+ghost use Rattle.hex.specs.Hex.{encode_lower};
+ghost use Rattle.srt_gateway.specs.Texts.{digit_of as the_digit, route_text, arrived_text, ticked_text, turned_text, sent_text};
+
+use itoa::Buffer;
+use srt_hub::{Arrived, Cause, Ticked};
+use srt_seq::{Peer, Turned, write_at};
+
+/// The most bytes of an answer's line.
+pub(crate) const TEXT_MAX: usize = 4096;
+
+fn digit_of(cause: Cause) -> u8
+    ensures { result ≡ the_digit cause }
+{
+    match cause {
+        Cause::Packet => b'1',
+        Cause::UnknownId => b'2',
+        Cause::NotHandshake => b'3',
+        Cause::Handshake => b'4',
+        Cause::WrongKind => b'5',
+        Cause::WrongCookie => b'6',
+    }
+}
+
+/// Puts the decimal digits of a number at a place, and answers where they end.
+fn write_number(out: &mut [u8; TEXT_MAX], at: usize, number: usize) -> usize
+    requires { at ≤ 4000 }
+    ensures end { result ≤ at + 20 }
+    ensures written { take result out.new ≡ take at out.old ++ decimal number }
+{
+    let mut digits = Buffer::new();
+    write_at(out, at, digits.format(number).as_bytes())
+}
+
+/// Puts the hexadecimal digits of bytes at a place, and answers where they end.
+fn write_hex(out: &mut [u8; TEXT_MAX], at: usize, bytes: &[u8]) -> usize
+    requires { at + 2 * length bytes.now ≤ 4096 }
+    ensures end { result ≡ at + 2 * length bytes.now }
+    ensures written { take result out.new ≡ take at out.old ++ encode_lower bytes.now }
+{
+    let end = at + 2 * bytes.len();
+    let _ = hex::encode_to_slice(bytes, &mut out[at..end]);
+    end
+}
+
+fn write_route(out: &mut [u8; TEXT_MAX], words: &[u8], route: usize) -> usize
+    requires { length words.now ≤ 16 }
+    ensures within { result ≤ 4096 }
+    ensures text { take result out.new ≡ route_text words.now route }
+{
+    let end = write_at(out, 0, words);
+    let end = write_number(out, end, route);
+    write_at(out, end, b"\n")
+}
+
+/// Puts the line of an arrival's answer at the front of `out`, and answers its length.
+pub(crate) fn write_arrived(answer: &Arrived, out: &mut [u8; TEXT_MAX]) -> usize
+    ensures within { result ≤ 4096 }
+    ensures text { take result out.new ≡ arrived_text answer.now }
+{
+    match answer {
+        Arrived::Answer(bytes) => {
+            let end = write_at(out, 0, b"answer ");
+            let end = write_hex(out, end, bytes);
+            write_at(out, end, b"\n")
+        }
+        Arrived::Accepted(route) => write_route(out, b"accepted ", *route),
+        Arrived::Full(route) => write_route(out, b"full ", *route),
+        Arrived::Dropped(cause) => {
+            let end = write_at(out, 0, b"dropped ");
+            write_at(out, end, &[digit_of(*cause), b'\n'])
+        }
+    }
+}
+
+/// Puts the line of a tick's answer at the front of `out`, and answers its length.
+pub(crate) fn write_ticked(route: usize, answer: Ticked, out: &mut [u8; TEXT_MAX]) -> usize
+    ensures within { result ≤ 4096 }
+    ensures text { take result out.new ≡ ticked_text route answer }
+{
+    match answer {
+        Ticked::Accepted => write_route(out, b"accepted ", route),
+        Ticked::Full => write_route(out, b"full ", route),
+    }
+}
+
+/// Puts the line of a turn's answer at the front of `out`, and answers its length.
+pub(crate) fn write_turned(answer: Turned, out: &mut [u8; TEXT_MAX]) -> usize
+    ensures within { result ≤ 4096 }
+    ensures text { take result out.new ≡ turned_text answer }
+{
+    match answer {
+        Turned::Moved => write_at(out, 0, b"moved\n"),
+        Turned::Applied => write_at(out, 0, b"applied\n"),
+        Turned::Blocked => write_at(out, 0, b"blocked\n"),
+        Turned::Idle => write_at(out, 0, b"idle\n"),
+    }
+}
+
+/// Puts the line of a send that had nothing to send at the front of `out`, and answers its length.
+pub(crate) fn write_none(out: &mut [u8; TEXT_MAX]) -> usize
+    ensures within { result ≤ 4096 }
+    ensures text { take result out.new ≡ sent_text None }
+{
+    write_at(out, 0, b"none\n")
+}
+
+/// Puts the line of a datagram that was sent at the front of `out`, and answers its length.
+pub(crate) fn write_sent(peer: Peer, bytes: &[u8], out: &mut [u8; TEXT_MAX]) -> usize
+    requires { length bytes.now ≤ 1472 }
+    ensures within { result ≤ 4096 }
+    ensures text { take result out.new ≡ sent_text (Some (record { peer = peer; bytes = bytes.now })) }
+{
+    let end = write_at(out, 0, b"sent ");
+    let end = write_hex(out, end, &peer.ip);
+    let end = write_at(out, end, b" ");
+    let end = write_number(out, end, usize::from(peer.port));
+    let end = write_at(out, end, b" ");
+    let end = write_hex(out, end, bytes);
+    write_at(out, end, b"\n")
+}

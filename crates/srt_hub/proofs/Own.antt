@@ -1,0 +1,74 @@
+-- The gateway with its lobby and its routes.
+use Rattle.std.proofs.Common.{◌≡◌, ℕ, zero, suc, ◌<◌, Bool, true, false, List, [], ◌∷◌, length, map, Some, refl, sym, ap, subst, ◌∙◌, arith}
+use Rattle.std.proofs.lemmas.Bool.{eq-eqb, eqb-true}
+use Rattle.std.specs.List.{slice_get}
+use Rattle.srt_seq.specs.Terms.{Terms}
+use Rattle.srt_lobby.specs.declared.classes.Class.{Class}
+use Rattle.srt_lobby.specs.declared.classes.Class.TheVariants.{Answer, Route, Dropped}
+use Rattle.srt_lobby.specs.Names.{AreDistinct, name_of}
+use Rattle.srt_lobby.specs.Laws.{HasRoute}
+use Rattle.srt_lobby.proofs.Kept.{own}
+use Rattle.srt_route.specs.Route.{reply}
+use Rattle.srt_hub.specs.World.{is_route, lane_after, accepted, sent, IsQuiet}
+use Rattle.srt_hub.specs.Hubs.{names, terms_at}
+use Rattle.srt_hub.specs.Gateways.{sorting, ArrivalsAreOwn, StepsAreOwn, SentByOwnSteps, SentByAccepted}
+use Rattle.srt_hub.proofs.Isolation.{sent_is_whole, isolated}
+use Rattle.srt_hub.proofs.OwnSteps.{own_steps_decide, sorting_decides}
+
+named_at : (entries : List Terms) (r : ℕ) → r < length entries → slice_get (map name_of entries) r ≡ Some (terms_at entries r).name
+named_at [] r below = absurd (omega arith)
+named_at (e ∷ entries) zero below = refl
+named_at (e ∷ entries) (suc r) below = named_at entries r (omega arith)
+
+has_route : (entries : List Terms) (r : ℕ) (e : Terms) → r < length entries → terms_at entries r ≡ e → AreDistinct (names entries) → HasRoute (names entries) r e.name
+has_route entries r e below same distinct = record {
+  named = named_at entries r below ∙ ap (λ (f : Terms). Some f.name) same;
+  distinct = distinct;
+}
+
+pub arrivals_are_own : ArrivalsAreOwn
+arrivals_are_own secret entries others r h d moment =
+    own secret (names entries) (names others) r (terms_at entries r).name
+    (has_route entries r (terms_at entries r) h.below refl h.distinct)
+    (has_route others r (terms_at entries r) h.below_there (sym h.same_entry) h.distinct_there)
+    d moment
+
+is_routes : (r : ℕ) (c : Class) → is_route r c ≡ true → c ≡ Route r
+is_routes r (Route s) h = ap Route (eqb-true s r h)
+is_routes r (Answer bytes) h = absurd (let bad : false ≡ true = h in cc)
+is_routes r (Dropped cause) h = absurd (let bad : false ≡ true = h in cc)
+
+tests_so : (r : ℕ) (c : Class) → c ≡ Route r → is_route r c ≡ true
+tests_so r c h = ap (is_route r) h ∙ eq-eqb r r refl
+
+same_test : (a b : Bool) → (a ≡ true → b ≡ true) → (b ≡ true → a ≡ true) → a ≡ b
+same_test true b there back = sym (there refl)
+same_test false true there back = back refl
+same_test false false there back = refl
+
+pub steps_are_own : StepsAreOwn
+steps_are_own secret entries others r h events =
+    sorting_decides (sorting secret entries) (sorting secret others) r events (λ d moment.
+    let either = arrivals_are_own secret entries others r h d moment in
+    same_test (is_route r (sorting secret entries d moment)) (is_route r (sorting secret others d moment))
+    (λ yes. tests_so r (sorting secret others d moment) (either.0 (is_routes r (sorting secret entries d moment) yes)))
+    (λ yes. tests_so r (sorting secret entries d moment) (either.1 (is_routes r (sorting secret others d moment) yes))))
+
+pub sent_by_own_steps : SentByOwnSteps
+sent_by_own_steps secret entries others r same events events' steps =
+    let here = sorting secret entries in
+    let there = sorting secret others in
+    let e = terms_at entries r in
+    subst (λ (f : Terms). (accepted here reply e r events ≡ accepted there reply f r events') × (sent here reply e r events ≡ sent there reply f r events')) same
+    (let all = own_steps_decide here there reply e r events events' steps in (all.1, all.2))
+
+pub sent_by_accepted : SentByAccepted
+sent_by_accepted secret entries others r same events events' items quiet quiet' =
+    let here = sorting secret entries in
+    let there = sorting secret others in
+    let e = terms_at entries r in
+    let items_here : accepted here reply e r events ≡ accepted there reply e r events' = subst (λ (f : Terms). accepted here reply e r events ≡ accepted there reply f r events') (sym same) items in
+    let quiet_here : IsQuiet (lane_after there reply e r events') = subst (λ (f : Terms). IsQuiet (lane_after there reply f r events')) (sym same) quiet' in (
+      subst (λ (f : Terms). sent here reply e r events ≡ sent there reply f r events') same (isolated here there reply e r events events' items_here quiet quiet_here),
+      sent_is_whole here reply e r events quiet,
+    )

@@ -1,0 +1,62 @@
+-- What holds of the gateway with its lobby and its routes.
+use Rattle.std.specs.Prelude.{◌≡◌, ◌↔◌, ℕ, ◌<◌, List, length}
+use Rattle.srt_seq.specs.Items.{Datagram, Item}
+use Rattle.srt_seq.specs.Terms.{Terms}
+use Rattle.srt_lobby.specs.declared.classes.Class.TheVariants.{Route}
+use Rattle.srt_lobby.specs.Names.{AreDistinct}
+use Rattle.srt_lobby.specs.Lobby.{class_of}
+use Rattle.srt_route.specs.Route.{reply}
+use Rattle.srt_hub.specs.World.{Event, Sorting, solo, lane_after, accepted, sent, IsQuiet}
+use Rattle.srt_hub.specs.Hubs.{names, terms_at}
+use Rattle.srt_hub.specs.Laws.{own_steps}
+
+-- how arrivals are sorted with this secret and these entries
+abbrev pub sorting : (secret : List ℕ) → List Terms → Sorting
+sorting secret entries = class_of secret (names entries)
+
+-- what the route of this index accepted and what was sent for it, in a gateway of this secret and these entries
+abbrev pub accepted_of : (secret : List ℕ) → List Terms → ℕ → List Event → List Item
+accepted_of secret entries r events = accepted (sorting secret entries) reply (terms_at entries r) r events
+
+abbrev pub sent_of : (secret : List ℕ) → List Terms → ℕ → List Event → List Datagram
+sent_of secret entries r events = sent (sorting secret entries) reply (terms_at entries r) r events
+
+abbrev pub HasQuiet : (secret : List ℕ) → List Terms → ℕ → List Event → Type 0
+HasQuiet secret entries r events = IsQuiet (lane_after (sorting secret entries) reply (terms_at entries r) r events)
+
+-- both have this route with the same entry, and in neither a name stands twice, as in all entries that a gateway opens with
+pub record HaveRoute (entries others : List Terms) (r : ℕ) : Type 0 where
+  pub below : r < length entries
+  pub below_there : r < length others
+  pub same_entry : terms_at entries r ≡ terms_at others r
+  pub distinct : AreDistinct (names entries)
+  pub distinct_there : AreDistinct (names others)
+
+-- whether an arrival is the route's depends on the secret, the route's index and name, and that arrival alone
+abbrev pub ArrivalsAreOwn : Type 0
+ArrivalsAreOwn =
+    (secret : List ℕ) (entries others : List Terms) (r : ℕ) → HaveRoute entries others r →
+    (d : Datagram) (moment : ℕ) → (sorting secret entries d moment ≡ Route r) ↔ (sorting secret others d moment ≡ Route r)
+
+-- so the same events are the same steps to it, whatever other routes there are
+abbrev pub StepsAreOwn : Type 0
+StepsAreOwn =
+    (secret : List ℕ) (entries others : List Terms) (r : ℕ) → HaveRoute entries others r →
+    (events : List Event) → own_steps (sorting secret entries) r events ≡ own_steps (sorting secret others) r events
+
+-- and with the same steps it accepts and sends the same, whatever else happened and whether something waits or not
+abbrev pub SentByOwnSteps : Type 0
+SentByOwnSteps =
+    (secret : List ℕ) (entries others : List Terms) (r : ℕ) → terms_at entries r ≡ terms_at others r →
+    (events events' : List Event) → own_steps (sorting secret entries) r events ≡ own_steps (sorting secret others) r events' →
+    (accepted_of secret entries r events ≡ accepted_of secret others r events') × (sent_of secret entries r events ≡ sent_of secret others r events')
+
+-- of two gateways with the same secret and the same entry for a route, after any events: if its inbox accepted the same items
+-- in the same order and nothing of it waits, what was sent for it is the same, and is what the route alone replies
+abbrev pub SentByAccepted : Type 0
+SentByAccepted =
+    (secret : List ℕ) (entries others : List Terms) (r : ℕ) → terms_at entries r ≡ terms_at others r →
+    (events events' : List Event) → accepted_of secret entries r events ≡ accepted_of secret others r events' →
+    HasQuiet secret entries r events → HasQuiet secret others r events' →
+    (sent_of secret entries r events ≡ sent_of secret others r events') ×
+    (sent_of secret entries r events ≡ solo reply (terms_at entries r) r (accepted_of secret entries r events))

@@ -1,0 +1,7 @@
+pub mod World
+pub mod Hubs
+pub mod Laws
+pub mod Gateways
+pub mod Refusals
+pub mod Stands
+pub mod Queued

@@ -1,0 +1,37 @@
+//! The lobby of the whole gateway.
+
+ghost use Rattle.std.specs.Prelude.{◌≡◌};
+ghost use Rattle.srt_cookie.specs.Cookie.{secret_bytes};
+ghost use Rattle.srt_lobby.specs.Names.{names_of};
+ghost use Rattle.srt_lobby.specs.Lobby.{class_of};
+ghost use Rattle.srt_lobby.proofs.Kept.{inside};
+
+use crate::parts::Lobby;
+use srt_cookie::Secret;
+use srt_lobby::{Class, Names, classify};
+use srt_seq::{Entry, OpenFault, Peer};
+use std::alloc::Global;
+
+/// The secret of the cookies, and the names of the routes.
+#[derive(Drop)]
+pub struct Entrance {
+    secret: Secret,
+    names: Names,
+}
+
+impl Lobby for Entrance {
+    ghost class = { class_of };
+
+    ghost knows = { λ entrance secret names. (secret_bytes entrance.secret ≡ secret) × (names_of entrance.names ≡ names) };
+
+    ghost named = { inside };
+
+    fn open(alloc: Global, secret: Secret, entries: &[Entry]) -> Result<Self, OpenFault> {
+        let names = Names::open(alloc, entries)?;
+        Ok(Entrance { secret, names })
+    }
+
+    fn classify(&self, peer: Peer, bytes: &[u8], moment: u64) -> Class {
+        classify(&self.secret, &self.names, peer, bytes, moment)
+    }
+}

@@ -1,0 +1,37 @@
+//! What stands in the inbox of a route.
+
+ghost use Rattle.std.specs.Prelude.{◌≡◌, ◌^◌, ◌<◌, ◌≤◌, length, IfOk};
+ghost use Rattle.srt_seq.specs.Items.{told, moment_of, Received};
+
+use crate::answers::OutOfMemory;
+use srt_seq::{Item, Peer};
+use std::alloc::Global;
+
+/// An item of the inbox.
+#[derive(Drop)]
+pub struct Timely {
+    /// The item; its moment is below 2^62.
+    pub item: Item,
+    pub ghost timely: { moment_of (told item) < 2 ^ 62 },
+}
+
+/// A datagram as an item: its body is copied.
+pub fn copied(alloc: Global, peer: Peer, bytes: &[u8], moment: u64) -> Result<Timely, OutOfMemory>
+    requires header { 16 ≤ length bytes.now }
+    requires timely { moment < 2 ^ 62 }
+    ensures { IfOk result (λ timely. told timely.item ≡ Received (record { peer = peer; bytes = bytes.now }) moment) }
+{
+    let mut head = [0; 16];
+    head.copy_from_slice(&bytes[..16]);
+    let Ok(body) = Vec::from_slice(alloc, &bytes[16..]) else {
+        return Err(OutOfMemory);
+    };
+    Ok(Timely {
+        item: Item::Datagram {
+            peer,
+            moment,
+            head,
+            body,
+        },
+    })
+}

@@ -1,0 +1,122 @@
+//! A route with its queues.
+
+ghost use Rattle.std.specs.Prelude.{◌≡◌, ℕ, ◌<◌, ◌≤◌, true, IfOk, IfErr, IfSome, IfNone, map, take, drop, option_map};
+ghost use Rattle.std.specs.VecDeque.{deque_capacity};
+
+use crate::items::Timely;
+use crate::parts::RouteStep;
+use srt_packet::encode;
+use srt_route::Reply;
+use srt_seq::{Entry, OpenFault, Peer, Turned};
+use std::alloc::Global;
+use std::collections::VecDeque;
+
+/// A route with its queues, which have room for the capacities.
+#[derive(Drop)]
+pub struct Lane<R: RouteStep> {
+    route: R,
+    inbox: VecDeque<Timely>,
+    outbox: VecDeque<Reply>,
+    inbox_room: usize,
+    outbox_room: usize,
+    ghost inbox_fits: { inbox_room ≤ deque_capacity inbox },
+    ghost outbox_fits: { outbox_room ≤ deque_capacity outbox },
+}
+
+/// What stands for a route of the world.
+pub trait Standing {
+    ghost use Rattle.srt_seq.specs.Terms.{Terms};
+    ghost use Rattle.srt_hub.specs.World.{Lane as TheLane};
+
+    /// With these terms and this index it is this one.
+    ghost is: { Self → Terms → (index : ℕ) → TheLane → Type 0 };
+}
+
+impl<R: RouteStep> Standing for Lane<R> {
+    ghost use Rattle.srt_hub.specs.Queued.{item_in};
+    ghost use Rattle.srt_route.specs.Written.{written};
+    ghost use Rattle.srt_hub.specs.Stands.{IsLane};
+
+    ghost is = { λ lane e r m. IsLane e (λ items. R.stands lane.route e r items) (R.waiting lane.route) (map item_in lane.inbox.items) (map written lane.outbox.items) lane.inbox_room lane.outbox_room m };
+}
+
+impl<R: RouteStep> Lane<R> {
+    ghost use Rattle.srt_hub.specs.Queued.{item_in};
+    ghost use Rattle.srt_lobby.specs.Opening.{is_name, in_limits};
+    ghost use Rattle.srt_seq.specs.Terms.{Terms, terms_of};
+    ghost use Rattle.srt_hub.specs.World.{Lane as TheLane, empty, offered, has_room, turned, turn, sent_from, first};
+
+    /// A route that was told nothing, with empty queues.
+    pub fn open(alloc: Global, entry: &Entry, index: usize) -> Result<Lane<R>, OpenFault>
+        requires name { is_name (terms_of entry.now).name ≡ true }
+        requires limits { in_limits (terms_of entry.now) ≡ true }
+        requires index { index < 511 }
+        ensures empty { IfOk result (λ lane. ⟦<Lane<R> as Standing>⟧.is lane (terms_of entry.now) index empty) }
+        ensures memory { IfErr result (λ fault. fault ≡ OpenFault.OutOfMemory) }
+    {
+        let route = R::open(alloc, entry, index)?;
+        let inbox_room = entry.inbox as usize;
+        let outbox_room = entry.outbox as usize;
+        let Ok(inbox) = VecDeque::with_capacity(alloc, inbox_room) else {
+            return Err(OpenFault::OutOfMemory);
+        };
+        let Ok(outbox) = VecDeque::with_capacity(alloc, outbox_room) else {
+            return Err(OpenFault::OutOfMemory);
+        };
+        Ok(Lane {
+            route,
+            inbox,
+            outbox,
+            inbox_room,
+            outbox_room,
+        })
+    }
+
+    /// Puts an item last into the inbox. Answers whether there was room; where there was none, nothing changed.
+    pub fn offer(&mut self, item: Timely) -> bool
+        ensures stands { (e : Terms) (r : ℕ) (m : TheLane) → ⟦<Lane<R> as Standing>⟧.is self.old e r m → ⟦<Lane<R> as Standing>⟧.is self.new e r (offered e (item_in item) m) }
+        ensures answer { (e : Terms) (r : ℕ) (m : TheLane) → ⟦<Lane<R> as Standing>⟧.is self.old e r m → result ≡ has_room e m }
+    {
+        if self.inbox.len() >= self.inbox_room {
+            return false;
+        }
+        self.inbox.push_back(item).is_ok()
+    }
+
+    /// Moves a reply that waits, or else applies an item.
+    pub fn turn(&mut self) -> Turned
+        ensures stands { (e : Terms) (r : ℕ) (m : TheLane) → ⟦<Lane<R> as Standing>⟧.is self.old e r m → ⟦<Lane<R> as Standing>⟧.is self.new e r (turned R.reply e r m) }
+        ensures answer { (e : Terms) (r : ℕ) (m : TheLane) → ⟦<Lane<R> as Standing>⟧.is self.old e r m → result ≡ turn e m }
+    {
+        if self.route.waits() {
+            if self.outbox.len() >= self.outbox_room {
+                return Turned::Blocked;
+            }
+            if let Some(reply) = self.route.next_reply() {
+                let _ = self.outbox.push_back(reply);
+            }
+            return Turned::Moved;
+        }
+        let Some(timely) = self.inbox.pop_front() else {
+            return Turned::Idle;
+        };
+        self.route.step(timely.item);
+        Turned::Applied
+    }
+
+    /// Takes the first reply out of the outbox and writes it to the front of the buffer. Answers to whom it goes,
+    /// and its length.
+    pub fn send(&mut self, out: &mut [u8; 1472]) -> Option<(Peer, usize)>
+        ensures stands { (e : Terms) (r : ℕ) (m : TheLane) → ⟦<Lane<R> as Standing>⟧.is self.old e r m → ⟦<Lane<R> as Standing>⟧.is self.new e r (sent_from m) }
+        ensures answer { (e : Terms) (r : ℕ) (m : TheLane) → ⟦<Lane<R> as Standing>⟧.is self.old e r m → option_map (λ sent. record { peer = sent.0; bytes = take sent.1 out.new }) result ≡ first m.outbox }
+        ensures within { IfSome result (λ sent. sent.1 ≤ 1472) }
+        ensures kept { IfSome result (λ sent. drop sent.1 out.new ≡ drop sent.1 out.old) }
+        ensures none { IfNone result (out.new ≡ out.old) }
+    {
+        let reply = self.outbox.front()?;
+        let peer = reply.peer;
+        let len = encode(&reply.packet, out);
+        let _ = self.outbox.pop_front();
+        Some((peer, len))
+    }
+}

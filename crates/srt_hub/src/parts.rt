@@ -1,0 +1,87 @@
+//! What a gateway is made of: the lobby and the routes. The hub is proved for every lobby and every kind of
+//! route, by what these traits say and by nothing else: what a route replies and how arrivals are sorted are
+//! ghost members, which each kind defines for itself.
+
+ghost use Rattle.std.specs.Prelude.{◌≡◌, ◌↔◌, ℕ, ◌<◌, ◌≤◌, ◌^◌, ◌++◌, ◌∷◌, [], List, length, true, None, Some, Err, IfOk, IfErr, IfNone, map};
+ghost use Rattle.std.specs.Option.{option_to_list};
+ghost use Rattle.srt_seq.specs.declared.shared.OpenFault.{OpenFault as TheFault};
+ghost use Rattle.srt_cookie.specs.Cookie.{secret_bytes};
+ghost use Rattle.srt_lobby.specs.declared.classes.Class.{Class as TheClass};
+ghost use Rattle.srt_lobby.specs.declared.classes.Class.TheVariants.{Route as ForRoute};
+ghost use Rattle.srt_seq.specs.Items.{Item as TheItem, Datagram, told, moment_of};
+ghost use Rattle.srt_seq.specs.Terms.{Terms, terms_of};
+ghost use Rattle.srt_route.specs.Written.{written};
+ghost use Rattle.srt_lobby.specs.Opening.{fault_of, is_name, in_limits};
+ghost use Rattle.srt_hub.specs.Hubs.{names};
+
+use srt_cookie::Secret;
+use srt_lobby::Class;
+use srt_route::Reply;
+use srt_seq::{Entry, Item, OpenFault, Peer};
+use std::alloc::Global;
+
+/// What sorts the arrivals.
+pub trait Lobby: Drop {
+    /// What a lobby with this secret and these names makes of an arrival.
+    ghost class: { (secret : List ℕ) → (names : List (List ℕ)) → Datagram → (moment : ℕ) → TheClass };
+
+    /// The lobby was opened with this secret and these names.
+    ghost knows: { Self → (secret : List ℕ) → (names : List (List ℕ)) → Type 0 };
+
+    /// The lobby of these entries. Nothing is kept after a fault.
+    fn open(alloc: Global, secret: Secret, entries: &[Entry]) -> Result<Self, OpenFault>
+        ensures knows { IfOk result (λ lobby. knows lobby (secret_bytes secret) (names (map terms_of entries.now))) }
+        ensures sound { IfOk result (λ _. fault_of (map terms_of entries.now) ≡ None) }
+        ensures fault { (fault : TheFault) → fault_of (map terms_of entries.now) ≡ Some fault → result ≡ Err fault }
+        ensures memory { fault_of (map terms_of entries.now) ≡ None → IfErr result (λ fault. fault ≡ OpenFault.OutOfMemory) };
+
+    /// What it makes of an arrival. Takes no memory.
+    fn classify(&self, peer: Peer, bytes: &[u8], moment: u64) -> Class
+        requires { moment < 2 ^ 62 }
+        ensures class { (secret : List ℕ) (names : List (List ℕ)) → knows self.now secret names → result ≡ class secret names (record { peer = peer; bytes = bytes.now }) moment }
+        // What is for a route has a whole header.
+        ensures header { (r : ℕ) → result ≡ Class.Route r → 16 ≤ length bytes.now };
+
+    /// It sends arrivals to routes that have a name.
+    ghost named: { (secret : List ℕ) (names : List (List ℕ)) (d : Datagram) (moment r : ℕ) → class secret names d moment ≡ ForRoute r → r < length names };
+}
+
+/// A route.
+pub trait RouteStep: Drop {
+    /// What a route with these terms and this index replies to the newest of all items that it was told.
+    ghost reply: { Terms → (index : ℕ) → List TheItem → List Datagram };
+
+    /// The route is what its terms, its index and the items that it was told make of it, the waiting replies
+    /// aside.
+    ghost stands: { Self → Terms → (index : ℕ) → List TheItem → Type 0 };
+
+    /// The replies that wait, the oldest first.
+    ghost waiting: { Self → List Datagram };
+
+    /// A route that was told nothing. It takes all memory that it will ever need.
+    fn open(alloc: Global, entry: &Entry, index: usize) -> Result<Self, OpenFault>
+        requires name { is_name (terms_of entry.now).name ≡ true }
+        requires limits { in_limits (terms_of entry.now) ≡ true }
+        requires index { index < 511 }
+        ensures stands { IfOk result (λ route. stands route (terms_of entry.now) index []) }
+        ensures none_waits { IfOk result (λ route. waiting route ≡ []) }
+        ensures memory { IfErr result (λ fault. fault ≡ OpenFault.OutOfMemory) };
+
+    /// Tells the route an item. Answers how many replies wait then. Takes no memory.
+    fn step(&mut self, item: Item) -> usize
+        requires none_waits { waiting self.old ≡ [] }
+        requires timely { moment_of (told item) < 2 ^ 62 }
+        ensures count { result ≡ length (waiting self.new) }
+        ensures stands { (e : Terms) (index : ℕ) (items : List TheItem) → stands self.old e index items → stands self.new e index (told item ∷ items) }
+        ensures replies { (e : Terms) (index : ℕ) (items : List TheItem) → stands self.old e index items → waiting self.new ≡ reply e index (told item ∷ items) };
+
+    /// Whether a reply waits.
+    fn waits(&self) -> bool
+        ensures { (result ≡ true) ↔ (0 < length (waiting self.now)) };
+
+    /// Takes the first reply that waits, and changes nothing else. Takes no memory.
+    fn next_reply(&mut self) -> Option<Reply>
+        ensures first { waiting self.old ≡ map written (option_to_list result) ++ waiting self.new }
+        ensures none { IfNone result (waiting self.old ≡ []) }
+        ensures stands { (e : Terms) (index : ℕ) (items : List TheItem) → stands self.old e index items → stands self.new e index items };
+}

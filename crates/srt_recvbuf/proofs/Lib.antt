@@ -1,0 +1,7 @@
+pub mod OneByOne
+pub mod Points
+pub mod Places
+pub mod Buffers
+pub mod Gaps
+pub mod Rows
+pub mod Unbroken

@@ -1,0 +1,16 @@
+use Rattle.std.proofs.Common.{◌==◌, if◌then◌else◌, length, refl, ap, ◌∙◌, arith}
+use Rattle.std.specs.Prelude.{slice_set}
+use Rattle.std.proofs.lemmas.Int.{to_z-of_z}
+use Rattle.srt_recvbuf.specs.declared.window.Place.TheVariants.{Received}
+use Rattle.srt_recvbuf.specs.Cells.{Got, cell_at, cell_in}
+use Rattle.srt_recvbuf.proofs.Places.{filled}
+use Rattle.srt_recvbuf.proofs.window.Window.fill.Goals as goal
+
+pub returns-clause-cells : goal.returns-clause-cells
+returns-clause-cells c d =
+    let s = c.args.self.now in
+    let fits = c.ranges.due in
+    let places = rw to_z-of_z at c.mark.ensures.places d in
+    let n = c.mark.new.self in
+    let all = filled (length s.places.items) s.first c.args.at d c.turned-index.result s.places.items n.places.items s.texts.items c.set.new.self (Received c.args.due) (omega (arith, s.texts.ok.0, s.as_many, s.full)) refl c.mark.ensures.width (omega (arith, s.first_in, s.full)) c.requires.inside c.turned-index.ensures.value places in
+    ap (λ v. cell_in n.places.items v.items n.first d) c.mark.ensures.texts ∙ ap (λ f. cell_in n.places.items (slice_set s.texts.items c.turned-index.result c.set.new.self) f d) c.mark.ensures.first ∙ all ∙ ap (λ t. if d == c.args.at then Got c.args.due t else cell_at s d) c.set.ensures

@@ -1,0 +1,80 @@
+-- The places of a window, and what stands at each.
+use Rattle.std.specs.Prelude.{ℕ, zero, suc, ◌+◌, ◌-◌, ℤ, Bool, true, false, Option, None, Some, List, [], ◌∷◌, length, take, slice_index_or, not, nat_lt, if◌then◌else◌}
+use Rattle.srt_recvbuf.specs.declared.texts.Text.{Text}
+use Rattle.srt_recvbuf.specs.declared.window.Place.{Place}
+use Rattle.srt_recvbuf.specs.declared.window.Place.TheVariants.{Missing, Dropped, Received}
+use Rattle.srt_recvbuf.specs.declared.window.Seek.{Seek}
+use Rattle.srt_recvbuf.specs.declared.window.Seek.TheVariants.{NothingThere, SomethingThere, APacket, NotGivenUp}
+use Rattle.srt_recvbuf.specs.declared.window.Window.{Window}
+
+-- nothing, a number that the sender gave up, or a packet
+pub data Cell : Type 0 where
+  Empty : Cell
+  GivenUp : Cell
+  Got : (due : ℤ) (payload : List ℕ) → Cell
+
+-- the bytes of a text
+abbrev pub text_of : Text → List ℕ
+text_of t = take t.len t.block.xs
+
+abbrev pub text_at : List Text → ℕ → List ℕ
+text_at [] at = []
+text_at (t ∷ ts) zero = text_of t
+text_at (t ∷ ts) (suc at) = text_at ts at
+
+-- texts stay where they are: the one of a place, where this is the first place's
+abbrev pub turned : (width first at : ℕ) → ℕ
+turned width first at = if nat_lt (first + at) width then first + at else first + at - width
+
+abbrev pub cell_of : Place → List ℕ → Cell
+cell_of Missing text = Empty
+cell_of Dropped text = GivenUp
+cell_of (Received due) text = Got due text
+
+abbrev pub cell_in : (places : List Place) (texts : List Text) (first at : ℕ) → Cell
+cell_in places texts first at = cell_of (slice_index_or places at Missing) (text_at texts (turned (length places) first at))
+
+-- what stands so many places from the front; nothing beyond the last place
+abbrev pub cell_at : Window → ℕ → Cell
+cell_at w at = cell_in w.places.items w.texts.items w.first at
+
+abbrev pub width_of : Window → ℕ
+width_of w = length w.places.items
+
+abbrev pub is_empty : Cell → Bool
+is_empty Empty = true
+is_empty GivenUp = false
+is_empty (Got due payload) = false
+
+abbrev pub is_got : Cell → Bool
+is_got Empty = false
+is_got GivenUp = false
+is_got (Got due payload) = true
+
+abbrev pub is_given_up : Cell → Bool
+is_given_up Empty = false
+is_given_up GivenUp = true
+is_given_up (Got due payload) = false
+
+-- whether a cell is one that is looked for
+abbrev pub is_sought : Seek → Cell → Bool
+is_sought NothingThere cell = is_empty cell
+is_sought SomethingThere cell = not (is_empty cell)
+is_sought APacket cell = is_got cell
+is_sought NotGivenUp cell = not (is_given_up cell)
+
+-- after its sender gave it up
+abbrev pub given_up : Cell → Cell
+given_up Empty = GivenUp
+given_up GivenUp = GivenUp
+given_up (Got due payload) = Got due payload
+
+abbrev pub due_of : Cell → Option ℤ
+due_of Empty = None
+due_of GivenUp = None
+due_of (Got due payload) = Some due
+
+abbrev pub payload_of : Cell → List ℕ
+payload_of Empty = []
+payload_of GivenUp = []
+payload_of (Got due payload) = payload

@@ -1,0 +1,5 @@
+pub mod Receiving
+pub mod OneByOne
+pub mod Points
+pub mod Cells
+pub mod Stands

@@ -1,0 +1,54 @@
+-- What a buffer stands for. Its numbers are words; those of the record count from the initial one. Its times are moments; those of the
+-- record count from a moment of the user's choice, the origin: a packet's due moment is the origin and its due time.
+use Rattle.std.specs.Prelude.{◌≡◌, ℕ, ◌+◌, ◌-◌, ◌%◌, ◌^◌, ◌<◌, pos, ◌+ℤ◌, Bool, true, false, Option, None, Some, List, map, if◌then◌else◌}
+use Rattle.srt_seq.specs.Window.{word_of, counted_from, in_window}
+use Rattle.srt_seq.specs.Runs.{Range, Run}
+use Rattle.srt_seq.specs.declared.numbers.Seq31.{Seq31}
+use Rattle.srt_recvbuf.specs.Receiving.{Arrival, Receiving, arrival_of, is_requested, end_of, waiting, first_due, runs_from}
+use Rattle.srt_recvbuf.specs.Cells.{Cell, Empty, GivenUp, Got, is_empty, cell_at, width_of}
+use Rattle.srt_recvbuf.specs.declared.buffer.RecvBuf.{RecvBuf}
+
+-- what stands at the place of a number
+abbrev pub cell_for : (origin : ℕ) → Option Arrival → (requested : Bool) → Cell
+cell_for origin None requested = if requested then GivenUp else Empty
+cell_for origin (Some a) requested = Got (pos origin +ℤ a.due) a.payload
+
+-- these fields have the values that the definitions give: the position's word, what stands so many numbers on from it, how far the
+-- greatest received number reaches, and how many numbers on from it aren't missing
+pub record IsWindowOf (width initial origin front : ℕ) (cells : ℕ → Cell) (end point : ℕ) (r : Receiving) : Type 0 where
+  pub front_is : front ≡ (initial + r.position) % 2 ^ 31
+  pub cells_are : (d : ℕ) → cells d ≡ cell_for origin (arrival_of r.arrivals (r.position + d)) (is_requested width r.requests (r.position + d))
+  pub end_is : end ≡ end_of r.arrivals - r.position
+  pub not_missing : (d : ℕ) → d < point → is_empty (cells d) ≡ false
+  pub missing : point < width → is_empty (cells point) ≡ true
+
+-- how many places a buffer has
+abbrev pub places_of : RecvBuf → ℕ
+places_of b = width_of b.window
+
+abbrev pub StandsFor : (width initial origin : ℕ) → RecvBuf → Receiving → Type 0
+StandsFor width initial origin b r = (places_of b ≡ width) × IsWindowOf width initial origin (word_of b.front) (cell_at b.window) b.end b.point r
+
+-- what the wire writes for a number that counts from the initial one
+abbrev pub number_word : (initial n : ℕ) → ℕ
+number_word initial n = (initial + n) % 2 ^ 31
+
+-- the range of two words, counted from the initial number
+abbrev pub own_range : (initial : ℕ) → (first last : Seq31) → Range
+own_range initial first last = record { first = counted_from initial (word_of first); last = counted_from initial (word_of last) }
+
+-- the place of the first packet that waits, where it is due
+abbrev pub IsFirstDue : (origin time : ℕ) → (cells : ℕ → Cell) → Receiving → Option ℕ → Type 0
+IsFirstDue origin time cells r None = first_due time (waiting r) ≡ None
+IsFirstDue origin time cells r (Some d) = (a : Arrival) × (first_due time (waiting r) ≡ Some a) × (a.number ≡ r.position + d) × (cells d ≡ Got (pos origin +ℤ a.due) a.payload)
+
+-- the words of runs, as a list of pairs, and those of a run that counts from the initial number
+abbrev pub words_of : List (Seq31 × Seq31) → List (ℕ × ℕ)
+words_of pairs = map (λ p. (word_of p.0, word_of p.1)) pairs
+
+abbrev pub run_words : (initial : ℕ) → Run → ℕ × ℕ
+run_words initial run = (number_word initial run.low, number_word initial run.high)
+
+-- what a buffer says of the gaps from a word on
+abbrev pub said_runs : (width initial word : ℕ) → Receiving → List (ℕ × ℕ)
+said_runs width initial word r = map (run_words initial) (runs_from width (in_window (counted_from initial word) r.position (width + 1)) r)

@@ -1,0 +1,233 @@
+//! A window of places in a ring, which slides by one.
+
+ghost use Rattle.std.specs.Prelude.{◌≡◌, ℕ, ◌+◌, ◌<◌, ◌≤◌, List, length, IfOk, vec_len, slice_index_or, ◌==◌, true, false, nat_le, nat_lt, ◌&&◌, if◌then◌else◌};
+
+use crate::texts::Text;
+use circular_buffer::HeapCircularBuffer;
+use srt_seq::Payload;
+use std::alloc::{AllocError, Global};
+
+/// What stands at a place.
+#[derive(Clone, Copy, Debug, PartialEq, Eq)]
+pub enum Place {
+    Missing,
+    /// The sender gave the number up.
+    Dropped,
+    Received { due: i64 },
+}
+
+/// Which place is looked for.
+#[derive(Clone, Copy, Debug, PartialEq, Eq)]
+pub enum Seek {
+    NothingThere,
+    SomethingThere,
+    APacket,
+    NotGivenUp,
+}
+
+/// Places from the front on, and as many texts. A text stays where it is, and is set in place.
+#[derive(Drop)]
+pub struct Window {
+    places: HeapCircularBuffer<Place>,
+    texts: Vec<Text>,
+    /// Where the text of the front's place stands; the others follow it, round the end.
+    first: usize,
+    ghost full: { length places.items ≡ places.capacity },
+    ghost as_many: { vec_len texts ≡ places.capacity },
+    ghost first_in: { first < places.capacity },
+    ghost narrow: { places.capacity ≤ 8192 },
+}
+
+impl Window {
+    ghost use Rattle.srt_recvbuf.specs.Cells.{Cell, cell_at, cell_of, due_of, given_up, is_empty, is_got, is_sought, payload_of, text_at, turned, width_of};
+    ghost use Rattle.srt_recvbuf.specs.Cells.Cell.{Empty, GivenUp, Got};
+    ghost use Rattle.srt_recvbuf.specs.declared.window.Place.TheVariants.{Missing};
+
+    /// Empty places. The only call that takes memory.
+    pub fn open(alloc: Global, width: usize) -> Result<Window, AllocError>
+        requires some { 0 < width }
+        requires narrow { width ≤ 8192 }
+        ensures { IfOk result (λ w. (width_of w ≡ width) × ((at : ℕ) → cell_at w at ≡ Empty)) }
+    {
+        let mut places = HeapCircularBuffer::with_capacity(alloc, width)?;
+        let mut texts = Vec::with_capacity(alloc, width)?;
+        for _ in 0..width {
+            let _ = places.try_push_back(Place::Missing);
+            texts.push(Text::new())?;
+        }
+        Ok(Window {
+            places,
+            texts,
+            first: 0,
+        })
+    }
+
+    /// How many places there are.
+    pub fn width(&self) -> usize
+        ensures value { result ≡ width_of self.now }
+        ensures some { 0 < result }
+        ensures narrow { result ≤ 8192 }
+    {
+        self.places.len()
+    }
+
+    /// What stands at a place; Missing beyond the last.
+    pub fn place(&self, at: usize) -> Place
+        ensures value { result ≡ slice_index_or self.now.places.items at Missing }
+    {
+        match self.places.get(at) {
+            Some(place) => *place,
+            None => Place::Missing,
+        }
+    }
+
+    /// Where the text of a place stands.
+    fn turned(&self, at: usize) -> usize
+        requires { at < width_of self.now }
+        ensures value { result ≡ turned (width_of self.now) self.now.first at }
+        ensures inside { result < vec_len self.now.texts }
+    {
+        let at = self.first + at;
+        if at < self.places.len() {
+            at
+        } else {
+            at - self.places.len()
+        }
+    }
+
+    /// When the packet that stands at a place is due. None where there is none.
+    pub fn due(&self, at: usize) -> Option<i64>
+        ensures { result ≡ due_of (cell_at self.now at) }
+    {
+        match self.place(at) {
+            Place::Received { due } => Some(due),
+            _ => None,
+        }
+    }
+
+    /// The bytes of a packet that stands at a place.
+    pub fn payload(&self, at: usize) -> Payload
+        requires { at < width_of self.now }
+        ensures packet { is_got (cell_at self.now at) ≡ true → result.items ≡ payload_of (cell_at self.now at) }
+        ensures text { result.items ≡ text_at self.now.texts.items (turned (width_of self.now) self.now.first at) }
+    {
+        self.texts[self.turned(at)].payload()
+    }
+
+    /// A packet comes to a place.
+    pub fn fill(&mut self, at: usize, due: i64, bytes: &[u8])
+        requires inside { at < width_of self.old }
+        requires fits { length bytes.now ≤ 1456 }
+        ensures width { width_of self.new ≡ width_of self.old }
+        ensures cells { (d : ℕ) → cell_at self.new d ≡ (if d == at then Got due bytes.now else cell_at self.old d) }
+    {
+        let index = self.turned(at);
+        self.texts[index].set(bytes);
+        self.mark(at, Place::Received { due });
+    }
+
+    /// Something else stands at a place.
+    fn mark(&mut self, at: usize, place: Place)
+        requires inside { at < width_of self.old }
+        ensures width { width_of self.new ≡ width_of self.old }
+        ensures places { (d : ℕ) → slice_index_or self.new.places.items d Missing ≡ (if d == at then place else slice_index_or self.old.places.items d Missing) }
+        ensures texts { self.new.texts ≡ self.old.texts }
+        ensures first { self.new.first ≡ self.old.first }
+    {
+        if let Some(there) = self.places.get_mut(at) {
+            *there = place;
+        }
+    }
+
+    /// The sender gives the number of a place up; a packet stays.
+    fn give_up(&mut self, at: usize)
+        requires inside { at < width_of self.old }
+        ensures width { width_of self.new ≡ width_of self.old }
+        ensures cells { (d : ℕ) → cell_at self.new d ≡ (if d == at then given_up (cell_at self.old d) else cell_at self.old d) }
+    {
+        if self.is(at, Seek::NothingThere) {
+            self.mark(at, Place::Dropped);
+        }
+    }
+
+    /// The front moves by one: the first place goes, and an empty one comes.
+    pub fn slide(&mut self)
+        ensures width { width_of self.new ≡ width_of self.old }
+        ensures cells { (d : ℕ) → cell_at self.new d ≡ cell_at self.old (d + 1) }
+    {
+        self.places.push_back(Place::Missing);
+        self.first = if self.first + 1 == self.places.len() {
+            0
+        } else {
+            self.first + 1
+        };
+    }
+
+    /// Empties all places.
+    pub fn clear(&mut self)
+        ensures width { width_of self.new ≡ width_of self.old }
+        ensures cells { (d : ℕ) → cell_at self.new d ≡ Empty }
+    {
+        for at in 0..self.places.len() {
+            self.mark(at, Place::Missing);
+        }
+    }
+
+    /// Whether a place is one that is looked for.
+    pub fn is(&self, at: usize, seek: Seek) -> bool
+        ensures { result ≡ is_sought seek (cell_at self.now at) }
+    {
+        match self.place(at) {
+            Place::Missing => match seek {
+                Seek::NothingThere | Seek::NotGivenUp => true,
+                _ => false,
+            },
+            Place::Dropped => match seek {
+                Seek::SomethingThere => true,
+                _ => false,
+            },
+            Place::Received { due: _ } => match seek {
+                Seek::NothingThere => false,
+                _ => true,
+            },
+        }
+    }
+
+    /// The first such place from here on and before the end; the end where there is none.
+    pub fn find(&self, seek: Seek, from: usize, end: usize) -> usize
+        requires { from ≤ end }
+        ensures low { from ≤ result }
+        ensures high { result ≤ end }
+        ensures before { (d : ℕ) → from ≤ d → d < result → is_sought seek (cell_at self.now d) ≡ false }
+        ensures here { result < end → is_sought seek (cell_at self.now result) ≡ true }
+    {
+        for at in from..end {
+            if self.is(at, seek) {
+                return at;
+            }
+        }
+        end
+    }
+
+    /// The front moves on by so many places.
+    pub fn slide_by(&mut self, count: usize)
+        ensures width { width_of self.new ≡ width_of self.old }
+        ensures cells { (d : ℕ) → cell_at self.new d ≡ cell_at self.old (d + count) }
+    {
+        for _ in 0..count {
+            self.slide();
+        }
+    }
+
+    /// The sender gives the numbers of places up; what was received stays.
+    pub fn give_up_range(&mut self, from: usize, end: usize)
+        requires order { from ≤ end }
+        requires inside { end ≤ width_of self.old }
+        ensures width { width_of self.new ≡ width_of self.old }
+        ensures cells { (d : ℕ) → cell_at self.new d ≡ (if nat_le from d && nat_lt d end then given_up (cell_at self.old d) else cell_at self.old d) }
+    {
+        for at in from..end {
+            self.give_up(at);
+        }
+    }
+}

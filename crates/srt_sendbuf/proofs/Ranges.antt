@@ -1,0 +1,96 @@
+-- Ranges counted from an initial number, and the part of a window that they have.
+use Rattle.std.proofs.Common.{◌≡◌, ℕ, zero, suc, ◌+◌, ◌-◌, ◌%◌, ◌^◌, ◌<◌, ◌≤◌, min, max, Bool, true, false, ◌&&◌, ◌||◌, if◌then◌else◌, Option, None, Some, List, [], ◌∷◌, map, inl, inr, ◌⊎◌, refl, sym, ap, ◌∙◌, arith}
+use Rattle.std.specs.Prelude.{nat_lt, nat_le}
+use Rattle.std.specs.List.{list_any}
+use Rattle.std.proofs.lemmas.Bool.{lt-ltb, or_right, true≢false}
+use Rattle.std.proofs.lemmas.Bool.Decides.{nat_tests}
+use Rattle.srt_seq.specs.Window.{offset_of, counted_from}
+use Rattle.srt_seq.specs.Runs.{Range, span, is_in, is_asked, numbers_from}
+use Rattle.std.specs.Prelude.{option_map, unwrap_or}
+use Rattle.srt_seq.specs.Window.{in_window}
+use Rattle.srt_seq.proofs.Windows.{numbers_from_initial}
+use Rattle.srt_loss.specs.Window.{is_in_part, IsPartOf}
+use Rattle.srt_sendbuf.specs.Sending.{range_from}
+
+counted : (initial word : ℕ) → word < 2 ^ 31 → counted_from initial word ≡ offset_of word initial
+counted initial word lt = let b : nat_lt word (2 ^ 31) ≡ true = lt-ltb _ _ lt in rw b refl
+
+-- a number counted from the initial one is in a range counted so where the number itself is in the range
+pub is_in_from : (initial n : ℕ) (x : Range) → x.first < 2 ^ 31 → x.last < 2 ^ 31 → is_in (range_from initial x) n ≡ is_in x (initial + n)
+is_in_from initial n x f l =
+    let a = counted initial x.first f in
+    let b = counted initial x.last l in
+    let near : offset_of n (offset_of x.first initial) ≡ offset_of (initial + n) x.first = omega (arith, f) in
+    let wide : offset_of (offset_of x.last initial) (offset_of x.first initial) ≡ offset_of x.last x.first = omega (arith, f, l) in
+    ap (λ c. nat_le (offset_of n c) (offset_of (counted_from initial x.last) c)) a
+    ∙ ap (λ c. nat_le (offset_of n (offset_of x.first initial)) (offset_of c (offset_of x.first initial))) b
+    ∙ ap (λ o. nat_le o (offset_of (offset_of x.last initial) (offset_of x.first initial))) near
+    ∙ ap (λ o. nat_le (offset_of (initial + n) x.first) o) wide
+
+any_at : (test : ℕ → Bool) (from places d : ℕ) → d < places → test (from + d) ≡ true → list_any test (numbers_from from places) ≡ true
+any_at test from zero d lt here = absurd (omega (arith, lt))
+any_at test from (suc places) zero lt here =
+    let e : from + 0 ≡ from = omega arith in
+    let b : test from ≡ true = rw e at here in
+    ap (λ t. t || list_any test (numbers_from (from + 1) places)) b
+any_at test from (suc places) (suc d) lt here =
+    let e : (from + 1) + d ≡ from + suc d = omega arith in
+    let h = any_at test (from + 1) places d (omega (arith, lt)) (rw e here) in
+    or_right (test from) (list_any test (numbers_from (from + 1) places)) h
+
+none_at : (test : ℕ → Bool) (from places : ℕ) → ((d : ℕ) → d < places → test (from + d) ≡ false) → list_any test (numbers_from from places) ≡ false
+none_at test from zero off = refl
+none_at test from (suc places) off =
+    let z : from + 0 ≡ from = omega arith in
+    let b : test from ≡ false = rw z at (off 0 (omega arith)) in
+    ap (λ t. t || list_any test (numbers_from (from + 1) places)) b
+    ∙ none_at test (from + 1) places (λ d l. let m : (from + 1) + d ≡ from + suc d = omega arith in rw m (off (suc d) (omega (arith, l))))
+
+-- where a range has a part of a window, it asks for one of its numbers
+pub asks_part : (initial from places first last : ℕ) (x : Range) → x.first < 2 ^ 31 → x.last < 2 ^ 31 → IsPartOf x (initial + from) places (Some (first, last)) → first ≤ last → last < places → list_any (is_in (range_from initial x)) (numbers_from from places) ≡ true
+asks_part initial from places first last x f l part le lt =
+    any_at (is_in (range_from initial x)) from places first (omega (arith, le, lt))
+    (is_in_from initial (from + first) x f l ∙ ap (is_in x) (omega arith) ∙ part first (omega (arith, le, lt)) ∙ both)
+  where
+    both : is_in_part (Some (first, last)) first ≡ true
+    both = grind (arith, nat_tests, le)
+
+pub asks_none : (initial from places : ℕ) (x : Range) → x.first < 2 ^ 31 → x.last < 2 ^ 31 → IsPartOf x (initial + from) places None → list_any (is_in (range_from initial x)) (numbers_from from places) ≡ false
+asks_none initial from places x f l part =
+    none_at (is_in (range_from initial x)) from places
+    (λ d lt. is_in_from initial (from + d) x f l ∙ ap (is_in x) (omega arith) ∙ part d lt)
+
+pub any_of_both : (p q : ℕ → Bool) (ns : List ℕ) → list_any (λ n. p n || q n) ns ≡ (list_any p ns || list_any q ns)
+any_of_both p q [] = refl
+any_of_both p q (n ∷ ns) = ap (λ t. (p n || q n) || t) (any_of_both p q ns) ∙ swap (p n) (q n) (list_any p ns) (list_any q ns)
+  where
+    swap : (a b c d : Bool) → ((a || b) || (c || d)) ≡ ((a || c) || (b || d))
+    swap true b c d = refl
+    swap false true true d = refl
+    swap false true false d = refl
+    swap false false c d = refl
+
+pub any_alike : (p q : ℕ → Bool) → ((n : ℕ) → p n ≡ q n) → (ns : List ℕ) → list_any p ns ≡ list_any q ns
+any_alike p q same [] = refl
+any_alike p q same (n ∷ ns) = ap (λ t. t || list_any p ns) (same n) ∙ ap (λ t. q n || t) (any_alike p q same ns)
+
+-- an acknowledgement's number, counted from the initial one
+pub own_number : (initial word from width : ℕ) (steps : Option ℕ) → option_map (λ d. initial + from + d) steps ≡ in_window word (initial + from) width → option_map (λ d. from + d) steps ≡ in_window (counted_from initial word) from width
+own_number initial word from width steps e = same steps (in_window (counted_from initial word) from width) (e ∙ numbers_from_initial initial word from width)
+  where
+    inner : (a b : ℕ) → Some a ≡ Some b → a ≡ b
+    inner a b e = ap (λ o. unwrap_or o a) e
+
+    same : (o p : Option ℕ) → option_map (λ d. initial + from + d) o ≡ option_map (λ n. initial + n) p → option_map (λ d. from + d) o ≡ p
+    same None None e = refl
+    same None (Some x) e = cc
+    same (Some d) None e = cc
+    same (Some d) (Some x) e = let k = inner (initial + from + d) (initial + x) e in ap Some (omega (arith, k))
+
+pub none_asked : (ns : List ℕ) → list_any (is_asked []) ns ≡ false
+none_asked [] = refl
+none_asked (n ∷ ns) = none_asked ns
+
+pub some_asked : (test : ℕ → Bool) (from places : ℕ) → list_any test (numbers_from from places) ≡ true → 0 < places
+some_asked test from zero e = absurd (true≢false (sym e))
+some_asked test from (suc places) e = omega arith

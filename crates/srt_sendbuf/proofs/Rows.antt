@@ -1,0 +1,69 @@
+-- Worked examples of the definitions, by computing.
+use Rattle.std.proofs.Common.{◌≡◌, ℕ, pos, true, false, Option, None, Some, List, [], ◌∷◌, refl}
+use Rattle.std.specs.Prelude.{option_map}
+use Rattle.srt_seq.specs.Window.{in_window, counted_from}
+use Rattle.srt_seq.specs.Runs.{Range}
+use Rattle.srt_sendbuf.specs.Sending.{Queued, Sending, nothing_yet, base, next, room, queued, lost, due, after_due, asked, ranges_from, all_lost, acknowledged_by, acknowledged, expired_before}
+use Rattle.srt_sendbuf.specs.Told.{Told, told, Gone, gone_for}
+
+-- one payload, queued at 1000000 and sent
+abbrev one : Sending
+one = queued 1_000_000 (0x61 ∷ []) nothing_yet
+
+abbrev flying : Sending
+flying = after_due 8192 one
+
+abbrev packet : (number message : ℕ) → Told
+packet number message = record { number = number; message = message; again = false; origin = 1_000_000; payload = 0x61 ∷ [] }
+
+abbrev again : Told
+again = record { number = 9; message = 1; again = true; origin = 1_000_000; payload = 0x61 ∷ [] }
+
+abbrev nine : List Range
+nine = ranges_from 9 (record { first = 9; last = 9 } ∷ [])
+
+sent_first : option_map (told 9) (due 8192 one) ≡ Some (packet 9 1)
+sent_first = refl
+
+then_nothing : due 8192 flying ≡ None
+then_nothing = refl
+
+-- asked for, it is sent again, also where the flow window is 0
+sent_again : option_map (told 9) (due 0 (asked nine flying)) ≡ Some again
+sent_again = refl
+
+sent_again_once : due 8192 (after_due 8192 (asked nine flying)) ≡ None
+sent_again_once = refl
+
+-- it expires a microsecond after its own time, and then it is gone
+not_yet : gone_for 9 nine (expired_before (pos 1_000_000) flying) ≡ None
+not_yet = refl
+
+now_gone : gone_for 9 nine (expired_before (pos 1_000_001) flying) ≡ Some (record { first = 9; last = 9; message = 1 })
+now_gone = refl
+
+-- the acknowledgement window ends with the first number not sent
+brought : acknowledged_by (counted_from 9 10) flying ≡ Some 1
+unfolding in_window
+brought = refl
+
+outside : acknowledged_by (counted_from 9 10) one ≡ None
+unfolding in_window
+outside = refl
+
+-- across the end of the circle
+abbrev two : Sending
+two = after_due 8192 (queued 1_000_000 (0x61 ∷ []) (after_due 8192 one))
+
+abbrev across : List Range
+across = ranges_from 0x7fff_ffff (record { first = 0x7fff_ffff; last = 0 } ∷ [])
+
+both_lost : lost (asked across two) ≡ 0 ∷ 1 ∷ []
+both_lost = refl
+
+second : option_map (told 0x7fff_ffff) (due 8192 (queued 1_000_000 (0x61 ∷ []) flying)) ≡ Some (packet 0 2)
+second = refl
+
+-- an acknowledgement may lie 8192 numbers behind the front
+far : base (record { queue = []; acked = 5; expired = 9000; marks = [] }) ≡ 808
+far = refl

@@ -1,0 +1,330 @@
+-- What each call does to what the fields stand for.
+use Rattle.std.proofs.Common.{◌≡◌, ◌≢◌, ℕ, zero, suc, ◌+◌, ◌-◌, ◌%◌, ◌^◌, ◌<◌, ◌≤◌, ◌==◌, min, max, Bool, true, false, ◌&&◌, ◌||◌, if◌then◌else◌, Option, None, Some, List, [], ◌∷◌, ◌++◌, length, inl, inr, ◌⊎◌, refl, sym, ap, subst, ◌∙◌, arith}
+use Rattle.std.specs.Prelude.{All, filter, slice_get, nat_lt, nat_le}
+use Rattle.std.proofs.lemmas.Bool.{cases_lt, cases_eq, eq-eqb, ne_eqb, lt-ltb, true≢false}
+use Rattle.std.proofs.lemmas.Bool.Decides.{nat_tests}
+use Rattle.std.proofs.lemmas.List.Elements.{All-head, All-tail, All-nil, All-push}
+use Rattle.srt_seq.specs.Counts.{message_number}
+use Rattle.srt_seq.specs.Runs.{Range, is_in, is_asked, numbers_from}
+use Rattle.srt_sendbuf.specs.Sending.{Queued, Mark, Sent, Asked, All_of, Sending, nothing_yet, front, base, next, sent_end, in_flight, lost, is_between, is_marked, queued, range_from, asked, all_lost, sent, due_number, IsTimely}
+use Rattle.srt_sendbuf.specs.Places.{Kept}
+use Rattle.srt_sendbuf.specs.Stands.{IsInOrder, kept_as, IsKept, IsMoved}
+use Rattle.srt_loss.specs.Window.{is_in_part, IsPartOf}
+use Rattle.srt_sendbuf.proofs.Ranges.{is_in_from}
+use Rattle.srt_sendbuf.proofs.Rings.{get_left, get_last, length_last}
+
+pub started : (initial base_message end_message : ℕ) (kept : ℕ → Option Kept) (lost : ℕ → Bool) → initial < 2 ^ 31 → base_message ≡ message_number 0 → end_message ≡ message_number 0 → IsKept initial initial 0 0 0 0 0 base_message end_message kept lost nothing_yet
+started initial base_message end_message kept lost lt b e =
+    record {
+      word_is = omega (arith, lt);
+      behind_is = refl;
+      queued_is = refl;
+      flying_is = refl;
+      base_message_is = b;
+      end_message_is = e;
+      kept_is = λ d none. absurd (omega (arith, none));
+      lost_is = λ d none. absurd (omega (arith, none));
+      within = λ d none. absurd (omega (arith, none));
+      lowest = λ none. absurd (omega (arith, none));
+      in_order = tt;
+    }
+
+in_order_after : (qs : List Queued) (x : Queued) → IsInOrder qs → All (λ q. q.origin ≤ x.origin) qs → IsInOrder (qs ++ x ∷ [])
+in_order_after [] x h a = (All-nil (λ p. x.origin ≤ p.origin), tt)
+in_order_after (q ∷ qs) x h a =
+    (All-push (λ p. q.origin ≤ p.origin) qs x h.0 (All-head (λ p. p.origin ≤ x.origin) q qs a), in_order_after qs x h.1 (All-tail (λ p. p.origin ≤ x.origin) q qs a))
+
+pub queued_one : (initial word behind count count2 flying low high base_message end_message after now : ℕ) (payload : List ℕ) (kept kept2 : ℕ → Option Kept) (lost lost2 : ℕ → Bool) (r : Sending) → IsKept initial word behind count flying low high base_message end_message kept lost r → count2 ≡ count + 1 → flying ≤ count → IsTimely now r → ((d : ℕ) → kept2 d ≡ (if d == count then Some (record { origin = now; message = end_message; payload = payload }) else kept d)) → ((d : ℕ) → lost2 d ≡ lost d) → ((k : ℕ) → end_message ≡ message_number k → after ≡ message_number (k + 1)) → IsKept initial word behind count2 flying low high base_message after kept2 lost2 (queued now payload r)
+queued_one initial word behind count count2 flying low high base_message end_message after now payload kept kept2 lost lost2 r h c2 le t ks ls e =
+    record {
+      word_is = h.word_is;
+      behind_is = h.behind_is;
+      queued_is = let l = length_last r.queue x in let q = h.queued_is in omega (arith, l, q, c2);
+      flying_is = h.flying_is;
+      base_message_is = h.base_message_is;
+      end_message_is = e (length r.queue) h.end_message_is ∙ ap message_number (sym (length_last r.queue x));
+      kept_is = λ d lt. ks d ∙ at d (omega (arith, lt, c2)) (cases_eq d count);
+      lost_is = λ d lt. ls d ∙ h.lost_is d lt;
+      within = λ d lt b. h.within d lt (sym (ls d) ∙ b);
+      lowest = λ lt. ls low ∙ h.lowest lt;
+      in_order = in_order_after r.queue x h.in_order t;
+    }
+  where
+    x : Queued
+    x = record { origin = now; payload = payload }
+
+    at : (d : ℕ) → d < count + 1 → (d ≡ count) ⊎ (d ≢ count) → (if d == count then Some (record { origin = now; message = end_message; payload = payload }) else kept d) ≡ kept_as (front r + d) (slice_get (r.queue ++ x ∷ []) (front r + d))
+    at d lt (inl same) =
+        let b : (d == count) ≡ true = eq-eqb _ _ same in
+        let q = h.queued_is in
+        let n : front r + d ≡ length r.queue = omega (arith, same, q) in
+        rw b (ap (λ m. Some (record { origin = now; message = m; payload = payload })) (h.end_message_is ∙ ap message_number (sym n)) ∙ ap (kept_as (front r + d)) (sym (get_last r.queue x (front r + d) n)))
+    at d lt (inr other) =
+        let b : (d == count) ≡ false = ne_eqb _ _ other in
+        let q = h.queued_is in
+        let below : d < count = omega (arith, lt, other) in
+        rw b (h.kept_is d below ∙ ap (kept_as (front r + d)) (sym (get_left r.queue (x ∷ []) (front r + d) (omega (arith, below, q)))))
+
+pub moved_on : (initial word behind count flying low high base_message end_message m word2 behind2 message2 count2 flying2 lows low2 high2 : ℕ) (kept kept2 : ℕ → Option Kept) (lost lost2 : ℕ → Bool) (r moved : Sending) → IsKept initial word behind count flying low high base_message end_message kept lost r → IsMoved m behind2 message2 r moved → m ≤ count → flying ≤ count → word2 ≡ (word + m) % 2 ^ 31 → ((d : ℕ) → kept2 d ≡ kept (d + m)) → ((d : ℕ) → lost2 d ≡ lost (d + m)) → count2 ≡ count - m → flying2 ≡ flying - m → high2 ≡ high - m → lows ≡ low - m → lows ≤ low2 → ((d : ℕ) → lows ≤ d → d < low2 → lost2 d ≡ false) → (low2 < high2 → lost2 low2 ≡ true) → IsKept initial word2 behind2 count2 flying2 low2 high2 message2 end_message kept2 lost2 moved
+moved_on initial word behind count flying low high base_message end_message m word2 behind2 message2 count2 flying2 lows low2 high2 kept kept2 lost lost2 r moved h v le fl w ks ls c2 f2 h2 l2 lo none one =
+    record {
+      word_is = let a = h.word_is in let f = v.front_is in omega (arith, a, w, f);
+      behind_is = v.behind_is;
+      queued_is = let q = h.queued_is in let f = v.front_is in let e : front moved + count2 ≡ length r.queue = omega (arith, q, le, f, c2) in e ∙ ap length (sym v.queue_is);
+      flying_is = let n = h.flying_is in let f = v.front_is in let s : sent_end moved.marks ≡ sent_end r.marks = ap sent_end v.marks_are in omega (arith, n, f, s, f2);
+      base_message_is = v.message_is;
+      end_message_is = h.end_message_is ∙ ap (λ q. message_number (length q)) (sym v.queue_is);
+      kept_is = λ d lt. ks d ∙ h.kept_is (d + m) (omega (arith, lt, c2)) ∙ ap (λ n. kept_as n (slice_get r.queue n)) (same d) ∙ ap (λ q. kept_as (front moved + d) (slice_get q (front moved + d))) (sym v.queue_is);
+      lost_is = λ d lt. ls d ∙ h.lost_is (d + m) (omega (arith, lt, f2)) ∙ ap (is_marked r.marks) (same d) ∙ ap (λ k. is_marked k (front moved + d)) (sym v.marks_are);
+      within = λ d lt b. inside d (h.within (d + m) (omega (arith, lt, f2)) (sym (ls d) ∙ b)) b (cases_lt d low2);
+      lowest = one;
+      in_order = subst IsInOrder (sym v.queue_is) h.in_order;
+    }
+  where
+    same : (d : ℕ) → front r + (d + m) ≡ front moved + d
+    same d = let f = v.front_is in omega (arith, f)
+
+    inside : (d : ℕ) → (low ≤ d + m) × (d + m < high) → lost2 d ≡ true → (d < low2) ⊎ (low2 ≤ d) → (low2 ≤ d) × (d < high2)
+    inside d i b (inl lt) = absurd (true≢false (sym b ∙ none d (omega (arith, i.0, l2)) lt))
+    inside d i b (inr ge) = (ge, omega (arith, i.1, h2))
+
+pub sent_lost : (initial word behind count flying low high base_message end_message low2 : ℕ) (kept kept2 : ℕ → Option Kept) (lost lost2 : ℕ → Bool) (r : Sending) → IsKept initial word behind count flying low high base_message end_message kept lost r → low < high → high ≤ flying → ((d : ℕ) → kept2 d ≡ kept d) → ((d : ℕ) → lost2 d ≡ (if d == low then false else lost d)) → low + 1 ≤ low2 → ((d : ℕ) → low + 1 ≤ d → d < low2 → lost2 d ≡ false) → (low2 < high → lost2 low2 ≡ true) → IsKept initial word behind count flying low2 high base_message end_message kept2 lost2 (sent (front r + low) r)
+sent_lost initial word behind count flying low high base_message end_message low2 kept kept2 lost lost2 r h lt hi ks ls lo none one =
+    record {
+      word_is = h.word_is;
+      behind_is = h.behind_is;
+      queued_is = h.queued_is;
+      flying_is = let n = h.flying_is in omega (arith, n, lt, hi);
+      base_message_is = h.base_message_is;
+      end_message_is = h.end_message_is;
+      kept_is = λ d k. ks d ∙ h.kept_is d k;
+      lost_is = λ d k. let o = h.lost_is d k in let l = ls d in grind (arith, nat_tests, o, l);
+      within = λ d k b. inside d k b (cases_eq d low) (cases_lt d low2);
+      lowest = one;
+      in_order = h.in_order;
+    }
+  where
+    inside : (d : ℕ) → d < flying → lost2 d ≡ true → (d ≡ low) ⊎ (d ≢ low) → (d < low2) ⊎ (low2 ≤ d) → (low2 ≤ d) × (d < high)
+    inside d k b (inl same) c = absurd (true≢false (sym b ∙ ls d ∙ ap (λ t. if t then false else lost d) (eq-eqb _ _ same)))
+    inside d k b (inr other) (inl below) =
+        let i = h.within d k (sym (ls d ∙ ap (λ t. if t then false else lost d) (ne_eqb _ _ other)) ∙ b) in
+        absurd (true≢false (sym b ∙ none d (omega (arith, i.0, other)) below))
+    inside d k b (inr other) (inr above) =
+        let i = h.within d k (sym (ls d ∙ ap (λ t. if t then false else lost d) (ne_eqb _ _ other)) ∙ b) in
+        (above, i.1)
+
+pub sent_next : (initial word behind count flying low high base_message end_message : ℕ) (kept kept2 : ℕ → Option Kept) (lost lost2 : ℕ → Bool) (r : Sending) → IsKept initial word behind count flying low high base_message end_message kept lost r → low ≤ high → high ≤ flying → ((d : ℕ) → kept2 d ≡ kept d) → ((d : ℕ) → lost2 d ≡ (if d == flying then false else lost d)) → IsKept initial word behind count (flying + 1) low high base_message end_message kept2 lost2 (sent (front r + flying) r)
+sent_next initial word behind count flying low high base_message end_message kept kept2 lost lost2 r h lo hi ks ls =
+    record {
+      word_is = h.word_is;
+      behind_is = h.behind_is;
+      queued_is = h.queued_is;
+      flying_is = let n = h.flying_is in omega (arith, n);
+      base_message_is = h.base_message_is;
+      end_message_is = h.end_message_is;
+      kept_is = λ d k. ks d ∙ h.kept_is d k;
+      lost_is = λ d k. mark d k (cases_eq d flying);
+      within = λ d k b. inside d k b (cases_eq d flying);
+      lowest = λ lt. ls low ∙ ap (λ t. if t then false else lost low) (ne_eqb low flying (λ e. omega (arith, e, lt, hi))) ∙ h.lowest lt;
+      in_order = h.in_order;
+    }
+  where
+    mark : (d : ℕ) → d < flying + 1 → (d ≡ flying) ⊎ (d ≢ flying) → lost2 d ≡ is_marked (Sent (front r + flying) ∷ r.marks) (front r + d)
+    mark d k (inl same) = let l = ls d in grind (arith, nat_tests, l, same)
+    mark d k (inr other) = let o = h.lost_is d (omega (arith, k, other)) in let l = ls d in grind (arith, nat_tests, o, l, other)
+
+    inside : (d : ℕ) → d < flying + 1 → lost2 d ≡ true → (d ≡ flying) ⊎ (d ≢ flying) → (low ≤ d) × (d < high)
+    inside d k b (inl same) = absurd (true≢false (sym b ∙ ls d ∙ ap (λ t. if t then false else lost d) (eq-eqb _ _ same)))
+    inside d k b (inr other) = h.within d (omega (arith, k, other)) (sym (ls d ∙ ap (λ t. if t then false else lost d) (ne_eqb _ _ other)) ∙ b)
+
+pub asked_more : (initial word behind count flying low high base_message end_message low2 high2 : ℕ) (x : Range) (taken : List Range) (kept kept2 : ℕ → Option Kept) (lost lost2 : ℕ → Bool) (r : Sending) → IsKept initial word behind count flying low high base_message end_message kept lost (asked taken r) → ((d : ℕ) → kept2 d ≡ kept d) → ((d : ℕ) → d < flying → lost2 d ≡ (is_in x (front r + d) || lost d)) → ((d : ℕ) → d < flying → lost2 d ≡ true → (low2 ≤ d) × (d < high2)) → (low2 < high2 → lost2 low2 ≡ true) → IsKept initial word behind count flying low2 high2 base_message end_message kept2 lost2 (asked (x ∷ taken) r)
+asked_more initial word behind count flying low high base_message end_message low2 high2 x taken kept kept2 lost lost2 r h ks ls wi lw =
+    record {
+      word_is = h.word_is;
+      behind_is = h.behind_is;
+      queued_is = h.queued_is;
+      flying_is = h.flying_is;
+      base_message_is = h.base_message_is;
+      end_message_is = h.end_message_is;
+      kept_is = λ d k. ks d ∙ h.kept_is d k;
+      lost_is = λ d k. ls d k ∙ ap (λ b. is_in x (front r + d) || b) (h.lost_is d k) ∙ mixed (is_in x (front r + d)) (is_asked taken (front r + d)) (is_between (front r) (next r) (front r + d)) (is_marked r.marks (front r + d)) (flies d k);
+      within = wi;
+      lowest = lw;
+      in_order = h.in_order;
+    }
+  where
+    flies : (d : ℕ) → d < flying → is_between (front r) (next r) (front r + d) ≡ true
+    flies d k = let n = h.flying_is in grind (arith, nat_tests, n, k)
+
+    mixed : (a b c m : Bool) → c ≡ true → (a || ((c && b) || m)) ≡ ((c && (a || b)) || m)
+    mixed true b true m e = refl
+    mixed false b true m e = refl
+    mixed a b false m e = absurd (true≢false (sym e))
+
+-- only the marks differ, and not at numbers in flight
+pub marked_alike : (initial word behind count flying low high base_message end_message : ℕ) (kept : ℕ → Option Kept) (lost : ℕ → Bool) (marks marks2 : List Mark) (r : Sending) → IsKept initial word behind count flying low high base_message end_message kept lost (record r { marks = marks }) → sent_end marks2 ≡ sent_end marks → ((d : ℕ) → d < flying → is_marked marks2 (front r + d) ≡ is_marked marks (front r + d)) → IsKept initial word behind count flying low high base_message end_message kept lost (record r { marks = marks2 })
+marked_alike initial word behind count flying low high base_message end_message kept lost marks marks2 r h s m =
+    record {
+      word_is = h.word_is;
+      behind_is = h.behind_is;
+      queued_is = h.queued_is;
+      flying_is = h.flying_is ∙ ap (max (front r)) (sym s);
+      base_message_is = h.base_message_is;
+      end_message_is = h.end_message_is;
+      kept_is = h.kept_is;
+      lost_is = λ d k. h.lost_is d k ∙ sym (m d k);
+      within = h.within;
+      lowest = h.lowest;
+      in_order = h.in_order;
+    }
+
+pub lost_are_all : (initial word behind count flying low high base_message end_message : ℕ) (kept kept2 : ℕ → Option Kept) (lost lost2 : ℕ → Bool) (r : Sending) → IsKept initial word behind count flying low high base_message end_message kept lost r → ((d : ℕ) → kept2 d ≡ kept d) → ((d : ℕ) → d < flying → lost2 d ≡ true) → IsKept initial word behind count flying 0 flying base_message end_message kept2 lost2 (all_lost r)
+lost_are_all initial word behind count flying low high base_message end_message kept kept2 lost lost2 r h ks ls =
+    record {
+      word_is = h.word_is;
+      behind_is = h.behind_is;
+      queued_is = h.queued_is;
+      flying_is = h.flying_is;
+      base_message_is = h.base_message_is;
+      end_message_is = h.end_message_is;
+      kept_is = λ d k. ks d ∙ h.kept_is d k;
+      lost_is = λ d k. let n = h.flying_is in let l = ls d k in grind (arith, nat_tests, n, k, l);
+      within = λ d k b. (omega arith, k);
+      lowest = λ lt. ls 0 lt;
+      in_order = h.in_order;
+    }
+
+first_of : (test : ℕ → Bool) (from places d : ℕ) → d < places → ((k : ℕ) → k < d → test (from + k) ≡ false) → test (from + d) ≡ true → (ns : List ℕ) × (filter test (numbers_from from places) ≡ (from + d) ∷ ns)
+first_of test from zero d lt before here = absurd (omega (arith, lt))
+first_of test from (suc places) zero lt before here =
+    let e : from + 0 ≡ from = omega arith in
+    let b : test from ≡ true = rw e at here in
+    (filter test (numbers_from (from + 1) places), rw b (ap (λ n. n ∷ filter test (numbers_from (from + 1) places)) (sym e)))
+first_of test from (suc places) (suc d) lt before here =
+    let z : from + 0 ≡ from = omega arith in
+    let b : test from ≡ false = rw z at (before 0 (omega arith)) in
+    let e : (from + 1) + d ≡ from + suc d = omega arith in
+    let h = first_of test (from + 1) places d (omega (arith, lt)) (λ k l. let m : (from + 1) + k ≡ from + suc k = omega arith in rw m (before (suc k) (omega (arith, l)))) (rw e here) in
+    (h.0, rw b (h.1 ∙ ap (λ n. n ∷ h.0) e))
+
+pub none_of : (test : ℕ → Bool) (from places : ℕ) → ((k : ℕ) → k < places → test (from + k) ≡ false) → filter test (numbers_from from places) ≡ []
+none_of test from zero none = refl
+none_of test from (suc places) none =
+    let z : from + 0 ≡ from = omega arith in
+    let b : test from ≡ false = rw z at (none 0 (omega arith)) in
+    rw b (none_of test (from + 1) places (λ k l. let m : (from + 1) + k ≡ from + suc k = omega arith in rw m (none (suc k) (omega (arith, l)))))
+
+not_lost : (b : Bool) → (b ≡ true → ⊥) → b ≡ false
+not_lost true h = absurd (h refl)
+not_lost false h = refl
+
+pub first_lost : (initial word behind count flying low high base_message end_message : ℕ) (kept : ℕ → Option Kept) (lost_ones : ℕ → Bool) (r : Sending) → IsKept initial word behind count flying low high base_message end_message kept lost_ones r → low < high → high ≤ flying → (ns : List ℕ) × (lost r ≡ (front r + low) ∷ ns)
+first_lost initial word behind count flying low high base_message end_message kept lost_ones r h lt hi =
+    let n = h.flying_is in
+    let places : in_flight r ≡ flying = omega (arith, n) in
+    let f = first_of (is_marked r.marks) (front r) flying low (omega (arith, lt, hi)) (λ k l. sym (h.lost_is k (omega (arith, l, lt, hi))) ∙ not_lost (lost_ones k) (λ b. omega (arith, l, (h.within k (omega (arith, l, lt, hi)) b).0))) (sym (h.lost_is low (omega (arith, lt, hi))) ∙ h.lowest lt) in
+    (f.0, ap (λ p. filter (is_marked r.marks) (numbers_from (front r) p)) places ∙ f.1)
+
+pub none_lost : (initial word behind count flying low high base_message end_message : ℕ) (kept : ℕ → Option Kept) (lost_ones : ℕ → Bool) (r : Sending) → IsKept initial word behind count flying low high base_message end_message kept lost_ones r → high ≤ low → lost r ≡ []
+none_lost initial word behind count flying low high base_message end_message kept lost_ones r h le =
+    let n = h.flying_is in
+    let places : in_flight r ≡ flying = omega (arith, n) in
+    ap (λ p. filter (is_marked r.marks) (numbers_from (front r) p)) places
+    ∙ none_of (is_marked r.marks) (front r) flying (λ k l. sym (h.lost_is k l) ∙ not_lost (lost_ones k) (λ b. let i = h.within k l b in omega (arith, le, i.0, i.1)))
+
+-- which number is due
+pub due_again : (window low : ℕ) (r : Sending) → ((ns : List ℕ) × (lost r ≡ (front r + low) ∷ ns)) → due_number window (lost r) r ≡ Some (front r + low, true)
+due_again window low r f = ap (λ ns. due_number window ns r) f.1
+
+pub due_new : (window flying count : ℕ) (r : Sending) → lost r ≡ [] → front r + flying ≡ next r → front r + count ≡ length r.queue → flying < window → flying < count → due_number window (lost r) r ≡ Some (front r + flying, false)
+due_new window flying count r none n q w c =
+    let a : nat_lt (in_flight r) window ≡ true = lt-ltb _ _ (omega (arith, n, w)) in
+    let b : nat_lt (next r) (length r.queue) ≡ true = lt-ltb _ _ (omega (arith, n, q, c)) in
+    ap (λ ns. due_number window ns r) none ∙ rw (a, b) (ap (λ k. Some (k, false)) (sym n))
+
+pub due_none : (window flying count : ℕ) (r : Sending) → lost r ≡ [] → front r + flying ≡ next r → front r + count ≡ length r.queue → (flying < window → flying < count → ⊥) → due_number window (lost r) r ≡ None
+due_none window flying count r none n q held =
+    ap (λ ns. due_number window ns r) none ∙ off (cases_lt (in_flight r) window) (cases_lt (next r) (length r.queue))
+  where
+    off : (in_flight r < window) ⊎ (window ≤ in_flight r) → (next r < length r.queue) ⊎ (length r.queue ≤ next r) → due_number window [] r ≡ None
+    off (inl a) (inl b) = absurd (held (omega (arith, n, a)) (omega (arith, n, q, b)))
+    off (inr a) b = let e : nat_lt (in_flight r) window ≡ false = grind (arith, nat_tests, a) in rw e refl
+    off (inl a) (inr b) = let f : nat_lt (in_flight r) window ≡ true = lt-ltb _ _ a in let e : nat_lt (next r) (length r.queue) ≡ false = grind (arith, nat_tests, b) in rw (f, e) refl
+
+pub is_any_lost : (initial word behind count flying low high base_message end_message : ℕ) (kept : ℕ → Option Kept) (lost_ones : ℕ → Bool) (r : Sending) → IsKept initial word behind count flying low high base_message end_message kept lost_ones r → high ≤ flying → nat_lt low high ≡ nat_lt 0 (length (lost r))
+is_any_lost initial word behind count flying low high base_message end_message kept lost_ones r h hi = elim (cases_lt low high) [
+  | inl lt ↦
+      let f = first_lost initial word behind count flying low high base_message end_message kept lost_ones r h lt hi in
+      let some : nat_lt 0 (length ((front r + low) ∷ f.0)) ≡ true = lt-ltb _ _ (omega arith) in
+      lt-ltb low high lt ∙ sym some ∙ sym (ap (λ ns. nat_lt 0 (length ns)) f.1)
+  | inr ge ↦
+      let none = none_lost initial word behind count flying low high base_message end_message kept lost_ones r h ge in
+      let e : nat_lt low high ≡ false = grind (arith, nat_tests, ge) in
+      e ∙ sym (ap (λ ns. nat_lt 0 (length ns)) none)
+]
+
+-- a loss list of nothing
+pub asked_nothing : (initial word behind count flying low high base_message end_message : ℕ) (kept : ℕ → Option Kept) (lost : ℕ → Bool) (r : Sending) → IsKept initial word behind count flying low high base_message end_message kept lost r → IsKept initial word behind count flying low high base_message end_message kept lost (asked [] r)
+asked_nothing initial word behind count flying low high base_message end_message kept lost r h =
+    marked_alike initial word behind count flying low high base_message end_message kept lost r.marks (Asked (front r) (next r) [] ∷ r.marks) r h refl (λ d k. off (is_between (front r) (next r) (front r + d)) (is_marked r.marks (front r + d)))
+  where
+    off : (b m : Bool) → ((b && false) || m) ≡ m
+    off true m = refl
+    off false m = refl
+
+-- loss lists that ask for the same
+pub asked_alike : (initial word behind count flying low high base_message end_message : ℕ) (kept : ℕ → Option Kept) (lost : ℕ → Bool) (xs ys : List Range) (r : Sending) → IsKept initial word behind count flying low high base_message end_message kept lost (asked xs r) → ((n : ℕ) → is_asked ys n ≡ is_asked xs n) → IsKept initial word behind count flying low high base_message end_message kept lost (asked ys r)
+asked_alike initial word behind count flying low high base_message end_message kept lost xs ys r h same =
+    marked_alike initial word behind count flying low high base_message end_message kept lost (Asked (front r) (next r) xs ∷ r.marks) (Asked (front r) (next r) ys ∷ r.marks) r h refl (λ d k. ap (λ b. (is_between (front r) (next r) (front r + d) && b) || is_marked r.marks (front r + d)) (same (front r + d)))
+
+-- a range that has a part of the numbers in flight
+pub asked_part : (initial word behind count flying low high base_message end_message first last low2 high2 : ℕ) (x : Range) (taken : List Range) (kept kept2 : ℕ → Option Kept) (lost lost2 : ℕ → Bool) (r : Sending) → IsKept initial word behind count flying low high base_message end_message kept lost (asked taken r) → x.first < 2 ^ 31 → x.last < 2 ^ 31 → IsPartOf x (initial + front r) flying (Some (first, last)) → first ≤ last → last < flying → high ≤ flying → ((d : ℕ) → kept2 d ≡ kept d) → ((d : ℕ) → lost2 d ≡ (if nat_le first d && nat_lt d (last + 1) then true else lost d)) → (low < high → (low2 ≡ min low first) × (high2 ≡ max high (last + 1))) → (high ≤ low → (low2 ≡ first) × (high2 ≡ last + 1)) → IsKept initial word behind count flying low2 high2 base_message end_message kept2 lost2 (asked (range_from initial x ∷ taken) r)
+asked_part initial word behind count flying low high base_message end_message first last low2 high2 x taken kept kept2 lost lost2 r h xf xl part le lt hi ks ls some none =
+    asked_more initial word behind count flying low high base_message end_message low2 high2 (range_from initial x) taken kept kept2 lost lost2 r h ks
+    (λ d k. ls d ∙ either (nat_le first d) (nat_lt d (last + 1)) (nat_le d last) (lost d) (upto d) ∙ ap (λ b. b || lost d) (sym (is_in_from initial (front r + d) x xf xl ∙ ap (is_in x) (omega arith) ∙ part d k)))
+    (λ d k b. inside d k (cases_lt d first) (cases_lt last d) (cases_lt low high) b)
+    (λ c. lowest (cases_lt low high) (cases_lt low first))
+  where
+    upto : (d : ℕ) → nat_lt d (last + 1) ≡ nat_le d last
+    upto d = grind (arith, nat_tests)
+
+    either : (a b c l : Bool) → b ≡ c → (if a && b then true else l) ≡ ((a && c) || l)
+    either true true c l e = ap (λ t. t || l) e
+    either true false c l e = ap (λ t. t || l) e
+    either false b c l e = refl
+
+    outside : (d : ℕ) → (d < first) ⊎ (last < d) → lost2 d ≡ lost d
+    outside d (inl a) = let e : nat_le first d ≡ false = grind (arith, nat_tests, a) in ls d ∙ ap (λ t. if t && nat_lt d (last + 1) then true else lost d) e
+    outside d (inr a) = let e : (nat_le first d && nat_lt d (last + 1)) ≡ false = grind (arith, nat_tests, a) in ls d ∙ ap (λ t. if t then true else lost d) e
+
+    within_old : (d : ℕ) → d < flying → lost d ≡ true → (low < high) ⊎ (high ≤ low) → (low2 ≤ d) × (d < high2)
+    within_old d k b (inl c) = let s = some c in let i = h.within d k b in (omega (arith, s.0, i.0), omega (arith, s.1, i.1))
+    within_old d k b (inr c) = let i = h.within d k b in absurd (omega (arith, c, i.0, i.1))
+
+    within_part : (d : ℕ) → first ≤ d → d ≤ last → (low < high) ⊎ (high ≤ low) → (low2 ≤ d) × (d < high2)
+    within_part d a b (inl c) = let s = some c in (omega (arith, s.0, a), omega (arith, s.1, b))
+    within_part d a b (inr c) = let s = none c in (omega (arith, s.0, a), omega (arith, s.1, b))
+
+    inside : (d : ℕ) → d < flying → (d < first) ⊎ (first ≤ d) → (last < d) ⊎ (d ≤ last) → (low < high) ⊎ (high ≤ low) → lost2 d ≡ true → (low2 ≤ d) × (d < high2)
+    inside d k (inl a) z c b = within_old d k (sym (outside d (inl a)) ∙ b) c
+    inside d k (inr a) (inl z) c b = within_old d k (sym (outside d (inr z)) ∙ b) c
+    inside d k (inr a) (inr z) c b = within_part d a z c
+
+    at_first : lost2 first ≡ true
+    at_first = let e : (nat_le first first && nat_lt first (last + 1)) ≡ true = grind (arith, nat_tests, le) in ls first ∙ ap (λ t. if t then true else lost first) e
+
+    lowest : (low < high) ⊎ (high ≤ low) → (low < first) ⊎ (first ≤ low) → lost2 low2 ≡ true
+    lowest (inl c) (inl a) = let s = some c in let e : low2 ≡ low = omega (arith, s.0, a) in ap lost2 e ∙ outside low (inl a) ∙ h.lowest c
+    lowest (inl c) (inr a) = let s = some c in let e : low2 ≡ first = omega (arith, s.0, a) in ap lost2 e ∙ at_first
+    lowest (inr c) a = let s = none c in ap lost2 s.0 ∙ at_first
+
+-- a range that has none of them
+pub asked_outside : (initial word behind count flying low high base_message end_message : ℕ) (x : Range) (taken : List Range) (kept : ℕ → Option Kept) (lost : ℕ → Bool) (r : Sending) → IsKept initial word behind count flying low high base_message end_message kept lost (asked taken r) → x.first < 2 ^ 31 → x.last < 2 ^ 31 → IsPartOf x (initial + front r) flying None → IsKept initial word behind count flying low high base_message end_message kept lost (asked (range_from initial x ∷ taken) r)
+asked_outside initial word behind count flying low high base_message end_message x taken kept lost r h xf xl part =
+    asked_more initial word behind count flying low high base_message end_message low high (range_from initial x) taken kept kept lost lost r h (λ d. refl)
+    (λ d k. ap (λ b. b || lost d) (sym (is_in_from initial (front r + d) x xf xl ∙ ap (is_in x) (omega arith) ∙ part d k)))
+    h.within h.lowest
+
+pub same_count : (initial word behind count count2 flying low high base_message end_message : ℕ) (kept : ℕ → Option Kept) (lost : ℕ → Bool) (r : Sending) → count2 ≡ count → IsKept initial word behind count flying low high base_message end_message kept lost r → IsKept initial word behind count2 flying low high base_message end_message kept lost r
+same_count initial word behind count count2 flying low high base_message end_message kept lost r e h =
+    subst (λ (n : ℕ). IsKept initial word behind n flying low high base_message end_message kept lost r) (sym e) h

@@ -1,0 +1,161 @@
+-- What a sender has of one stream. Numbers count from the initial one.
+use Rattle.std.specs.Prelude.{ℕ, ◌+◌, ◌-◌, ℤ, pos, int_lt, Bool, true, false, Option, None, Some, List, [], ◌∷◌, ◌++◌, All, filter, length, count_by, map, slice_get, max, nat_lt, nat_le, ◌==◌, ◌&&◌, ◌||◌, if◌then◌else◌, ◌≤◌}
+use Rattle.std.specs.List.{list_any}
+use Rattle.srt_seq.specs.Window.{in_window, counted_from}
+use Rattle.srt_seq.specs.Runs.{Range, is_asked, numbers_from}
+
+-- a payload and the time when it was queued
+pub record Queued : Type 0 where
+  pub origin : ℕ
+  pub payload : List ℕ
+
+-- what happened to numbers
+pub data Mark : Type 0 where
+  -- sent
+  Sent : (number : ℕ) → Mark
+  -- a NAK asked for some of low .. high, the end out
+  Asked : (low high : ℕ) (ranges : List Range) → Mark
+  -- all of low .. high are to be sent again
+  All_of : (low high : ℕ) → Mark
+
+-- the k-th queued has number k; marks have the newest first
+pub record Sending : Type 0 where
+  pub queue : List Queued
+  pub acked : ℕ
+  pub expired : ℕ
+  pub marks : List Mark
+
+abbrev pub nothing_yet : Sending
+nothing_yet = record { queue = []; acked = 0; expired = 0; marks = [] }
+
+-- the least number neither acknowledged nor expired
+abbrev pub front : Sending → ℕ
+front s = max s.acked s.expired
+
+-- this profile: how far back an acknowledgement may lie
+abbrev pub base : Sending → ℕ
+base s = max s.acked (front s - 8192)
+
+-- one more than the greatest number sent, 0 at first
+abbrev pub sent_end : List Mark → ℕ
+sent_end [] = 0
+sent_end (Sent n ∷ marks) = max (n + 1) (sent_end marks)
+sent_end (Asked low high ranges ∷ marks) = sent_end marks
+sent_end (All_of low high ∷ marks) = sent_end marks
+
+-- the first number not yet sent
+abbrev pub next : Sending → ℕ
+next s = max (front s) (sent_end s.marks)
+
+-- how many more payloads find a place
+abbrev pub room : (width : ℕ) → Sending → ℕ
+room width s = width - (length s.queue - front s)
+
+-- how many numbers are sent and neither acknowledged nor expired
+abbrev pub in_flight : Sending → ℕ
+in_flight s = next s - front s
+
+abbrev pub is_between : (low high n : ℕ) → Bool
+is_between low high n = nat_le low n && nat_lt n high
+
+-- marked since it was last sent (section 4.8.2)
+abbrev pub is_marked : List Mark → ℕ → Bool
+is_marked [] n = false
+is_marked (Sent k ∷ marks) n = if k == n then false else is_marked marks n
+is_marked (Asked low high ranges ∷ marks) n = (is_between low high n && is_asked ranges n) || is_marked marks n
+is_marked (All_of low high ∷ marks) n = is_between low high n || is_marked marks n
+
+-- the lost numbers, lowest first
+abbrev pub lost : Sending → List ℕ
+lost s = filter (is_marked s.marks) (numbers_from (front s) (in_flight s))
+
+-- a payload is queued
+abbrev pub queued : (origin : ℕ) → List ℕ → Sending → Sending
+queued origin payload s = record s { queue = s.queue ++ record { origin = origin; payload = payload } ∷ [] }
+
+-- the number that an acknowledgement brings, its word counted from the initial number (section 3.2.4)
+abbrev pub acknowledged_by : (word : ℕ) → Sending → Option ℕ
+acknowledged_by word s = in_window word (base s) (next s - base s + 1)
+
+abbrev pub acknowledged : ℕ → Sending → Sending
+acknowledged n s = record s { acked = max s.acked n }
+
+abbrev pub after_ack : Option ℕ → Sending → Sending
+after_ack None s = s
+after_ack (Some n) s = acknowledged n s
+
+-- whether an acknowledgement brings a greater number than those before
+abbrev pub is_growth : Option ℕ → Sending → Bool
+is_growth None s = false
+is_growth (Some n) s = nat_lt s.acked n
+
+-- how many were queued before a time (section 4.6)
+abbrev pub queued_before : ℤ → List Queued → ℕ
+queued_before before queue = count_by (λ q. int_lt (pos q.origin) before) queue
+
+-- those queued before this time are gone
+abbrev pub expired_before : ℤ → Sending → Sending
+expired_before before s = record s { expired = queued_before before s.queue }
+
+-- ranges of the wire's words, counted from an initial number
+abbrev pub range_from : (initial : ℕ) → Range → Range
+range_from initial r = record { first = counted_from initial r.first; last = counted_from initial r.last }
+
+abbrev pub ranges_from : (initial : ℕ) → List Range → List Range
+ranges_from initial ranges = map (range_from initial) ranges
+
+-- a loss list asks for numbers (section 3.2.5)
+abbrev pub asked : List Range → Sending → Sending
+asked ranges s = record s { marks = Asked (front s) (next s) ranges ∷ s.marks }
+
+-- whether it asks for a number that is gone
+abbrev pub asks_for_gone : List Range → Sending → Bool
+asks_for_gone ranges s = list_any (is_asked ranges) (numbers_from (base s) (front s - base s))
+
+-- all in flight are to be sent again
+abbrev pub all_lost : Sending → Sending
+all_lost s = record s { marks = All_of (front s) (next s) ∷ s.marks }
+
+-- a number is sent
+abbrev pub sent : ℕ → Sending → Sending
+sent n s = record s { marks = Sent n ∷ s.marks }
+
+-- the number that is due, and whether it is sent again: a lost one first, and else a new one where the window holds it
+-- (sections 3.2.4 and 4.8.2)
+abbrev pub due_number : (window : ℕ) → (lost_ones : List ℕ) → Sending → Option (ℕ × Bool)
+due_number window [] s = if nat_lt (in_flight s) window && nat_lt (next s) (length s.queue) then Some (next s, false) else None
+due_number window (n ∷ ns) s = Some (n, true)
+
+-- what is due
+pub record Due : Type 0 where
+  pub number : ℕ
+  pub again : Bool
+  pub origin : ℕ
+  pub payload : List ℕ
+
+abbrev pub due_of : ℕ → Bool → Option Queued → Option Due
+due_of n again None = None
+due_of n again (Some q) = Some (record { number = n; again = again; origin = q.origin; payload = q.payload })
+
+abbrev pub due_at : List Queued → Option (ℕ × Bool) → Option Due
+due_at queue None = None
+due_at queue (Some p) = due_of p.0 p.1 (slice_get queue p.0)
+
+abbrev pub due : (window : ℕ) → Sending → Option Due
+due window s = due_at s.queue (due_number window (lost s) s)
+
+abbrev pub sent_number : Option (ℕ × Bool) → Sending → Sending
+sent_number None s = s
+sent_number (Some p) s = sent p.0 s
+
+-- after what is due was sent
+abbrev pub after_due : (window : ℕ) → Sending → Sending
+after_due window s = sent_number (due_number window (lost s) s) s
+
+-- all were queued at this time or before
+abbrev pub IsTimely : (now : ℕ) → Sending → Type 0
+IsTimely now s = All (λ q. q.origin ≤ now) s.queue
+
+-- those that are gone were queued before this time
+abbrev pub IsLater : (before : ℤ) → Sending → Type 0
+IsLater before s = s.expired ≤ queued_before before s.queue

@@ -1,0 +1,43 @@
+-- What the buffer's fields stand for.
+use Rattle.std.specs.Prelude.{◌≡◌, ℕ, ◌+◌, ◌-◌, ◌%◌, ◌^◌, ◌<◌, ◌≤◌, ⊤, Bool, true, Option, None, Some, List, [], ◌∷◌, All, length, slice_get, min}
+use Rattle.srt_seq.specs.Window.{word_of}
+use Rattle.srt_seq.specs.Counts.{message_number, message_of}
+use Rattle.srt_sendbuf.specs.Sending.{Queued, Sending, front, base, next, is_marked}
+use Rattle.srt_sendbuf.specs.Places.{Kept, kept_at, lost_at, length_of, width_of}
+use Rattle.srt_sendbuf.specs.declared.buffer.SendBuf.{SendBuf}
+
+-- each was queued at the time of the one before, or later
+abbrev pub IsInOrder : List Queued → Type 0
+IsInOrder [] = ⊤
+IsInOrder (q ∷ qs) = All (λ p. q.origin ≤ p.origin) qs × IsInOrder qs
+
+abbrev pub kept_as : (number : ℕ) → Option Queued → Option Kept
+kept_as number None = None
+kept_as number (Some q) = Some (record { origin = q.origin; message = message_number number; payload = q.payload })
+
+-- the numbers from front to the queue's end stand in order from the first place on; lost ones stand from low on and before high
+pub record IsKept (initial word behind queued flying low high base_message end_message : ℕ) (kept : ℕ → Option Kept) (lost : ℕ → Bool) (r : Sending) : Type 0 where
+  pub word_is : word ≡ (initial + front r) % 2 ^ 31
+  pub behind_is : behind ≡ min (front r - r.acked) 16384
+  pub queued_is : front r + queued ≡ length r.queue
+  pub flying_is : front r + flying ≡ next r
+  pub base_message_is : base_message ≡ message_number (base r)
+  pub end_message_is : end_message ≡ message_number (length r.queue)
+  pub kept_is : (d : ℕ) → d < queued → kept d ≡ kept_as (front r + d) (slice_get r.queue (front r + d))
+  pub lost_is : (d : ℕ) → d < flying → lost d ≡ is_marked r.marks (front r + d)
+  pub within : (d : ℕ) → d < flying → lost d ≡ true → (low ≤ d) × (d < high)
+  pub lowest : low < high → lost low ≡ true
+  pub in_order : IsInOrder r.queue
+
+-- the buffer, of so many places, has what the record says of a stream with this initial number
+pub record StandsFor (width initial : ℕ) (b : SendBuf) (r : Sending) : Type 0 where
+  pub width_is : width_of b.ring ≡ width
+  pub fields : IsKept initial (word_of b.front) b.behind (length_of b.ring) b.sent b.low b.high (message_of b.message) (message_of b.next_message) (kept_at b.ring) (lost_at b.ring) r
+
+-- the front moved on by so many; what was queued and marked is the same
+pub record IsMoved (count behind message : ℕ) (r moved : Sending) : Type 0 where
+  pub queue_is : moved.queue ≡ r.queue
+  pub marks_are : moved.marks ≡ r.marks
+  pub front_is : front moved ≡ front r + count
+  pub behind_is : behind ≡ min (front moved - moved.acked) 16384
+  pub message_is : message ≡ message_number (base moved)

@@ -1,0 +1,42 @@
+-- Answers of the code as words of the wire (sections 3.1 and 3.2.9).
+use Rattle.std.specs.Prelude.{ℕ, ◌+◌, ◌-◌, ◌%◌, ◌^◌, Bool, Option, None, Some, List, if◌then◌else◌}
+use Rattle.srt_seq.specs.Window.{word_of}
+use Rattle.srt_seq.specs.Counts.{message_number, message_of}
+use Rattle.srt_seq.specs.Runs.{Range}
+use Rattle.srt_sendbuf.specs.Sending.{Sending, Due, base, front, asks_for_gone}
+use Rattle.srt_sendbuf.specs.declared.buffer.Out.{Out}
+use Rattle.srt_sendbuf.specs.declared.buffer.DropRun.{DropRun}
+
+-- the wire's word for a number counted from the initial one
+abbrev pub number_word : (initial number : ℕ) → ℕ
+number_word initial number = (initial + number) % 2 ^ 31
+
+-- a packet that is to be sent, in words
+pub record Told : Type 0 where
+  pub number : ℕ
+  pub message : ℕ
+  pub again : Bool
+  pub origin : ℕ
+  pub payload : List ℕ
+
+abbrev pub told : (initial : ℕ) → Due → Told
+told initial d = record { number = number_word initial d.number; message = message_number d.number; again = d.again; origin = d.origin; payload = d.payload }
+
+abbrev pub told_by : Out → Told
+told_by o = record { number = word_of o.number; message = message_of o.msg; again = o.again; origin = o.origin; payload = o.payload.items }
+
+-- numbers that are gone, in words: the first, the last, and the message number of the first
+pub record Gone : Type 0 where
+  pub first : ℕ
+  pub last : ℕ
+  pub message : ℕ
+
+abbrev pub gone : (initial : ℕ) → Sending → Gone
+gone initial s = record { first = number_word initial (base s); last = number_word initial (front s - 1); message = message_number (base s) }
+
+-- the answer to a loss list that asks for what is gone (this profile)
+abbrev pub gone_for : (initial : ℕ) → List Range → Sending → Option Gone
+gone_for initial ranges s = if asks_for_gone ranges s then Some (gone initial s) else None
+
+abbrev pub gone_by : DropRun → Gone
+gone_by d = record { first = word_of d.first; last = word_of d.last; message = message_of d.msg }

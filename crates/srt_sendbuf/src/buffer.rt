@@ -1,0 +1,375 @@
+//! The sender buffer: what is queued and not acknowledged or expired, and which of it is lost.
+
+ghost use Rattle.std.specs.Prelude.{◌≡◌, ℕ, ◌+◌, ◌-◌, ◌%◌, ◌^◌, ◌<◌, ◌≤◌, ◌↔◌, false, List, [], ◌∷◌, length, slice_get, option_map, is_some, min, nat_lt, IsErr, IfOk, IfSome, OnErr};
+ghost use Rattle.std.specs.List.{list_any};
+ghost use Rattle.srt_seq.specs.Window.{word_of, counted_from};
+ghost use Rattle.srt_seq.specs.Counts.{message_of, message_number};
+ghost use Rattle.srt_seq.specs.Runs.{Range, is_in, span, numbers_from};
+ghost use Rattle.srt_loss.specs.Text.{range_of};
+ghost use Rattle.srt_sendbuf.specs.Places.{length_of};
+
+use crate::ring::Ring;
+use srt_loss::{LossRef, part_in};
+use srt_seq::{Msg26, Payload, Seq31};
+use std::alloc::{AllocError, Global};
+
+/// How far back an acknowledgement may lie, in packets (this profile).
+const REACH: usize = 8192;
+
+/// The distance from the acknowledged number to the front is kept up to this: above `REACH`, so that no
+/// answer tells it from a greater one.
+const BEHIND_END: usize = 16384;
+
+/// A packet that is to be sent now.
+#[derive(Drop)]
+pub struct Out {
+    /// Its sequence number.
+    pub number: Seq31,
+    /// Its message number.
+    pub msg: Msg26,
+    /// Whether it was sent before: the packet carries R.
+    pub again: bool,
+    /// When its payload was queued.
+    pub origin: u64,
+    /// Its bytes.
+    pub payload: Payload,
+}
+
+/// Numbers that are asked for and gone: the first, the last, and the message number of the first
+/// (section 3.2.9).
+#[derive(Clone, Copy, Debug, PartialEq, Eq)]
+pub struct DropRun {
+    /// The first of them.
+    pub first: Seq31,
+    /// The last of them.
+    pub last: Seq31,
+    /// The message number of the first.
+    pub msg: Msg26,
+}
+
+/// No place is free.
+#[derive(Clone, Copy, Debug, PartialEq, Eq)]
+pub struct Full;
+
+/// The message number of the packet so many packets on.
+fn message_after(message: Msg26, steps: usize) -> Msg26
+    ensures { (k : ℕ) → message_of message ≡ message_number k → message_of result ≡ message_number (k + steps) }
+{
+    let mut reached = message;
+    for _ in 0..steps {
+        reached = reached.next();
+    }
+    reached
+}
+
+/// What a sender keeps of one stream: a window of packets, of which the first stand for the numbers in
+/// flight and the others wait to be sent.
+#[derive(Drop)]
+pub struct SendBuf {
+    ring: Ring,
+    /// The number of the first place.
+    front: Seq31,
+    /// How far the acknowledged number is behind the front, at most `BEHIND_END`.
+    behind: usize,
+    /// How many are in flight: the places below this.
+    sent: usize,
+    /// The lowest lost one, where `low` is below `high`.
+    low: usize,
+    /// No place from this on is lost.
+    high: usize,
+    /// The message number of the least number that an acknowledgement may bring.
+    message: Msg26,
+    /// The message number of the packet that is queued next.
+    next_message: Msg26,
+    ghost queue_in: { length_of ring ≤ 8192 },
+    ghost behind_in: { behind ≤ 16384 },
+    ghost sent_in: { sent ≤ length_of ring },
+    ghost high_in: { high ≤ sent },
+    ghost low_in: { low ≤ high },
+}
+
+impl SendBuf {
+    ghost use Rattle.srt_sendbuf.specs.Sending.{Sending, nothing_yet, front, base, next, room, in_flight, lost, queued, acknowledged_by, after_ack, is_growth, expired_before, ranges_from, range_from, asked, all_lost, sent, due, due_of, after_due, IsTimely, IsLater};
+    ghost use Rattle.srt_sendbuf.specs.Told.{told, told_by, gone, gone_for, gone_by};
+    ghost use Rattle.srt_sendbuf.specs.Stands.{StandsFor, IsMoved};
+
+    /// An empty buffer of so many places, which has nothing of the stream with initial number 0. The only
+    /// call that takes memory.
+    pub fn open(alloc: Global, width: u32) -> Result<SendBuf, AllocError>
+        requires some { 32 ≤ width }
+        requires narrow { width ≤ 8192 }
+        ensures { IfOk result (λ b. StandsFor width 0 b nothing_yet) }
+    {
+        let ring = Ring::open(alloc, width as usize)?;
+        Ok(SendBuf {
+            ring,
+            front: Seq31::ZERO,
+            behind: 0,
+            sent: 0,
+            low: 0,
+            high: 0,
+            message: Msg26::first(),
+            next_message: Msg26::first(),
+        })
+    }
+
+    /// Forgets all, and has nothing of the stream with this initial number.
+    pub fn start(&mut self, initial: Seq31)
+        ensures { (width before : ℕ) (r : Sending) → StandsFor width before self.old r → StandsFor width (word_of initial) self.new nothing_yet }
+    {
+        let count = self.ring.len();
+        self.ring.slide_by(count);
+        self.front = initial;
+        self.behind = 0;
+        self.sent = 0;
+        self.low = 0;
+        self.high = 0;
+        self.message = Msg26::first();
+        self.next_message = Msg26::first();
+    }
+
+    /// How many more payloads find a place.
+    pub fn room(&self) -> u32
+        ensures { (width initial : ℕ) (r : Sending) → StandsFor width initial self.now r → result ≡ room width r }
+    {
+        (self.ring.width() - self.ring.len()) as u32
+    }
+
+    /// Queues a payload; `now` is the time that comes back as `origin`. Full where there is no room.
+    pub fn queue(&mut self, payload: &Payload, now: u64) -> Result<(), Full>
+        ensures stands { IfOk result (λ done. (width initial : ℕ) (r : Sending) → StandsFor width initial self.old r → IsTimely now r → StandsFor width initial self.new (queued now payload.now.items r)) }
+        ensures full { (width initial : ℕ) (r : Sending) → StandsFor width initial self.old r → IsErr result ↔ (room width r ≡ 0) }
+        ensures same { OnErr result (self.new ≡ self.old) }
+    {
+        if self.ring.len() == self.ring.width() {
+            return Err(Full);
+        }
+        let message = self.next_message;
+        self.ring.put(now, message, payload.as_slice());
+        self.next_message = message.next();
+        Ok(())
+    }
+
+    /// How many are in flight: sent, and neither acknowledged nor expired.
+    pub fn in_flight(&self) -> u32
+        ensures { (width initial : ℕ) (r : Sending) → StandsFor width initial self.now r → result ≡ in_flight r }
+    {
+        let flying = self.sent;
+        flying as u32
+    }
+
+    /// Whether anything is lost.
+    pub fn any_lost(&self) -> bool
+        ensures { (width initial : ℕ) (r : Sending) → StandsFor width initial self.now r → result ≡ nat_lt 0 (length (lost r)) }
+    {
+        let span = self.high - self.low;
+        span > 0
+    }
+
+    /// How far the front is past the least number that an acknowledgement may bring.
+    fn back(&self) -> usize
+        ensures value { result ≡ min self.now.behind 8192 }
+    {
+        self.behind.min(REACH)
+    }
+
+    /// The number so far behind the front.
+    fn number_back(&self, steps: usize) -> Seq31
+        requires { steps ≤ 8192 }
+        ensures { (n : ℕ) → (n + steps) % 2 ^ 31 ≡ word_of self.now.front → word_of result ≡ n % 2 ^ 31 }
+    {
+        self.front.add((1 << 31) - steps as u32)
+    }
+
+    /// The front moves on by so many packets.
+    fn move_front(&mut self, count: usize, behind: usize, message: Msg26)
+        requires inside { count ≤ length_of self.old.ring }
+        requires behind_in { behind ≤ 16384 }
+        ensures { (width initial : ℕ) (r moved : Sending) → StandsFor width initial self.old r → IsMoved count behind (message_of message) r moved → StandsFor width initial self.new moved }
+    {
+        let low = self.low.saturating_sub(count);
+        let high = self.high.saturating_sub(count);
+        self.ring.slide_by(count);
+        self.front = self.front.add(count as u32);
+        self.behind = behind;
+        self.message = message;
+        self.sent = self.sent.saturating_sub(count);
+        self.low = self.ring.find_lost(low, high);
+        self.high = high;
+    }
+
+    /// How far past the least number that it may bring an acknowledgement's number stands.
+    fn steps_of(&self, number: Seq31) -> Option<usize>
+        ensures value { (width initial : ℕ) (r : Sending) → StandsFor width initial self.now r → option_map (λ d. base r + d) result ≡ acknowledged_by (counted_from initial (word_of number)) r }
+        ensures below { IfSome result (λ d. d ≤ min self.now.behind 8192 + self.now.sent) }
+    {
+        let back = self.back();
+        match number.offset_in(self.number_back(back), (back + self.sent) as u32 + 1) {
+            Some(steps) => Some(steps as usize),
+            None => None,
+        }
+    }
+
+    /// An acknowledgement of all numbers below this one. False where the number is outside the window of
+    /// acknowledgements; then nothing changed.
+    pub fn ack(&mut self, number: Seq31) -> bool
+        ensures stands { (width initial : ℕ) (r : Sending) → StandsFor width initial self.old r → StandsFor width initial self.new (after_ack (acknowledged_by (counted_from initial (word_of number)) r) r) }
+        ensures answer { (width initial : ℕ) (r : Sending) → StandsFor width initial self.old r → result ≡ is_some (acknowledged_by (counted_from initial (word_of number)) r) }
+        ensures same { result ≡ false → self.new ≡ self.old }
+    {
+        let Some(steps) = self.steps_of(number) else {
+            return false;
+        };
+        let back = self.back();
+        let message = message_after(self.message, steps);
+        if steps < back {
+            self.move_front(0, back - steps, message);
+        } else {
+            self.move_front(steps - back, 0, message);
+        }
+        true
+    }
+
+    /// Whether an acknowledgement of all numbers below this one would bring a greater number than all
+    /// before it.
+    pub fn grows(&self, number: Seq31) -> bool
+        ensures { (width initial : ℕ) (r : Sending) → StandsFor width initial self.now r → result ≡ is_growth (acknowledged_by (counted_from initial (word_of number)) r) r }
+    {
+        match self.steps_of(number) {
+            Some(steps) => steps > 0 || self.behind > REACH,
+            None => false,
+        }
+    }
+
+    /// Drops what was queued before a time, sent or not. Answers how many packets are gone by it.
+    pub fn expire(&mut self, before: i64) -> u32
+        ensures stands { (width initial : ℕ) (r : Sending) → StandsFor width initial self.old r → IsLater before r → StandsFor width initial self.new (expired_before before r) }
+        ensures count { (width initial : ℕ) (r : Sending) → StandsFor width initial self.old r → IsLater before r → front r + result ≡ front (expired_before before r) }
+    {
+        let count = self.ring.count_before(before);
+        let behind = (self.behind + count).min(BEHIND_END);
+        let steps = count + self.back() - behind.min(REACH);
+        let message = message_after(self.message, steps);
+        self.move_front(count, behind, message);
+        count as u32
+    }
+
+    /// Of the numbers in flight those that a range asks for are lost. Costs by these, not by the range.
+    fn lose_range(&mut self, range: (Seq31, Seq31))
+        requires short { span (range_of range) < 2 ^ 30 }
+        ensures { (width initial : ℕ) (r : Sending) (taken : List Range) → StandsFor width initial self.old (asked taken r) → StandsFor width initial self.new (asked (range_from initial (range_of range) ∷ taken) r) }
+    {
+        if let Some((first, last)) = part_in(range, self.front, self.sent as u32) {
+            let first = first as usize;
+            let end = last as usize + 1;
+            self.ring.mark_all(first, end);
+            if self.high > self.low {
+                self.low = self.low.min(first);
+                self.high = self.high.max(end);
+            } else {
+                self.low = first;
+                self.high = end;
+            }
+        }
+    }
+
+    /// Whether a range asks for a number that is gone, and that an acknowledgement may still bring.
+    fn asks_gone(&self, range: (Seq31, Seq31)) -> bool
+        requires short { span (range_of range) < 2 ^ 30 }
+        ensures { (width initial : ℕ) (r : Sending) → StandsFor width initial self.now r → result ≡ list_any (is_in (range_from initial (range_of range))) (numbers_from (base r) (front r - base r)) }
+    {
+        let back = self.back();
+        match part_in(range, self.number_back(back), back as u32) {
+            Some(_) => true,
+            None => false,
+        }
+    }
+
+    /// The numbers that are gone, and that an acknowledgement may still bring.
+    fn gone(&self) -> DropRun
+        ensures { (width initial : ℕ) (r : Sending) → StandsFor width initial self.now r → base r < front r → gone_by result ≡ gone initial r }
+    {
+        DropRun {
+            first: self.number_back(self.back()),
+            last: self.number_back(1),
+            msg: self.message,
+        }
+    }
+
+    /// A loss list: of the numbers in flight those that it asks for are lost. Answers the numbers that
+    /// are gone where it asks for one of them. Costs by the list's ranges and by the numbers that are
+    /// lost by it, not by the width of a range.
+    pub fn lose(&mut self, losses: &LossRef<'_>) -> Option<DropRun>
+        ensures stands { (width initial : ℕ) (r : Sending) → StandsFor width initial self.old r → StandsFor width initial self.new (asked (ranges_from initial losses.now) r) }
+        ensures answer { (width initial : ℕ) (r : Sending) → StandsFor width initial self.old r → option_map gone_by result ≡ gone_for initial (ranges_from initial losses.now) r }
+    {
+        let mut ranges = losses.ranges();
+        let mut gone = false;
+        while let Some(range) = ranges.next_range() {
+            gone |= self.asks_gone(range);
+            self.lose_range(range);
+        }
+        if gone { Some(self.gone()) } else { None }
+    }
+
+    /// All numbers in flight are lost.
+    pub fn lose_all(&mut self)
+        ensures { (width initial : ℕ) (r : Sending) → StandsFor width initial self.old r → StandsFor width initial self.new (all_lost r) }
+    {
+        self.ring.mark_all(0, self.sent);
+        self.low = 0;
+        self.high = self.sent;
+    }
+
+    /// The packet at a place.
+    fn out(&self, at: usize, again: bool) -> Option<Out>
+        requires { at < length_of self.now.ring }
+        ensures { (width initial : ℕ) (r : Sending) → StandsFor width initial self.now r → option_map told_by result ≡ option_map (told initial) (due_of (front r + at) again (slice_get r.queue (front r + at))) }
+    {
+        let place = self.ring.place(at)?;
+        Some(Out {
+            number: self.front.add(at as u32),
+            msg: place.message,
+            again,
+            origin: place.origin,
+            payload: self.ring.payload(at),
+        })
+    }
+
+    /// The lowest lost one was sent.
+    fn sent_again(&mut self)
+        requires { self.old.low < self.old.high }
+        ensures { (width initial : ℕ) (r : Sending) → StandsFor width initial self.old r → StandsFor width initial self.new (sent (front r + self.old.low) r) }
+    {
+        self.ring.mark(self.low, false);
+        self.low = self.ring.find_lost(self.low + 1, self.high);
+    }
+
+    /// The first one that was not in flight was sent.
+    fn sent_new(&mut self)
+        requires { self.old.sent < length_of self.old.ring }
+        ensures { (width initial : ℕ) (r : Sending) → StandsFor width initial self.old r → StandsFor width initial self.new (sent (front r + self.old.sent) r) }
+    {
+        self.ring.mark(self.sent, false);
+        self.sent += 1;
+    }
+
+    /// The packet that is due, which counts as sent: the lowest lost one, and where there is none the next
+    /// new one, if fewer than `window` are in flight.
+    pub fn next_due(&mut self, window: u32) -> Option<Out>
+        ensures stands { (width initial : ℕ) (r : Sending) → StandsFor width initial self.old r → StandsFor width initial self.new (after_due window r) }
+        ensures answer { (width initial : ℕ) (r : Sending) → StandsFor width initial self.old r → option_map told_by result ≡ option_map (told initial) (due window r) }
+    {
+        if self.low < self.high {
+            let out = self.out(self.low, true);
+            self.sent_again();
+            out
+        } else if self.sent < window as usize && self.sent < self.ring.len() {
+            let out = self.out(self.sent, false);
+            self.sent_new();
+            out
+        } else {
+            None
+        }
+    }
+}

@@ -1,0 +1,13 @@
+//! The sender buffer of a subscriber's session (draft-sharabayko-srt-01, sections 3.2.4, 3.2.5, 3.2.9,
+//! 4.6 and 4.8).
+#![tactic(auto)]
+
+mod buffer;
+pub mod laws;
+mod ring;
+mod texts;
+
+pub use buffer::{DropRun, Full, Out, SendBuf};
+
+#[cfg(test)]
+mod tests;
