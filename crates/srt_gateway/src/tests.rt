@@ -4,8 +4,6 @@ mod configs;
 mod devices;
 mod ends;
 mod events;
-mod hubs;
-mod toys;
 
 use crate::{Config, ReplayFault, read_config, replay};
 use std::process::Abort;
