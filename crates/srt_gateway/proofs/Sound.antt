@@ -9,7 +9,8 @@ use Rattle.toml.specs.Data.{Data, Items, no_items, item, Members, as_integer, as
 use Rattle.srt_seq.specs.declared.shared.Entry.{Entry}
 use Rattle.srt_seq.specs.declared.shared.Mode.{Mode as TheMode}
 use Rattle.srt_seq.specs.Terms.{Terms, terms_of}
-use Rattle.srt_lobby.specs.Opening.{is_between, is_name, is_taken, is_fresh, are_names, in_limits, are_in_limits, fault_of}
+use Rattle.srt_seq.specs.Entries.{is_between, is_name, in_limits}
+use Rattle.srt_lobby.specs.Opening.{is_taken, is_fresh, are_names, are_in_limits, fault_of}
 use Rattle.srt_gateway.specs.declared.config.faults.Key.{Key}
 use Rattle.srt_gateway.specs.declared.config.faults.Key.TheVariants.{Route, Name, Mode, LatencyMs, Buffer, Sessions, Inbox, Outbox}
 use Rattle.srt_gateway.specs.declared.config.faults.ConfigFault.{ConfigFault}

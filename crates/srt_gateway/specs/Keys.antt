@@ -8,7 +8,7 @@ use Rattle.std.specs.Borrow.{Bor}
 use Rattle.toml.specs.Data.{Data, Members, no_members, member, get_member, as_str, as_integer}
 use Rattle.toml.specs.View.{view}
 use Rattle.toml.specs.declared.value.Value.{Value}
-use Rattle.srt_lobby.specs.Opening.{is_between}
+use Rattle.srt_seq.specs.Entries.{is_between}
 use Rattle.srt_gateway.specs.declared.config.faults.Key.{Key}
 use Rattle.srt_gateway.specs.declared.config.faults.Key.TheVariants as key
 use Rattle.srt_gateway.specs.Faults.{key_name}

@@ -5,7 +5,8 @@ use Rattle.toml.specs.Data.{Data, Items, no_items, item, Members, as_array, as_t
 use Rattle.srt_seq.specs.Terms.{Terms}
 use Rattle.srt_seq.specs.declared.shared.Mode.{Mode as TheMode}
 use Rattle.srt_seq.specs.declared.shared.Mode.TheVariants as mode
-use Rattle.srt_lobby.specs.Opening.{is_between, is_name, is_taken}
+use Rattle.srt_seq.specs.Entries.{is_between, is_name}
+use Rattle.srt_lobby.specs.Opening.{is_taken}
 use Rattle.srt_gateway.specs.declared.config.faults.Key.{Key}
 use Rattle.srt_gateway.specs.declared.config.faults.Key.TheVariants.{Route, Name, Mode, LatencyMs, Buffer, Sessions, Inbox, Outbox}
 use Rattle.srt_gateway.specs.FirstFault.{Fault, WrongKind, OutOfRange, BadName, RepeatedName, ◌>>=◌}

@@ -7,7 +7,8 @@ use Rattle.std.proofs.lemmas.List.{map-append}
 use Rattle.std.proofs.lemmas.Slice.Eq.{bytes_eq-Decides}
 use Rattle.srt_seq.specs.declared.shared.OpenFault.TheVariants as faults
 use Rattle.srt_seq.specs.Terms.{Terms}
-use Rattle.srt_lobby.specs.Opening.{is_name, is_taken, are_names, are_in_limits, fault_of}
+use Rattle.srt_seq.specs.Entries.{is_name}
+use Rattle.srt_lobby.specs.Opening.{is_taken, are_names, are_in_limits, fault_of}
 use Rattle.srt_lobby.specs.Names.{AreDistinct, name_of}
 use Rattle.srt_lobby.specs.Laws.{NamesAreDistinct}
 use Rattle.srt_lobby.proofs.Finds.{any_of, take_next}

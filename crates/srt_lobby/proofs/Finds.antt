@@ -11,7 +11,8 @@ use Rattle.std.proofs.lemmas.List.Quantifiers.{position-Some}
 use Rattle.std.proofs.lemmas.Option.{get_or_from_slice_get, slice_get-get_or, slice_get_within}
 use Rattle.srt_seq.specs.declared.shared.Entry.{Entry}
 use Rattle.srt_seq.specs.Terms.{Terms, terms_of}
-use Rattle.srt_lobby.specs.Opening.{is_between, is_name, is_taken, is_fresh, are_names, in_limits, are_in_limits}
+use Rattle.srt_seq.specs.Entries.{is_between, is_name, in_limits}
+use Rattle.srt_lobby.specs.Opening.{is_taken, is_fresh, are_names, are_in_limits}
 use Rattle.srt_lobby.specs.Names.{AreDistinct, index_of, name_of}
 
 same_length : {K X : Type 0} (f : K → X) (ks : List K) → length (map f ks) ≡ length ks

@@ -5,16 +5,7 @@ use Rattle.std.specs.Str.{bytes_eq}
 use Rattle.srt_seq.specs.declared.shared.OpenFault.{OpenFault}
 use Rattle.srt_seq.specs.declared.shared.OpenFault.TheVariants as faults
 use Rattle.srt_seq.specs.Terms.{Terms}
-
-abbrev pub is_between : (low high n : ℕ) → Bool
-is_between low high n = nat_le low n && nat_le n high
-
--- a small letter, a capital, a digit, one of `-`, `.` and `/`, or `_`
-abbrev pub is_name_byte : ℕ → Bool
-is_name_byte b = is_between 97 122 b || is_between 65 90 b || is_between 48 57 b || is_between 45 47 b || b == 95
-
-abbrev pub is_name : List ℕ → Bool
-is_name name = is_between 1 64 (length name) && list_all is_name_byte name
+use Rattle.srt_seq.specs.Entries.{is_between, is_name, in_limits}
 
 -- one of these entries has this name
 abbrev pub is_taken : (name : List ℕ) → List Terms → Bool
@@ -29,13 +20,7 @@ abbrev pub are_names : List Terms → Bool
 are_names [] = true
 are_names (e ∷ entries) = is_fresh e entries && are_names entries
 
--- the numbers of a route are within their limits
-abbrev pub in_limits : Terms → Bool
-in_limits e =
-    is_between 20 8000 e.latency_ms && is_between 32 8192 e.buffer && is_between 1 17 e.sessions &&
-    is_between 16 4096 e.inbox && is_between 16 4096 e.outbox
-
--- so are the number of routes and the numbers of each
+-- the number of routes is within its limits, and so are the numbers of each
 abbrev pub are_in_limits : List Terms → Bool
 are_in_limits entries = is_between 1 511 (length entries) && list_all in_limits entries
 

@@ -5,3 +5,6 @@ pub mod Counts
 pub mod Runs
 pub mod Terms
 pub mod Items
+pub mod Entries
+pub mod Texts
+pub mod Slots

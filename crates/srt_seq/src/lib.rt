@@ -2,15 +2,21 @@
 //! stand on the wire, words of 32 bits, and the types that routes, hub and configuration share.
 #![tactic(auto)]
 
+mod entries;
 pub mod laws;
 mod numbers;
+mod order;
 mod shared;
 mod stamps;
+mod texts;
 mod words;
 
+pub use entries::{is_between, is_name};
 pub use numbers::{Msg26, Seq31};
+pub use order::TextOrder;
 pub use shared::{Entry, Item, MOMENT_END, Mode, OpenFault, Payload, Peer, Role, Turned};
 pub use stamps::Stamp32;
+pub use texts::Text;
 pub use words::{read_word, write_at};
 
 #[cfg(test)]

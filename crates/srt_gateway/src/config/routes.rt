@@ -5,14 +5,15 @@ ghost use Rattle.std.specs.List.{list_all, list_any};
 ghost use Rattle.std.specs.Str.{bytes_eq};
 ghost use Rattle.toml.specs.View.{table_view, items_view};
 ghost use Rattle.srt_seq.specs.Terms.{terms_of};
-ghost use Rattle.srt_lobby.specs.Opening.{is_between, is_name_byte, is_name, is_taken, fault_of};
+ghost use Rattle.srt_seq.specs.Entries.{is_between};
+ghost use Rattle.srt_lobby.specs.Opening.{is_taken, fault_of};
 ghost use Rattle.srt_gateway.specs.FirstFault.{seen, Gives};
 ghost use Rattle.srt_gateway.specs.Routes.{name_in, name_at, mode_in, mode_at, numbers_at, terms_with, terms_at, are_tables, count, routes_from, routes_in, routes_at};
 ghost use Rattle.srt_gateway.specs.RouteParts.{numbers_of, entries_seen};
 
 use super::faults::{ConfigFault, Key};
 use super::keys::{number_at, only_known, text_at, value_at};
-use srt_seq::{Entry, Mode};
+use srt_seq::{Entry, Mode, is_between, is_name};
 use std::alloc::Global;
 use toml::{Table, Value};
 
@@ -26,34 +27,6 @@ const ROUTE_KEYS: [Key; 7] = [
     Key::Inbox,
     Key::Outbox,
 ];
-
-fn is_name_byte(byte: u8) -> bool
-    ensures { result ≡ is_name_byte byte }
-{
-    (b'a'..=b'z').contains(&byte)
-        || (b'A'..=b'Z').contains(&byte)
-        || (b'0'..=b'9').contains(&byte)
-        || (b'-'..=b'/').contains(&byte)
-        || byte == b'_'
-}
-
-fn are_name_bytes(bytes: &[u8]) -> bool
-    ensures { result ≡ list_all is_name_byte bytes.now }
-{
-    bytes.iter().all(|b| is_name_byte(*b))
-}
-
-fn is_between(low: usize, high: usize, n: usize) -> bool
-    ensures { result ≡ is_between low high n }
-{
-    low <= n && n <= high
-}
-
-fn is_name(name: &[u8]) -> bool
-    ensures { result ≡ is_name name.now }
-{
-    is_between(1, 64, name.len()) && are_name_bytes(name)
-}
 
 fn stands_in(name: &[u8], entries: &[Entry]) -> bool
     ensures { result ≡ list_any (λ e. bytes_eq (terms_of e).name name.now) entries.now }

@@ -1,5 +1,5 @@
 use Rattle.std.proofs.Common.{ap, ◌∙◌}
-use Rattle.srt_lobby.specs.Opening.{is_between}
+use Rattle.srt_seq.specs.Entries.{is_between}
 use Rattle.srt_gateway.proofs.RouteItems.{counted}
 use Rattle.srt_gateway.proofs.config.routes.is_count.Goals as goal
 

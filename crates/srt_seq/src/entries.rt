@@ -1,0 +1,51 @@
+//! The form of a route's name, and the limits of its numbers.
+
+ghost use Rattle.std.specs.Prelude.{◌≡◌};
+ghost use Rattle.std.specs.List.{list_all};
+ghost use Rattle.srt_seq.specs.Terms.{terms_of};
+ghost use Rattle.srt_seq.specs.Entries.{is_between, is_name_byte, is_name, in_limits};
+
+use crate::shared::Entry;
+
+/// Whether a number is one of these, both ends in.
+pub fn is_between(low: usize, high: usize, n: usize) -> bool
+    ensures { result ≡ is_between low high n }
+{
+    low <= n && n <= high
+}
+
+fn is_name_byte(byte: u8) -> bool
+    ensures { result ≡ is_name_byte byte }
+{
+    (b'a'..=b'z').contains(&byte)
+        || (b'A'..=b'Z').contains(&byte)
+        || (b'0'..=b'9').contains(&byte)
+        || (b'-'..=b'/').contains(&byte)
+        || byte == b'_'
+}
+
+fn are_name_bytes(bytes: &[u8]) -> bool
+    ensures { result ≡ list_all is_name_byte bytes.now }
+{
+    bytes.iter().all(|b| is_name_byte(*b))
+}
+
+/// Whether a route may have these bytes as its name: 1 to 64 ASCII letters and digits, `-`, `_`, `.` and `/`.
+pub fn is_name(name: &[u8]) -> bool
+    ensures { result ≡ is_name name.now }
+{
+    is_between(1, 64, name.len()) && are_name_bytes(name)
+}
+
+impl Entry {
+    /// Whether the numbers are within their limits, which the fields' comments name.
+    pub fn in_limits(&self) -> bool
+        ensures { result ≡ in_limits (terms_of self.now) }
+    {
+        is_between(20, 8000, self.latency_ms as usize)
+            && is_between(32, 8192, self.buffer as usize)
+            && is_between(1, 17, self.sessions as usize)
+            && is_between(16, 4096, self.inbox as usize)
+            && is_between(16, 4096, self.outbox as usize)
+    }
+}
