@@ -1,8 +1,11 @@
 -- The places of a window, and what stands at each.
 use Rattle.std.specs.Prelude.{ℕ, zero, suc, ◌+◌, ◌-◌, ℤ, Bool, true, false, Option, None, Some, List, [], ◌∷◌, length, take, slice_index_or, not, nat_lt, if◌then◌else◌}
-use Rattle.srt_recvbuf.specs.declared.texts.Text.{Text}
+use Rattle.srt_seq.specs.declared.texts.Text.{Text}
+use Rattle.srt_seq.specs.Texts.{text_at, turned}
 use Rattle.srt_recvbuf.specs.declared.window.Place.{Place}
 use Rattle.srt_recvbuf.specs.declared.window.Place.TheVariants.{Missing, Dropped, Received}
+use Rattle.srt_seq.specs.Slots.{text_of_slot}
+use Rattle.srt_seq.specs.declared.order.TextOrder.{TextOrder}
 use Rattle.srt_recvbuf.specs.declared.window.Seek.{Seek}
 use Rattle.srt_recvbuf.specs.declared.window.Seek.TheVariants.{NothingThere, SomethingThere, APacket, NotGivenUp}
 use Rattle.srt_recvbuf.specs.declared.window.Window.{Window}
@@ -13,30 +16,17 @@ pub data Cell : Type 0 where
   GivenUp : Cell
   Got : (due : ℤ) (payload : List ℕ) → Cell
 
--- the bytes of a text
-abbrev pub text_of : Text → List ℕ
-text_of t = take t.len t.block.xs
-
-abbrev pub text_at : List Text → ℕ → List ℕ
-text_at [] at = []
-text_at (t ∷ ts) zero = text_of t
-text_at (t ∷ ts) (suc at) = text_at ts at
-
--- texts stay where they are: the one of a place, where this is the first place's
-abbrev pub turned : (width first at : ℕ) → ℕ
-turned width first at = if nat_lt (first + at) width then first + at else first + at - width
-
 abbrev pub cell_of : Place → List ℕ → Cell
 cell_of Missing text = Empty
 cell_of Dropped text = GivenUp
 cell_of (Received due) text = Got due text
 
-abbrev pub cell_in : (places : List Place) (texts : List Text) (first at : ℕ) → Cell
-cell_in places texts first at = cell_of (slice_index_or places at Missing) (text_at texts (turned (length places) first at))
+abbrev pub cell_in : (places : List Place) (texts : List Text) (order : TextOrder) (first at : ℕ) → Cell
+cell_in places texts order first at = cell_of (slice_index_or places at Missing) (text_at texts (text_of_slot order (turned (length places) first at)))
 
 -- what stands so many places from the front; nothing beyond the last place
 abbrev pub cell_at : Window → ℕ → Cell
-cell_at w at = cell_in w.places.items w.texts.items w.first at
+cell_at w at = cell_in w.places.items w.texts.items w.order w.first at
 
 abbrev pub width_of : Window → ℕ
 width_of w = length w.places.items

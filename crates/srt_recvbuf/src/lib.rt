@@ -3,7 +3,6 @@
 
 mod buffer;
 pub mod laws;
-mod texts;
 mod window;
 
 pub use buffer::{Put, RecvBuf};

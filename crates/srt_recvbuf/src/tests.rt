@@ -1,5 +1,8 @@
 //! Rows of receptions: across the wrap, behind a gap, dropped on request.
 
+mod plain;
+mod random;
+
 use crate::{Put, RecvBuf};
 use srt_seq::Seq31;
 use std::test::Fail;

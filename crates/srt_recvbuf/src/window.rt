@@ -1,10 +1,10 @@
 //! A window of places in a ring, which slides by one.
 
 ghost use Rattle.std.specs.Prelude.{◌≡◌, ℕ, ◌+◌, ◌<◌, ◌≤◌, List, length, IfOk, vec_len, slice_index_or, ◌==◌, true, false, nat_le, nat_lt, ◌&&◌, if◌then◌else◌};
+ghost use Rattle.srt_seq.specs.Slots.{slots_of, text_of_slot};
 
-use crate::texts::Text;
 use circular_buffer::HeapCircularBuffer;
-use srt_seq::Payload;
+use srt_seq::{Payload, Text, TextOrder};
 use std::alloc::{AllocError, Global};
 
 /// What stands at a place.
@@ -25,21 +25,29 @@ pub enum Seek {
     NotGivenUp,
 }
 
-/// Places from the front on, and as many texts. A text stays where it is, and is set in place.
+/// Places from the front on, and as many texts. A text stays where it is, and is set in place. A place has a
+/// slot, which stays with it, and a slot has a text. Of the texts that are free those that were used last are
+/// taken first, so that a stream that runs goes over few of them.
 #[derive(Drop)]
 pub struct Window {
     places: HeapCircularBuffer<Place>,
     texts: Vec<Text>,
-    /// Where the text of the front's place stands; the others follow it, round the end.
+    order: TextOrder,
+    /// The slot of the front's place; the others follow it, round the end.
     first: usize,
+    /// So many of the last places have texts that were used not long ago.
+    warm: usize,
     ghost full: { length places.items ≡ places.capacity },
     ghost as_many: { vec_len texts ≡ places.capacity },
+    ghost slots: { slots_of order ≡ places.capacity },
     ghost first_in: { first < places.capacity },
     ghost narrow: { places.capacity ≤ 8192 },
+    ghost warm_in: { warm ≤ 8192 },
 }
 
 impl Window {
-    ghost use Rattle.srt_recvbuf.specs.Cells.{Cell, cell_at, cell_of, due_of, given_up, is_empty, is_got, is_sought, payload_of, text_at, turned, width_of};
+    ghost use Rattle.srt_seq.specs.Texts.{text_at, turned};
+    ghost use Rattle.srt_recvbuf.specs.Cells.{Cell, cell_at, cell_of, due_of, given_up, is_empty, is_got, is_sought, payload_of, width_of};
     ghost use Rattle.srt_recvbuf.specs.Cells.Cell.{Empty, GivenUp, Got};
     ghost use Rattle.srt_recvbuf.specs.declared.window.Place.TheVariants.{Missing};
 
@@ -58,7 +66,9 @@ impl Window {
         Ok(Window {
             places,
             texts,
+            order: TextOrder::open(alloc, width)?,
             first: 0,
+            warm: 0,
         })
     }
 
@@ -81,11 +91,11 @@ impl Window {
         }
     }
 
-    /// Where the text of a place stands.
-    fn turned(&self, at: usize) -> usize
+    /// The slot of a place.
+    fn slot(&self, at: usize) -> usize
         requires { at < width_of self.now }
         ensures value { result ≡ turned (width_of self.now) self.now.first at }
-        ensures inside { result < vec_len self.now.texts }
+        ensures inside { result < slots_of self.now.order }
     {
         let at = self.first + at;
         if at < self.places.len() {
@@ -93,6 +103,15 @@ impl Window {
         } else {
             at - self.places.len()
         }
+    }
+
+    /// Where the text of a place stands.
+    fn text_index(&self, at: usize) -> usize
+        requires { at < width_of self.now }
+        ensures value { result ≡ text_of_slot self.now.order (turned (width_of self.now) self.now.first at) }
+        ensures inside { result < vec_len self.now.texts }
+    {
+        self.order.text(self.slot(at))
     }
 
     /// When the packet that stands at a place is due. None where there is none.
@@ -109,9 +128,39 @@ impl Window {
     pub fn payload(&self, at: usize) -> Payload
         requires { at < width_of self.now }
         ensures packet { is_got (cell_at self.now at) ≡ true → result.items ≡ payload_of (cell_at self.now at) }
-        ensures text { result.items ≡ text_at self.now.texts.items (turned (width_of self.now) self.now.first at) }
+        ensures text { result.items ≡ text_at self.now.texts.items (text_of_slot self.now.order (turned (width_of self.now) self.now.first at)) }
     {
-        self.texts[self.turned(at)].payload()
+        self.texts[self.text_index(at)].payload()
+    }
+
+    /// A place gets the text of the first of the warm ones, where no packet stands at either.
+    fn warm_up(&mut self, at: usize)
+        requires inside { at < width_of self.old }
+        ensures width { width_of self.new ≡ width_of self.old }
+        ensures cells { (d : ℕ) → cell_at self.new d ≡ cell_at self.old d }
+    {
+        let width = self.places.len();
+        if 0 < self.warm && self.warm < width {
+            let other = width - self.warm;
+            self.warm -= 1;
+            if !self.is(at, Seek::APacket) && !self.is(other, Seek::APacket) {
+                self.exchange(at, other);
+            }
+        }
+    }
+
+    /// Two places without packets exchange their texts.
+    fn exchange(&mut self, one: usize, other: usize)
+        requires one { one < width_of self.old }
+        requires other { other < width_of self.old }
+        requires one_free { is_got (cell_at self.old one) ≡ false }
+        requires other_free { is_got (cell_at self.old other) ≡ false }
+        ensures width { width_of self.new ≡ width_of self.old }
+        ensures cells { (d : ℕ) → cell_at self.new d ≡ cell_at self.old d }
+    {
+        let one = self.slot(one);
+        let other = self.slot(other);
+        self.order.swap(one, other);
     }
 
     /// A packet comes to a place.
@@ -121,7 +170,8 @@ impl Window {
         ensures width { width_of self.new ≡ width_of self.old }
         ensures cells { (d : ℕ) → cell_at self.new d ≡ (if d == at then Got due bytes.now else cell_at self.old d) }
     {
-        let index = self.turned(at);
+        self.warm_up(at);
+        let index = self.text_index(at);
         self.texts[index].set(bytes);
         self.mark(at, Place::Received { due });
     }
@@ -132,6 +182,7 @@ impl Window {
         ensures width { width_of self.new ≡ width_of self.old }
         ensures places { (d : ℕ) → slice_index_or self.new.places.items d Missing ≡ (if d == at then place else slice_index_or self.old.places.items d Missing) }
         ensures texts { self.new.texts ≡ self.old.texts }
+        ensures order { self.new.order ≡ self.old.order }
         ensures first { self.new.first ≡ self.old.first }
     {
         if let Some(there) = self.places.get_mut(at) {
@@ -150,10 +201,13 @@ impl Window {
         }
     }
 
-    /// The front moves by one: the first place goes, and an empty one comes.
-    pub fn slide(&mut self)
+    /// The first place goes, and an empty one with its slot comes.
+    fn turn(&mut self)
         ensures width { width_of self.new ≡ width_of self.old }
-        ensures cells { (d : ℕ) → cell_at self.new d ≡ cell_at self.old (d + 1) }
+        ensures places { (d : ℕ) → slice_index_or self.new.places.items d Missing ≡ slice_index_or self.old.places.items (d + 1) Missing }
+        ensures texts { self.new.texts ≡ self.old.texts }
+        ensures order { self.new.order ≡ self.old.order }
+        ensures first { self.new.first ≡ (if self.old.first + 1 == width_of self.old then 0 else self.old.first + 1) }
     {
         self.places.push_back(Place::Missing);
         self.first = if self.first + 1 == self.places.len() {
@@ -161,6 +215,15 @@ impl Window {
         } else {
             self.first + 1
         };
+    }
+
+    /// The front moves by one: the first place goes, and an empty one comes.
+    pub fn slide(&mut self)
+        ensures width { width_of self.new ≡ width_of self.old }
+        ensures cells { (d : ℕ) → cell_at self.new d ≡ cell_at self.old (d + 1) }
+    {
+        self.turn();
+        self.warm = (self.warm + 1).min(self.places.len());
     }
 
     /// Empties all places.

@@ -1,4 +1,5 @@
 pub mod Rings
+pub mod Blocks
 pub mod Steps
 pub mod Ranges
 pub mod Fronts

@@ -1,8 +1,12 @@
 -- The places of a ring, and what stands at each.
 use Rattle.std.specs.Prelude.{ℕ, zero, suc, ◌+◌, ◌-◌, ℤ, pos, int_lt, Bool, false, Option, None, Some, List, [], ◌∷◌, length, take, slice_get, nat_lt, if◌then◌else◌}
 use Rattle.srt_seq.specs.Counts.{message_of}
-use Rattle.srt_sendbuf.specs.declared.texts.Text.{Text}
+use Rattle.srt_seq.specs.declared.texts.Text.{Text}
+use Rattle.srt_seq.specs.Texts.{text_at, turned}
+use Rattle.srt_seq.specs.declared.order.TextOrder.{TextOrder}
+use Rattle.srt_seq.specs.Slots.{text_of_slot}
 use Rattle.srt_sendbuf.specs.declared.ring.Place.{Place}
+use Rattle.srt_sendbuf.specs.Marks.{is_lost}
 use Rattle.srt_sendbuf.specs.declared.ring.Ring.{Ring}
 
 -- a packet that is kept
@@ -11,33 +15,16 @@ pub record Kept : Type 0 where
   pub message : ℕ
   pub payload : List ℕ
 
--- the bytes of a text
-abbrev pub text_of : Text → List ℕ
-text_of t = take t.len t.block.xs
-
-abbrev pub text_at : List Text → ℕ → List ℕ
-text_at [] at = []
-text_at (t ∷ ts) zero = text_of t
-text_at (t ∷ ts) (suc at) = text_at ts at
-
--- texts stay where they are: the one of a place, where this is the first place's
-abbrev pub turned : (width first at : ℕ) → ℕ
-turned width first at = if nat_lt (first + at) width then first + at else first + at - width
-
 abbrev pub kept_of : Option Place → List ℕ → Option Kept
 kept_of None text = None
 kept_of (Some p) text = Some (record { origin = p.origin; message = message_of p.message; payload = text })
 
-abbrev pub kept_in : (places : List Place) (texts : List Text) (width first at : ℕ) → Option Kept
-kept_in places texts width first at = kept_of (slice_get places at) (text_at texts (turned width first at))
+abbrev pub kept_in : (places : List Place) (texts : List Text) (order : TextOrder) (width first at : ℕ) → Option Kept
+kept_in places texts order width first at = kept_of (slice_get places at) (text_at texts (text_of_slot order (turned width first at)))
 
 -- what stands so many places from the first; nothing beyond the last
 abbrev pub kept_at : Ring → ℕ → Option Kept
-kept_at r at = kept_in r.places.items r.texts.items r.places.capacity r.first at
-
-abbrev pub is_lost : Option Place → Bool
-is_lost None = false
-is_lost (Some p) = p.lost
+kept_at r at = kept_in r.places.items r.texts.items r.order r.places.capacity r.first at
 
 abbrev pub lost_at : Ring → ℕ → Bool
 lost_at r at = is_lost (slice_get r.places.items at)

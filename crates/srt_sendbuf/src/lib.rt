@@ -3,9 +3,9 @@
 #![tactic(auto)]
 
 mod buffer;
+mod hints;
 pub mod laws;
 mod ring;
-mod texts;
 
 pub use buffer::{DropRun, Full, Out, SendBuf};
 

@@ -1,11 +1,15 @@
 //! Places in a ring, as many as are taken, and their texts.
 
-ghost use Rattle.std.specs.Prelude.{◌≡◌, ℕ, ◌+◌, ◌-◌, ◌<◌, ◌≤◌, length, IfOk, vec_len, slice_get, nat_le, nat_lt, ◌==◌, ◌&&◌, true, false, Some, None, if◌then◌else◌};
+ghost use Rattle.std.specs.Prelude.{◌≡◌, ℕ, ◌+◌, ◌-◌, ◌<◌, ◌≤◌, ◌/◌, length, IfOk, vec_len, slice_get, nat_le, nat_lt, ◌==◌, ◌&&◌, true, false, Some, None, if◌then◌else◌};
 ghost use Rattle.srt_seq.specs.Counts.{message_of};
+ghost use Rattle.srt_seq.specs.Slots.{slots_of, text_of_slot};
+ghost use Rattle.srt_seq.specs.Texts.{turned};
+ghost use Rattle.srt_sendbuf.specs.Hints.{hint_at};
+ghost use Rattle.srt_sendbuf.specs.Marks.{is_lost};
 
-use crate::texts::Text;
+use crate::hints::{BLOCK, Hints};
 use circular_buffer::HeapCircularBuffer;
-use srt_seq::{Msg26, Payload};
+use srt_seq::{Msg26, Payload, Text, TextOrder};
 use std::alloc::{AllocError, Global};
 
 /// What is kept of a packet beside its bytes.
@@ -18,21 +22,32 @@ pub struct Place {
 }
 
 /// The places of the packets that are kept, and a text for each place that there may be. A text stays
-/// where it is, and is set in place.
+/// where it is, and is set in place. A place has a slot, which stays with it, and a slot has a text. Of
+/// the texts that are free those that were used last are taken first, so that a stream that runs goes
+/// over few of them.
 #[derive(Drop)]
 pub struct Ring {
     places: HeapCircularBuffer<Place>,
     texts: Vec<Text>,
-    /// Where the text of the first place stands; the others follow it, round the end.
+    order: TextOrder,
+    /// Which blocks of slots the search for lost ones may pass over.
+    hints: Hints,
+    /// The slot of the first place; the others follow it, round the end.
     first: usize,
+    /// So many of the last places, which are free, have texts that were used not long ago.
+    warm: usize,
     ghost fits: { length places.items ≤ places.capacity },
     ghost as_many: { vec_len texts ≡ places.capacity },
     ghost first_in: { first < places.capacity },
     ghost narrow: { places.capacity ≤ 8192 },
+    ghost slots: { slots_of order ≡ places.capacity },
+    ghost warm_free: { warm + length places.items ≤ places.capacity },
+    ghost hinted: { (d : ℕ) → hint_at hints (turned places.capacity first d) ≡ false → is_lost (slice_get places.items d) ≡ false },
 }
 
 impl Ring {
-    ghost use Rattle.srt_sendbuf.specs.Places.{kept_at, kept_of, lost_at, length_of, width_of, text_at, turned, is_old};
+    ghost use Rattle.srt_seq.specs.Texts.{text_at};
+    ghost use Rattle.srt_sendbuf.specs.Places.{kept_at, kept_of, lost_at, length_of, width_of, is_old};
 
     /// No packets. The only call that takes memory.
     pub fn open(alloc: Global, width: usize) -> Result<Ring, AllocError>
@@ -48,7 +63,10 @@ impl Ring {
         Ok(Ring {
             places,
             texts,
+            order: TextOrder::open(alloc, width)?,
+            hints: Hints::new(),
             first: 0,
+            warm: 0,
         })
     }
 
@@ -70,11 +88,11 @@ impl Ring {
         self.places.capacity()
     }
 
-    /// Where the text of a place stands.
-    fn turned(&self, at: usize) -> usize
+    /// The slot of a place.
+    fn slot(&self, at: usize) -> usize
         requires { at < width_of self.now }
         ensures value { result ≡ turned (width_of self.now) self.now.first at }
-        ensures inside { result < vec_len self.now.texts }
+        ensures inside { result < width_of self.now }
     {
         let at = self.first + at;
         if at < self.places.capacity() {
@@ -84,12 +102,21 @@ impl Ring {
         }
     }
 
+    /// Where the text of a place stands.
+    fn text_index(&self, at: usize) -> usize
+        requires { at < width_of self.now }
+        ensures value { result ≡ text_of_slot self.now.order (turned (width_of self.now) self.now.first at) }
+        ensures inside { result < vec_len self.now.texts }
+    {
+        self.order.text(self.slot(at))
+    }
+
     /// The bytes of a packet.
     pub fn payload(&self, at: usize) -> Payload
         requires { at < width_of self.now }
-        ensures { result.items ≡ text_at self.now.texts.items (turned (width_of self.now) self.now.first at) }
+        ensures { result.items ≡ text_at self.now.texts.items (text_of_slot self.now.order (turned (width_of self.now) self.now.first at)) }
     {
-        self.texts[self.turned(at)].payload()
+        self.texts[self.text_index(at)].payload()
     }
 
     /// A packet comes after the last.
@@ -101,7 +128,54 @@ impl Ring {
         ensures kept { (d : ℕ) → kept_at self.new d ≡ (if d == length_of self.old then Some (record { origin = origin; message = message_of message; payload = bytes.now }) else kept_at self.old d) }
         ensures lost { (d : ℕ) → lost_at self.new d ≡ lost_at self.old d }
     {
-        let index = self.turned(self.places.len());
+        self.warm_up();
+        self.push(origin, message, bytes);
+    }
+
+    /// The first free place gets the text of the first of the warm ones.
+    fn warm_up(&mut self)
+        requires room { length_of self.old < width_of self.old }
+        ensures width { width_of self.new ≡ width_of self.old }
+        ensures length { length_of self.new ≡ length_of self.old }
+        ensures kept { (d : ℕ) → kept_at self.new d ≡ kept_at self.old d }
+        ensures lost { (d : ℕ) → lost_at self.new d ≡ lost_at self.old d }
+        ensures free { self.new.warm + length_of self.new < width_of self.new }
+    {
+        if 0 < self.warm {
+            let other = self.places.capacity() - self.warm;
+            self.warm -= 1;
+            let taken = self.places.len();
+            self.exchange(taken, other);
+        }
+    }
+
+    /// Two free places exchange their texts.
+    fn exchange(&mut self, one: usize, other: usize)
+        requires one_free { length_of self.old ≤ one }
+        requires other_free { length_of self.old ≤ other }
+        requires one_inside { one < width_of self.old }
+        requires other_inside { other < width_of self.old }
+        ensures width { width_of self.new ≡ width_of self.old }
+        ensures length { length_of self.new ≡ length_of self.old }
+        ensures kept { (d : ℕ) → kept_at self.new d ≡ kept_at self.old d }
+        ensures lost { (d : ℕ) → lost_at self.new d ≡ lost_at self.old d }
+        ensures warm { self.new.warm ≡ self.old.warm }
+    {
+        let one = self.slot(one);
+        let other = self.slot(other);
+        self.order.swap(one, other);
+    }
+
+    /// A packet comes after the last, and takes the text of its place.
+    fn push(&mut self, origin: u64, message: Msg26, bytes: &[u8])
+        requires room { self.old.warm + length_of self.old < width_of self.old }
+        requires fits { length bytes.now ≤ 1456 }
+        ensures width { width_of self.new ≡ width_of self.old }
+        ensures length { length_of self.new ≡ length_of self.old + 1 }
+        ensures kept { (d : ℕ) → kept_at self.new d ≡ (if d == length_of self.old then Some (record { origin = origin; message = message_of message; payload = bytes.now }) else kept_at self.old d) }
+        ensures lost { (d : ℕ) → lost_at self.new d ≡ lost_at self.old d }
+    {
+        let index = self.text_index(self.places.len());
         self.texts[index].set(bytes);
         self.places.push_back(Place {
             origin,
@@ -117,12 +191,22 @@ impl Ring {
         ensures kept { (d : ℕ) → kept_at self.new d ≡ kept_at self.old (d + 1) }
         ensures lost { (d : ℕ) → lost_at self.new d ≡ lost_at self.old (d + 1) }
     {
+        let next = self.second_slot();
         let _ = self.places.pop_front();
-        self.first = if self.first + 1 == self.places.capacity() {
+        self.warm = (self.warm + 1).min(self.places.capacity() - self.places.len());
+        self.first = next;
+    }
+
+    /// The slot of the second place.
+    fn second_slot(&self) -> usize
+        ensures value { result ≡ (if self.now.first + 1 == width_of self.now then 0 else self.now.first + 1) }
+        ensures inside { result < width_of self.now }
+    {
+        if self.first + 1 == self.places.capacity() {
             0
         } else {
             self.first + 1
-        };
+        }
     }
 
     /// The first places go, so many of them.
@@ -145,6 +229,10 @@ impl Ring {
         ensures kept { (d : ℕ) → kept_at self.new d ≡ kept_at self.old d }
         ensures lost { (d : ℕ) → lost_at self.new d ≡ (if d == at then lost else lost_at self.old d) }
     {
+        let slot = self.slot(at);
+        if lost {
+            self.hints.set(slot, true);
+        }
         if let Some(place) = self.places.get_mut(at) {
             place.lost = lost;
         }
@@ -161,7 +249,7 @@ impl Ring {
     }
 
     /// The first lost one from here on and before the end; the end where there is none.
-    pub fn find_lost(&self, from: usize, end: usize) -> usize
+    fn walk(&self, from: usize, end: usize) -> usize
         requires { from ≤ end }
         ensures low { from ≤ result }
         ensures high { result ≤ end }
@@ -172,6 +260,121 @@ impl Ring {
             if self.is_lost(at) {
                 return at;
             }
+        }
+        end
+    }
+
+    /// How far the places go whose slots follow this place's in its block.
+    fn block_end(&self, at: usize) -> usize
+        requires { at < width_of self.now }
+        ensures { at < result }
+    {
+        let slot = self.slot(at);
+        let left = BLOCK - slot % BLOCK;
+        at + left.min(self.places.capacity() - slot)
+    }
+
+    /// Whether no place of the block of a slot is lost.
+    fn is_free(&self, slot: usize) -> bool
+        requires { slot < width_of self.now }
+        ensures { result ≡ true → (d : ℕ) → d < width_of self.now → turned (width_of self.now) self.now.first d / 64 ≡ slot / 64 → lost_at self.now d ≡ false }
+    {
+        let start = slot / BLOCK * BLOCK;
+        let end = (start + BLOCK).min(self.places.capacity());
+        for slot in start..end {
+            if self.is_lost(self.at_slot(slot)) {
+                return false;
+            }
+        }
+        true
+    }
+
+    /// The place of a slot.
+    fn at_slot(&self, slot: usize) -> usize
+        requires { slot < width_of self.now }
+        ensures { (d : ℕ) → d < width_of self.now → turned (width_of self.now) self.now.first d ≡ slot → d ≡ result }
+    {
+        if slot < self.first {
+            self.places.capacity() - self.first + slot
+        } else {
+            slot - self.first
+        }
+    }
+
+    /// A place's block loses its hint where nothing of it is lost.
+    fn settle(&mut self, at: usize)
+        requires { at < width_of self.old }
+        ensures width { width_of self.new ≡ width_of self.old }
+        ensures length { length_of self.new ≡ length_of self.old }
+        ensures kept { (d : ℕ) → kept_at self.new d ≡ kept_at self.old d }
+        ensures lost { (d : ℕ) → lost_at self.new d ≡ lost_at self.old d }
+    {
+        let slot = self.slot(at);
+        if self.is_free(slot) {
+            self.hints.set(slot, false);
+        }
+    }
+
+    /// How far the places go from one on whose blocks have no hint, before the end or the last slot.
+    fn skip(&self, at: usize, end: usize) -> usize
+        requires order { at < end }
+        requires inside { end ≤ width_of self.now }
+        requires off { hint_at self.now.hints (turned (width_of self.now) self.now.first at) ≡ false }
+        ensures low { at < result }
+        ensures high { result ≤ end }
+        ensures off { (d : ℕ) → at ≤ d → d < result → hint_at self.now.hints (turned (width_of self.now) self.now.first d) ≡ false }
+    {
+        let slot = self.slot(at);
+        let last = (slot + (end - at)).min(self.places.capacity());
+        at + (self.hints.skip(slot, last) - slot)
+    }
+
+    /// A place from which on the search for a lost one goes on, past one that isn't lost: none before it
+    /// is lost. Blocks without a hint are passed over, and one that was searched in vain loses its hint.
+    fn pass(&mut self, at: usize, end: usize) -> usize
+        requires order { at < end }
+        requires inside { end ≤ length_of self.old }
+        requires not_lost { lost_at self.old at ≡ false }
+        ensures width { width_of self.new ≡ width_of self.old }
+        ensures length { length_of self.new ≡ length_of self.old }
+        ensures kept { (d : ℕ) → kept_at self.new d ≡ kept_at self.old d }
+        ensures lost { (d : ℕ) → lost_at self.new d ≡ lost_at self.old d }
+        ensures low { at < result }
+        ensures high { result ≤ end }
+        ensures before { (d : ℕ) → at ≤ d → d < result → lost_at self.old d ≡ false }
+    {
+        if !self.hints.get(self.slot(at)) {
+            return self.skip(at, end);
+        }
+        let past = self.block_end(at).min(end);
+        let found = self.walk(at + 1, past);
+        if found == past {
+            self.settle(at);
+        }
+        found
+    }
+
+    /// The first lost one from here on and before the end; the end where there is none. Costs by the
+    /// blocks that are passed over, and by the places of those that had a lost one since a search came
+    /// through them.
+    pub fn find_lost(&mut self, from: usize, end: usize) -> usize
+        requires order { from ≤ end }
+        requires inside { end ≤ length_of self.old }
+        ensures width { width_of self.new ≡ width_of self.old }
+        ensures length { length_of self.new ≡ length_of self.old }
+        ensures kept { (d : ℕ) → kept_at self.new d ≡ kept_at self.old d }
+        ensures lost { (d : ℕ) → lost_at self.new d ≡ lost_at self.old d }
+        ensures low { from ≤ result }
+        ensures high { result ≤ end }
+        ensures before { (d : ℕ) → from ≤ d → d < result → lost_at self.old d ≡ false }
+        ensures here { result < end → lost_at self.old result ≡ true }
+    {
+        let mut at = from;
+        while at < end {
+            if self.is_lost(at) {
+                return at;
+            }
+            at = self.pass(at, end);
         }
         end
     }

@@ -1,5 +1,8 @@
 //! Rows of what is queued, sent, lost and gone.
 
+mod plain;
+mod random;
+
 use crate::SendBuf;
 use srt_loss::read;
 use srt_seq::{Payload, Seq31};

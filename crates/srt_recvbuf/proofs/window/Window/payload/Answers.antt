@@ -1,8 +1,9 @@
 use Rattle.std.proofs.Common.{◌≡◌, ℕ, true, List, refl, sym, ap, ◌∙◌, arith}
 use Rattle.srt_recvbuf.specs.declared.window.Place.{Place}
 use Rattle.srt_recvbuf.specs.declared.window.Place.TheVariants.{Missing, Dropped, Received}
-use Rattle.srt_recvbuf.specs.Cells.{text_at, cell_of, is_got, payload_of}
-use Rattle.srt_recvbuf.proofs.Places.{text_read}
+use Rattle.srt_seq.specs.Texts.{text_at}
+use Rattle.srt_recvbuf.specs.Cells.{cell_of, is_got, payload_of}
+use Rattle.srt_seq.proofs.TextPlaces.{text_read}
 use Rattle.srt_recvbuf.proofs.window.Window.payload.Goals as goal
 
 its_text : (p : Place) (t : List ℕ) → is_got (cell_of p t) ≡ true → t ≡ payload_of (cell_of p t)
@@ -13,5 +14,5 @@ its_text (Received due) t e = refl
 pub returns : goal.returns
 returns c =
     let s = c.args.self.now in
-    let text = c.payload.ensures ∙ sym (text_read s.texts.items c.turned.result c.index.result.now (omega (arith, c.turned.ensures.inside, s.texts.ok.0)) c.index.ensures) ∙ ap (λ i. text_at s.texts.items i) c.turned.ensures.value in
+    let text = c.payload.ensures ∙ sym (text_read s.texts.items c.text_index.result c.index.result.now (omega (arith, c.text_index.ensures.inside, s.texts.ok.0)) c.index.ensures) ∙ ap (λ i. text_at s.texts.items i) c.text_index.ensures.value in
     record { packet = λ e. text ∙ its_text _ _ e; text = text }

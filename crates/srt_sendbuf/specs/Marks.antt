@@ -1,0 +1,7 @@
+-- Whether a place is to be sent again.
+use Rattle.std.specs.Prelude.{Bool, false, Option, None, Some}
+use Rattle.srt_sendbuf.specs.declared.ring.Place.{Place}
+
+abbrev pub is_lost : Option Place → Bool
+is_lost None = false
+is_lost (Some p) = p.lost
