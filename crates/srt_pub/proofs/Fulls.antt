@@ -1,0 +1,274 @@
+-- What is kept of ACKs stays right.
+use Rattle.std.proofs.Common.{◌≡◌, ◌⊎◌, inl, inr, ℕ, suc, zero, ◌+◌, ◌-◌, ◌<◌, ◌≤◌, min, Bool, true, false, cond, not, ◌||◌, ◌&&◌, Option, Some, None, List, [], ◌∷◌, length, refl, sym, ap, subst, ◌∙◌, arith}
+use Rattle.std.specs.Prelude.{nat_lt, nat_le, ◌==◌, slice_get}
+use Rattle.std.proofs.lemmas.Bool.{cases_lt, lt-ltb, le-ltb}
+use Rattle.std.proofs.lemmas.Bool.Decides.{nat_tests}
+use Rattle.srt_pub.specs.Publishing.{Full, Note, Came, Sent, Confirmed, Report, FullAck, LightAck, fulls, is_confirmed, later_of, latest_confirmed, says_pair, is_known, came_since_ack, time_of, is_full_due, is_light_due, full_ack, ack_of, acks_at}
+use Rattle.srt_pub.specs.Kept.{IsNotPast, AreFulls, AreAcks}
+
+same_full : (f g : Full) → Some f ≡ Some g → f ≡ g
+same_full f g e = cc
+
+-- no ACK yet
+nothing_there : (d : ℕ) (f : Full) → slice_get {X = Full} [] d ≡ Some f → ⊥
+nothing_there d f e = cc
+
+no_latest : (f : Full) (o : Option Full) → o ≡ None → o ≡ Some f → ⊥
+no_latest f o none e = cc
+
+known_first : (width : ℕ) → true ≡ ((0 == 0) && (0 + width - 0 == width))
+known_first width = grind (arith, nat_tests)
+
+pub acks_first : (width : ℕ) → AreAcks width 0 0 [] true 0 0 0
+acks_first width =
+    record {
+      inside = omega arith;
+      sent = record { numbered = λ d f e. absurd (nothing_there d f e); rising = λ d e f g le a b. absurd (nothing_there d f a); low = λ d f e. absurd (nothing_there d f e); high = λ d f e. absurd (nothing_there d f e) };
+      confirmed = record { latest = λ f e. absurd (no_latest f _ refl e); below = λ index le. refl };
+      known_is = known_first width;
+      same_is = λ d f lt e. absurd (nothing_there d f e);
+      last_is = refl;
+      came_is = refl;
+    }
+
+pub acks_came : (width position point came' : ℕ) (notes : List Note) (known : Bool) (same last came : ℕ) → came' ≡ min (came + 1) 64 → AreAcks width position point notes known same last came → AreAcks width position point (Came ∷ notes) known same last came'
+acks_came width position point came' notes known same last came more h =
+    record {
+      inside = h.inside;
+      sent = h.sent;
+      confirmed = record { latest = h.confirmed.latest; below = h.confirmed.below };
+      known_is = h.known_is;
+      same_is = h.same_is;
+      last_is = h.last_is;
+      came_is = omega (arith, h.came_is, more);
+    }
+
+pub acks_light : (width position point time said : ℕ) (notes : List Note) (known : Bool) (same last came : ℕ) → AreAcks width position point notes known same last came → AreAcks width position point (Sent time (LightAck said) ∷ notes) known same last 0
+acks_light width position point time said notes known same last came h =
+    record {
+      inside = h.inside;
+      sent = h.sent;
+      confirmed = record { latest = h.confirmed.latest; below = h.confirmed.below };
+      known_is = h.known_is;
+      same_is = h.same_is;
+      last_is = h.last_is;
+      came_is = refl;
+    }
+
+-- a report that isn't an ACK
+pub record IsNoAck (time : ℕ) (r : Report) (notes : List Note) : Type 0 where
+  pub fulls_are : fulls (Sent time r ∷ notes) ≡ fulls notes
+  pub came_is : came_since_ack (Sent time r ∷ notes) ≡ came_since_ack notes
+
+pub acks_other : (width position point time : ℕ) (r : Report) (notes : List Note) (known : Bool) (same last came : ℕ) → IsNoAck time r notes → AreAcks width position point notes known same last came → AreAcks width position point (Sent time r ∷ notes) known same last came
+acks_other width position point time r notes known same last came n h =
+    let F : List Full → Type 0 = λ fs. AreFulls width position point fs in
+    record {
+      inside = h.inside;
+      sent = subst F (sym n.fulls_are) h.sent;
+      confirmed =
+          record {
+            latest = λ f e. let k = h.confirmed.latest f e in (k.0, ap (λ fs. slice_get fs k.0) n.fulls_are ∙ k.1);
+            below = λ index le. h.confirmed.below index (subst (λ (fs : List Full). length fs ≤ index) n.fulls_are le);
+          };
+      known_is = h.known_is;
+      same_is = λ d f lt e. h.same_is d f lt (sym (ap (λ fs. slice_get fs d) n.fulls_are) ∙ e);
+      last_is = h.last_is ∙ sym (ap time_of n.fulls_are);
+      came_is = h.came_is ∙ sym (ap (λ k. min k 64) n.came_is);
+    }
+
+-- the front or the acknowledgement point moves on: none of the Full ACKs says the new pair
+no_pair : (width position a front point fp fa : ℕ) → 0 < front + point → a + point ≤ position + front + width → fp ≤ a → fp + fa ≤ position + width → ((a + point == fp) && (position + front + width - (a + point) == fa)) ≡ false
+no_pair width position a front point fp fa more inside le up = grind (arith, nat_tests)
+
+unknown : (width position a front point : ℕ) (fs : List Full) (latest : Option Full) → 0 < front + point → a + point ≤ position + front + width → AreFulls width position a fs → ((f : Full) → latest ≡ Some f → (d : ℕ) × (slice_get fs d ≡ Some f)) → is_known width (a + point) (position + front + width - (a + point)) latest ≡ false
+unknown width position a front point fs None more inside h among = no_pair width position a front point 0 width more inside (omega arith) (omega arith)
+unknown width position a front point fs (Some f) more inside h among =
+    let k = among f refl in
+    let high = h.high k.0 f k.1 in
+    no_pair width position a front point f.point f.available more inside high.0 high.1
+
+none_below : (d : ℕ) (b : Bool) → b ≡ false → nat_lt d 0 ≡ b
+none_below d b e = grind (arith, nat_tests)
+
+pub acks_moved : (width position a front point : ℕ) (notes : List Note) (known : Bool) (same last came : ℕ) → 0 < front + point → a + point ≤ position + front + width → AreAcks width position a notes known same last came → AreAcks width (position + front) (a + point) notes false 0 last came
+acks_moved width position a front point notes known same last came more inside h =
+    record {
+      inside = inside;
+      sent =
+          record {
+            numbered = h.sent.numbered;
+            rising = h.sent.rising;
+            low = h.sent.low;
+            high = λ d f e. let k = h.sent.high d f e in (omega (arith, k.0), omega (arith, k.1));
+          };
+      confirmed = h.confirmed;
+      known_is = sym (unknown width position a front point (fulls notes) (latest_confirmed notes) more inside h.sent h.confirmed.latest);
+      same_is = λ d f lt e. let k = h.sent.high d f e in none_below d _ (no_pair width position a front point f.point f.available more inside k.0 k.1);
+      last_is = h.last_is;
+      came_is = h.came_is;
+    }
+
+-- a Full ACK is sent, which says the pair
+reads : (d : ℕ) (x f : Full) (fs : List Full) → slice_get (x ∷ fs) d ≡ Some f → ((d ≡ 0) × (x ≡ f)) ⊎ ((e : ℕ) × (d ≡ e + 1) × (slice_get fs e ≡ Some f))
+reads zero x f fs e = inl (refl, same_full x f e)
+reads (suc d) x f fs e = inr (d, omega arith, e)
+
+not_past_itself : (x y : Full) → x ≡ y → IsNotPast x y
+not_past_itself x y e = let p = ap (λ (f : Full). f.point) e in let a = ap (λ (f : Full). f.available) e in record { point = omega (arith, p); window = omega (arith, p, a) }
+
+fulls_more : (width position a : ℕ) (x : Full) (fs : List Full) → x.index ≡ length fs → x.point ≡ a → x.point + x.available ≡ position + width → a ≤ position + width → AreFulls width position a fs → AreFulls width position a (x ∷ fs)
+fulls_more width position a x fs index point window inside h =
+    record {
+      numbered = λ d f e. elim (reads d x f fs e) [
+        | inl z ↦ let i = ap (λ (g : Full). g.index) z.1 in omega (arith, z.0, i, index)
+        | inr k ↦ let n = h.numbered k.0 f k.2 in omega (arith, n, k.1)
+      ];
+      rising = λ d e f g le af ag. elim (reads d x f fs af) [
+        | inl z ↦ elim (reads e x g fs ag) [
+          | inl y ↦ not_past_itself g f (sym y.1 ∙ z.1)
+          | inr k ↦
+              let high = h.high k.0 g k.2 in
+              let p = ap (λ (q : Full). q.point) z.1 in
+              let v = ap (λ (q : Full). q.available) z.1 in
+              record { point = omega (arith, high.0, p, point); window = omega (arith, high.1, p, v, window) }
+        ]
+        | inr j ↦ elim (reads e x g fs ag) [
+          | inl y ↦ absurd (omega (arith, y.0, j.1, le))
+          | inr k ↦ h.rising j.0 k.0 f g (omega (arith, j.1, k.1, le)) j.2 k.2
+        ]
+      ];
+      low = λ d f e. elim (reads d x f fs e) [
+        | inl z ↦ let p = ap (λ (q : Full). q.point) z.1 in let v = ap (λ (q : Full). q.available) z.1 in omega (arith, p, v, window)
+        | inr k ↦ h.low k.0 f k.2
+      ];
+      high = λ d f e. elim (reads d x f fs e) [
+        | inl z ↦ let p = ap (λ (q : Full). q.point) z.1 in let v = ap (λ (q : Full). q.available) z.1 in (omega (arith, p, point), omega (arith, p, v, window))
+        | inr k ↦ h.high k.0 f k.2
+      ];
+    }
+
+says_it : (a room fp fa : ℕ) → fp ≡ a → fa ≡ room → ((a == fp) && (room == fa)) ≡ true
+says_it a room fp fa p v = grind (arith, nat_tests)
+
+one_more : (d e same : ℕ) (b : Bool) → d ≡ e + 1 → d < 64 → nat_lt e same ≡ b → nat_lt d (min (same + 1) 64) ≡ b
+one_more d e same b i lt h = grind (arith, nat_tests)
+
+at_first : (d same : ℕ) (b : Bool) → d ≡ 0 → b ≡ true → nat_lt d (min (same + 1) 64) ≡ b
+at_first d same b i h = grind (arith, nat_tests)
+
+pub acks_full : (width position a time rtt variance room same' : ℕ) (notes : List Note) (known : Bool) (same last came : ℕ) → room ≡ position + width - a → same' ≡ min (same + 1) 64 → AreAcks width position a notes known same last came → AreAcks width position a (Sent time (FullAck (length (fulls notes)) a rtt variance room) ∷ notes) known same' time 0
+acks_full width position a time rtt variance room same' notes known same last came is more h =
+    let x : Full = record { index = length (fulls notes); time = time; point = a; available = room } in
+    record {
+      inside = h.inside;
+      sent = fulls_more width position a x (fulls notes) refl refl (omega (arith, is, h.inside)) h.inside h.sent;
+      confirmed =
+          record {
+            latest = λ f e. let k = h.confirmed.latest f e in (suc k.0, k.1);
+            below = λ index le. h.confirmed.below index (omega (arith, le));
+          };
+      known_is = h.known_is;
+      same_is = λ d f lt e. rw more (elim (reads d x f (fulls notes) e) [
+        | inl z ↦
+            let p = ap (λ (q : Full). q.point) z.1 in
+            let v = ap (λ (q : Full). q.available) z.1 in
+            at_first d same _ z.0 (says_it a (position + width - a) f.point f.available (sym p) (sym v ∙ is))
+        | inr k ↦ one_more d k.0 same _ k.1 lt (h.same_is k.0 f (omega (arith, k.1, lt)) k.2)
+      ]);
+      last_is = refl;
+      came_is = refl;
+    }
+
+-- a Full ACK is confirmed
+none_before : (k s : Bool) (width position a fp fa : ℕ) → k ≡ ((a == 0) && (position + width - a == width)) → s ≡ ((a == fp) && (position + width - a == fa)) → a ≤ position + width → fp ≤ a → fp + fa ≤ position + width → width ≤ fp + fa → (k || s) ≡ s
+none_before k s width position a fp fa ki si inside le up low = grind (arith, nat_tests)
+
+stays : (k s : Bool) (width position a fp fa gp ga : ℕ) → k ≡ ((a == gp) && (position + width - a == ga)) → s ≡ ((a == fp) && (position + width - a == fa)) → a ≤ position + width → fp ≤ gp → fp + fa ≤ gp + ga → gp ≤ a → gp + ga ≤ position + width → (k || s) ≡ k
+stays k s width position a fp fa gp ga ki si inside p w le up = grind (arith, nat_tests)
+
+takes_over : (k s : Bool) (width position a fp fa gp ga : ℕ) → k ≡ ((a == gp) && (position + width - a == ga)) → s ≡ ((a == fp) && (position + width - a == fa)) → a ≤ position + width → gp ≤ fp → gp + ga ≤ fp + fa → fp ≤ a → fp + fa ≤ position + width → (k || s) ≡ s
+takes_over k s width position a fp fa gp ga ki si inside p w le up = grind (arith, nat_tests)
+
+known_with : (width position a d : ℕ) (fs : List Full) (f : Full) (latest : Option Full) (k s : Bool) → AreFulls width position a fs → a ≤ position + width → slice_get fs d ≡ Some f → ((g : Full) → latest ≡ Some g → (e : ℕ) × (slice_get fs e ≡ Some g)) → k ≡ is_known width a (position + width - a) latest → s ≡ says_pair a (position + width - a) f → (k || s) ≡ is_known width a (position + width - a) (later_of f latest)
+known_with width position a d fs f None k s h inside at among ki si =
+    let high = h.high d f at in
+    none_before k s width position a f.point f.available ki si inside high.0 high.1 (h.low d f at) ∙ si
+known_with width position a d fs f (Some g) k s h inside at among ki si =
+    let e = among g refl in
+    let i = h.numbered d f at in
+    let j = h.numbered e.0 g e.1 in
+    elim (cases_lt f.index g.index) [
+      | inl lt ↦
+          let n = h.rising e.0 d g f (omega (arith, i, j, lt)) e.1 at in
+          let high = h.high e.0 g e.1 in
+          stays k s width position a f.point f.available g.point g.available ki si inside n.point n.window high.0 high.1 ∙ ki
+          ∙ sym (ap (λ (b : Bool). is_known width a (position + width - a) (cond b (Some g) (Some f))) (lt-ltb _ _ lt))
+      | inr ge ↦
+          let n = h.rising d e.0 f g (omega (arith, i, j, ge)) at e.1 in
+          let high = h.high d f at in
+          takes_over k s width position a f.point f.available g.point g.available ki si inside n.point n.window high.0 high.1 ∙ si
+          ∙ sym (ap (λ (b : Bool). is_known width a (position + width - a) (cond b (Some g) (Some f))) (le-ltb _ _ ge))
+    ]
+
+among_later : (f g : Full) (latest : Option Full) (fs : List Full) (d : ℕ) → slice_get fs d ≡ Some f → ((x : Full) → latest ≡ Some x → (e : ℕ) × (slice_get fs e ≡ Some x)) → later_of f latest ≡ Some g → (e : ℕ) × (slice_get fs e ≡ Some g)
+among_later f g None fs d at among is = (d, at ∙ is)
+among_later f g (Some x) fs d at among is = elim (cases_lt f.index x.index) [
+  | inl lt ↦ let e = among x refl in (e.0, e.1 ∙ sym (ap (λ (b : Bool). cond b (Some x) (Some f)) (lt-ltb _ _ lt)) ∙ is)
+  | inr ge ↦ (d, at ∙ sym (ap (λ (b : Bool). cond b (Some x) (Some f)) (le-ltb _ _ ge)) ∙ is)
+]
+
+not_it : (a b : ℕ) (c : Bool) → a < b → c ≡ false → ((a == b) || c) ≡ false
+not_it a b c lt e = grind (arith, nat_tests)
+
+pub acks_confirmed : (width position a d sample : ℕ) (f : Full) (notes : List Note) (known known' : Bool) (same last came : ℕ) → d < 64 → slice_get (fulls notes) d ≡ Some f → known' ≡ (known || nat_lt d same) → AreAcks width position a notes known same last came → AreAcks width position a (Confirmed f sample ∷ notes) known' same last came
+acks_confirmed width position a d sample f notes known known' same last came lt at is h =
+    record {
+      inside = h.inside;
+      sent = h.sent;
+      confirmed =
+          record {
+            latest = λ g e. among_later f g (latest_confirmed notes) (fulls notes) d at h.confirmed.latest e;
+            below = λ index le. let n = h.sent.numbered d f at in not_it f.index index (is_confirmed notes index) (omega (arith, n, le)) (h.confirmed.below index le);
+          };
+      known_is = is ∙ known_with width position a d (fulls notes) f (latest_confirmed notes) known (nat_lt d same) h.sent h.inside at h.confirmed.latest h.known_is (h.same_is d f lt at);
+      same_is = h.same_is;
+      last_is = h.last_is;
+      came_is = h.came_is;
+    }
+
+due_when_known : (known : Bool) (b : Bool) → known ≡ true → false ≡ (b && not known)
+due_when_known known b e = rw e (by b)
+  where
+    by : (b : Bool) → false ≡ (b && not true)
+    by true = refl
+    by false = refl
+
+due_when_unknown : (known : Bool) (b : Bool) → known ≡ false → b ≡ (b && not known)
+due_when_unknown known b e = rw e (by b)
+  where
+    by : (b : Bool) → b ≡ (b && not false)
+    by true = refl
+    by false = refl
+
+-- whether a Full ACK is due
+pub full_not_due : (width position point time : ℕ) (notes : List Note) (known : Bool) (same last came : ℕ) → known ≡ true → AreAcks width position point notes known same last came → false ≡ is_full_due width point (position + width - point) time notes
+unfolding is_full_due
+full_not_due width position point time notes known same last came k h = due_when_known (is_known width point (position + width - point) (latest_confirmed notes)) _ (sym h.known_is ∙ k)
+
+pub full_due : (width position point time since : ℕ) (notes : List Note) (known : Bool) (same last came : ℕ) → known ≡ false → since ≡ time - last → AreAcks width position point notes known same last came → nat_le 10_000 since ≡ is_full_due width point (position + width - point) time notes
+unfolding is_full_due
+full_due width position point time since notes known same last came k s h =
+    ap (nat_le 10_000) (s ∙ ap (λ x. time - x) h.last_is)
+    ∙ due_when_unknown (is_known width point (position + width - point) (latest_confirmed notes)) _ (sym h.known_is ∙ k)
+
+pub light_due : (width position point : ℕ) (notes : List Note) (known : Bool) (same last came : ℕ) → AreAcks width position point notes known same last came → nat_le 64 came ≡ is_light_due notes
+light_due width position point notes known same last came h = let e = h.came_is in grind (arith, nat_tests)
+
+pub acks_by : (width a available time : ℕ) (notes : List Note) (full light : Bool) → is_full_due width a available time notes ≡ full → is_light_due notes ≡ light → acks_at width a available time notes ≡ ack_of full light (full_ack a available notes) (LightAck a)
+unfolding acks_at
+acks_by width a available time notes full light f l = ap (λ b. ack_of b (is_light_due notes) (full_ack a available notes) (LightAck a)) f ∙ ap (λ b. ack_of full b (full_ack a available notes) (LightAck a)) l
+
+pub acks_still : (width position position' a a' : ℕ) (notes : List Note) (known : Bool) (same last came : ℕ) → position ≡ position' → a ≡ a' → AreAcks width position a notes known same last came → AreAcks width position' a' notes known same last came
+acks_still width position position' a a' notes known same last came p q h =
+    subst (λ (x : ℕ). AreAcks width position' x notes known same last came) q (subst (λ (x : ℕ). AreAcks width x a notes known same last came) p h)

@@ -1,0 +1,11 @@
+pub mod Books
+pub mod Fulls
+pub mod Bytes
+pub mod Logs
+pub mod Goings
+pub mod Windows
+pub mod Sendings
+pub mod Deliveries
+pub mod Calling
+pub mod Spelled
+pub mod Rows

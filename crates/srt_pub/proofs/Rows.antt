@@ -1,0 +1,168 @@
+-- What a session delivers and sends, worked out from the definitions.
+use Rattle.std.proofs.Common.{◌≡◌, ℕ, zero, suc, ◌+◌, true, false, Option, None, Some, List, [], ◌∷◌, refl}
+use Rattle.std.specs.Prelude.{map}
+use Rattle.srt_seq.specs.declared.shared.Mode.TheVariants.{Live, Buffer}
+use Rattle.srt_seq.specs.Window.{in_window}
+use Rattle.srt_seq.specs.Lift.{lift, stamped_from}
+use Rattle.srt_packet.specs.Grammar.{Body, Data, KeepAlive, AckAck, DropRequest}
+use Rattle.srt_recvbuf.specs.Receiving.{Arrival, gaps, is_dropped}
+use Rattle.srt_pub.specs.declared.ends.PubEnd.{PubEnd}
+use Rattle.srt_pub.specs.declared.ends.PubEnd.TheVariants as ends
+use Rattle.srt_pub.specs.Heard.{heard_from}
+use Rattle.srt_pub.specs.Publishing.{Terms, Publishing, opened, took, deliveries, delivered, reports, reported, round_trip, confirmed_by, is_full_due, acks_at, naks}
+use Rattle.srt_pub.specs.Calls.{ended}
+use Rattle.srt_pub.specs.Says.{says}
+
+-- an event of a session that was opened with the stamp 0: its time, counted from the opening, what came, and the subscribers' least room
+record Event : Type 0 where
+  time : ℕ
+  stamp : ℕ
+  body : Body
+  room : Option ℕ
+
+abbrev heard : Terms → (initial : ℕ) → Event → Publishing → Publishing
+heard terms initial e p = took terms e.time (stamped_from 0 e.stamp) (heard_from initial e.body) p
+
+abbrev before_reports : Terms → (initial : ℕ) → Event → Publishing → Publishing
+before_reports terms initial e p = delivered terms e.time e.room (heard terms initial e p)
+
+-- the session after events, the newest first; and the payloads and the datagrams of the newest
+abbrev after : Terms → (initial : ℕ) → List Event → Publishing
+after terms initial [] = opened
+after terms initial (e ∷ events) = reported terms e.time (before_reports terms initial e (after terms initial events))
+
+abbrev delivers : Terms → (initial : ℕ) → List Event → List (List ℕ)
+delivers terms initial [] = []
+delivers terms initial (e ∷ events) =
+    map (λ (a : Arrival). a.payload) (deliveries terms.mode terms e.time e.room (heard terms initial e (after terms initial events)))
+
+abbrev sends : Terms → (initial : ℕ) → List Event → List (List ℕ)
+sends terms initial [] = []
+sends terms initial (e ∷ events) = map (says 1 initial e.time) (reports terms e.time (before_reports terms initial e (after terms initial events)))
+
+abbrev live : (width delay : ℕ) → Terms
+live width delay = record { mode = Live; width = width; delay = delay }
+
+abbrev in_buffer : (width : ℕ) → Terms
+in_buffer width = record { mode = Buffer; width = width; delay = 0 }
+
+abbrev still : (time : ℕ) → Event
+still time = record { time = time; stamp = 0; body = KeepAlive; room = None }
+
+abbrev comes : (time stamp number byte : ℕ) → Event
+comes time stamp number byte = record { time = time; stamp = stamp; body = Data number 0 (byte ∷ []); room = None }
+
+abbrev confirms : (time number : ℕ) → Event
+confirms time number = record { time = time; stamp = 0; body = AckAck number; room = None }
+
+abbrev gives_up : (time first last : ℕ) → Event
+gives_up time first last = record { time = time; stamp = 0; body = DropRequest 0 first last; room = None }
+
+-- so many numbers from this one on come at 9 ms
+abbrev many : (first count : ℕ) → List Event
+many first zero = []
+many first (suc n) = comes 9_000 9_000 (first + n) 0x61 ∷ many first n
+
+-- a gap, an acknowledgement and its confirmation
+abbrev two : List Event
+two = comes 1_000 1_000 9 0x61 ∷ comes 1_000 1_000 7 0x61 ∷ []
+
+no_gap : sends (live 1024 1_000_000) 7 (comes 1_000 1_000 7 0x61 ∷ []) ≡ []
+unfolding in_window lift confirmed_by is_full_due acks_at naks reports deliveries says
+no_gap = refl
+
+gap : sends (live 1024 1_000_000) 7 two ≡ (0x80 ∷ 3 ∷ 0 ∷ 0 ∷ 0 ∷ 0 ∷ 0 ∷ 0 ∷ 0 ∷ 0 ∷ 3 ∷ 0xe8 ∷ 0 ∷ 0 ∷ 0 ∷ 1 ∷ 0 ∷ 0 ∷ 0 ∷ 8 ∷ []) ∷ []
+unfolding in_window lift confirmed_by is_full_due acks_at naks reports deliveries says
+gap = refl
+
+acknowledged : sends (live 1024 1_000_000) 7 (still 150_000 ∷ two) ≡ (0x80 ∷ 2 ∷ 0 ∷ 0 ∷ 0 ∷ 0 ∷ 0 ∷ 1 ∷ 0 ∷ 2 ∷ 0x49 ∷ 0xf0 ∷ 0 ∷ 0 ∷ 0 ∷ 1 ∷ 0 ∷ 0 ∷ 0 ∷ 8 ∷ 0 ∷ 1 ∷ 0x86 ∷ 0xa0 ∷ 0 ∷ 0 ∷ 0xc3 ∷ 0x50 ∷ 0 ∷ 0 ∷ 3 ∷ 0xff ∷ 0 ∷ 0 ∷ 0 ∷ 0 ∷ 0 ∷ 0 ∷ 0 ∷ 0 ∷ 0 ∷ 0 ∷ 0 ∷ 0 ∷ []) ∷ (0x80 ∷ 3 ∷ 0 ∷ 0 ∷ 0 ∷ 0 ∷ 0 ∷ 0 ∷ 0 ∷ 2 ∷ 0x49 ∷ 0xf0 ∷ 0 ∷ 0 ∷ 0 ∷ 1 ∷ 0 ∷ 0 ∷ 0 ∷ 8 ∷ []) ∷ []
+unfolding in_window lift confirmed_by is_full_due acks_at naks reports deliveries says
+acknowledged = refl
+
+abbrev confirmed : List Event
+confirmed = confirms 170_000 1 ∷ still 150_000 ∷ two
+
+confirmation : (sends (live 1024 1_000_000) 7 confirmed ≡ []) × (round_trip (after (live 1024 1_000_000) 7 confirmed).notes ≡ record { time = 90_000; variance = 57_500 })
+unfolding in_window lift confirmed_by is_full_due acks_at naks reports deliveries says
+confirmation = (refl, refl)
+
+-- a second confirmation changes nothing
+confirmation_again : (after (live 1024 1_000_000) 7 (confirms 180_000 1 ∷ confirmed)).notes ≡ (after (live 1024 1_000_000) 7 confirmed).notes
+unfolding in_window lift confirmed_by is_full_due acks_at naks reports deliveries says
+confirmation_again = refl
+
+too_early : sends (live 1024 1_000_000) 7 (still 309_999 ∷ confirmed) ≡ []
+unfolding in_window lift confirmed_by is_full_due acks_at naks reports deliveries says
+too_early = refl
+
+in_time : sends (live 1024 1_000_000) 7 (still 310_000 ∷ still 309_999 ∷ confirmed) ≡ (0x80 ∷ 3 ∷ 0 ∷ 0 ∷ 0 ∷ 0 ∷ 0 ∷ 0 ∷ 0 ∷ 4 ∷ 0xba ∷ 0xf0 ∷ 0 ∷ 0 ∷ 0 ∷ 1 ∷ 0 ∷ 0 ∷ 0 ∷ 8 ∷ []) ∷ []
+unfolding in_window lift confirmed_by is_full_due acks_at naks reports deliveries says
+in_time = refl
+
+-- of two packets behind one another the second is delivered at its moment, though one between them is missing
+abbrev waits : List Event
+waits = comes 1_000 1_000 9 0x62 ∷ comes 1_000 500 7 0x61 ∷ []
+
+lost : sends (live 1024 100_000) 7 waits ≡ (0x80 ∷ 3 ∷ 0 ∷ 0 ∷ 0 ∷ 0 ∷ 0 ∷ 0 ∷ 0 ∷ 0 ∷ 3 ∷ 0xe8 ∷ 0 ∷ 0 ∷ 0 ∷ 1 ∷ 0 ∷ 0 ∷ 0 ∷ 8 ∷ []) ∷ []
+unfolding in_window lift confirmed_by is_full_due acks_at naks reports deliveries says
+lost = refl
+
+first_delivered : (delivers (live 1024 100_000) 7 (still 100_499 ∷ waits) ≡ []) × (delivers (live 1024 100_000) 7 (still 100_500 ∷ waits) ≡ (0x61 ∷ []) ∷ [])
+unfolding in_window lift confirmed_by is_full_due acks_at naks reports deliveries says
+first_delivered = (refl, refl)
+
+both_delivered : delivers (live 1024 100_000) 7 (still 101_000 ∷ waits) ≡ (0x61 ∷ []) ∷ (0x62 ∷ []) ∷ []
+unfolding in_window lift confirmed_by is_full_due acks_at naks reports deliveries says
+both_delivered = refl
+
+passed_the_gap : ((after (live 1024 100_000) 7 (still 101_000 ∷ waits)).receiving.position ≡ 3) × (gaps 1024 (after (live 1024 100_000) 7 (still 101_000 ∷ waits)).receiving ≡ [])
+unfolding in_window lift confirmed_by is_full_due acks_at naks reports deliveries says
+passed_the_gap = (refl, refl)
+
+-- a number that was given up is delivered if it comes
+abbrev comes_late : List Event
+comes_late = comes 3_000 900 8 0x63 ∷ gives_up 2_000 8 8 ∷ waits
+
+given_up : (is_dropped 1024 (after (live 1024 100_000) 7 (gives_up 2_000 8 8 ∷ waits)).receiving 1 ≡ true) × (is_dropped 1024 (after (live 1024 100_000) 7 comes_late).receiving 1 ≡ false)
+unfolding in_window lift confirmed_by is_full_due acks_at naks reports deliveries says
+given_up = (refl, refl)
+
+late_delivered : delivers (live 1024 100_000) 7 (still 101_000 ∷ comes_late) ≡ (0x61 ∷ []) ∷ (0x63 ∷ []) ∷ (0x62 ∷ []) ∷ []
+unfolding in_window lift confirmed_by is_full_due acks_at naks reports deliveries says
+late_delivered = refl
+
+-- after 64 packets a Light ACK
+no_light_ack : sends (live 1024 120_000) 0 (many 0 63) ≡ []
+unfolding in_window lift confirmed_by is_full_due acks_at naks reports deliveries says
+no_light_ack = refl
+
+light_ack : sends (live 1024 120_000) 0 (many 0 64) ≡ (0x80 ∷ 2 ∷ 0 ∷ 0 ∷ 0 ∷ 0 ∷ 0 ∷ 0 ∷ 0 ∷ 0 ∷ 0x23 ∷ 0x28 ∷ 0 ∷ 0 ∷ 0 ∷ 1 ∷ 0 ∷ 0 ∷ 0 ∷ 0x40 ∷ []) ∷ []
+unfolding in_window lift confirmed_by is_full_due acks_at naks reports deliveries says
+light_ack = refl
+
+-- numbers go round
+round_ack : sends (live 32 120_000) 0x7fff_ffff (still 10_000 ∷ comes 1_000 1_000 0 0x61 ∷ comes 1_000 1_000 0x7fff_ffff 0x61 ∷ []) ≡ (0x80 ∷ 2 ∷ 0 ∷ 0 ∷ 0 ∷ 0 ∷ 0 ∷ 1 ∷ 0 ∷ 0 ∷ 0x27 ∷ 0x10 ∷ 0 ∷ 0 ∷ 0 ∷ 1 ∷ 0 ∷ 0 ∷ 0 ∷ 1 ∷ 0 ∷ 1 ∷ 0x86 ∷ 0xa0 ∷ 0 ∷ 0 ∷ 0xc3 ∷ 0x50 ∷ 0 ∷ 0 ∷ 0 ∷ 0x1e ∷ 0 ∷ 0 ∷ 0 ∷ 0 ∷ 0 ∷ 0 ∷ 0 ∷ 0 ∷ 0 ∷ 0 ∷ 0 ∷ 0 ∷ []) ∷ []
+unfolding in_window lift confirmed_by is_full_due acks_at naks reports deliveries says
+round_ack = refl
+
+-- a number past an empty window ends the session
+abbrev past : List Event → Event → Option PubEnd
+past events e = ended (live 32 120_000) 0 e.body (after (live 32 120_000) 0 events)
+
+window_lost : (past [] (comes 0 0 31 0x61) ≡ None) × (past [] (comes 0 0 32 0x61) ≡ Some ends.WindowLost) × (past (comes 0 0 31 0x61 ∷ []) (comes 0 0 32 0x61) ≡ None)
+unfolding in_window lift confirmed_by is_full_due acks_at naks reports deliveries says
+window_lost = (refl, refl, refl)
+
+past_ignored : (after (live 32 120_000) 0 (comes 0 0 32 0x61 ∷ comes 0 0 31 0x61 ∷ [])).receiving ≡ (after (live 32 120_000) 0 (comes 0 0 31 0x61 ∷ [])).receiving
+unfolding in_window lift confirmed_by is_full_due acks_at naks reports deliveries says
+past_ignored = refl
+
+-- a window that nobody takes is full
+full_window : (delivers (in_buffer 32) 100 (still 10_000 ∷ many 100 32) ≡ []) × (sends (in_buffer 32) 100 (still 10_000 ∷ many 100 32) ≡ (0x80 ∷ 2 ∷ 0 ∷ 0 ∷ 0 ∷ 0 ∷ 0 ∷ 1 ∷ 0 ∷ 0 ∷ 0x27 ∷ 0x10 ∷ 0 ∷ 0 ∷ 0 ∷ 1 ∷ 0 ∷ 0 ∷ 0 ∷ 0x84 ∷ 0 ∷ 1 ∷ 0x86 ∷ 0xa0 ∷ 0 ∷ 0 ∷ 0xc3 ∷ 0x50 ∷ 0 ∷ 0 ∷ 0 ∷ 0 ∷ 0 ∷ 0 ∷ 0 ∷ 0 ∷ 0 ∷ 0 ∷ 0 ∷ 0 ∷ 0 ∷ 0 ∷ 0 ∷ 0 ∷ []) ∷ [])
+unfolding in_window lift confirmed_by is_full_due acks_at naks reports deliveries says
+full_window = (refl, refl)
+
+-- a KEEPALIVE after a second
+alive : (sends (in_buffer 32) 0 (still 999_999 ∷ []) ≡ []) × (sends (in_buffer 32) 0 (still 1_000_000 ∷ still 999_999 ∷ []) ≡ (0x80 ∷ 1 ∷ 0 ∷ 0 ∷ 0 ∷ 0 ∷ 0 ∷ 0 ∷ 0 ∷ 0xf ∷ 0x42 ∷ 0x40 ∷ 0 ∷ 0 ∷ 0 ∷ 1 ∷ []) ∷ [])
+unfolding in_window lift confirmed_by is_full_due acks_at naks reports deliveries says
+alive = (refl, refl)

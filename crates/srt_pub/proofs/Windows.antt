@@ -1,0 +1,72 @@
+-- Words of numbers at a session's window.
+use Rattle.std.proofs.Common.{◌≡◌, inl, inr, ℕ, ◌+◌, ◌-◌, ◌%◌, ◌^◌, ◌<◌, ◌≤◌, Bool, true, false, not, ◌&&◌, Option, Some, None, length, refl, sym, ap, ◌∙◌, arith}
+use Rattle.std.specs.Prelude.{is_some, is_none, option_map}
+use Rattle.std.proofs.lemmas.List.{get_or_past}
+use Rattle.std.proofs.lemmas.Bool.{cases_lt}
+use Rattle.std.proofs.lemmas.Bool.Decides.{nat_tests}
+use Rattle.srt_seq.specs.Window.{in_window, counted_from}
+use Rattle.srt_recvbuf.specs.declared.window.Place.TheVariants.{Missing}
+use Rattle.srt_recvbuf.specs.declared.buffer.RecvBuf.{RecvBuf}
+use Rattle.srt_recvbuf.specs.Receiving.{Receiving, is_received, is_waiting}
+use Rattle.srt_seq.specs.Slots.{text_of_slot}
+use Rattle.srt_seq.specs.Texts.{text_at, turned}
+use Rattle.srt_recvbuf.specs.Cells.{cell_of, is_got}
+use Rattle.srt_recvbuf.specs.OneByOne.{NothingBeyond}
+use Rattle.srt_recvbuf.specs.Stands as buffers
+use Rattle.srt_recvbuf.proofs.Buffers.{cell_received, own_none, own_some}
+use Rattle.srt_pub.specs.Publishing.{is_past_window}
+
+pub beyond : (width initial origin : ℕ) (b : RecvBuf) (r : Receiving) → buffers.StandsFor width initial origin b r → NothingBeyond width r
+beyond width initial origin b r h n le =
+    let w = b.window in
+    let d = n - r.position in
+    let e : r.position + d ≡ n = omega (arith, le) in
+    let past = get_or_past w.places.items d Missing (omega (arith, le, h.0)) in
+    let none = ap (λ p. is_got (cell_of p (text_at w.texts.items (text_of_slot w.order (turned (length w.places.items) w.first d))))) past in
+    ap (is_received r) (sym e) ∙ cell_received width initial origin _ _ _ _ r h.1 d ∙ none
+
+-- a word with its top bit set is no number
+pub no_number : (initial word position width : ℕ) → 2 ^ 31 ≤ word → in_window (counted_from initial word) position width ≡ None
+unfolding in_window
+no_number initial word position width le = grind (arith, nat_tests)
+
+pub same_some : (initial position width word front : ℕ) (o : Option ℕ) → front ≡ buffers.number_word initial position → ((a : ℕ) → a % 2 ^ 31 ≡ front → option_map (λ d. a + d) o ≡ in_window word a width) → is_some o ≡ is_some (in_window (counted_from initial word) position width)
+same_some initial position width word front None f h = sym (ap is_some (own_none initial position width word front f h))
+same_some initial position width word front (Some d) f h = sym (ap is_some (own_some initial position width word front d f h))
+
+outside : (n position width : ℕ) → width ≤ 8192 → is_some (in_window n (position + width) (2 ^ 30)) ≡ true → is_none (in_window n position width) ≡ true
+unfolding in_window
+outside n position width narrow e = grind (arith, nat_tests)
+
+pub past_waiting : (width n : ℕ) (r : Receiving) → is_waiting r ≡ true → false ≡ is_past_window width n r
+past_waiting width n r e = by (is_none (in_window n r.position width)) (is_waiting r) (is_some (in_window n (r.position + width) (2 ^ 30))) e
+  where
+    by : (a b c : Bool) → b ≡ true → false ≡ (a && not b && c)
+    by a b c e = grind (arith, nat_tests)
+
+pub past_none : (width initial word : ℕ) (r : Receiving) → 2 ^ 31 ≤ word → false ≡ is_past_window width (counted_from initial word) r
+past_none width initial word r le = by (is_none (in_window (counted_from initial word) r.position width)) (not (is_waiting r)) _ (ap is_some (no_number initial word (r.position + width) (2 ^ 30) le))
+  where
+    by : (a b c : Bool) → c ≡ false → false ≡ (a && b && c)
+    by a b c e = grind (arith, nat_tests)
+
+pub past_is : (width n : ℕ) (r : Receiving) → width ≤ 8192 → is_waiting r ≡ false → is_some (in_window n (r.position + width) (2 ^ 30)) ≡ is_past_window width n r
+past_is width n r narrow e = by (is_none (in_window n r.position width)) (is_waiting r) (is_some (in_window n (r.position + width) (2 ^ 30))) e (outside n r.position width narrow)
+  where
+    by : (a b c : Bool) → b ≡ false → (c ≡ true → a ≡ true) → c ≡ (a && not b && c)
+    by true b c e f = grind (arith, nat_tests)
+    by false b true e f = sym (f refl)
+    by false b false e f = refl
+
+in_there : (initial position width d : ℕ) → d ≤ width → width ≤ 8192 → in_window (counted_from initial ((initial + (position + d)) % 2 ^ 31)) position (width + 1) ≡ Some (position + d)
+unfolding in_window
+in_there initial position width d le narrow = grind (arith, nat_tests)
+
+pub number_there : (initial position width d word : ℕ) → word ≡ (initial + (position + d)) % 2 ^ 31 → d ≤ width → width ≤ 8192 → in_window (counted_from initial word) position (width + 1) ≡ Some (position + d)
+number_there initial position width d word e le narrow = ap (λ x. in_window (counted_from initial x) position (width + 1)) e ∙ in_there initial position width d le narrow
+
+pub no_top : (word : ℕ) → (word < 2 ^ 31 → false ≡ true) → 2 ^ 31 ≤ word
+no_top word f = elim (cases_lt word (2 ^ 31)) [
+  | inl lt ↦ let e = f lt in cc
+  | inr ge ↦ ge
+]

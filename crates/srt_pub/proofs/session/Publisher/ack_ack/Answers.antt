@@ -1,0 +1,17 @@
+use Rattle.srt_pub.proofs.session.Publisher.ack_ack.Goals as goal
+use Rattle.std.proofs.Common.{◌≡◌, ℕ, subst, arith}
+use Rattle.srt_recvbuf.specs.Receiving.{ack_point}
+use Rattle.srt_pub.specs.Publishing.{confirmed_notes, confirmed_by}
+use Rattle.srt_pub.specs.Kept.{LogStandsFor}
+
+pub returns-clause-stands : goal.returns-clause-stands
+returns-clause-stands c terms initial opening first caller time m n h =
+    let t : c.saturating_sub.result ≡ time = omega (arith, n, h.agreed.opening_is, c.saturating_sub.ensures) in
+    record {
+      agreed = h.agreed;
+      buffer = h.buffer;
+      log = subst (λ (x : ℕ). LogStandsFor terms.width m.receiving.position (ack_point terms.width m.receiving) c.confirm.new.self (confirmed_notes x (confirmed_by c.args.number m.notes) m.notes) m.seen) t (c.confirm.ensures _ _ _ _ _ h.log);
+      orderly = h.orderly;
+      seen = h.seen;
+      narrow = h.narrow;
+    }

@@ -1,0 +1,49 @@
+use Rattle.srt_pub.proofs.session.Publisher.nak.Goals as goal
+use Rattle.std.proofs.Common.{◌≡◌, ◌<◌, ℕ, List, [], ◌∷◌, length, map, ap, sym, subst, ◌∙◌}
+use Rattle.srt_packet.specs.declared.writing.Body.{Body}
+use Rattle.srt_packet.specs.Text.{IsWritable}
+use Rattle.srt_pub.specs.Publishing.{Report, naks, noted, nak_report, nak_with, gaps_told, runs_said}
+use Rattle.srt_pub.specs.Says.{says}
+use Rattle.srt_pub.specs.Stands.{StandsFor}
+use Rattle.srt_pub.proofs.Bytes.{none_none, some_some, nak_some, nak_bytes, same_losses}
+use Rattle.srt_pub.proofs.Sendings.{naks_by, no_items, some_items, pairs_have_words}
+
+pub returns-then-is_empty-clause-stands : goal.returns-then-is_empty-clause-stands
+returns-then-is_empty-clause-stands c terms initial opening stamp caller m h =
+    let all = c.is_nak_due-all.result in
+    let rs = runs_said (gaps_told all terms.width m.seen m.receiving) in
+    let none = none_none initial c.runs-runs.result.items rs (c.runs-runs.ensures terms initial opening stamp caller m h) (no_items c.runs-runs.result.items (sym c.is_empty.ensures ∙ c.if-is_empty.true)) in
+    let e : naks terms c.args.time m ≡ [] = naks_by terms c.args.time m all (c.is_nak_due-all.ensures _ _ _ _ m.notes h.log) ∙ ap (nak_with all) none in
+    subst (λ (ns : List Report). StandsFor terms initial opening stamp caller c.args.self.now (record m { notes = noted c.args.time ns m.notes })) (sym e) h
+
+pub returns-then-is_empty-clause-bytes : goal.returns-then-is_empty-clause-bytes
+returns-then-is_empty-clause-bytes c terms initial opening stamp caller m h =
+    let all = c.is_nak_due-all.result in
+    let rs = runs_said (gaps_told all terms.width m.seen m.receiving) in
+    let none = none_none initial c.runs-runs.result.items rs (c.runs-runs.ensures terms initial opening stamp caller m h) (no_items c.runs-runs.result.items (sym c.is_empty.ensures ∙ c.if-is_empty.true)) in
+    let e : naks terms c.args.time m ≡ [] = naks_by terms c.args.time m all (c.is_nak_due-all.ensures _ _ _ _ m.notes h.log) ∙ ap (nak_with all) none in
+    sym (ap (map (says caller initial c.args.time)) e)
+
+pub returns-clause-stands : goal.returns-clause-stands
+returns-clause-stands c terms initial opening stamp caller m h =
+    let all = c.is_nak_due-all.result in
+    let rs = runs_said (gaps_told all terms.width m.seen m.receiving) in
+    let some = some_some initial c.runs-runs.result.items rs (c.runs-runs.ensures terms initial opening stamp caller m h) (some_items c.runs-runs.result.items (sym c.is_empty.ensures ∙ c.if-is_empty.false)) in
+    let e : naks terms c.args.time m ≡ nak_report all rs ∷ [] = naks_by terms c.args.time m all (c.is_nak_due-all.ensures _ _ _ _ m.notes h.log) ∙ nak_some all rs some in
+    subst (λ (ns : List Report). StandsFor terms initial opening stamp caller (record c.args.self.now { log = c.nak.new.self }) (record m { notes = noted c.args.time ns m.notes })) (sym e)
+    (record { agreed = h.agreed; buffer = h.buffer; log = c.nak.ensures _ _ _ _ m.notes rs h.log; orderly = h.orderly; seen = h.seen; narrow = h.narrow })
+
+pub returns-clause-bytes : goal.returns-clause-bytes
+returns-clause-bytes c terms initial opening stamp caller m h =
+    let all = c.is_nak_due-all.result in
+    let rs = runs_said (gaps_told all terms.width m.seen m.receiving) in
+    let said = c.runs-runs.ensures terms initial opening stamp caller m h in
+    let some = some_some initial c.runs-runs.result.items rs said (some_items c.runs-runs.result.items (sym c.is_empty.ensures ∙ c.if-is_empty.false)) in
+    let e : naks terms c.args.time m ≡ nak_report all rs ∷ [] = naks_by terms c.args.time m all (c.is_nak_due-all.ensures _ _ _ _ m.notes h.log) ∙ nak_some all rs some in
+    ap (λ (x : List ℕ). x ∷ []) (c.packet.ensures.bytes caller h.agreed.caller_is ∙ nak_bytes all caller initial c.args.time c.write.result rs (c.write.ensures.value ∙ same_losses initial c.runs-runs.result.items rs said))
+    ∙ sym (ap (map (says caller initial c.args.time)) e)
+
+pub returns-clause-writable : goal.returns-clause-writable
+returns-clause-writable c =
+    let words : 0 < length c.write.result.items = subst (λ (xs : List ℕ). 0 < length xs) (sym c.write.ensures.value) (pairs_have_words c.runs-runs.result.items (some_items c.runs-runs.result.items (sym c.is_empty.ensures ∙ c.if-is_empty.false))) in
+    subst (λ (b : Body). IsWritable b) (sym c.packet.ensures.body) words

@@ -1,0 +1,56 @@
+use Rattle.srt_pub.proofs.session.Publisher.receive.Goals as goal
+use Rattle.std.proofs.Common.{◌≡◌, ◌∷◌, ℕ, pos, ◌+ℤ◌, ap, sym, subst, ◌∙◌, arith, rules, w64, SFits}
+use Rattle.std.specs.Prelude.{Option}
+use Rattle.std.proofs.lemmas.Int.{to_z-of_z}
+use Rattle.srt_seq.specs.Window.{word_of, counted_from}
+use Rattle.srt_seq.specs.Lift.{stamped_from}
+use Rattle.srt_seq.specs.declared.shared.Mode.{Mode}
+use Rattle.srt_seq.specs.declared.shared.Mode.TheVariants.{Buffer}
+use Rattle.srt_recvbuf.specs.Receiving.{received, with_number}
+use Rattle.srt_pub.specs.Publishing.{Publishing, Came, Terms, due_in, with_data}
+use Rattle.srt_pub.specs.Stands.{StandsFor}
+use Rattle.srt_pub.proofs.Goings.{after_data}
+use Rattle.srt_pub.proofs.Windows.{no_number, no_top}
+
+pub returns-in_default-clause-stands : goal.returns-in_default-clause-stands
+returns-in_default-clause-stands c terms initial opening first caller time m n h =
+    let r = m.receiving in
+    let due = due_in terms.mode terms time (stamped_from first c.args.stamp) in
+    let none = no_number initial c.args.word r.position terms.width (no_top c.args.word c.in_default.ensures.some.1) in
+    let same : record { receiving = r; notes = Came ∷ m.notes; seen = m.seen } ≡ with_data terms time (stamped_from first c.args.stamp) (counted_from initial c.args.word) c.args.payload.now m = sym (ap (λ (o : Option ℕ). record { receiving = with_number o c.args.payload.now due r; notes = Came ∷ m.notes; seen = m.seen }) none) in
+    subst (λ (x : Publishing). StandsFor terms initial opening first caller (record c.args.self.now { log = c.came.new.self }) x) same (record {
+      agreed = h.agreed;
+      buffer = h.buffer;
+      log = c.came.ensures _ _ _ _ _ h.log;
+      orderly = h.orderly;
+      seen = h.seen;
+      narrow = h.narrow;
+    })
+
+in_buffer : (terms : Terms) (time stamp : ℕ) → terms.mode ≡ Buffer → due_in terms.mode terms time stamp ≡ pos 0
+in_buffer terms time stamp e = ap (λ (d : Mode). due_in d terms time stamp) e
+
+pub returns-clause-stands : goal.returns-clause-stands
+returns-clause-stands c terms initial opening first caller time m n h =
+    let r = m.receiving in
+    let width = terms.width in
+    let word = word_of c.in-Some.number in
+    let stamp = stamped_from first c.args.stamp in
+    let due = due_in terms.mode terms time stamp in
+    let k = after_data terms.mode width (counted_from initial word) c.args.payload.now due r c.requires.some (in_buffer terms time stamp) h.orderly in
+    let a = h.agreed in
+    let is : c.due-due.result ≡ pos opening +ℤ due = c.due-due.ensures terms time a.mode_is a.delay_is (omega (arith, n, a.opening_is)) ∙ ap (λ (x : ℕ). pos x +ℤ due_in terms.mode terms time (stamped_from c.args.self.now.agreed.first.word c.args.stamp)) a.opening_is ∙ ap (λ (x : ℕ). pos opening +ℤ due_in terms.mode terms time (stamped_from x c.args.stamp)) a.stamp_is in
+    let fits : SFits w64 c.due-due.result = search rules in
+    let put = rw to_z-of_z at (c.put.ensures.stands width initial opening r due) in
+    let m1 : Publishing = record { receiving = r; notes = Came ∷ m.notes; seen = m.seen } in
+    let P : ℕ → Type 0 = λ x. StandsFor terms initial opening first caller c.follow.new.self (with_data terms time stamp (counted_from initial x) c.args.payload.now m) in
+    subst P c.in-Some.ensures.value
+    (c.follow.ensures.stands terms initial opening first caller m1 (received width (counted_from initial word) c.args.payload.now due r) (c.front-front.ensures width initial opening r h.buffer) (c.ack_point-point.ensures width initial opening r h.buffer) (record {
+      agreed = h.agreed;
+      buffer = put is h.buffer;
+      log = c.came.ensures _ _ _ _ _ h.log;
+      orderly = k.orderly;
+      seen = h.seen;
+      narrow = h.narrow;
+      goes_on = k.goes_on;
+    }))

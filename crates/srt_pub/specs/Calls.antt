@@ -1,0 +1,74 @@
+-- What one call of a publisher says, and what calls one after another say.
+use Rattle.std.specs.Prelude.{ℕ, zero, suc, ◌-◌, Option, None, Some, List, [], ◌∷◌, map, length, Bool, true, false, nat_le}
+use Rattle.srt_seq.specs.declared.shared.Mode.{Mode}
+use Rattle.srt_seq.specs.declared.shared.Mode.TheVariants.{Live, Buffer}
+use Rattle.srt_packet.specs.Grammar.{Body, Data, Shutdown}
+use Rattle.srt_packet.specs.declared.writing.Packet.{Packet}
+use Rattle.srt_packet.specs.Text.{text}
+use Rattle.srt_recvbuf.specs.Receiving.{Arrival, passed}
+use Rattle.srt_pub.specs.Heard.{heard_from}
+use Rattle.srt_pub.specs.Publishing.{Terms, Publishing, deliveries, loses_window, Note, Report, keep_alive_if, last_sent}
+use Rattle.srt_pub.specs.declared.ends.PubEnd.{PubEnd}
+use Rattle.srt_pub.specs.declared.ends.PubEnd.TheVariants as ends
+
+-- the length of a data packet's payload; of the other kinds 1, which is in any limits
+abbrev pub payload_length : Body → ℕ
+payload_length (Data number encryption payload) = length payload
+payload_length _ = 1
+
+abbrev pub lost_if : Bool → Option PubEnd
+lost_if true = Some ends.WindowLost
+lost_if false = None
+
+-- whether a packet ends the session, and why
+abbrev pub ended : Terms → (initial : ℕ) → Body → Publishing → Option PubEnd
+ended terms initial Shutdown p = Some ends.Shutdown
+ended terms initial body p = lost_if (loses_window terms.mode terms (heard_from initial body) p)
+
+abbrev pub first_of : List Arrival → Option Arrival
+first_of [] = None
+first_of (a ∷ arrivals) = Some a
+
+-- the payload that is delivered next
+abbrev pub next_delivery : Terms → (time room : ℕ) → Publishing → Option Arrival
+next_delivery terms time room p = first_of (deliveries terms.mode terms time (Some room) p)
+
+-- after that one
+abbrev pub after_delivery : Terms → Option Arrival → Publishing → Publishing
+after_delivery terms None p = p
+after_delivery terms (Some a) p = record p { receiving = passed terms.width (a ∷ []) p.receiving }
+
+-- a payload takes a place of each subscriber
+abbrev pub room_after : Mode → (room : ℕ) → ℕ
+room_after Live room = room
+room_after Buffer room = room - 1
+
+-- what so many calls give, as far as the first that gives nothing
+abbrev pub gives : Terms → (time room calls : ℕ) → Publishing → List Arrival
+gives terms time room zero p = []
+gives terms time room (suc calls) p = elim (next_delivery terms time room p) [
+  | None ↦ []
+  | Some a ↦ a ∷ gives terms time (room_after terms.mode room) calls (after_delivery terms (Some a) p)
+]
+
+-- and what they leave
+abbrev pub leaves : Terms → (time room calls : ℕ) → Publishing → Publishing
+leaves terms time room zero p = p
+leaves terms time room (suc calls) p = elim (next_delivery terms time room p) [
+  | None ↦ p
+  | Some a ↦ leaves terms time (room_after terms.mode room) calls (after_delivery terms (Some a) p)
+]
+
+-- the bytes of packets
+abbrev pub texts : List Packet → List (List ℕ)
+texts packets = map text packets
+
+abbrev pub listed : {A : Type 0} → Option A → List A
+listed None = []
+listed (Some a) = a ∷ []
+
+-- a KEEPALIVE is due only where neither an ACK nor a NAK is sent
+abbrev pub keep_alive_after : (ack nak : Bool) → (time : ℕ) → List Note → List Report
+keep_alive_after true nak time notes = []
+keep_alive_after false true time notes = []
+keep_alive_after false false time notes = keep_alive_if (nat_le 1_000_000 (time - last_sent notes))

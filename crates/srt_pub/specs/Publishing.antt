@@ -1,0 +1,267 @@
+-- A publisher's session, from all that it heard and sent. It counts from its own beginning: times from its opening, numbers from its
+-- initial number, stamps from its conclusion's. Lists have the newest first.
+use Rattle.std.specs.Prelude.{ℕ, ◌+◌, ◌-◌, ◌^◌, ℤ, pos, Bool, true, false, Option, None, Some, List, [], ◌∷◌, ◌++◌, find, take, max, min, length, not, is_none, is_some, nat_lt, nat_le, ◌==◌, ◌&&◌, ◌||◌, if◌then◌else◌}
+use Rattle.srt_seq.specs.declared.shared.Mode.{Mode}
+use Rattle.srt_seq.specs.declared.shared.Mode.TheVariants.{Live, Buffer}
+use Rattle.srt_seq.specs.Window.{in_window}
+use Rattle.srt_seq.specs.Runs.{Range, Run, runs}
+use Rattle.srt_seq.specs.Counts.{ack_number}
+use Rattle.srt_tsbpd.specs.Deadline.{due_time}
+use Rattle.srt_rtt.specs.RoundTrip.{RoundTrip, after_samples, nak_interval}
+use Rattle.srt_recvbuf.specs.Receiving.{Arrival, Receiving, nothing_yet, end_of, gaps, gaps_from, ack_point, available, is_waiting, deliverable, in_order, passed, received, requested}
+use Rattle.srt_pub.specs.Heard.{Heard, Data, AckAck, DropRequest, Other}
+
+-- what was agreed: the mode, the packets of the window, and the delay in microseconds
+pub record Terms : Type 0 where
+  pub mode : Mode
+  pub width : ℕ
+  pub delay : ℕ
+
+-- a Full ACK: how many were sent before it, when, and what it said
+pub record Full : Type 0 where
+  pub index : ℕ
+  pub time : ℕ
+  pub point : ℕ
+  pub available : ℕ
+
+-- what a session sends
+pub data Report : Type 0 where
+  FullAck : (index point round_trip variance available : ℕ) → Report
+  LightAck : (point : ℕ) → Report
+  -- a NAK of all gaps
+  NakOfAll : List Run → Report
+  -- a NAK of those gaps that came with this event
+  NakOfNew : List Run → Report
+  KeepAlive : Report
+
+pub data Note : Type 0 where
+  -- an unencrypted data packet came, of whatever number
+  Came : Note
+  -- a report was sent
+  Sent : (time : ℕ) (report : Report) → Note
+  -- a Full ACK was confirmed, which gave a sample of the round-trip time
+  Confirmed : (full : Full) (sample : ℕ) → Note
+
+-- all that was received, all that happened, and where the received numbers ended when the event before this one was over
+pub record Publishing : Type 0 where
+  pub receiving : Receiving
+  pub notes : List Note
+  pub seen : ℕ
+
+abbrev pub opened : Publishing
+opened = record { receiving = nothing_yet; notes = []; seen = 0 }
+
+-- when a packet of this stamp is due: in buffer mode at once
+abbrev pub due_in : Mode → Terms → (time stamp : ℕ) → ℤ
+due_in Live terms time stamp = due_time terms.delay time stamp
+due_in Buffer terms time stamp = pos 0
+
+-- the samples of confirmed Full ACKs (section 4.10)
+abbrev pub samples : List Note → List ℕ
+samples [] = []
+samples (Came ∷ notes) = samples notes
+samples (Sent time report ∷ notes) = samples notes
+samples (Confirmed full sample ∷ notes) = sample ∷ samples notes
+
+abbrev pub round_trip : List Note → RoundTrip
+round_trip notes = after_samples (samples notes)
+
+abbrev pub full_of : (time : ℕ) → Report → List Full
+full_of time (FullAck index point rtt variance available) = record { index = index; time = time; point = point; available = available } ∷ []
+full_of time _ = []
+
+-- the Full ACKs that were sent
+abbrev pub fulls : List Note → List Full
+fulls [] = []
+fulls (Came ∷ notes) = fulls notes
+fulls (Sent time report ∷ notes) = full_of time report ++ fulls notes
+fulls (Confirmed full sample ∷ notes) = fulls notes
+
+abbrev pub is_confirmed : List Note → (index : ℕ) → Bool
+is_confirmed [] index = false
+is_confirmed (Came ∷ notes) index = is_confirmed notes index
+is_confirmed (Sent time report ∷ notes) index = is_confirmed notes index
+is_confirmed (Confirmed full sample ∷ notes) index = full.index == index || is_confirmed notes index
+
+-- whether an ACKACK with this number can confirm a Full ACK
+abbrev pub answers : (number : ℕ) → List Note → Full → Bool
+answers number notes f = (ack_number f.index == number) && not (is_confirmed notes f.index)
+
+-- the one of the last 64 Full ACKs that has this number and isn't confirmed (section 3.2.8; 64 is this profile)
+unfoldable pub confirmed_by : (number : ℕ) → List Note → Option Full
+confirmed_by number notes = find (answers number notes) (take 64 (fulls notes))
+
+-- of two confirmed Full ACKs the one that was sent later
+abbrev pub later_of : Full → Option Full → Option Full
+later_of full None = Some full
+later_of full (Some other) = if nat_lt full.index other.index then Some other else Some full
+
+abbrev pub latest_confirmed : List Note → Option Full
+latest_confirmed [] = None
+latest_confirmed (Came ∷ notes) = latest_confirmed notes
+latest_confirmed (Sent time report ∷ notes) = latest_confirmed notes
+latest_confirmed (Confirmed full sample ∷ notes) = later_of full (latest_confirmed notes)
+
+-- whether a Full ACK said this acknowledgement point and this room
+abbrev pub says_pair : (point room : ℕ) → Full → Bool
+says_pair point room f = (point == f.point) && (room == f.available)
+
+-- whether the publisher knows this acknowledgement point and this room; at first it knows 0 and the width
+abbrev pub is_known : (width point room : ℕ) → Option Full → Bool
+is_known width point room None = (point == 0) && (room == width)
+is_known width point room (Some full) = says_pair point room full
+
+abbrev pub is_ack : Report → Bool
+is_ack (FullAck index point rtt variance available) = true
+is_ack (LightAck point) = true
+is_ack _ = false
+
+-- data packets since the last ACK of either kind (section 4.8.1)
+abbrev pub came_since_ack : List Note → ℕ
+came_since_ack [] = 0
+came_since_ack (Came ∷ notes) = came_since_ack notes + 1
+came_since_ack (Sent time report ∷ notes) = if is_ack report then 0 else came_since_ack notes
+came_since_ack (Confirmed full sample ∷ notes) = came_since_ack notes
+
+-- the time of the last Full ACK; the opening counts as one
+abbrev pub time_of : List Full → ℕ
+time_of [] = 0
+time_of (f ∷ fs) = f.time
+
+abbrev pub is_nak_of_all : Report → Bool
+is_nak_of_all (NakOfAll rs) = true
+is_nak_of_all _ = false
+
+-- the times of the last report, and of the last NAK of all gaps; the opening counts as both
+abbrev pub last_sent : List Note → ℕ
+last_sent [] = 0
+last_sent (Came ∷ notes) = last_sent notes
+last_sent (Sent time report ∷ notes) = time
+last_sent (Confirmed full sample ∷ notes) = last_sent notes
+
+abbrev pub last_nak_of_all : List Note → ℕ
+last_nak_of_all [] = 0
+last_nak_of_all (Came ∷ notes) = last_nak_of_all notes
+last_nak_of_all (Sent time report ∷ notes) = if is_nak_of_all report then time else last_nak_of_all notes
+last_nak_of_all (Confirmed full sample ∷ notes) = last_nak_of_all notes
+
+-- a Full ACK is due every 10 ms while the publisher doesn't know the state (section 4.8.1; that it counts only what was confirmed is
+-- this profile)
+unfoldable pub is_full_due : (width point room time : ℕ) → List Note → Bool
+is_full_due width point room time notes = nat_le 10_000 (time - time_of (fulls notes)) && not (is_known width point room (latest_confirmed notes))
+
+-- a Light ACK after 64 data packets (section 4.8.1)
+abbrev pub is_light_due : List Note → Bool
+is_light_due notes = nat_le 64 (came_since_ack notes)
+
+abbrev pub full_ack : (point room : ℕ) → List Note → Report
+full_ack point room notes = FullAck (length (fulls notes)) point (round_trip notes).time (round_trip notes).variance room
+
+-- the ACK that is due: at most one, a full one first
+abbrev pub ack_of : (full light : Bool) → (full_one light_one : Report) → List Report
+ack_of true light full_one light_one = full_one ∷ []
+ack_of false true full_one light_one = light_one ∷ []
+ack_of false false full_one light_one = []
+
+unfoldable pub acks_at : (width point room time : ℕ) → List Note → List Report
+acks_at width point room time notes = ack_of (is_full_due width point room time notes) (is_light_due notes) (full_ack point room notes) (LightAck point)
+
+abbrev pub acks : Terms → (time : ℕ) → Publishing → List Report
+acks terms time p = acks_at terms.width (ack_point terms.width p.receiving) (available terms.width p.receiving) time p.notes
+
+-- the first 32 runs (section 4.8.2; 32 is this profile)
+abbrev pub runs_said : List ℕ → List Run
+runs_said ns = take 32 (runs ns)
+
+abbrev pub nak_report : (all : Bool) → List Run → Report
+nak_report true rs = NakOfAll rs
+nak_report false rs = NakOfNew rs
+
+abbrev pub nak_with : (all : Bool) → List Run → List Report
+nak_with all [] = []
+nak_with all (r ∷ rs) = nak_report all (r ∷ rs) ∷ []
+
+-- whether it is time for a NAK of all gaps
+abbrev pub is_nak_due : (time : ℕ) → List Note → Bool
+is_nak_due time notes = nat_le (nak_interval (round_trip notes)) (time - last_nak_of_all notes)
+
+-- all gaps at each interval, else those above the greatest number that was received before this event (section 4.8.2)
+abbrev pub gaps_told : (all : Bool) → (width seen : ℕ) → Receiving → List ℕ
+gaps_told true width seen r = gaps width r
+gaps_told false width seen r = gaps_from width (max seen r.position) r
+
+abbrev pub naks_of : (all : Bool) → (width seen : ℕ) → Receiving → List Report
+naks_of all width seen r = nak_with all (runs_said (gaps_told all width seen r))
+
+unfoldable pub naks : Terms → (time : ℕ) → Publishing → List Report
+naks terms time p = naks_of (is_nak_due time p.notes) terms.width p.seen p.receiving
+
+-- after 1 s without a packet (section 3.2.3)
+abbrev pub keep_alive_if : Bool → List Report
+keep_alive_if true = KeepAlive ∷ []
+keep_alive_if false = []
+
+abbrev pub keep_alives : (time : ℕ) → List Report → List Note → List Report
+keep_alives time (r ∷ rs) notes = []
+keep_alives time [] notes = keep_alive_if (nat_le 1_000_000 (time - last_sent notes))
+
+-- what an event sends at its end
+unfoldable pub reports : Terms → (time : ℕ) → Publishing → List Report
+reports terms time p =
+    let due = acks terms time p ++ naks terms time p in
+    due ++ keep_alives time due p.notes
+
+abbrev pub noted : (time : ℕ) → List Report → List Note → List Note
+noted time [] notes = notes
+noted time (r ∷ rs) notes = noted time rs (Sent time r ∷ notes)
+
+-- the end of an event
+abbrev pub reported : Terms → (time : ℕ) → Publishing → Publishing
+reported terms time p = record { receiving = p.receiving; notes = noted time (reports terms time p) p.notes; seen = end_of p.receiving.arrivals }
+
+-- the payloads that an event delivers; room is the least of the open subscribers', none without a subscriber, and counts in buffer mode
+-- alone (sections 4.2 and 4.6)
+unfoldable pub deliveries : Mode → Terms → (time : ℕ) → (room : Option ℕ) → Publishing → List Arrival
+deliveries Live terms time room p = deliverable time p.receiving
+deliveries Buffer terms time None p = []
+deliveries Buffer terms time (Some room) p = in_order terms.width room p.receiving
+
+abbrev pub delivered : Terms → (time : ℕ) → (room : Option ℕ) → Publishing → Publishing
+delivered terms time room p = record p { receiving = passed terms.width (deliveries terms.mode terms time room p) p.receiving }
+
+-- the sample is the time since the Full ACK, at most 10 s (this profile)
+abbrev pub sample_of : (time : ℕ) → Full → ℕ
+sample_of time full = min (time - full.time) 10_000_000
+
+abbrev pub confirmed_notes : (time : ℕ) → Option Full → List Note → List Note
+confirmed_notes time None notes = notes
+confirmed_notes time (Some full) notes = Confirmed full (sample_of time full) ∷ notes
+
+abbrev pub confirmed_at : (time : ℕ) → Option Full → Publishing → Publishing
+confirmed_at time full p = record p { notes = confirmed_notes time full p.notes }
+
+abbrev pub with_data : Terms → (time stamp number : ℕ) → List ℕ → Publishing → Publishing
+with_data terms time stamp number payload p =
+    record { receiving = received terms.width number payload (due_in terms.mode terms time stamp) p.receiving; notes = Came ∷ p.notes; seen = p.seen }
+
+-- numbers are given up in live mode alone (this profile)
+abbrev pub with_request : Mode → Terms → Range → Publishing → Publishing
+with_request Live terms range p = record p { receiving = requested terms.width range p.receiving }
+with_request Buffer terms range p = p
+
+-- a packet comes; an encrypted one isn't received
+abbrev pub took : Terms → (time stamp : ℕ) → Heard → Publishing → Publishing
+took terms time stamp (Data number encryption payload) p = if encryption == 0 then with_data terms time stamp number payload p else p
+took terms time stamp (AckAck number) p = confirmed_at time (confirmed_by number p.notes) p
+took terms time stamp (DropRequest range) p = with_request terms.mode terms range p
+took terms time stamp Other p = p
+
+-- nothing received waits, and a number is past the window (this profile)
+abbrev pub is_past_window : (width number : ℕ) → Receiving → Bool
+is_past_window width number r = is_none (in_window number r.position width) && not (is_waiting r) && is_some (in_window number (r.position + width) (2 ^ 30))
+
+-- this ends a live session (this profile)
+abbrev pub loses_window : Mode → Terms → Heard → Publishing → Bool
+loses_window Live terms (Data number encryption payload) p = (encryption == 0) && is_past_window terms.width number p.receiving
+loses_window Live terms _ p = false
+loses_window Buffer terms heard p = false

@@ -1,0 +1,172 @@
+//! Acknowledgements (draft-sharabayko-srt-01, sections 3.2.4, 3.2.8 and 4.8.1).
+
+ghost use Rattle.std.specs.Prelude.{◌≡◌, ℕ, ◌+◌, ◌-◌, ◌≤◌, ◌==◌, List, [], ◌∷◌, map, length, nat_le, nat_lt, ◌||◌, ◌&&◌, not, Option, option_map, IfOk, IfSome};
+ghost use Rattle.srt_seq.specs.Window.{word_of};
+ghost use Rattle.srt_rtt.specs.RoundTrip as times;
+ghost use Rattle.srt_recvbuf.specs.Stands.{number_word};
+ghost use Rattle.srt_packet.specs.Text.{IsWritable};
+ghost use Rattle.srt_pub.specs.Publishing.{Note, Came, Full, samples, confirmed_by, confirmed_notes, sample_of, is_full_due, is_light_due, full_ack, acks_at, noted};
+ghost use Rattle.srt_pub.specs.Publishing.Report.{LightAck as TheLightAck};
+ghost use Rattle.srt_pub.specs.Says.{says, body_bytes};
+ghost use Rattle.srt_pub.specs.Calls.{listed};
+
+use srt_packet::Body;
+use srt_rtt::{AckBook, Rtt};
+use srt_seq::Seq31;
+use std::alloc::{AllocError, Global};
+
+/// The time between two Full ACKs, in microseconds.
+const FULL_INTERVAL: u64 = 10_000;
+
+/// How many data packets call for a Light ACK.
+const LIGHT_COUNT: u32 = 64;
+
+/// How many Full ACKs can still be confirmed.
+const PLACES: usize = 64;
+
+/// Which Full ACKs were sent, and what the publisher knows. What a Full ACK says never goes back; so one
+/// that said something else than what would be said now never says it again, and it is enough to count
+/// those since the last change.
+#[derive(Drop)]
+pub struct Acks {
+    book: AckBook,
+    /// Whether the confirmed Full ACK that was sent last, or the opening, said what would be said now.
+    known: bool,
+    /// How many of the newest Full ACKs said what would be said now. It stops at 64.
+    same: usize,
+    /// When the last Full ACK was sent.
+    last: u64,
+    /// How many data packets came since the last ACK. It stops at 64.
+    came: u32,
+}
+
+impl Acks {
+    ghost use Rattle.srt_pub.specs.Kept.{AcksStandFor};
+
+    /// No ACK yet. The only call that takes memory.
+    pub fn open(alloc: Global) -> Result<Acks, AllocError>
+        ensures { IfOk result (λ a. (width : ℕ) → AcksStandFor width 0 0 a []) }
+    {
+        Ok(Acks {
+            book: AckBook::open(alloc)?,
+            known: true,
+            same: 0,
+            last: 0,
+            came: 0,
+        })
+    }
+
+    /// Forgets everything.
+    pub fn clear(&mut self)
+        ensures { (width : ℕ) → AcksStandFor width 0 0 self.new [] }
+    {
+        self.book.clear();
+        self.known = true;
+        self.same = 0;
+        self.last = 0;
+        self.came = 0;
+    }
+
+    /// A data packet came.
+    pub fn came(&mut self)
+        ensures { (width position point : ℕ) (notes : List Note) → AcksStandFor width position point self.old notes → AcksStandFor width position point self.new (Came ∷ notes) }
+    {
+        self.came = self.came.saturating_add(1).min(LIGHT_COUNT);
+    }
+
+    /// The front and the acknowledgement point move on by so many packets.
+    pub fn moves(&mut self, front: u32, point: u32)
+        ensures { (width position a : ℕ) (notes : List Note) → a + point ≤ position + front + width → AcksStandFor width position a self.old notes → AcksStandFor width (position + front) (a + point) self.new notes }
+    {
+        if front.saturating_add(point) == 0 {
+            return;
+        }
+        self.known = false;
+        self.same = 0;
+    }
+
+    /// An ACKACK with this number comes, so long after the opening. Gives the sample of the round-trip
+    /// time, where it confirms a Full ACK.
+    pub fn confirm(&mut self, number: u32, time: u64) -> Option<u64>
+        ensures sample { (width position point : ℕ) (notes : List Note) → AcksStandFor width position point self.old notes → result ≡ option_map (sample_of time) (confirmed_by number notes) }
+        ensures stands { (width position point : ℕ) (notes : List Note) → AcksStandFor width position point self.old notes → AcksStandFor width position point self.new (confirmed_notes time (confirmed_by number notes) notes) }
+        ensures capped { IfSome result (λ s. s ≤ 10_000_000) }
+    {
+        let place = self.book.place_of(number)?;
+        self.known = is_known_after(self.known, place, self.same);
+        self.book.confirm(number, time)
+    }
+
+    /// Whether a Full ACK is due.
+    fn is_full_due(&self, time: u64) -> bool
+        ensures { (width position point : ℕ) (notes : List Note) → AcksStandFor width position point self.now notes → result ≡ is_full_due width point (position + width - point) time notes }
+    {
+        if self.known {
+            return false;
+        }
+        time.saturating_sub(self.last) >= FULL_INTERVAL
+    }
+
+    /// Whether a Light ACK is due, where no Full ACK is.
+    fn is_light_due(&self) -> bool
+        ensures { (width position point : ℕ) (notes : List Note) → AcksStandFor width position point self.now notes → result ≡ is_light_due notes }
+    {
+        self.came >= LIGHT_COUNT
+    }
+
+    /// Sends a Full ACK.
+    fn full(&mut self, time: u64, point: Seq31, available: u32, rtt: Rtt) -> Body
+        ensures stands { (width position a : ℕ) (notes : List Note) → times.StandsFor rtt (samples notes) → available ≡ position + width - a → AcksStandFor width position a self.old notes → AcksStandFor width position a self.new (noted time (full_ack a available notes ∷ []) notes) }
+        ensures bytes { (width position a initial caller : ℕ) (notes : List Note) → times.StandsFor rtt (samples notes) → word_of point ≡ number_word initial a → AcksStandFor width position a self.old notes → body_bytes caller time result ≡ says caller initial time (full_ack a available notes) }
+        ensures writable { IsWritable result }
+    {
+        self.same = self.same.saturating_add(1).min(PLACES);
+        self.last = time;
+        self.came = 0;
+        Body::FullAck {
+            number: self.book.note(time),
+            point,
+            round_trip: rtt.rtt(),
+            variance: rtt.var(),
+            available,
+        }
+    }
+
+    /// Sends a Light ACK.
+    fn light(&mut self, time: u64, point: Seq31) -> Body
+        ensures stands { (width position a : ℕ) (notes : List Note) → AcksStandFor width position a self.old notes → AcksStandFor width position a self.new (noted time (TheLightAck a ∷ []) notes) }
+        ensures bytes { (a initial caller : ℕ) → word_of point ≡ number_word initial a → body_bytes caller time result ≡ says caller initial time (TheLightAck a) }
+        ensures writable { IsWritable result }
+    {
+        self.came = 0;
+        Body::LightAck { point }
+    }
+
+    /// Sends the ACK that is due so long after the opening, where the acknowledgement point stands at
+    /// `point` and so many packets have room from there on.
+    pub fn report(&mut self, time: u64, point: Seq31, available: u32, rtt: Rtt) -> Option<Body>
+        ensures stands { (width position a : ℕ) (notes : List Note) → times.StandsFor rtt (samples notes) → available ≡ position + width - a → AcksStandFor width position a self.old notes → AcksStandFor width position a self.new (noted time (acks_at width a available time notes) notes) }
+        ensures bytes { (width position a initial caller : ℕ) (notes : List Note) → times.StandsFor rtt (samples notes) → available ≡ position + width - a → word_of point ≡ number_word initial a → AcksStandFor width position a self.old notes → map (body_bytes caller time) (listed result) ≡ map (says caller initial time) (acks_at width a available time notes) }
+        ensures count { (width position a : ℕ) (notes : List Note) → available ≡ position + width - a → AcksStandFor width position a self.old notes → length (listed result) ≡ length (acks_at width a available time notes) }
+        ensures writable { IfSome result (λ b. IsWritable b) }
+    {
+        if self.is_full_due(time) {
+            return Some(self.full(time, point, available, rtt));
+        }
+        if self.is_light_due() {
+            return Some(self.light(time, point));
+        }
+        None
+    }
+}
+
+/// Whether the publisher knows what would be said now, after the Full ACK was confirmed that stands at a
+/// place, where so many of the newest said it.
+fn is_known_after(known: bool, place: usize, same: usize) -> bool
+    ensures { result ≡ (known || nat_lt place same) }
+{
+    if known {
+        return true;
+    }
+    place < same
+}

@@ -1,0 +1,140 @@
+//! What is kept of all that happened in a session.
+
+ghost use Rattle.std.specs.Prelude.{◌≡◌, ℕ, ◌+◌, ◌-◌, ◌≤◌, List, [], ◌∷◌, map, IfOk, IfSome, nat_le, if◌then◌else◌};
+ghost use Rattle.srt_seq.specs.Window.{word_of};
+ghost use Rattle.srt_seq.specs.Runs.{Run};
+ghost use Rattle.srt_recvbuf.specs.Stands.{number_word};
+ghost use Rattle.srt_packet.specs.Text.{IsWritable};
+ghost use Rattle.srt_pub.specs.Publishing.{Note, Came, confirmed_by, confirmed_notes, acks_at, noted, is_nak_due, nak_report, last_sent};
+ghost use Rattle.srt_pub.specs.Publishing.Note.{Sent};
+ghost use Rattle.srt_pub.specs.Publishing.Report.{KeepAlive as TheKeepAlive};
+ghost use Rattle.srt_pub.specs.Says.{says, body_bytes};
+ghost use Rattle.srt_pub.specs.Calls.{listed};
+
+use crate::acknowledgements::Acks;
+use srt_packet::Body;
+use srt_rtt::Rtt;
+use srt_seq::Seq31;
+use std::alloc::{AllocError, Global};
+
+/// The time without a packet after which a KEEPALIVE is sent, in microseconds.
+const SILENCE: u64 = 1_000_000;
+
+/// What is kept of all that happened in a session. Times are microseconds since the opening.
+#[derive(Drop)]
+pub struct Log {
+    pub acks: Acks,
+    pub rtt: Rtt,
+    /// When the last NAK of all gaps was sent.
+    pub nak: u64,
+    /// When the last packet was sent.
+    pub sent: u64,
+    /// How many packets past the front the received numbers reached at the end of the last event.
+    pub seen: u32,
+}
+
+impl Log {
+    ghost use Rattle.srt_pub.specs.Kept.{LogStandsFor};
+
+    /// Nothing happened yet. The only call that takes memory.
+    pub fn open(alloc: Global) -> Result<Log, AllocError>
+        ensures { IfOk result (λ log. (width : ℕ) → LogStandsFor width 0 0 log [] 0) }
+    {
+        Ok(Log {
+            acks: Acks::open(alloc)?,
+            rtt: Rtt::start(),
+            nak: 0,
+            sent: 0,
+            seen: 0,
+        })
+    }
+
+    /// Forgets everything.
+    pub fn clear(&mut self)
+        ensures { (width : ℕ) → LogStandsFor width 0 0 self.new [] 0 }
+    {
+        self.acks.clear();
+        self.rtt = Rtt::start();
+        self.nak = 0;
+        self.sent = 0;
+        self.seen = 0;
+    }
+
+    /// A data packet came.
+    pub fn came(&mut self)
+        ensures { (width position point seen : ℕ) (notes : List Note) → LogStandsFor width position point self.old notes seen → LogStandsFor width position point self.new (Came ∷ notes) seen }
+    {
+        self.acks.came();
+    }
+
+    /// The front and the acknowledgement point move on by so many packets.
+    pub fn moves(&mut self, front: u32, point: u32)
+        ensures { (width position a seen : ℕ) (notes : List Note) → a + point ≤ position + front + width → LogStandsFor width position a self.old notes seen → LogStandsFor width (position + front) (a + point) self.new notes seen }
+    {
+        self.acks.moves(front, point);
+        self.seen = self.seen.saturating_sub(front);
+    }
+
+    /// An ACKACK comes.
+    pub fn confirm(&mut self, number: u32, time: u64)
+        ensures { (width position point seen : ℕ) (notes : List Note) → LogStandsFor width position point self.old notes seen → LogStandsFor width position point self.new (confirmed_notes time (confirmed_by number notes) notes) seen }
+    {
+        if let Some(sample) = self.acks.confirm(number, time) {
+            self.rtt.sample(sample);
+        }
+    }
+
+    /// Sends the ACK that is due.
+    pub fn ack(&mut self, time: u64, point: Seq31, available: u32) -> Option<Body>
+        ensures stands { (width position a seen : ℕ) (notes : List Note) → available ≡ position + width - a → LogStandsFor width position a self.old notes seen → LogStandsFor width position a self.new (noted time (acks_at width a available time notes) notes) seen }
+        ensures bytes { (width position a seen initial caller : ℕ) (notes : List Note) → available ≡ position + width - a → word_of point ≡ number_word initial a → LogStandsFor width position a self.old notes seen → map (body_bytes caller time) (listed result) ≡ map (says caller initial time) (acks_at width a available time notes) }
+        ensures writable { IfSome result (λ b. IsWritable b) }
+    {
+        let body = self.acks.report(time, point, available, self.rtt)?;
+        self.sent = time;
+        Some(body)
+    }
+
+    /// Whether it is time for a NAK of all gaps.
+    pub fn is_nak_due(&self, time: u64) -> bool
+        ensures { (width position point seen : ℕ) (notes : List Note) → LogStandsFor width position point self.now notes seen → result ≡ is_nak_due time notes }
+    {
+        time.saturating_sub(self.nak) >= self.rtt.nak_interval()
+    }
+
+    /// A NAK is sent: of all gaps, or of new ones.
+    pub fn nak(&mut self, time: u64, all: bool)
+        ensures { (width position point seen : ℕ) (notes : List Note) (rs : List Run) → LogStandsFor width position point self.old notes seen → LogStandsFor width position point self.new (Sent time (nak_report all rs) ∷ notes) seen }
+    {
+        self.nak = later_if(all, time, self.nak);
+        self.sent = time;
+    }
+
+    /// Whether nothing was sent for so long that a KEEPALIVE is due.
+    pub fn is_silent(&self, time: u64) -> bool
+        ensures { (width position point seen : ℕ) (notes : List Note) → LogStandsFor width position point self.now notes seen → result ≡ nat_le 1_000_000 (time - last_sent notes) }
+    {
+        time.saturating_sub(self.sent) >= SILENCE
+    }
+
+    /// A KEEPALIVE is sent.
+    pub fn keep_alive(&mut self, time: u64)
+        ensures { (width position point seen : ℕ) (notes : List Note) → LogStandsFor width position point self.old notes seen → LogStandsFor width position point self.new (Sent time TheKeepAlive ∷ notes) seen }
+    {
+        self.sent = time;
+    }
+
+    /// An event is over, and the received numbers reach so many packets past the front.
+    pub fn see(&mut self, seen: u32)
+        ensures { (width position point before end : ℕ) (notes : List Note) → seen ≡ end - position → LogStandsFor width position point self.old notes before → LogStandsFor width position point self.new notes end }
+    {
+        self.seen = seen;
+    }
+}
+
+/// One of two moments.
+fn later_if(all: bool, time: u64, before: u64) -> u64
+    ensures { result ≡ (if all then time else before) }
+{
+    if all { time } else { before }
+}
