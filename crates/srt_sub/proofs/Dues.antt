@@ -1,0 +1,80 @@
+-- The data packet that is due, as the buffer gives it.
+use Rattle.std.proofs.Common.{◌≡◌, ℕ, zero, suc, ◌<◌, ◌≤◌, Bool, true, false, ◌&&◌, if◌then◌else◌, Option, None, Some, List, [], ◌∷◌, length, refl, sym, ap, ◌∙◌, arith}
+use Rattle.std.specs.Prelude.{All, option_map, slice_get, nat_lt}
+use Rattle.std.proofs.lemmas.Bool.{ltb-true}
+use Rattle.std.proofs.lemmas.List.Elements.{All-head, All-tail}
+use Rattle.srt_sendbuf.specs.Sending.{Queued, Sending, next, in_flight, lost, sent, Due, due, due_at, due_number, sent_number, after_due, due_of as due_for}
+use Rattle.srt_sendbuf.specs.Told.{Told, told}
+use Rattle.srt_sendbuf.specs.Stands as places
+use Rattle.srt_sendbuf.specs.declared.buffer.SendBuf.{SendBuf}
+use Rattle.srt_sendbuf.proofs.OneByOne.{lost_one_by_one}
+use Rattle.srt_sub.proofs.Turns.{there_is, some_there}
+
+-- what was sent was queued
+pub sent_in_queue : (width initial : ℕ) (b : SendBuf) (r : Sending) → places.StandsFor width initial b r → next r ≤ length r.queue
+sent_in_queue width initial b r h = let i = b.sent_in in let q = h.fields.queued_is in let n = h.fields.flying_is in omega (arith, i, q, n)
+
+pub told_due : (initial : ℕ) (o : Option Due) (t : Told) → Some t ≡ option_map (told initial) o → (d : Due) × (o ≡ Some d) × (t ≡ told initial d)
+told_due initial None t e = absurd cc
+told_due initial (Some d) t e = (d, refl, cc)
+
+pub no_told_due : (initial : ℕ) (o : Option Due) → None ≡ option_map (told initial) o → o ≡ None
+no_told_due initial None e = refl
+no_told_due initial (Some d) e = absurd cc
+
+abbrev number : Sending → Bool → Option (ℕ × Bool)
+number s b = if b then Some (next s, false) else None
+
+-- where nothing is due, no number is
+pub number_none : (w : ℕ) (s : Sending) → next s ≤ length s.queue → due w s ≡ None → due_number w (lost s) s ≡ None
+number_none w s le e = among (lost s) refl
+  where
+    fresh : (a b : Bool) → nat_lt (in_flight s) w ≡ a → nat_lt (next s) (length s.queue) ≡ b → due_at s.queue (number s (a && b)) ≡ None → number s (a && b) ≡ None
+    fresh true true f g k =
+        let y = there_is s.queue (next s) (ltb-true _ _ g) in
+        absurd (some_there (next s) false (slice_get s.queue (next s)) y.0 y.1 k)
+    fresh true false f g k = refl
+    fresh false b f g k = refl
+
+    among : (ns : List ℕ) → lost s ≡ ns → due_number w (lost s) s ≡ None
+    among (n ∷ more) l =
+        let k : due_at s.queue (Some (n, true)) ≡ None = sym (ap (λ ns. due_at s.queue (due_number w ns s)) l) ∙ e in
+        let on = lost_one_by_one.next_stays s n more l in
+        let y = there_is s.queue n (omega (arith, on, le)) in
+        absurd (some_there n true (slice_get s.queue n) y.0 y.1 k)
+    among [] l =
+        let k : due_at s.queue (due_number w [] s) ≡ None = sym (ap (λ ns. due_at s.queue (due_number w ns s)) l) ∙ e in
+        ap (λ ns. due_number w ns s) l ∙ fresh (nat_lt (in_flight s) w) (nat_lt (next s) (length s.queue)) refl refl k
+
+pub nothing_due_sent : (w : ℕ) (s : Sending) → next s ≤ length s.queue → due w s ≡ None → after_due w s ≡ s
+nothing_due_sent w s le e = ap (λ o. sent_number o s) (number_none w s le e)
+
+got : (s : Sending) (n : ℕ) (again : Bool) (o : Option Queued) (d : Due) → slice_get s.queue n ≡ o → due_for n again o ≡ Some d → (n ≡ d.number) × ((q : Queued) × (slice_get s.queue n ≡ Some q) × (q.payload ≡ d.payload))
+got s n again None d g e = absurd cc
+got s n again (Some q) d g e =
+    let x : Due = record { number = n; again = again; origin = q.origin; payload = q.payload } in
+    let same : x ≡ d = cc in
+    (ap (λ y. y.number) same, (q, g, ap (λ y. y.payload) same))
+
+-- what is due was queued, and counts as sent
+pub due_sent : (w : ℕ) (s : Sending) (d : Due) → due w s ≡ Some d → after_due w s ≡ sent d.number s
+due_sent w s d e = by (due_number w (lost s) s) e
+  where
+    by : (o : Option (ℕ × Bool)) → due_at s.queue o ≡ Some d → sent_number o s ≡ sent d.number s
+    by None k = absurd cc
+    by (Some p) k = let g = got s p.0 p.1 (slice_get s.queue p.0) d refl k in ap (λ n. sent n s) g.0
+
+some_at : (xs : List Queued) (n : ℕ) (q : Queued) → All (λ q. 0 < length q.payload) xs → slice_get xs n ≡ Some q → 0 < length q.payload
+some_at [] n q a e = absurd cc
+some_at (x ∷ xs) zero q a e = let same : x ≡ q = cc in let h = All-head (λ q. 0 < length q.payload) x xs a in omega (arith, h, ap (λ y. length y.payload) same)
+some_at (x ∷ xs) (suc n) q a e = some_at xs n q (All-tail (λ q. 0 < length q.payload) x xs a) e
+
+pub due_some : (w : ℕ) (s : Sending) (d : Due) → All (λ q. 0 < length q.payload) s.queue → due w s ≡ Some d → 0 < length d.payload
+due_some w s d a e = by (due_number w (lost s) s) e
+  where
+    by : (o : Option (ℕ × Bool)) → due_at s.queue o ≡ Some d → 0 < length d.payload
+    by None k = absurd cc
+    by (Some p) k =
+        let g = (got s p.0 p.1 (slice_get s.queue p.0) d refl k).1 in
+        let h = some_at s.queue p.0 g.0 a g.1 in
+        omega (arith, h, ap (λ (xs : List ℕ). length xs) g.2)

@@ -1,0 +1,148 @@
+-- What holds of each session goes on.
+use Rattle.std.proofs.Common.{◌≡◌, ℕ, ◌-◌, ◌^◌, ◌<◌, ◌≤◌, Bool, true, false, Option, None, Some, List, length, refl, arith}
+use Rattle.std.specs.Prelude.{◌≤ℤ◌, nat_lt}
+use Rattle.std.proofs.lemmas.Bool.{lt-ltb}
+use Rattle.std.proofs.lemmas.Bool.Decides.{nat_tests}
+use Rattle.std.proofs.lemmas.Int.{ints}
+use Rattle.std.proofs.lemmas.List.Elements.{All-nil, All-push}
+use Rattle.srt_seq.specs.declared.shared.Mode.{Mode}
+use Rattle.srt_seq.specs.declared.shared.Mode.TheVariants.{Live, Buffer}
+use Rattle.srt_seq.specs.Window.{counted_from, in_window}
+use Rattle.srt_tsbpd.specs.Deadline.{too_late_at}
+use Rattle.srt_sendbuf.specs.Sending.{Queued, Sending, nothing_yet, queued}
+use Rattle.srt_sendbuf.proofs.OneByOne.{times_go_on, expiry_goes_on}
+use Rattle.srt_sub.specs.Subscribing.{Terms, Subscribing, expired_in, fits}
+use Rattle.srt_sub.specs.Stands.{IsHistory, IsSound, StandsIn, run_gone}
+use Rattle.srt_sendbuf.specs.Stands as places
+use Rattle.srt_sendbuf.specs.declared.buffer.SendBuf.{SendBuf}
+use Rattle.srt_sub.specs.declared.history.History.{History}
+use Rattle.srt_sub.specs.declared.session.Subscriber.{Subscriber}
+use Rattle.srt_sub.specs.Emission.{EmissionBegins, StandsLater}
+use Rattle.srt_sub.specs.Endings.{is_short}
+use Rattle.srt_sendbuf.specs.Told.{Gone}
+use Rattle.srt_seq.specs.Runs.{Run}
+use Rattle.std.specs.Prelude.{IfSome, IfNone, is_some, option_map, if◌then◌else◌, ◌&&◌}
+use Rattle.srt_sendbuf.specs.Sending.{room}
+
+-- a word with its top bit set is no number
+pub no_number : (initial word base width : ℕ) → 2 ^ 31 ≤ word → in_window (counted_from initial word) base width ≡ None
+unfolding in_window
+no_number initial word base width le = let e : nat_lt word (2 ^ 31) ≡ false = grind (arith, nat_tests, le) in rw e refl
+
+later_threshold : (time later delay : ℕ) → time ≤ later → too_late_at time delay ≤ℤ too_late_at later delay
+later_threshold time later delay le = omega (arith, ints, le)
+
+pub sound_later : (terms : Terms) (time later : ℕ) (s : Sending) → time ≤ later → IsSound terms time s → IsSound terms later s
+sound_later terms time later s le h =
+    record {
+      timely = times_go_on.later time later s le h.timely;
+      later = expiry_goes_on.later (too_late_at time terms.delay) (too_late_at later terms.delay) s (later_threshold time later terms.delay le) h.later;
+      some = h.some;
+    }
+
+pub sound_at_first : (terms : Terms) (time : ℕ) → IsSound terms time nothing_yet
+sound_at_first terms time =
+    record {
+      timely = times_go_on.none time;
+      later = expiry_goes_on.none (too_late_at time terms.delay);
+      some = All-nil (λ (q : Queued). 0 < length q.payload);
+    }
+
+-- what changes neither the queue nor what is gone
+pub sound_marked : (terms : Terms) (time : ℕ) (s t : Sending) → t.queue ≡ s.queue → t.expired ≡ s.expired → IsSound terms time s → IsSound terms time t
+sound_marked terms time s t q e h =
+    record {
+      timely = rw q h.timely;
+      later = rw (q, e) h.later;
+      some = rw q h.some;
+    }
+
+pub sound_expired : (mode : Mode) (terms : Terms) (time : ℕ) (s : Sending) → IsSound terms time s → IsSound terms time (expired_in mode terms time s)
+sound_expired Live terms time s h =
+    record {
+      timely = h.timely;
+      later = expiry_goes_on.expire (too_late_at time terms.delay) s;
+      some = h.some;
+    }
+sound_expired Buffer terms time s h = h
+
+pub sound_queued : (terms : Terms) (time : ℕ) (payload : List ℕ) (s : Sending) → 0 < length payload → IsSound terms time s → IsSound terms time (queued time payload s)
+sound_queued terms time payload s some h =
+    record {
+      timely = times_go_on.queue time payload s h.timely;
+      later = expiry_goes_on.queue (too_late_at time terms.delay) time payload s h.later;
+      some = All-push (λ q. 0 < length q.payload) s.queue (record { origin = time; payload = payload }) h.some some;
+    }
+
+pub none_is : (o : Option ℕ) → is_some o ≡ false → o ≡ None
+none_is None e = refl
+none_is (Some n) e = absurd cc
+
+pub some_is : (o : Option ℕ) → is_some o ≡ true → (n : ℕ) × (o ≡ Some n)
+some_is None e = absurd cc
+some_is (Some n) e = (n, refl)
+
+-- whether a loss list asks for what is gone, and what it is told
+pub is_gone : (b : Bool) (g x : Gone) → Some g ≡ (if b then Some x else None) → (b ≡ true) × (g ≡ x)
+is_gone true g x e = (refl, cc)
+is_gone false g x e = absurd cc
+
+pub isnt_gone : (b : Bool) (x : Gone) → None ≡ (if b then Some x else None) → b ≡ false
+isnt_gone true x e = absurd cc
+isnt_gone false x e = refl
+
+pub told_run : (initial : ℕ) (g : Gone) (o : Option Run) → Some g ≡ option_map (run_gone initial) o → (r : Run) × (o ≡ Some r) × (g ≡ run_gone initial r)
+told_run initial g None e = absurd cc
+told_run initial g (Some r) e = (r, refl, cc)
+
+-- what may change of a session
+pub changed : (terms : Terms) (initial opening caller time given : ℕ) (s : Subscriber) (m : Subscribing) → StandsIn terms initial opening caller time given s m → (later count g : ℕ) (b : SendBuf) (x : History) (n : Subscribing) → g ≡ count → places.StandsFor terms.width initial b n.sending → IsHistory initial terms.window x n.notes → IsSound terms later n.sending → StandsIn terms initial opening caller later count (record s { buffer = b; history = x; given = g }) n
+changed terms initial opening caller time given s m h later count g b x n given_is buffer history sound =
+    record {
+      buffer_is = buffer;
+      history_is = history;
+      mode_is = h.mode_is;
+      delay_is = h.delay_is;
+      mtu_is = h.mtu_is;
+      opening_is = h.opening_is;
+      caller_is = h.caller_is;
+      given_is = given_is;
+      sound = sound;
+    }
+
+pub stands_later : StandsLater
+stands_later terms initial opening caller last later s m h le =
+    changed terms initial opening caller (last - opening) 0 s m h (later - opening) 0 s.given s.buffer s.history m h.given_is h.buffer_is h.history_is (sound_later terms (last - opening) (later - opening) m.sending (omega (arith, le)) h.sound)
+
+pub begins : EmissionBegins
+begins terms initial opening caller last now s m h le =
+    record {
+      given = 0;
+      middle = m;
+      stands = stands_later terms initial opening caller last now s m h le;
+      left_is = record { few = omega arith; left_is = refl; end_is = refl };
+    }
+
+false_last : (a : Bool) → (a && false) ≡ false
+false_last true = refl
+false_last false = refl
+
+-- which payloads fit
+pub doesnt_fit : (mode : Mode) (terms : Terms) (payload : List ℕ) (s : Sending) → is_short mode terms.mtu payload ≡ false → fits mode terms payload s ≡ false
+doesnt_fit Live terms payload s e = rw e (false_last _)
+doesnt_fit Buffer terms payload s e = absurd cc
+
+pub does_fit : (mode : Mode) (terms : Terms) (payload : List ℕ) (s : Sending) → is_short mode terms.mtu payload ≡ true → 0 < room terms.width s → fits mode terms payload s ≡ true
+does_fit Live terms payload s e some = let b : nat_lt 0 (room terms.width s) ≡ true = lt-ltb _ _ some in rw (b, e) refl
+does_fit Buffer terms payload s e some = refl
+
+pub has_no_room : (terms : Terms) (payload : List ℕ) (s : Sending) → room terms.width s ≡ 0 → fits Live terms payload s ≡ false
+has_no_room terms payload s e = let b : nat_lt 0 (room terms.width s) ≡ false = grind (arith, nat_tests, e) in rw b refl
+
+pub if_some : {A : Type 0} (o : Option A) (P Q : A → Type 0) → ((x : A) → P x → Q x) → IfSome o P → IfSome o Q
+if_some None P Q f h = h
+if_some (Some x) P Q f h = f x h
+
+pub if_none : {A : Type 0} (o : Option A) (P Q : Type 0) → (P → Q) → IfNone o P → IfNone o Q
+if_none None P Q f h = f h
+if_none (Some x) P Q f h = h

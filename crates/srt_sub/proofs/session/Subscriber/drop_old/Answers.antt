@@ -1,0 +1,34 @@
+use Rattle.std.proofs.Common.{◌≡◌, ◌-◌, sym, ap, subst, ◌∙◌}
+use Rattle.std.specs.Prelude.{ℤ}
+use Rattle.std.proofs.lemmas.Int.{to_z-of_z}
+use mir.Val.{SFits}
+use mir.Syntax.{w64}
+use Rattle.std.proofs.Common.{rules}
+use Rattle.srt_seq.specs.declared.shared.Mode.{Mode}
+use Rattle.srt_seq.specs.declared.shared.Mode.TheVariants.{Live, Buffer}
+use Rattle.srt_tsbpd.specs.Deadline.{too_late_at}
+use Rattle.srt_sendbuf.specs.Sending.{IsLater, expired_before}
+use Rattle.srt_sendbuf.specs.Stands as places
+use Rattle.srt_sub.specs.Subscribing.{expired_in}
+use Rattle.srt_sub.specs.Stands.{StandsIn}
+use Rattle.srt_sub.proofs.Sound.{changed, sound_later, sound_expired}
+use Rattle.srt_sub.proofs.session.Subscriber.drop_old.Goals as goal
+
+pub returns-in-Live : goal.returns-in-Live
+returns-in-Live c terms initial opening caller time given m h le =
+    let now = c.args.now - opening in
+    let at : c.time-time.result ≡ now = c.time-time.ensures.value ∙ ap (λ o. c.args.now - o) h.opening_is in
+    let before : c.too_late_before.result ≡ too_late_at now terms.delay = c.too_late_before.ensures.value ∙ ap (λ t. too_late_at t c.args.self.now.delay) at ∙ ap (too_late_at now) h.delay_is in
+    let sound = sound_later terms time now m.sending le h.sound in
+    let fits : SFits w64 c.too_late_before.result = search rules in
+    let kept = (rw to_z-of_z at c.expire.ensures.stands) terms.width initial m.sending h.buffer_is (subst (λ (b : ℤ). IsLater b m.sending) (sym before) sound.later) in
+    let mode : terms.mode ≡ Live = sym h.mode_is ∙ c.in-Live.is in
+    subst (λ (k : Mode). StandsIn terms initial opening caller now given (record c.args.self.now { buffer = c.expire.new.self }) (record m { sending = expired_in k terms now m.sending })) (sym mode)
+    (changed terms initial opening caller time given c.args.self.now m h now given c.args.self.now.given c.expire.new.self c.args.self.now.history (record m { sending = expired_in Live terms now m.sending }) h.given_is (subst (λ (b : ℤ). places.StandsFor terms.width initial c.expire.new.self (expired_before b m.sending)) before kept) h.history_is (sound_expired Live terms now m.sending sound))
+
+pub returns-in-Buffer : goal.returns-in-Buffer
+returns-in-Buffer c terms initial opening caller time given m h le =
+    let now = c.args.now - opening in
+    let mode : terms.mode ≡ Buffer = sym h.mode_is ∙ c.in-Buffer.is in
+    subst (λ (k : Mode). StandsIn terms initial opening caller now given c.args.self.now (record m { sending = expired_in k terms now m.sending })) (sym mode)
+    (changed terms initial opening caller time given c.args.self.now m h now given c.args.self.now.given c.args.self.now.buffer c.args.self.now.history (m) h.given_is h.buffer_is h.history_is (sound_later terms time now m.sending le h.sound))

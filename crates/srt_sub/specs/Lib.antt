@@ -1,0 +1,9 @@
+pub mod Heard
+pub mod Subscribing
+pub mod Says
+pub mod Stands
+pub mod Endings
+pub mod Turns
+pub mod Emission
+pub mod Fresh
+pub mod Few

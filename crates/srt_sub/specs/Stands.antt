@@ -1,0 +1,61 @@
+-- What the fields of a subscriber's session stand for.
+use Rattle.std.specs.Prelude.{◌≡◌, ℕ, ◌-◌, ◌<◌, option_map, List, [], ◌∷◌, All, length}
+use Rattle.srt_seq.specs.Counts.{message_number}
+use Rattle.srt_seq.specs.Runs.{Run}
+use Rattle.srt_rtt.specs.RoundTrip.{round_trip_of}
+use Rattle.srt_tsbpd.specs.Deadline.{too_late_at}
+use Rattle.srt_packet.specs.Text.{text}
+use Rattle.srt_sendbuf.specs.Sending.{Sending, IsTimely, IsLater}
+use Rattle.srt_sendbuf.specs.Told.{Gone, number_word, gone_by}
+use Rattle.srt_sendbuf.specs.Stands as places
+use Rattle.srt_sub.specs.Subscribing.{Terms, Note, Subscribing, last_sent, last_media, last_growth, round_trip, flow_window, untold}
+use Rattle.srt_sub.specs.declared.history.History.{History}
+use Rattle.srt_sub.specs.declared.session.Subscriber.{Subscriber}
+use Rattle.srt_sub.specs.declared.hearing.Took.{Took}
+use Rattle.srt_sub.specs.declared.hearing.Took.TheVariants.{Nothing, Answer, Ended}
+
+-- a run in words of the wire
+abbrev pub run_gone : (initial : ℕ) → Run → Gone
+run_gone initial run = record { first = number_word initial run.low; last = number_word initial run.high; message = message_number run.low }
+
+-- what is kept of these notes, of a session with this initial number and this flow window agreed
+pub record IsHistory (initial agreed : ℕ) (h : History) (notes : List Note) : Type 0 where
+  pub window_is : h.window ≡ flow_window agreed notes
+  pub round_trip_is : round_trip_of h.round_trip ≡ round_trip notes
+  pub sent_is : h.sent ≡ last_sent notes
+  pub media_is : h.media ≡ last_media notes
+  pub growth_is : h.growth ≡ last_growth notes
+  pub missed_is : option_map gone_by h.missed ≡ option_map (run_gone initial) (untold notes)
+
+-- what holds of each session: all was queued by this time, what is gone was too old by then, and no payload is empty
+pub record IsSound (terms : Terms) (time : ℕ) (s : Sending) : Type 0 where
+  pub timely : IsTimely time s
+  pub later : IsLater (too_late_at time terms.delay) s
+  pub some : All (λ q. 0 < length q.payload) s.queue
+
+-- the session of these terms, with this initial number, which was opened then by this caller; it is told times up to this one,
+-- its own, and gave so many data packets in this event
+pub record StandsIn (terms : Terms) (initial opening caller time given : ℕ) (s : Subscriber) (m : Subscribing) : Type 0 where
+  pub buffer_is : places.StandsFor terms.width initial s.buffer m.sending
+  pub history_is : IsHistory initial terms.window s.history m.notes
+  pub mode_is : s.mode ≡ terms.mode
+  pub delay_is : s.delay ≡ terms.delay
+  pub mtu_is : s.mtu ≡ terms.mtu
+  pub opening_is : s.opening ≡ opening
+  pub caller_is : s.caller ≡ caller
+  pub given_is : s.given ≡ given
+  pub sound : IsSound terms time m.sending
+
+-- between two events. It was told moments up to this last one
+abbrev pub StandsFor : (terms : Terms) (initial opening caller last : ℕ) → Subscriber → Subscribing → Type 0
+StandsFor terms initial opening caller last s m = StandsIn terms initial opening caller (last - opening) 0 s m
+
+-- it has places for so many packets, whatever it stands for
+abbrev pub IsWide : (width : ℕ) → Subscriber → Type 0
+IsWide width s = (initial : ℕ) × (kept : Sending) × places.StandsFor width initial s.buffer kept
+
+-- the datagrams of an answer
+abbrev pub texts_of : Took → List (List ℕ)
+texts_of Nothing = []
+texts_of (Answer packet) = text packet ∷ []
+texts_of Ended = []

@@ -1,0 +1,112 @@
+//! What a session sends at the end of an event, packet by packet.
+
+ghost use Rattle.std.specs.Prelude.{◌≡◌, ℕ, ◌+◌, ◌-◌, ◌^◌, ◌<◌, ◌≤◌, List, [], ◌∷◌, map, option_map, length, IfSome, IfNone, false};
+ghost use Rattle.std.specs.Option.{option_to_list};
+ghost use Rattle.srt_packet.specs.Text.{text, IsWritable};
+ghost use Rattle.srt_sub.specs.Subscribing.{Terms, Subscribing, Report, Media, KeepAlive, expired, presumed, reported, drops, noted, most, keep_alives, is_stale};
+ghost use Rattle.srt_sub.specs.Says.{says};
+
+use crate::packets::{dropped, keep_alive, media};
+use crate::session::Subscriber;
+use srt_packet::Packet;
+
+/// How many data packets an event sends at most (this profile).
+const MOST: u32 = 64;
+
+impl Subscriber {
+    ghost use Rattle.srt_sub.specs.Stands.{StandsIn, StandsFor};
+    ghost use Rattle.srt_sub.specs.Emission.{Emitting, IsNext, IsLeft, IsNextAt, IsOverAt};
+    ghost use Rattle.srt_sub.specs.Turns.{due_in, with_due, given_with, texts};
+
+    /// All in flight are lost where nothing was heard for too long, at the session's own time.
+    fn presume(&mut self, time: u64)
+        ensures { (terms : Terms) (initial opening caller given : ℕ) (m : Subscribing) → StandsIn terms initial opening caller time given self.old m → StandsIn terms initial opening caller time given self.new (presumed time m) }
+    {
+        if self.buffer.in_flight() == 0 {
+            return;
+        }
+        if self.buffer.any_lost() {
+            return;
+        }
+        if self.history.is_silent(time) {
+            self.buffer.lose_all();
+        }
+    }
+
+    /// The drop request that is due.
+    fn next_drop(&mut self, time: u64) -> Option<Packet>
+        ensures stands { (terms : Terms) (initial opening caller given : ℕ) (m : Subscribing) → StandsIn terms initial opening caller time given self.old m → StandsIn terms initial opening caller time given self.new (record m { notes = noted time (drops m.notes) m.notes }) }
+        ensures answer { (terms : Terms) (initial opening caller given : ℕ) (m : Subscribing) → StandsIn terms initial opening caller time given self.old m → texts result ≡ map (says caller initial time) (drops m.notes) }
+        ensures writable { IfSome result (λ p. IsWritable p.body) }
+    {
+        let run = self.history.take_missed(time)?;
+        Some(dropped(run, time, self.caller))
+    }
+
+    /// The data packet that is due.
+    fn next_media(&mut self, time: u64) -> Option<Packet>
+        ensures stands { (terms : Terms) (initial opening caller given : ℕ) (m : Subscribing) → StandsIn terms initial opening caller time given self.old m → given ≤ 64 → StandsIn terms initial opening caller time (given_with (due_in (64 - given) terms m) given) self.new (with_due time (due_in (64 - given) terms m) m) }
+        ensures answer { (terms : Terms) (initial opening caller given : ℕ) (m : Subscribing) → StandsIn terms initial opening caller time given self.old m → given ≤ 64 → texts result ≡ map (λ d. says caller initial time (Media d.number d.again d.origin d.payload)) (option_to_list (due_in (64 - given) terms m)) }
+        ensures writable { IfSome result (λ p. IsWritable p.body) }
+    {
+        if self.given >= MOST {
+            return None;
+        }
+        let out = self.buffer.next_due(self.history.window)?;
+        self.history.give(time);
+        self.given += 1;
+        // No payload that was fed is empty.
+        if out.payload.is_empty() {
+            return None;
+        }
+        Some(media(out, self.caller))
+    }
+
+    /// The keep-alive that is due where nothing was sent for a second.
+    fn next_keep_alive(&mut self, time: u64) -> Option<Packet>
+        ensures stands { (terms : Terms) (initial opening caller given : ℕ) (m : Subscribing) → StandsIn terms initial opening caller time given self.old m → StandsIn terms initial opening caller time given self.new (record m { notes = noted time (keep_alives time [] m.notes) m.notes }) }
+        ensures answer { (terms : Terms) (initial opening caller given : ℕ) (m : Subscribing) → StandsIn terms initial opening caller time given self.old m → texts result ≡ map (says caller initial time) (keep_alives time [] m.notes) }
+        ensures writable { IfSome result (λ p. IsWritable p.body) }
+    {
+        if self.history.is_quiet(time) {
+            self.history.say(time);
+            Some(keep_alive(time, self.caller))
+        } else {
+            None
+        }
+    }
+
+    /// The next packet at the session's own time, once what is too old is dropped.
+    fn turn(&mut self, time: u64) -> Option<Packet>
+        ensures some { IfSome result (λ p. (terms : Terms) (initial opening caller given : ℕ) (middle m : Subscribing) (left : List Report) → StandsIn terms initial opening caller time given self.old (expired terms time middle) → IsLeft terms time given (expired terms time middle) m left → IsNextAt terms initial opening caller time p self.new m left) }
+        ensures none { IfNone result ((terms : Terms) (initial opening caller given : ℕ) (middle m : Subscribing) (left : List Report) → StandsIn terms initial opening caller time given self.old (expired terms time middle) → IsLeft terms time given (expired terms time middle) m left → IsOverAt terms initial opening caller time self.new m left) }
+        ensures writable { IfSome result (λ p. IsWritable p.body) }
+    {
+        self.presume(time);
+        if let Some(packet) = self.next_drop(time) {
+            return Some(packet);
+        }
+        if let Some(packet) = self.next_media(time) {
+            return Some(packet);
+        }
+        if let Some(packet) = self.next_keep_alive(time) {
+            return Some(packet);
+        }
+        self.given = 0;
+        None
+    }
+
+    /// Gives the packets of an event's end one by one, each call the next, after dropping what is too old:
+    /// a drop request, what is sent again, what is sent first, and a keep-alive where there is nothing
+    /// else; at most 65. None once all are given; then the event is over.
+    pub fn emit(&mut self, now: u64) -> Option<Packet>
+        requires { now < 2 ^ 62 }
+        ensures some { IfSome result (λ p. (terms : Terms) (initial opening caller : ℕ) (m : Subscribing) (left : List Report) → Emitting terms initial opening caller now self.old m left → IsNext terms initial opening caller now p self.new m left) }
+        ensures none { IfNone result ((terms : Terms) (initial opening caller : ℕ) (m : Subscribing) (left : List Report) → Emitting terms initial opening caller now self.old m left → (left ≡ []) × StandsFor terms initial opening caller now self.new (reported terms (now - opening) (expired terms (now - opening) m))) }
+        ensures writable { IfSome result (λ p. IsWritable p.body) }
+    {
+        self.drop_old(now);
+        let time = self.time(now);
+        self.turn(time)
+    }
+}
