@@ -7,7 +7,8 @@ use Rattle.srt_seq.specs.declared.shared.Entry.{Entry}
 use Rattle.srt_seq.specs.declared.shared.OpenFault.TheVariants.{Names, Limits}
 use Rattle.srt_seq.specs.Terms.{Terms, terms_of}
 use Rattle.srt_hub.specs.World.{Sorting, Meaning, Lane, empty}
-use Rattle.srt_lobby.specs.Opening.{fault_of, is_name, is_taken, is_fresh, are_names, in_limits, are_in_limits, is_between}
+use Rattle.srt_seq.specs.Entries.{is_name, in_limits, is_between}
+use Rattle.srt_lobby.specs.Opening.{fault_of, is_taken, is_fresh, are_names, are_in_limits}
 use Rattle.srt_hub.specs.Hubs.{AreLanes}
 use Rattle.srt_hub.proofs.Happens.{one_more}
 

@@ -42,7 +42,7 @@ impl<R: RouteStep> Standing for Lane<R> {
 
 impl<R: RouteStep> Lane<R> {
     ghost use Rattle.srt_hub.specs.Queued.{item_in};
-    ghost use Rattle.srt_lobby.specs.Opening.{is_name, in_limits};
+    ghost use Rattle.srt_seq.specs.Entries.{is_name, in_limits};
     ghost use Rattle.srt_seq.specs.Terms.{Terms, terms_of};
     ghost use Rattle.srt_hub.specs.World.{Lane as TheLane, empty, offered, has_room, turned, turn, sent_from, first};
 

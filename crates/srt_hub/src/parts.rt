@@ -11,7 +11,8 @@ ghost use Rattle.srt_lobby.specs.declared.classes.Class.TheVariants.{Route as Fo
 ghost use Rattle.srt_seq.specs.Items.{Item as TheItem, Datagram, told, moment_of};
 ghost use Rattle.srt_seq.specs.Terms.{Terms, terms_of};
 ghost use Rattle.srt_route.specs.Written.{written};
-ghost use Rattle.srt_lobby.specs.Opening.{fault_of, is_name, in_limits};
+ghost use Rattle.srt_seq.specs.Entries.{is_name, in_limits};
+ghost use Rattle.srt_lobby.specs.Opening.{fault_of};
 ghost use Rattle.srt_hub.specs.Hubs.{names};
 
 use srt_cookie::Secret;

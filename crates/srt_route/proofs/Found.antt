@@ -5,9 +5,9 @@ use Rattle.std.specs.List.{list_any}
 use Rattle.std.proofs.lemmas.Bool.{and_parts, and_from, eqb-true, eq-eqb, false_from_ne_true}
 use Rattle.std.proofs.lemmas.Slice.Eq.{bytes_eq-Decides}
 use Rattle.srt_seq.specs.declared.shared.Peer.{Peer}
-use Rattle.srt_route.specs.Sessions.{Session, is_same_peer, is_open_in, generation_of}
-use Rattle.srt_route.specs.Route.{is_of}
-use Rattle.srt_route.specs.Stands.{IsAlone, AreAlone}
+use Rattle.srt_route.specs.Sessions.{Session, is_same_peer, is_open_in, session_id, generation_of}
+use Rattle.srt_route.specs.Route.{is_of, is_for}
+use Rattle.srt_route.specs.Tables.{IsAlone, AreAlone}
 
 -- what is found passes
 pub found_passes : {A : Type 0} (p : A → Bool) (xs : List A) (x : A) → find p xs ≡ Some x → p x ≡ true
@@ -95,6 +95,21 @@ found_of_caller peer caller at places (s ∷ ss) alone t h mine = at_head (is_op
     at_head true e rest h = let same : s ≡ t = cc in rw (same, mine) refl
     at_head false e rest h = goes_on (is_of peer caller s) refl (rest h)
 
+-- what a packet is for is open
+pub for_open : (index : ℕ) (peer : Peer) (dest : ℕ) (s : Session) → is_for index peer dest s ≡ true → s.is_open ≡ true
+for_open index peer dest s h = (and_parts s.is_open (is_same_peer s.peer peer) (and_parts (s.is_open && is_same_peer s.peer peer) (session_id index s == dest) h).0).0
+
+-- what one test finds is what a narrower one finds, where it passes that too
+pub found_narrower : (p q : Session → Bool) → ((u : Session) → q u ≡ true → u.is_open ≡ true) → (places : ℕ) → ((u : Session) → q u ≡ true → u.slot < places → p u ≡ true) → (ss : List Session) → AreAlone places ss → (t : Session) → find p ss ≡ Some t → q t ≡ true → find q ss ≡ Some t
+found_narrower p q opens places inside [] alone t h mine = absurd (let bad : None ≡ Some t = h in cc)
+found_narrower p q opens places inside (s ∷ ss) alone t h mine = at_head (p s) refl (q s) refl (λ later. found_narrower p q opens places inside ss alone.1 t later mine) h
+  where
+    at_head : (b : Bool) → p s ≡ b → (d : Bool) → q s ≡ d → (find p ss ≡ Some t → find q ss ≡ Some t) → cond b (Some s) (find p ss) ≡ Some t → cond d (Some s) (find q ss) ≡ Some t
+    at_head true a true b rest h = h
+    at_head true a false b rest h = absurd (let same : s ≡ t = cc in let passes : q s ≡ true = ap q same ∙ mine in cc)
+    at_head false a true b rest h = absurd (let passes : p s ≡ true = inside s b (alone.0 (opens s b)).inside in cc)
+    at_head false a false b rest h = rest h
+
 -- a change that keeps a session's place and caller, and opens none
 pub record Keeps (f : Session → Session) : Type 0 where
   pub slot : (s : Session) → (f s).slot ≡ s.slot
@@ -155,3 +170,15 @@ place_kept f keeps at places (s ∷ ss) alone = at_head (is_open_in at s) refl (
         rw (closed) (none_kept (is_open_in at) f (open_kept f keeps at) ss none)
     at_head false e true g rest = absurd (let was : is_open_in at s ≡ true = open_kept f keeps at s g in cc)
     at_head false e false g rest = rest
+
+-- where the session of a place comes from
+pub changed_from : (f : Session → Session) → Keeps f → (at places : ℕ) (ss : List Session) → AreAlone places ss → (t : Session) → find (is_open_in at) (map f ss) ≡ Some t → (s : Session) × (find (is_open_in at) ss ≡ Some s) × ((f s).is_open ≡ true) × (f s ≡ t)
+changed_from f keeps at places ss alone t h = from (find (is_open_in at) ss) refl (sym (place_kept f keeps at places ss alone) ∙ h)
+  where
+    while_it : (s u : Session) (b : Bool) → u.is_open ≡ b → cond b (Some u) None ≡ Some t → (u.is_open ≡ true) × (u ≡ t)
+    while_it s u true o k = (o, let same : Some u ≡ Some t = k in cc)
+    while_it s u false o k = absurd (let bad : None ≡ Some t = k in cc)
+
+    from : (o : Option Session) → find (is_open_in at) ss ≡ o → changed f o ≡ Some t → (s : Session) × (find (is_open_in at) ss ≡ Some s) × ((f s).is_open ≡ true) × (f s ≡ t)
+    from None e k = absurd (let bad : None ≡ Some t = k in cc)
+    from (Some s) e k = let it = while_it s (f s) (f s).is_open refl k in (s, e, it.0, it.1)

@@ -3,20 +3,21 @@ use Rattle.std.proofs.Common.{◌≡◌, ℕ, zero, suc, ◌+◌, ◌%◌, ◌<�
 use Rattle.std.specs.Option.{option_map, is_some}
 use Rattle.std.specs.List.{list_any, position, position_or_len}
 use Rattle.std.proofs.lemmas.Bool.{cases_eq, cases_lt, cases_Bool, and_parts, eqb-true, false_from_ne_true, lt-ltb, or_left, or_right}
-use Rattle.std.proofs.lemmas.List.{get_or-set_same, get_or-set_other, length-set}
+use Rattle.std.proofs.lemmas.List.{get_or-set_same, get_or-set_other, get_or_default, length-set}
 use Rattle.std.proofs.lemmas.List.Quantifiers.{position-Some}
 use Rattle.std.proofs.lemmas.List.Sums.{fails_before_first}
 use Rattle.std.proofs.lemmas.List.Folds.{list_any_at, Any-from_list_any}
 use Rattle.srt_seq.specs.declared.shared.Peer.{Peer}
 use Rattle.srt_seq.specs.Runs.{numbers_from}
 use Rattle.srt_seq.specs.Terms.{Terms}
-use Rattle.srt_packet.specs.Grammar.{Body}
+use Rattle.srt_packet.specs.Grammar.{Packet}
 use Rattle.srt_route.specs.declared.slots.Session.{Session as TheSession}
 use Rattle.srt_route.specs.declared.slots.Slot.{Slot}
-use Rattle.srt_route.specs.Sessions.{Session, is_same_peer, is_open_in, is_publisher, publishes, is_free, free_slot, session_id}
-use Rattle.srt_route.specs.Route.{is_of, is_for, is_shutdown, heard_if, took_if}
-use Rattle.srt_route.specs.Stands.{IsSession, IsStored, IsSlot, AreSlots, AreAlone, AreStored, holds, has_publisher, is_vacant, session_passes, is_session_of, heard_at, is_stored_for, stored_after, slot_after}
-use Rattle.srt_route.proofs.Found.{found_passes, any_is, found_in_place, found_of_caller, open_parts, of_parts, Keeps, alone_kept, counted_kept, place_kept, changed, while_open}
+use Rattle.srt_route.specs.Past.{ends_with}
+use Rattle.srt_route.specs.Sessions.{Session, is_same_peer, is_open_in, is_publisher, publishes, is_free, free_slot, session_id, terms_of, took}
+use Rattle.srt_route.specs.Route.{is_of, is_for, heard_if, took_if}
+use Rattle.srt_route.specs.Tables.{IsSession, IsStored, IsSlot, AreSlots, AreAlone, AreStored, holds, has_publisher, is_vacant, session_passes, is_session_of, heard_at, is_stored_for, stored_after}
+use Rattle.srt_route.proofs.Found.{found_passes, any_is, found_in_place, found_of_caller, found_narrower, for_open, open_parts, open_from, of_parts, Keeps, alone_kept, counted_kept, place_kept, changed, while_open}
 
 -- where nothing is found, nothing passes
 pub position_none : {A : Type 0} (p : A → Bool) (xs : List A) → position p xs ≡ None → (i : ℕ) (d : A) → i < length xs → p (get_or xs i d) ≡ false
@@ -26,7 +27,7 @@ position_none p xs h i d below = elim (cases_lt (position_or_len p xs) (length x
 ]
 
 -- a test of what is found
-abbrev found_test : (Session → Bool) → Option Session → Bool
+abbrev pub found_test : (Session → Bool) → Option Session → Bool
 found_test test None = false
 found_test test (Some s) = test s
 
@@ -40,7 +41,7 @@ passes_alike e index stored test alike (Some t) (Some s) is o = alike t s is o
 passes_alike e index stored test alike None (Some s) is o = absurd is
 passes_alike e index stored test alike (Some t) None is o = absurd is
 
-open_found : (at : ℕ) (ss : List Session) (found : Option Session) → find (is_open_in at) ss ≡ found → IsOpenFound found
+pub open_found : (at : ℕ) (ss : List Session) (found : Option Session) → find (is_open_in at) ss ≡ found → IsOpenFound found
 open_found at ss None h = tt
 open_found at ss (Some s) h = (open_parts at s (found_passes (is_open_in at) ss s h)).0
 
@@ -48,10 +49,10 @@ open_found at ss (Some s) h = (open_parts at s (found_passes (is_open_in at) ss 
 of_alike : (e : Terms) (index : ℕ) (peer : Peer) (caller : ℕ) (t : TheSession) (s : Session) → IsSession e index t s → s.is_open ≡ true → is_of peer caller s ≡ is_session_of peer caller t
 of_alike e index peer caller t s is o = rw (o, is.peer_is, is.caller_is) refl
 
-publisher_alike : (e : Terms) (index : ℕ) (t : TheSession) (s : Session) → IsSession e index t s → s.is_open ≡ true → is_publisher s ≡ publishes t.role
+pub publisher_alike : (e : Terms) (index : ℕ) (t : TheSession) (s : Session) → IsSession e index t s → s.is_open ≡ true → is_publisher s ≡ publishes t.role
 publisher_alike e index t s is o = rw (o, is.role_is) refl
 
-slot_passes : (e : Terms) (index : ℕ) (slots : List Slot) (ss : List Session) → AreSlots e index slots ss → (stored : TheSession → Bool) (test : Session → Bool) → ((t : TheSession) (s : Session) → IsSession e index t s → s.is_open ≡ true → test s ≡ stored t) → (at : ℕ) (d : Slot) → at < length slots → found_test test (find (is_open_in at) ss) ≡ session_passes stored (get_or slots at d).session
+pub slot_passes : (e : Terms) (index : ℕ) (slots : List Slot) (ss : List Session) → AreSlots e index slots ss → (stored : TheSession → Bool) (test : Session → Bool) → ((t : TheSession) (s : Session) → IsSession e index t s → s.is_open ≡ true → test s ≡ stored t) → (at : ℕ) (d : Slot) → at < length slots → found_test test (find (is_open_in at) ss) ≡ session_passes stored (get_or slots at d).session
 slot_passes e index slots ss are stored test alike at d below =
     passes_alike e index stored test alike (get_or slots at d).session (find (is_open_in at) ss) (are at d below).session_is (open_found at ss (find (is_open_in at) ss) refl)
 
@@ -88,7 +89,7 @@ caller_at e index slots ss peer caller at slot are first there =
         (t, s, a, b, is, mine, found_of_caller peer caller at e.sessions ss are.alone s b mine)
 
 -- what one test finds passes another, so something does
-any_from : {A : Type 0} (p q : A → Bool) (xs : List A) (x : A) → find q xs ≡ Some x → p x ≡ true → list_any p xs ≡ true
+pub any_from : {A : Type 0} (p q : A → Bool) (xs : List A) (x : A) → find q xs ≡ Some x → p x ≡ true → list_any p xs ≡ true
 any_from p q [] x h passes = absurd (let bad : None ≡ Some x = h in cc)
 any_from p q (y ∷ ys) x h passes = at_head (q y) refl (λ later. any_from p q ys x later passes) h
   where
@@ -264,24 +265,24 @@ heard_again e index slots ss peer caller clock at slot are first there =
     (hear_one e index slots ss peer caller clock at slot.generation found.0 found.1 are below it_is found.3 found.4 found.5 found.6)
 
 -- what a packet does to a session
-pub takes : (index clock : ℕ) (peer : Peer) (dest : ℕ) (body : Body) → Keeps (λ s. took_if (is_for index peer dest s) clock body s)
-takes index clock peer dest body = record { slot = λ s. slot_of s (is_for index peer dest s); peer = λ s. peer_of s (is_for index peer dest s); conclusion = λ s. conclusion_of s (is_for index peer dest s); opens_none = λ s. opens_of s (is_for index peer dest s) refl }
+pub takes : (e : Terms) (index clock : ℕ) (peer : Peer) (packet : Packet) → Keeps (λ s. took_if (is_for index peer packet.dest s) e clock packet s)
+takes e index clock peer packet = record { slot = λ s. slot_of s (is_for index peer packet.dest s); peer = λ s. peer_of s (is_for index peer packet.dest s); conclusion = λ s. conclusion_of s (is_for index peer packet.dest s); opens_none = λ s. opens_of s (is_for index peer packet.dest s) refl }
   where
-    slot_of : (s : Session) (b : Bool) → (took_if b clock body s).slot ≡ s.slot
+    slot_of : (s : Session) (b : Bool) → (took_if b e clock packet s).slot ≡ s.slot
     slot_of s true = refl
     slot_of s false = refl
 
-    peer_of : (s : Session) (b : Bool) → (took_if b clock body s).peer ≡ s.peer
+    peer_of : (s : Session) (b : Bool) → (took_if b e clock packet s).peer ≡ s.peer
     peer_of s true = refl
     peer_of s false = refl
 
-    conclusion_of : (s : Session) (b : Bool) → (took_if b clock body s).conclusion ≡ s.conclusion
+    conclusion_of : (s : Session) (b : Bool) → (took_if b e clock packet s).conclusion ≡ s.conclusion
     conclusion_of s true = refl
     conclusion_of s false = refl
 
-    opens_of : (s : Session) (b : Bool) → is_for index peer dest s ≡ b → (took_if b clock body s).is_open ≡ true → s.is_open ≡ true
-    opens_of s true e h = (and_parts s.is_open (is_same_peer s.peer peer) (and_parts (s.is_open && is_same_peer s.peer peer) (session_id index s == dest) e).0).0
-    opens_of s false e h = h
+    opens_of : (s : Session) (b : Bool) → is_for index peer packet.dest s ≡ b → (took_if b e clock packet s).is_open ≡ true → s.is_open ≡ true
+    opens_of s true q h = for_open index peer packet.dest s q
+    opens_of s false q h = h
 
 -- the least byte of a session's ID is its slot
 slot_of_id : (index k dest : ℕ) (peer : Peer) (ss : List Session) (u : Session) → k < 256 → find (is_open_in k) ss ≡ Some u → is_for index peer dest u ≡ true → k ≡ dest % 256
@@ -290,51 +291,111 @@ slot_of_id index k dest peer ss u small here mine =
     let id_is : session_id index u ≡ dest = eqb-true (session_id index u) dest (and_parts (u.is_open && is_same_peer u.peer peer) (session_id index u == dest) mine).1 in
     omega (arith, k_is, id_is)
 
-other_stays : (index clock k dest : ℕ) (peer : Peer) (body : Body) (ss : List Session) (u : Session) → k < 256 → k ≢ dest % 256 → find (is_open_in k) ss ≡ Some u → took_if (is_for index peer dest u) clock body u ≡ u
-other_stays index clock k dest peer body ss u small other here = at (is_for index peer dest u) refl
-  where
-    at : (b : Bool) → is_for index peer dest u ≡ b → took_if b clock body u ≡ u
-    at false h = refl
-    at true h = absurd (other (slot_of_id index k dest peer ss u small here h))
+-- a packet is for none of the sessions
+abbrev pub IsForNone : (index : ℕ) → Peer → (dest places : ℕ) → List Session → Type 0
+IsForNone index peer dest places ss = (k : ℕ) (u : Session) → k < places → find (is_open_in k) ss ≡ Some u → is_for index peer dest u ≡ false
 
--- no session has so high a slot
-pub none_took : (e : Terms) (index : ℕ) (slots : List Slot) (ss : List Session) (peer : Peer) (dest clock : ℕ) (body : Body) → AreStored e index slots ss → length slots ≤ 17 → length slots ≤ dest % 256 → AreStored e index slots (map (λ s. took_if (is_for index peer dest s) clock body s) ss)
-none_took e index slots ss peer dest clock body are few beyond =
-    let f : Session → Session = λ s. took_if (is_for index peer dest s) clock body s in
-    let keeps : Keeps f = takes index clock peer dest body in
+pub for_none_beyond : (index : ℕ) (peer : Peer) (dest places : ℕ) (ss : List Session) → places ≤ 17 → places ≤ dest % 256 → IsForNone index peer dest places ss
+for_none_beyond index peer dest places ss few beyond k u below here =
+    false_from_ne_true (is_for index peer dest u) (λ h. let same : k ≡ dest % 256 = slot_of_id index k dest peer ss u (omega (arith, below, few)) here h in absurd (omega (arith, same, below, beyond)))
+
+for_alike : (e : Terms) (index : ℕ) (peer : Peer) (dest : ℕ) (t : TheSession) (s : Session) → IsSession e index t s → s.is_open ≡ true → is_for index peer dest s ≡ is_stored_for peer dest t
+for_alike e index peer dest t s is o = rw (o, is.peer_is, is.id_is) refl
+
+-- nor for any, where its place holds none that it is for
+pub for_none_stored : (e : Terms) (index : ℕ) (slots : List Slot) (ss : List Session) (peer : Peer) (dest at : ℕ) (slot : Slot) → AreStored e index slots ss → length slots ≤ 17 → at ≡ dest % 256 → at < length slots → slot ≡ get_or slots at slot → session_passes (is_stored_for peer dest) slot.session ≡ false → IsForNone index peer dest e.sessions ss
+for_none_stored e index slots ss peer dest at slot are few place below there none k u in_it here = false_from_ne_true (is_for index peer dest u) (λ h.
+    let same : k ≡ at = slot_of_id index k dest peer ss u (omega (arith, in_it, few, are.places_are)) here h ∙ sym place in
+    let found : find (is_open_in at) ss ≡ Some u = subst (λ (n : ℕ). find (is_open_in n) ss ≡ Some u) same here in
+    let alike = slot_passes e index slots ss are.slots_are (is_stored_for peer dest) (is_for index peer dest) (for_alike e index peer dest) at slot below in
+    let stored : session_passes (is_stored_for peer dest) (get_or slots at slot).session ≡ false = subst (λ (x : Slot). session_passes (is_stored_for peer dest) x.session ≡ false) there none in
+    let tested : found_test (is_for index peer dest) (Some u) ≡ false = ap (found_test (is_for index peer dest)) (sym found) ∙ (alike ∙ stored) in
+    absurd (let bad : true ≡ false = sym h ∙ tested in cc))
+
+-- then none is found
+pub none_found_for : (index : ℕ) (peer : Peer) (dest places : ℕ) (ss : List Session) → AreAlone places ss → IsForNone index peer dest places ss → (o : Option Session) → find (is_for index peer dest) ss ≡ o → o ≡ None
+none_found_for index peer dest places ss alone none None h = refl
+none_found_for index peer dest places ss alone none (Some u) h =
+    let place = found_in_place (is_for index peer dest) (for_open index peer dest) places ss alone u h in
+    let is : is_for index peer dest u ≡ true = found_passes (is_for index peer dest) ss u h in
+    absurd (let not_it : is_for index peer dest u ≡ false = none u.slot u place.0 place.1 in cc)
+
+-- and none is changed
+none_changes : (e : Terms) (index clock : ℕ) (peer : Peer) (packet : Packet) (u : Session) → is_for index peer packet.dest u ≡ false → took_if (is_for index peer packet.dest u) e clock packet u ≡ u
+none_changes e index clock peer packet u h = rw (h) refl
+
+pub none_took : (e : Terms) (index : ℕ) (slots : List Slot) (ss : List Session) (peer : Peer) (clock : ℕ) (packet : Packet) → AreStored e index slots ss → IsForNone index peer packet.dest e.sessions ss → AreStored e index slots (map (λ s. took_if (is_for index peer packet.dest s) e clock packet s) ss)
+none_took e index slots ss peer clock packet are none =
+    let f : Session → Session = λ s. took_if (is_for index peer packet.dest s) e clock packet s in
+    let keeps : Keeps f = takes e index clock peer packet in
     slots_stay e index slots ss (map f ss) are (alone_kept f keeps e.sessions ss are.alone)
-    (λ k below x is. slot_stays f keeps e index k x ss are.alone (λ u here. other_stays index clock k dest peer body ss u (omega (arith, below, few)) (λ same. omega (arith, same, below, beyond)) here) is)
+    (λ k below x is. slot_stays f keeps e index k x ss are.alone (λ u here. none_changes e index clock peer packet u (none k u (omega (arith, below, are.places_are)) here)) is)
+
+-- the session of a place that passes
+pub passes_at : (e : Terms) (index : ℕ) (slots : List Slot) (ss : List Session) (stored : TheSession → Bool) (test : Session → Bool) (at : ℕ) (slot : Slot) → AreStored e index slots ss → ((t : TheSession) (s : Session) → IsSession e index t s → s.is_open ≡ true → test s ≡ stored t) → at < length slots → slot ≡ get_or slots at slot → session_passes stored slot.session ≡ true → (t : TheSession) × (s : Session) × (slot.session ≡ Some t) × (find (is_open_in at) ss ≡ Some s) × IsSession e index t s × (test s ≡ true)
+passes_at e index slots ss stored test at slot are alike below there passes =
+    let slot_is : IsSlot e index at slot ss = subst (λ (x : Slot). IsSlot e index at x ss) (sym there) (are.slots_are at slot below) in
+    at_place slot.session refl (find (is_open_in at) ss) refl slot_is.session_is passes
+  where
+    at_place : (o : Option TheSession) → slot.session ≡ o → (f : Option Session) → find (is_open_in at) ss ≡ f → IsStored e index o f → session_passes stored o ≡ true → (t : TheSession) × (s : Session) × (slot.session ≡ Some t) × (find (is_open_in at) ss ≡ Some s) × IsSession e index t s × (test s ≡ true)
+    at_place None a f b is h = absurd (let bad : false ≡ true = h in cc)
+    at_place (Some t) a None b is h = absurd is
+    at_place (Some t) a (Some s) b is h = (t, s, a, b, is, alike t s is (open_parts at s (found_passes (is_open_in at) ss s b)).0 ∙ h)
+
+-- what a packet is for
+pub record IsHere (e : Terms) (index : ℕ) (slots : List Slot) (ss : List Session) (peer : Peer) (dest at : ℕ) (slot : Slot) (t : TheSession) (s : Session) : Type 0 where
+  pub below : at < e.sessions
+  pub stored_is : slot.session ≡ Some t
+  pub found_is : find (is_open_in at) ss ≡ Some s
+  pub session_is : IsSession e index t s
+  pub for_it : is_for index peer dest s ≡ true
+  pub is_open : s.is_open ≡ true
+  pub found_for : find (is_for index peer dest) ss ≡ Some s
+  pub others : (k : ℕ) (u : Session) → k ≢ at → k < e.sessions → find (is_open_in k) ss ≡ Some u → is_for index peer dest u ≡ false
+
+pub for_one : (e : Terms) (index : ℕ) (slots : List Slot) (ss : List Session) (peer : Peer) (dest at : ℕ) (slot : Slot) → AreStored e index slots ss → length slots ≤ 17 → at ≡ dest % 256 → at < length slots → slot ≡ get_or slots at slot → session_passes (is_stored_for peer dest) slot.session ≡ true → (t : TheSession) × (s : Session) × IsHere e index slots ss peer dest at slot t s
+for_one e index slots ss peer dest at slot are few place below there passes =
+    let found = passes_at e index slots ss (is_stored_for peer dest) (is_for index peer dest) at slot are (for_alike e index peer dest) below there passes in (
+      found.0,
+      found.1,
+      record {
+        below = omega (arith, below, are.places_are);
+        stored_is = found.2;
+        found_is = found.3;
+        session_is = found.4;
+        for_it = found.5;
+        is_open = for_open index peer dest found.1 found.5;
+        found_for = found_narrower (is_open_in at) (is_for index peer dest) (for_open index peer dest) e.sessions in_place ss are.alone found.1 found.3 found.5;
+        others = λ k u other in_it here. false_from_ne_true (is_for index peer dest u) (λ h. absurd (other (slot_of_id index k dest peer ss u (omega (arith, in_it, few, are.places_are)) here h ∙ sym place)));
+      },
+    )
+  where
+    in_place : (u : Session) → is_for index peer dest u ≡ true → u.slot < e.sessions → is_open_in at u ≡ true
+    in_place u h inside =
+        let id_is : session_id index u ≡ dest = eqb-true (session_id index u) dest (and_parts (u.is_open && is_same_peer u.peer peer) (session_id index u == dest) h).1 in
+        open_from at u (for_open index peer dest u h) (omega (arith, id_is, inside, few, are.places_are, place))
 
 -- the slot whose session a packet is for
-pub one_took : (e : Terms) (index : ℕ) (slots : List Slot) (ss : List Session) (peer : Peer) (dest clock at : ℕ) (body : Body) (slot : Slot) → AreStored e index slots ss → length slots ≤ 17 → at ≡ dest % 256 → at < length slots → slot ≡ get_or slots at slot → AreStored e index (set slots at (record { generation = slot.generation; session = slot_after peer dest clock (is_shutdown body) slot.session })) (map (λ s. took_if (is_for index peer dest s) clock body s) ss)
-one_took e index slots ss peer dest clock at body slot are few place below there =
-    let f : Session → Session = λ s. took_if (is_for index peer dest s) clock body s in
-    let keeps : Keeps f = takes index clock peer dest body in
-    let slot_is : IsSlot e index at slot ss = subst (λ (x : Slot). IsSlot e index at x ss) (sym there) (are.slots_are at slot below) in
-    slot_put e index slots ss (map f ss) at (record { generation = slot.generation; session = slot_after peer dest clock (is_shutdown body) slot.session }) are
+pub slot_took : (e : Terms) (index : ℕ) (slots : List Slot) (ss : List Session) (peer : Peer) (clock at : ℕ) (packet : Packet) (ends : Bool) (slot new : Slot) (t : TheSession) (s : Session) → AreStored e index slots ss → slot ≡ get_or slots at slot → IsHere e index slots ss peer packet.dest at slot t s → ends ≡ ends_with (terms_of e s) s.conclusion.initial packet.body s.past → new ≡ record { generation = slot.generation; session = stored_after ends clock slot.session } → AreStored e index (set slots at new) (map (λ u. took_if (is_for index peer packet.dest u) e clock packet u) ss)
+slot_took e index slots ss peer clock at packet ends slot new t s are there here end_is new_is =
+    let f : Session → Session = λ u. took_if (is_for index peer packet.dest u) e clock packet u in
+    let keeps : Keeps f = takes e index clock peer packet in
+    let slot_is : IsSlot e index at slot ss = subst (λ (x : Slot). IsSlot e index at x ss) (sym there) (are.slots_are at slot (omega (arith, here.below, are.places_are))) in
+    slot_put e index slots ss (map f ss) at new are
     (alone_kept f keeps e.sessions ss are.alone)
-    (slot_changes f keeps e index at slot (record { generation = slot.generation; session = slot_after peer dest clock (is_shutdown body) slot.session }) ss are.alone refl
-    (after_is slot.session (find (is_open_in at) ss) refl slot_is.session_is) slot_is)
-    (λ k other in_it x is. slot_stays f keeps e index k x ss are.alone (λ u here. other_stays index clock k dest peer body ss u (omega (arith, in_it, few, are.places_are)) (λ same. other (same ∙ sym place)) here) is)
+    (slot_changes f keeps e index at slot new ss are.alone (ap (λ (x : Slot). x.generation) new_is)
+    (subst (λ (g : Option Session). IsStored e index new.session (changed f g)) (sym here.found_is)
+    (subst (λ (o : Option TheSession). IsStored e index o (while_open (f s))) (sym (ap (λ (x : Slot). x.session) new_is ∙ ap (stored_after ends clock) here.stored_is))
+    (subst (λ (b : Bool). IsStored e index (stored_after ends clock (Some t)) (while_open (took_if b e clock packet s))) (sym here.for_it) (ended ends (sym end_is))))) slot_is)
+    (λ k other in_it x is. slot_stays f keeps e index k x ss are.alone (λ u there_is. none_changes e index clock peer packet u (here.others k u other in_it there_is)) is)
   where
-    with_test : (t : TheSession) (s : Session) → IsSession e index t s → s.is_open ≡ true → (b ends : Bool) → ends ≡ is_shutdown body → IsStored e index (stored_after b ends clock t) (while_open (took_if b clock body s))
-    with_test t s is o true true h = rw (← h) tt
-    with_test t s is o true false h = rw (← h) (record { peer_is = is.peer_is; caller_is = is.caller_is; id_is = is.id_is; role_is = is.role_is; stamp_is = is.stamp_is; opening_is = is.opening_is; heard_is = refl; answer_is = is.answer_is })
-    with_test t s is o false ends h = subst (λ (b : Bool). IsStored e index (Some t) (cond b (Some s) None)) (sym o) is
-
-    after_is : (o : Option TheSession) (g : Option Session) → find (is_open_in at) ss ≡ g → IsStored e index o g → IsStored e index (slot_after peer dest clock (is_shutdown body) o) (changed (λ s. took_if (is_for index peer dest s) clock body s) g)
-    after_is None None h is = tt
-    after_is (Some t) (Some s) h is =
-        let o : s.is_open ≡ true = (open_parts at s (found_passes (is_open_in at) ss s h)).0 in
-        let test : is_for index peer dest s ≡ is_stored_for peer dest t = rw (o, is.peer_is, is.id_is) refl in
-        subst (λ (b : Bool). IsStored e index (slot_after peer dest clock (is_shutdown body) (Some t)) (while_open (took_if b clock body s))) (sym test)
-        (with_test t s is o (is_stored_for peer dest t) (is_shutdown body) refl)
-    after_is None (Some s) h is = absurd is
-    after_is (Some t) None h is = absurd is
-
-pub slot_took : (e : Terms) (index : ℕ) (slots : List Slot) (ss : List Session) (peer : Peer) (dest own clock at : ℕ) (body : Body) (ends : Bool) (slot new : Slot) → AreStored e index slots ss → length slots ≤ 17 → dest ≡ own → is_shutdown body ≡ ends → at ≡ own % 256 → at < length slots → slot ≡ get_or slots at slot → new ≡ record { generation = slot.generation; session = slot_after peer own clock ends slot.session } → AreStored e index (set slots at new) (map (λ s. took_if (is_for index peer dest s) clock body s) ss)
-slot_took e index slots ss peer dest own clock at body ends slot new are few same_dest same_end place below there new_is =
-    rw (new_is, ← same_dest, ← same_end) (one_took e index slots ss peer dest clock at body slot are few (place ∙ ap (λ (n : ℕ). n % 256) (sym same_dest)) below there)
+    ended : (b : Bool) → ends_with (terms_of e s) s.conclusion.initial packet.body s.past ≡ b → IsStored e index (stored_after b clock (Some t)) (while_open (took e clock packet.stamp packet.body s))
+    ended true h = rw (h) tt
+    ended false h = rw (h) (record { peer_is = here.session_is.peer_is; caller_is = here.session_is.caller_is; id_is = here.session_is.id_is; role_is = here.session_is.role_is; stamp_is = here.session_is.stamp_is; opening_is = here.session_is.opening_is; heard_is = refl; answer_is = here.session_is.answer_is })
 
 pub heard_again_at : (e : Terms) (index : ℕ) (slots : List Slot) (ss : List Session) (peer : Peer) (caller clock at : ℕ) (slot new : Slot) → AreStored e index slots ss → position (holds peer caller) slots ≡ Some at → slot ≡ get_or slots at slot → new ≡ record { generation = slot.generation; session = option_map (heard_at clock) slot.session } → AreStored e index (set slots at new) (map (λ s. heard_if (is_of peer caller s) clock s) ss)
 heard_again_at e index slots ss peer caller clock at slot new are first there new_is = rw (new_is) (heard_again e index slots ss peer caller clock at slot are first there)
+
+-- two reads of one place
+pub same_read : {A : Type 0} (xs : List A) (at : ℕ) (x y : A) → at < length xs → x ≡ get_or xs at x → y ≡ get_or xs at y → x ≡ y
+same_read xs at x y below one other = one ∙ (get_or_default xs at x y below ∙ sym other)

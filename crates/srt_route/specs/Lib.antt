@@ -1,7 +1,15 @@
 pub mod Opening
 pub mod Conclusions
+pub mod Past
 pub mod Sessions
 pub mod Route
+pub mod Shifted
+pub mod ShiftLaws
+pub mod Relabel
 pub mod Writable
 pub mod Written
+pub mod Tables
+pub mod Media
 pub mod Stands
+pub mod Delivery
+pub mod Reports

@@ -4,22 +4,7 @@ use Rattle.std.specs.List.{list_all}
 use Rattle.srt_seq.specs.declared.shared.OpenFault.{OpenFault}
 use Rattle.srt_seq.specs.declared.shared.OpenFault.TheVariants.{Names, Limits}
 use Rattle.srt_seq.specs.Terms.{Terms}
-
-abbrev pub is_between : (low high n : ℕ) → Bool
-is_between low high n = nat_le low n && nat_le n high
-
--- ASCII letters and digits, `-`, `.`, `/` and `_`
-abbrev pub is_name_byte : ℕ → Bool
-is_name_byte b = is_between 97 122 b || is_between 65 90 b || is_between 48 57 b || is_between 45 47 b || b == 95
-
-abbrev pub is_name : List ℕ → Bool
-is_name name = is_between 1 64 (length name) && list_all is_name_byte name
-
--- the numbers of a route are within their limits
-abbrev pub in_limits : Terms → Bool
-in_limits e =
-    is_between 20 8000 e.latency_ms && is_between 32 8192 e.buffer && is_between 1 17 e.sessions &&
-    is_between 16 4096 e.inbox && is_between 16 4096 e.outbox
+use Rattle.srt_seq.specs.Entries.{is_name, in_limits}
 
 -- why a route of this index can't be opened, memory aside: the name comes first
 abbrev pub fault_of : Terms → (index : ℕ) → Option OpenFault

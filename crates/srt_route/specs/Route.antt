@@ -1,6 +1,6 @@
 -- A route, from all that it was told. Lists of items and of sessions have the newest first, replies the oldest.
-use Rattle.std.specs.Prelude.{ℕ, ◌+◌, ◌*◌, ◌≤◌, Bool, true, false, Option, None, Some, Result, Ok, Err, List, [], ◌∷◌, length, map, max, find, not, nat_lt, ◌==◌, ◌&&◌, ◌||◌, if◌then◌else◌}
-use Rattle.std.specs.List.{list_any}
+use Rattle.std.specs.Prelude.{ℕ, ◌+◌, ◌*◌, ◌≤◌, Bool, true, false, Option, None, Some, Result, Ok, Err, List, [], ◌∷◌, ◌++◌, length, map, fold, max, find, not, nat_lt, ◌==◌, ◌&&◌, ◌||◌, if◌then◌else◌}
+use Rattle.std.specs.List.{list_any, flat_map}
 use Rattle.srt_seq.specs.declared.shared.Peer.{Peer}
 use Rattle.srt_seq.specs.declared.shared.Mode.{Mode}
 use Rattle.srt_seq.specs.declared.shared.Mode.TheVariants.{Live, Buffer}
@@ -8,7 +8,7 @@ use Rattle.srt_seq.specs.Terms.{Terms}
 use Rattle.srt_seq.specs.Items.{Datagram, Item, Received, Tick, moment_of}
 use Rattle.srt_packet.specs.declared.reading.PacketFault.{PacketFault}
 use Rattle.srt_packet.specs.declared.writing.Body.TheVariants as out
-use Rattle.srt_packet.specs.Grammar.{Packet, Body, Handshake, Shutdown}
+use Rattle.srt_packet.specs.Grammar.{Packet, Body, Handshake}
 use Rattle.srt_packet.specs.Reading.{packet_in}
 use Rattle.srt_packet.specs.Text.{text}
 use Rattle.srt_hs.specs.declared.writing.HsAnswer.{HsAnswer}
@@ -18,7 +18,8 @@ use Rattle.srt_hs.specs.declared.writing.RefusalCode.TheVariants as codes
 use Rattle.srt_hs.specs.Text.{answer_text}
 use Rattle.srt_route.specs.declared.conclusions.Conclusion.{Conclusion}
 use Rattle.srt_route.specs.Conclusions.{conclusion_in}
-use Rattle.srt_route.specs.Sessions.{Session, is_same_peer, session_id, answer_of, publishes, is_publisher, free_slot, generation_of}
+use Rattle.srt_route.specs.Past.{Report, report_text, past_of, least_with}
+use Rattle.srt_route.specs.Sessions.{Session, is_same_peer, session_id, answer_of, publishes, is_publisher, is_subscriber, by_slot, free_slot, generation_of, time_in, aged, took, answered_at_once, payloads, passed, reports_at, reported}
 
 -- every session that was ever opened, and the clock
 pub record Route : Type 0 where
@@ -28,9 +29,11 @@ pub record Route : Type 0 where
 abbrev pub opened : Route
 opened = record { clock = 0; sessions = [] }
 
--- what is sent: to the socket with this ID this answer to its handshake
+-- what is sent to the socket with this ID: an answer to its handshake, or a report of a session with this initial number, so long after
+-- its opening
 pub data Output : Type 0 where
   Answers : (caller : ℕ) (answer : HsAnswer) → Output
+  Says : (caller initial time : ℕ) (report : Report) → Output
 
 pub record Reply : Type 0 where
   pub peer : Peer
@@ -39,6 +42,7 @@ pub record Reply : Type 0 where
 -- its bytes. The timestamp of a handshake is 0 (this profile)
 abbrev pub output_text : Output → List ℕ
 output_text (Answers caller answer) = text (record { stamp = 0; dest = caller; body = out.Handshake (record { items = answer_text answer }) })
+output_text (Says caller initial time report) = report_text caller initial time report
 
 abbrev pub sent : Reply → Datagram
 sent r = record { peer = r.peer; bytes = output_text r.packet }
@@ -79,7 +83,7 @@ refused mode has_publisher c =
 
 abbrev pub session_opened : (clock : ℕ) → Peer → (stamp : ℕ) → Conclusion → (slot generation : ℕ) → Session
 session_opened clock peer stamp c slot generation =
-    record { slot = slot; generation = generation; peer = peer; stamp = stamp; conclusion = c; opening = clock; heard = clock; is_open = true }
+    record { slot = slot; generation = generation; peer = peer; stamp = stamp; conclusion = c; opening = clock; heard = clock; is_open = true; past = past_of c.role }
 
 abbrev pub with_session : Terms → (index : ℕ) → Session → List Session → Taken
 with_session e index s sessions = record { sessions = s ∷ sessions; answers = answered s.peer s.conclusion.caller (answer_of e index s) }
@@ -110,34 +114,39 @@ concluded e index clock peer stamp c sessions None = considered e index clock pe
 abbrev pub is_for : (index : ℕ) → Peer → (dest : ℕ) → Session → Bool
 is_for index peer dest s = s.is_open && is_same_peer s.peer peer && session_id index s == dest
 
--- a shutdown ends a session (section 3.2.7)
-abbrev pub is_shutdown : Body → Bool
-is_shutdown Shutdown = true
-is_shutdown _ = false
+abbrev pub took_if : Bool → Terms → (clock : ℕ) → Packet → Session → Session
+took_if mine e clock packet s = if mine then took e clock packet.stamp packet.body s else s
 
-abbrev pub took : (clock : ℕ) → Body → Session → Session
-took clock body s = record s { heard = clock; is_open = not (is_shutdown body) }
+-- a session's report
+abbrev pub said_by : (time : ℕ) → Session → Report → Reply
+said_by time s report = record { peer = s.peer; packet = Says s.conclusion.caller s.conclusion.initial time report }
 
-abbrev pub took_if : Bool → (clock : ℕ) → Body → Session → Session
-took_if mine clock body s = if mine then took clock body s else s
+abbrev pub answered_by : (clock : ℕ) → Body → Option Session → List Reply
+answered_by clock body None = []
+answered_by clock body (Some s) = map (said_by (time_in s clock) s) (answered_at_once body s)
 
-abbrev pub arrived : (index clock : ℕ) → Peer → Packet → List Session → Taken
-arrived index clock peer packet sessions = nothing_taken (map (λ s. took_if (is_for index peer packet.dest s) clock packet.body s) sessions)
+abbrev pub arrived : Terms → (index clock : ℕ) → Peer → Packet → List Session → Taken
+arrived e index clock peer packet sessions =
+    record {
+      sessions = map (λ s. took_if (is_for index peer packet.dest s) e clock packet s) sessions;
+      answers = answered_by clock packet.body (find (is_for index peer packet.dest) sessions);
+    }
 
-abbrev pub with_conclusion : Terms → (index clock : ℕ) → Peer → (stamp : ℕ) → List Session → Option Conclusion → Taken
-with_conclusion e index clock peer stamp sessions None = nothing_taken sessions
-with_conclusion e index clock peer stamp sessions (Some c) = concluded e index clock peer stamp c sessions (find (is_of peer c.caller) sessions)
+-- the conclusion that a packet is
+abbrev pub concludes : Body → Option Conclusion
+concludes (Handshake info) = conclusion_in info
+concludes _ = None
 
 -- of packets to no socket, conclusions alone are taken
-abbrev pub without_destination : Terms → (index clock : ℕ) → Peer → (stamp : ℕ) → Body → List Session → Taken
-without_destination e index clock peer stamp (Handshake info) sessions = with_conclusion e index clock peer stamp sessions (conclusion_in info)
-without_destination e index clock peer stamp _ sessions = nothing_taken sessions
+abbrev pub without_destination : Terms → (index clock : ℕ) → Peer → (stamp : ℕ) → List Session → Option Conclusion → Taken
+without_destination e index clock peer stamp sessions None = nothing_taken sessions
+without_destination e index clock peer stamp sessions (Some c) = concluded e index clock peer stamp c sessions (find (is_of peer c.caller) sessions)
 
 abbrev pub packet_taken : Terms → (index clock : ℕ) → Peer → Packet → List Session → Taken
 packet_taken e index clock peer packet sessions =
     if packet.dest == 0
-    then without_destination e index clock peer packet.stamp packet.body sessions
-    else arrived index clock peer packet sessions
+    then without_destination e index clock peer packet.stamp sessions (concludes packet.body)
+    else arrived e index clock peer packet sessions
 
 -- what doesn't read changes nothing
 abbrev pub read_taken : Terms → (index clock : ℕ) → Peer → Result Packet PacketFault → List Session → Taken
@@ -148,15 +157,51 @@ abbrev pub taken : Terms → (index clock : ℕ) → Item → List Session → T
 taken e index clock (Received datagram moment) sessions = read_taken e index clock datagram.peer (packet_in datagram.bytes) sessions
 taken e index clock (Tick moment) sessions = nothing_taken sessions
 
+-- the least room of the open subscribers, none where none is open
+abbrev pub least_room : Terms → List Session → Option ℕ
+least_room e sessions = fold (λ found s. least_with e.buffer found s.past) None (by_slot e sessions)
+
+-- what the publisher delivers (section 4.5)
+abbrev pub delivery_of : Terms → (clock : ℕ) → (room : Option ℕ) → Option Session → List (List ℕ)
+delivery_of e clock room None = []
+delivery_of e clock room (Some s) = payloads e clock room s
+
+abbrev pub delivery : Terms → (clock : ℕ) → (room : Option ℕ) → List Session → List (List ℕ)
+delivery e clock room sessions = delivery_of e clock room (find is_publisher (by_slot e sessions))
+
+-- and each open subscriber is fed
+abbrev pub delivered : Terms → (clock : ℕ) → List Session → List Session
+delivered e clock sessions =
+    let room = least_room e sessions in
+    map (passed e clock room (delivery e clock room sessions)) sessions
+
+-- what sessions send at the end of an event, slots upwards
+abbrev pub packets_at : Terms → (here : Bool) → (time : ℕ) → Session → List Reply
+packets_at e here time s = map (said_by time s) (reports_at e here time s)
+
+abbrev pub packets_where : Terms → (clock : ℕ) → (Session → Bool) → List Session → List Reply
+packets_where e clock test sessions = flat_map (λ s. packets_at e (test s) (time_in s clock) s) (by_slot e sessions)
+
+-- an event, in this profile's order: time goes on, sessions age, the datagram is taken
 abbrev pub taken_by : Terms → (index : ℕ) → Item → Route → Taken
-taken_by e index item route = taken e index (clock_after item route) item route.sessions
+taken_by e index item route = let clock = clock_after item route in taken e index clock item (map (aged e clock) route.sessions)
 
--- the route after one item more, and the replies to it
-abbrev pub told_more : Terms → (index : ℕ) → Item → Route → Route
-told_more e index item route = record { clock = clock_after item route; sessions = (taken_by e index item route).sessions }
+-- the publisher delivers
+abbrev pub passed_by : Terms → (index : ℕ) → Item → Route → List Session
+passed_by e index item route = delivered e (clock_after item route) (taken_by e index item route).sessions
 
+-- the publisher sends, and then the subscribers do
 abbrev pub replies_to : Terms → (index : ℕ) → Item → Route → List Reply
-replies_to e index item route = (taken_by e index item route).answers
+replies_to e index item route =
+    let clock = clock_after item route in
+    let sessions = passed_by e index item route in
+    (taken_by e index item route).answers ++ packets_where e clock is_publisher sessions ++ packets_where e clock is_subscriber sessions
+
+-- the route after one item more
+abbrev pub told_more : Terms → (index : ℕ) → Item → Route → Route
+told_more e index item route =
+    let clock = clock_after item route in
+    record { clock = clock; sessions = map (reported e clock) (passed_by e index item route) }
 
 -- the route after these items
 abbrev pub after : Terms → (index : ℕ) → List Item → Route
@@ -167,6 +212,11 @@ after e index (item ∷ items) = told_more e index item (after e index items)
 abbrev pub reply : Terms → (index : ℕ) → List Item → List Datagram
 reply e index [] = []
 reply e index (item ∷ items) = map sent (replies_to e index item (after e index items))
+
+-- all that it ever replied, the oldest first
+abbrev pub solo : Terms → (index : ℕ) → List Item → List Datagram
+solo e index [] = []
+solo e index (item ∷ items) = solo e index items ++ reply e index (item ∷ items)
 
 -- they are no more than a route has places for
 abbrev pub RepliesHavePlaces : Type 0

@@ -1,6 +1,6 @@
 //! Conclusions (draft-sharabayko-srt-01, sections 3.2.1 and 4.3.1.2).
 
-ghost use Rattle.std.specs.Prelude.{◌≡◌};
+ghost use Rattle.std.specs.Prelude.{◌≡◌, ◌^◌, ◌<◌, IfSome};
 ghost use Rattle.srt_hs.specs.View.{handshake_of};
 ghost use Rattle.srt_route.specs.Conclusions.{conclusion_in, conclusion_of, is_conclusion, role_asked, words_of};
 
@@ -57,7 +57,8 @@ fn words_of(hs: &HsRef<'_>) -> Option<ArrayVec<u32, 4>>
 
 #[tactic(auto, unfolding(crate::specs::Conclusions::conclusion_of))]
 fn conclusion_of(hs: &HsRef<'_>) -> Option<Conclusion>
-    ensures { result ≡ conclusion_of (handshake_of hs.now) }
+    ensures value { result ≡ conclusion_of (handshake_of hs.now) }
+    ensures small { IfSome result (λ c. c.initial < 2 ^ 31) }
 {
     if !is_conclusion(hs.kind) || hs.version != 5 || hs.initial >= 1 << 31 {
         return None;
@@ -81,7 +82,8 @@ fn conclusion_of(hs: &HsRef<'_>) -> Option<Conclusion>
 /// session can be opened with.
 #[tactic(auto, unfolding(crate::specs::Conclusions::conclusion_in))]
 pub fn conclusion_in(info: &[u8]) -> Option<Conclusion>
-    ensures { result ≡ conclusion_in info.now }
+    ensures value { result ≡ conclusion_in info.now }
+    ensures small { IfSome result (λ c. c.initial < 2 ^ 31) }
 {
     match read(info) {
         Ok(hs) => conclusion_of(&hs),

@@ -1,11 +1,18 @@
-//! Routes: sessions open and close, and what a route is told is answered.
+//! Routes: sessions open and close, and media go from the publisher to the subscribers.
 #![tactic(auto)]
 
+mod ages;
+mod agreements;
 mod answers;
+mod buffers;
 mod conclusions;
+mod delivery;
+mod hearing;
+mod items;
 pub mod laws;
 mod opening;
 mod replies;
+mod reports;
 mod routes;
 mod slots;
 mod state;

@@ -8,21 +8,52 @@ ghost use Rattle.srt_seq.specs.Terms.{Terms, terms_of};
 ghost use Rattle.srt_seq.specs.Items.{Item as TheItem, told, moment_of};
 ghost use Rattle.srt_route.specs.Opening.{fault_of};
 ghost use Rattle.srt_route.specs.Written.{written};
-ghost use Rattle.srt_route.specs.Route.{Route as TheRoute, reply, told_more, replies_to, sent};
-ghost use Rattle.srt_route.specs.Stands.{IsRoute, stands, waiting, places, written_of};
+ghost use Rattle.srt_route.specs.Sessions.{Session as TheSession, is_publisher, is_subscriber, reported};
+ghost use Rattle.srt_route.specs.Route.{Route as TheRoute, sent, taken_by, delivered, packets_where, reply};
+ghost use Rattle.srt_route.specs.Tables.{written_of};
+ghost use Rattle.srt_route.specs.Media.{IsBody};
+ghost use Rattle.srt_route.specs.Reports.{AreSaid};
+ghost use Rattle.srt_route.specs.Stands.{IsRoute, stands, waiting, places};
 
+use crate::delivery::deliver;
+use crate::items::tell;
 use crate::opening::check_entry;
 use crate::replies::Reply;
-use crate::state::{Route, Table};
-use srt_packet::decode_parts;
+use crate::reports::report;
+use crate::state::{Media, Route, Table};
 use srt_seq::{Entry, Item, OpenFault};
 use std::alloc::Global;
 use std::collections::VecDeque;
 
+/// The later of two moments.
 fn later(clock: u64, moment: u64) -> u64
     ensures { result ≡ max clock moment }
 {
     clock.max(moment)
+}
+
+/// When an item came.
+fn moment(item: &Item) -> u64
+    ensures { result ≡ moment_of (told item.now) }
+{
+    match item {
+        Item::Tick { moment } => *moment,
+        Item::Datagram {
+            peer: _,
+            moment,
+            head: _,
+            body: _,
+        } => *moment,
+    }
+}
+
+/// At most one reply waits, behind those before. Takes no memory where there is a place.
+fn wait_for(waiting: &mut VecDeque<Reply>, reply: Option<Reply>)
+    ensures { AreSaid waiting.old.items waiting.new.items (deque_capacity waiting.old) (deque_capacity waiting.new) (written_of reply) }
+{
+    if let Some(reply) = reply {
+        let _ = waiting.push_back(reply);
+    }
 }
 
 impl Route {
@@ -38,6 +69,7 @@ impl Route {
     {
         check_entry(entry, index)?;
         let table = Table::open(alloc, entry, index)?;
+        let media = Media::open(alloc, entry)?;
         let room = 4 + 66 * (entry.sessions as usize);
         let Ok(waiting) = VecDeque::with_capacity(alloc, room) else {
             return Err(OpenFault::OutOfMemory);
@@ -45,34 +77,31 @@ impl Route {
         Ok(Route {
             clock: 0,
             table,
+            media,
             waiting,
         })
     }
 
-    /// What it answers to an item.
-    fn told(&mut self, item: Item) -> Option<Reply>
-        ensures route { (e : Terms) (index : ℕ) (m : TheRoute) → IsRoute e index self.old m → IsRoute e index self.new (told_more e index (told item) m) }
-        ensures replies { (e : Terms) (index : ℕ) (m : TheRoute) → IsRoute e index self.old m → written_of result ≡ map sent (replies_to e index (told item) m) }
-        ensures waiting { self.new.waiting ≡ self.old.waiting }
+    /// An item comes, and what is answered to it at once waits.
+    fn told(&mut self, item: &Item)
+        requires { moment_of (told item.now) < 2 ^ 62 }
+        ensures clock { self.new.clock ≡ max self.old.clock (moment_of (told item.now)) }
+        ensures body { (e : Terms) (index : ℕ) (m : TheRoute) → IsRoute e index self.old m → IsBody e index self.new.clock self.new.table self.new.media (taken_by e index (told item.now) m).sessions }
+        ensures said { (e : Terms) (index : ℕ) (m : TheRoute) → IsRoute e index self.old m → AreSaid self.old.waiting.items self.new.waiting.items (deque_capacity self.old.waiting) (deque_capacity self.new.waiting) (map sent (taken_by e index (told item.now) m).answers) }
     {
-        match item {
-            Item::Tick { moment } => {
-                self.clock = later(self.clock, moment);
-                None
-            }
-            Item::Datagram {
-                peer,
-                moment,
-                head,
-                body,
-            } => {
-                self.clock = later(self.clock, moment);
-                match decode_parts(&head, &body) {
-                    Ok(packet) => self.table.takes(self.clock, peer, &packet),
-                    Err(_) => None,
-                }
-            }
-        }
+        self.clock = later(self.clock, moment(item));
+        let reply = tell(&mut self.table, &mut self.media, self.clock, item);
+        wait_for(&mut self.waiting, reply);
+    }
+
+    /// The event ends: payloads are delivered, and what sessions send waits.
+    fn ends(&mut self)
+        ensures clock { self.new.clock ≡ self.old.clock }
+        ensures body { (e : Terms) (index : ℕ) (sessions : List TheSession) → IsBody e index self.old.clock self.old.table self.old.media sessions → IsBody e index self.old.clock self.new.table self.new.media (map (reported e self.old.clock) (delivered e self.old.clock sessions)) }
+        ensures said { (e : Terms) (index : ℕ) (sessions : List TheSession) → IsBody e index self.old.clock self.old.table self.old.media sessions → AreSaid self.old.waiting.items self.new.waiting.items (deque_capacity self.old.waiting) (deque_capacity self.new.waiting) (map sent (packets_where e self.old.clock is_publisher (delivered e self.old.clock sessions) ++ packets_where e self.old.clock is_subscriber (delivered e self.old.clock sessions))) }
+    {
+        deliver(&self.table, &mut self.media, self.clock);
+        report(&self.table, &mut self.media, self.clock, &mut self.waiting);
     }
 
     /// Tells the route an item. Answers how many replies wait then. Takes no memory.
@@ -83,9 +112,8 @@ impl Route {
         ensures stands { (e : Terms) (index : ℕ) (items : List TheItem) → stands self.old e index items → stands self.new e index (told item ∷ items) }
         ensures replies { (e : Terms) (index : ℕ) (items : List TheItem) → stands self.old e index items → waiting self.new ≡ reply e index (told item ∷ items) }
     {
-        if let Some(reply) = self.told(item) {
-            let _ = self.waiting.push_back(reply);
-        }
+        self.told(&item);
+        self.ends();
         self.waiting.len()
     }
 

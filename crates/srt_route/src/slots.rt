@@ -3,12 +3,15 @@
 ghost use Rattle.std.specs.Prelude.{◌≡◌, ℕ, ◌+◌, ◌*◌, ◌%◌, ◌^◌, ◌<◌, true, false, None, Some, position, length, option_map};
 ghost use Rattle.std.specs.List.{list_any};
 ghost use Rattle.srt_route.specs.Sessions.{is_same_peer, id_of, publishes};
-ghost use Rattle.srt_route.specs.Stands.{is_session_of, session_passes, holds, has_publisher, is_vacant, heard_at, again_of, is_stored_for, slot_after, written_of};
+ghost use Rattle.srt_route.specs.Tables.{is_session_of, session_passes, holds, has_publisher, is_vacant, heard_at, again_of, is_stored_for, stored_after, is_stale, stored_aged, is_kept_subscriber, written_of};
 
 use crate::answers::answer_to;
 use crate::replies::Reply;
 use srt_hs::HsAnswer;
 use srt_seq::{Peer, Role};
+
+/// A session of which nothing was heard for so long ends, in microseconds (this profile).
+const IDLE: u64 = 5_000_000;
 
 /// An open session.
 #[derive(Drop)]
@@ -63,7 +66,8 @@ impl Slot {
         }
     }
 
-    fn has_publisher(&self) -> bool
+    /// Whether a publisher has it.
+    pub fn has_publisher(&self) -> bool
         ensures { result ≡ has_publisher self.now }
     {
         match &self.session {
@@ -110,7 +114,8 @@ impl Slot {
         }
     }
 
-    fn is_for(&self, peer: Peer, dest: u32) -> bool
+    /// Whether a packet from this peer to this socket ID is for its session.
+    pub fn is_for(&self, peer: Peer, dest: u32) -> bool
         ensures { result ≡ session_passes (is_stored_for peer dest) self.now.session }
     {
         match &self.session {
@@ -119,19 +124,46 @@ impl Slot {
         }
     }
 
-    /// A packet comes: the session that it is for is heard of, or ends.
-    pub fn take(&mut self, clock: u64, peer: Peer, dest: u32, ends: bool)
-        ensures { self.new ≡ record { generation = self.old.generation; session = slot_after peer dest clock ends self.old.session } }
+    /// A packet comes for the session: it is heard of, or ends.
+    pub fn hear(&mut self, clock: u64, ends: bool)
+        ensures { self.new ≡ record { generation = self.old.generation; session = stored_after ends clock self.old.session } }
     {
-        if !self.is_for(peer, dest) {
-            return;
-        }
         if ends {
             self.session = None;
             return;
         }
         if let Some(session) = &mut self.session {
             session.heard = clock;
+        }
+    }
+
+    fn is_stale(&self, clock: u64) -> bool
+        ensures { result ≡ session_passes (is_stale clock) self.now.session }
+    {
+        match &self.session {
+            Some(session) => clock.saturating_sub(session.heard) >= IDLE,
+            None => false,
+        }
+    }
+
+    /// Time goes on: a session of which nothing was heard for 5 s ends.
+    pub fn age(&mut self, clock: u64)
+        ensures { self.new ≡ record { generation = self.old.generation; session = stored_aged clock self.old.session } }
+    {
+        if self.is_stale(clock) {
+            self.session = None;
+        }
+    }
+
+    /// Whether a subscriber has it that lives on.
+    pub fn is_kept_subscriber(&self, clock: u64) -> bool
+        ensures { result ≡ session_passes (is_kept_subscriber clock) self.now.session }
+    {
+        match &self.session {
+            Some(session) => {
+                clock.saturating_sub(session.heard) < IDLE && !publishes(session.role)
+            }
+            None => false,
         }
     }
 }

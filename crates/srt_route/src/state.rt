@@ -1,11 +1,13 @@
 //! What a route keeps.
 
-ghost use Rattle.std.specs.Prelude.{◌<◌, ◌≤◌, length};
+ghost use Rattle.std.specs.Prelude.{◌<◌, ◌≤◌, ◌^◌, length};
 ghost use Rattle.std.specs.VecDeque.{deque_capacity};
 
 use crate::replies::Reply;
 use crate::slots::Slot;
+use srt_pub::Publisher;
 use srt_seq::Mode;
+use srt_sub::Subscriber;
 use std::collections::VecDeque;
 
 /// The sessions of a route, each in its place, and what conclusions are answered with.
@@ -20,11 +22,19 @@ pub struct Table {
     pub ghost few: { length slots.items ≤ 17 },
 }
 
+/// The buffers of a route's sessions: those of the one that publishes, and a subscriber's for each place.
+#[derive(Drop)]
+pub struct Media {
+    pub publisher: Publisher,
+    pub subscribers: Vec<Subscriber>,
+}
+
 /// A route of the gateway.
 #[derive(Drop)]
 pub struct Route {
     pub(crate) clock: u64,
     pub(crate) table: Table,
+    pub(crate) media: Media,
     pub(crate) waiting: VecDeque<Reply>,
-    pub(crate) ghost has_place: { 1 ≤ deque_capacity waiting },
+    pub(crate) ghost early: { clock < 2 ^ 62 },
 }

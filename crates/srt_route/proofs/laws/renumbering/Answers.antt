@@ -1,0 +1,5 @@
+use Rattle.srt_route.proofs.Renumbered.{renumbers, restamps, moves}
+use Rattle.srt_route.proofs.laws.renumbering.Goals as goal
+
+pub returns : goal.returns
+returns c = record { numbers = renumbers; stamps = restamps; moments = moves }

@@ -1,0 +1,10 @@
+-- Replies that are put with those that wait.
+use Rattle.std.specs.Prelude.{◌≡◌, ℕ, ◌+◌, ◌≤◌, ◌++◌, List, map, length}
+use Rattle.srt_seq.specs.Items.{Datagram}
+use Rattle.srt_route.specs.declared.replies.Reply.{Reply}
+use Rattle.srt_route.specs.Written.{written}
+
+-- where there were places for these datagrams, they wait behind those before; the places don't get fewer
+pub record AreSaid (before after : List Reply) (places later : ℕ) (said : List Datagram) : Type 0 where
+  pub kept : places ≤ later
+  pub waiting : length before + length said ≤ places → map written after ≡ map written before ++ said

@@ -1,0 +1,127 @@
+//! The buffers of a route's sessions.
+
+ghost use Rattle.std.specs.Prelude.{◌≡◌, ℕ, ◌<◌, ◌≤◌, ◌^◌, true, false, None, List, [], ◌∷◌, find, IfOk, IfErr};
+ghost use Rattle.std.specs.List.{list_any};
+ghost use Rattle.srt_seq.specs.declared.shared.Peer.{Peer as ThePeer};
+ghost use Rattle.srt_seq.specs.Terms.{Terms, terms_of};
+ghost use Rattle.srt_seq.specs.Window.{word_of};
+ghost use Rattle.srt_pub.specs.Publishing.{opened as publisher_opened};
+ghost use Rattle.srt_pub.specs.Stands.{StandsFor as PublisherStandsFor, width_of};
+ghost use Rattle.srt_sub.specs.Subscribing.{opened as subscriber_opened};
+ghost use Rattle.srt_sub.specs.Stands.{StandsFor as SubscriberStandsFor, IsWide};
+ghost use Rattle.srt_seq.specs.Entries.{in_limits};
+ghost use Rattle.srt_route.specs.Sessions.{Session as TheSession, agreed_terms, is_open_in, is_publisher, publishes};
+ghost use Rattle.srt_route.specs.Route.{session_opened};
+ghost use Rattle.srt_route.specs.Media.{IsMedia};
+
+use crate::agreements::agreed_ms;
+use crate::conclusions::Conclusion;
+use crate::state::Media;
+use srt_pub::Publisher;
+use srt_seq::{Entry, Mode, OpenFault, Role, Seq31, Stamp32};
+use srt_sub::Subscriber;
+use std::alloc::Global;
+
+/// A publisher's session opens, with the delay that was agreed.
+fn start_publisher(
+    publisher: &mut Publisher,
+    clock: u64,
+    stamp: u32,
+    initial: Seq31,
+    mode: Mode,
+    latency_ms: u16,
+    c: &Conclusion,
+)
+    ensures { (e : Terms) → mode ≡ e.mode → latency_ms ≡ e.latency_ms → width_of publisher.old ≡ e.buffer → e.buffer ≤ 8192 → PublisherStandsFor (agreed_terms e c.now).publisher (word_of initial) clock stamp c.now.caller publisher.new publisher_opened }
+{
+    let delay = u32::from(agreed_ms(mode, latency_ms, c.sender_ms)) * 1000;
+    publisher.start(clock, Stamp32::new(stamp), initial, c.caller, mode, delay);
+}
+
+/// A subscriber's session opens, with what was agreed.
+fn start_subscriber(
+    subscriber: &mut Subscriber,
+    clock: u64,
+    initial: Seq31,
+    mode: Mode,
+    latency_ms: u16,
+    c: &Conclusion,
+)
+    ensures { (e : Terms) → mode ≡ e.mode → latency_ms ≡ e.latency_ms → IsWide e.buffer subscriber.old → SubscriberStandsFor (agreed_terms e c.now).subscriber (word_of initial) clock c.now.caller clock subscriber.new subscriber_opened }
+{
+    let delay = u32::from(agreed_ms(mode, latency_ms, c.receiver_ms)) * 1000;
+    let mtu = c.mtu.min(1500);
+    subscriber.start(clock, initial, c.caller, delay, mode, mtu, c.window);
+}
+
+impl Media {
+    /// The buffers of a route without sessions. The only call that takes memory.
+    pub fn open(alloc: Global, entry: &Entry) -> Result<Media, OpenFault>
+        requires { in_limits (terms_of entry.now) ≡ true }
+        ensures empty { IfOk result (λ media. IsMedia (terms_of entry.now) 0 media []) }
+        ensures memory { IfErr result (λ fault. fault ≡ OpenFault.OutOfMemory) }
+    {
+        let Ok(publisher) = Publisher::open(alloc, entry.buffer) else {
+            return Err(OpenFault::OutOfMemory);
+        };
+        let sessions = entry.sessions as usize;
+        let Ok(mut subscribers) = Vec::with_capacity(alloc, sessions) else {
+            return Err(OpenFault::OutOfMemory);
+        };
+        while subscribers.len() < sessions {
+            let Ok(subscriber) = Subscriber::open(alloc, entry.buffer) else {
+                return Err(OpenFault::OutOfMemory);
+            };
+            let Ok(()) = subscribers.push(subscriber) else {
+                return Err(OpenFault::OutOfMemory);
+            };
+        }
+        Ok(Media {
+            publisher,
+            subscribers,
+        })
+    }
+
+    /// A session opens at a place, where none is open. A publisher's opens where no publisher has one.
+    pub fn starts(
+        &mut self,
+        at: usize,
+        clock: u64,
+        stamp: u32,
+        mode: Mode,
+        latency_ms: u16,
+        c: &Conclusion,
+    )
+        requires { c.now.initial < 2 ^ 31 }
+        ensures { (e : Terms) (sessions : List TheSession) (peer : ThePeer) (generation : ℕ) → IsMedia e clock self.old sessions → in_limits e ≡ true → mode ≡ e.mode → latency_ms ≡ e.latency_ms → at < e.sessions → find (is_open_in at) sessions ≡ None → (publishes c.now.role ≡ true → list_any is_publisher sessions ≡ false) → IsMedia e clock self.new (session_opened clock peer stamp c.now at generation ∷ sessions) }
+    {
+        let Some(initial) = Seq31::new(c.initial) else {
+            return;
+        };
+        match c.role {
+            Role::Publish => {
+                start_publisher(
+                    &mut self.publisher,
+                    clock,
+                    stamp,
+                    initial,
+                    mode,
+                    latency_ms,
+                    c,
+                );
+            }
+            Role::Request => {
+                if at < self.subscribers.len() {
+                    start_subscriber(
+                        &mut self.subscribers[at],
+                        clock,
+                        initial,
+                        mode,
+                        latency_ms,
+                        c,
+                    );
+                }
+            }
+        }
+    }
+}

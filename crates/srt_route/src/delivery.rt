@@ -1,0 +1,153 @@
+//! Delivery (draft-sharabayko-srt-01, sections 4.2, 4.5 and 4.6): the publisher's payloads go to every open
+//! subscriber.
+
+ghost use Rattle.std.specs.Prelude.{◌≡◌, ℕ, ◌-◌, ◌<◌, ◌≤◌, ◌^◌, true, false, Some, None, List, map, find, position, length, unwrap_or};
+ghost use Rattle.srt_seq.specs.Terms.{Terms};
+ghost use Rattle.srt_seq.specs.declared.shared.Mode.TheVariants.{Buffer};
+ghost use Rattle.srt_sendbuf.specs.Sending.{room};
+ghost use Rattle.srt_pub.specs.Publishing.{Publishing};
+ghost use Rattle.srt_pub.specs.Calls.{next_delivery, after_delivery, room_after};
+ghost use Rattle.srt_sub.specs.Subscribing as subscribing;
+ghost use Rattle.srt_sub.specs.Stands as subscribers;
+ghost use Rattle.srt_route.specs.Sessions.{Session, terms_of, is_open_in, time_in};
+ghost use Rattle.srt_route.specs.Route.{least_room, delivered};
+ghost use Rattle.srt_route.specs.Tables.{has_publisher};
+ghost use Rattle.srt_route.specs.Media.{IsBody};
+ghost use Rattle.srt_route.specs.Delivery.{has_subscriber, lesser, changed, fed, turned, is_given, IsPublisherAt, HaveRoom};
+
+use crate::slots::Slot;
+use crate::state::{Media, Table};
+use srt_seq::{Mode, Payload, Role};
+use srt_sub::Subscriber;
+
+/// How many payloads an event delivers at most (this profile).
+const MOST: u32 = 64;
+
+/// The first place with a publisher's session.
+pub fn publisher_place(slots: &[Slot]) -> Option<usize>
+    ensures { result ≡ position has_publisher slots.now }
+{
+    slots.iter().position(|slot| slot.has_publisher())
+}
+
+/// Whether a subscriber has a place.
+pub fn has_subscriber(slot: &Slot) -> bool
+    ensures { result ≡ has_subscriber slot.now }
+{
+    match &slot.session {
+        Some(session) => !matches!(session.role, Role::Publish),
+        None => false,
+    }
+}
+
+/// The room of a place's subscriber.
+fn room_of(slot: &Slot, subscriber: &Subscriber) -> Option<u32>
+    ensures none { has_subscriber slot.now ≡ false → result ≡ None }
+    ensures some { has_subscriber slot.now ≡ true → (terms : subscribing.Terms) (initial opening caller last : ℕ) (m : subscribing.Subscribing) → subscribers.StandsFor terms initial opening caller last subscriber.now m → result ≡ Some (room terms.width m.sending) }
+{
+    if has_subscriber(slot) {
+        Some(subscriber.room())
+    } else {
+        None
+    }
+}
+
+fn lesser(found: Option<u32>, room: Option<u32>) -> Option<u32>
+    ensures { result ≡ lesser found room }
+{
+    match room {
+        Some(room) => match found {
+            Some(other) => Some(other.min(room)),
+            None => Some(room),
+        },
+        None => found,
+    }
+}
+
+/// The least room of the open subscribers; none where none is open.
+fn least_room(table: &Table, media: &Media) -> Option<u32>
+    ensures { (e : Terms) (index clock : ℕ) (sessions : List Session) → IsBody e index clock table.now media.now sessions → result ≡ least_room e sessions }
+{
+    let mut found = None;
+    for at in 0..table.slots.len() {
+        if let Some(subscriber) = media.subscribers.get(at) {
+            found = lesser(found, room_of(&table.slots[at], subscriber));
+        }
+    }
+    found
+}
+
+/// A place's subscriber is fed.
+fn feed_place(slot: &Slot, subscriber: &mut Subscriber, clock: u64, payload: &Payload)
+    requires { clock < 2 ^ 62 }
+    ensures none { has_subscriber slot.now ≡ false → subscriber.new ≡ subscriber.old }
+    ensures some { has_subscriber slot.now ≡ true → (terms : subscribing.Terms) (initial opening caller : ℕ) (m : subscribing.Subscribing) → subscribers.StandsFor terms initial opening caller clock subscriber.old m → 0 < length payload.now.items → (terms.mode ≡ Buffer → 0 < room terms.width m.sending) → subscribers.StandsFor terms initial opening caller clock subscriber.new (subscribing.fed terms (clock - opening) payload.now.items (subscribing.expired terms (clock - opening) m)) }
+{
+    if has_subscriber(slot) {
+        let _ = subscriber.feed(payload, clock);
+    }
+}
+
+/// Each open subscriber is fed.
+fn feed(table: &Table, media: &mut Media, clock: u64, payload: &Payload)
+    requires { clock < 2 ^ 62 }
+    ensures { (e : Terms) (index : ℕ) (sessions : List Session) → IsBody e index clock table.now media.old sessions → 0 < length payload.now.items → HaveRoom e 1 sessions → IsBody e index clock table.now media.new (map (changed (fed e clock payload.now.items)) sessions) }
+{
+    for at in 0..table.slots.len() {
+        if let Some(subscriber) = media.subscribers.get_mut(at) {
+            feed_place(&table.slots[at], subscriber, clock, payload);
+        }
+    }
+}
+
+/// The room that a payload leaves.
+fn room_after(mode: Mode, room: u32) -> u32
+    ensures { result ≡ room_after mode room }
+{
+    match mode {
+        Mode::Live => room,
+        Mode::Buffer => room.saturating_sub(1),
+    }
+}
+
+/// The publisher's next payload goes to each open subscriber. False where there is none.
+fn pass_next(table: &Table, media: &mut Media, clock: u64, room: u32) -> bool
+    requires { clock < 2 ^ 62 }
+    ensures given { (e : Terms) (index : ℕ) (sessions : List Session) (at : ℕ) (s : Session) (q : Publishing) → IsBody e index clock table.now media.old sessions → IsPublisherAt sessions at s q → result ≡ is_given (next_delivery (terms_of e s).publisher (time_in s clock) room q) }
+    ensures body { (e : Terms) (index : ℕ) (sessions : List Session) (at : ℕ) (s : Session) (q : Publishing) → IsBody e index clock table.now media.old sessions → IsPublisherAt sessions at s q → HaveRoom e room sessions → IsBody e index clock table.now media.new (turned e clock (next_delivery (terms_of e s).publisher (time_in s clock) room q) (after_delivery (terms_of e s).publisher (next_delivery (terms_of e s).publisher (time_in s clock) room q) q) sessions) }
+{
+    match media.publisher.deliver(clock, room) {
+        Some(payload) => {
+            feed(table, media, clock, &payload);
+            true
+        }
+        None => false,
+    }
+}
+
+/// The publisher's payloads go to each open subscriber, one by one.
+fn pass(table: &Table, media: &mut Media, clock: u64, room: u32)
+    requires { clock < 2 ^ 62 }
+    ensures { (e : Terms) (index : ℕ) (sessions : List Session) (at : ℕ) (s : Session) (q : Publishing) → IsBody e index clock table.now media.old sessions → IsPublisherAt sessions at s q → room ≡ unwrap_or (least_room e sessions) 0 → IsBody e index clock table.now media.new (delivered e clock sessions) }
+{
+    let mut room = room;
+    for turn in 0..MOST {
+        if !pass_next(table, media, clock, room) {
+            return;
+        }
+        room = room_after(table.mode, room);
+    }
+}
+
+/// Delivers what is due, up to 64 payloads. In buffer mode each of them finds a place with every open
+/// subscriber, and without a subscriber nothing is delivered.
+pub fn deliver(table: &Table, media: &mut Media, clock: u64)
+    requires early { clock < 2 ^ 62 }
+    ensures { (e : Terms) (index : ℕ) (sessions : List Session) → IsBody e index clock table.now media.old sessions → IsBody e index clock table.now media.new (delivered e clock sessions) }
+{
+    if publisher_place(&table.slots).is_none() {
+        return;
+    }
+    let room = least_room(table, media).unwrap_or(0);
+    pass(table, media, clock, room);
+}
