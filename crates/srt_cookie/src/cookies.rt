@@ -1,7 +1,7 @@
 //! Cookies (draft-sharabayko-srt-01, section 4.3.1.1).
 
 ghost use Rattle.std.specs.Prelude.{◌≡◌, ◌<◌, ◌↔◌, IsTrue};
-ghost use Rattle.srt_cookie.specs.Cookie.{cookie_of, IsRight, is_right, secret_bytes};
+ghost use Rattle.srt_cookie.specs.Cookie.{cookie_of, minute_of, IsRight, is_right, secret_bytes};
 
 use crate::Secret;
 use sha2::{Digest, Sha256};
@@ -9,7 +9,14 @@ use srt_seq::Peer;
 
 const MICROSECONDS_OF_A_MINUTE: u64 = 60_000_000;
 
-/// The cookie of a peer in a minute, which is a moment in microseconds divided by 60,000,000.
+/// The minute of a moment in microseconds, which is rounded down.
+pub fn minute_of(moment: u64) -> u64
+    ensures { result ≡ minute_of moment }
+{
+    moment / MICROSECONDS_OF_A_MINUTE
+}
+
+/// The cookie of a peer in a minute.
 #[tactic(auto, unfolding(crate::specs::Cookie::cookie_of))]
 pub fn cookie(secret: &Secret, peer: Peer, minute: u64) -> u32
     ensures some { 0 < result }
@@ -31,6 +38,6 @@ pub fn right(secret: &Secret, peer: Peer, moment: u64, word: u32) -> bool
     ensures cookie { IsTrue result ↔ IsRight (secret_bytes secret.now) peer moment word }
     ensures value { result ≡ is_right (secret_bytes secret.now) peer moment word }
 {
-    let minute = moment / MICROSECONDS_OF_A_MINUTE;
+    let minute = minute_of(moment);
     word == cookie(secret, peer, minute) || minute > 0 && word == cookie(secret, peer, minute - 1)
 }

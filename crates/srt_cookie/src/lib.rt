@@ -5,7 +5,7 @@
 mod cookies;
 mod secret;
 
-pub use cookies::{cookie, right};
+pub use cookies::{cookie, minute_of, right};
 pub use secret::Secret;
 
 #[cfg(test)]

@@ -1,7 +1,7 @@
 -- What is written reads back.
 use Rattle.std.proofs.Common.{◌≡◌, ℕ, suc, flat_map, ◌^◌, ◌<◌, List, [], ◌∷◌, ◌++◌, None, Some, Ok, refl, sym, ap, ◌∙◌, arith}
 use Rattle.std.proofs.lemmas.Nat.{from_be_bytes-to_be_bytes_2, from_be_bytes-to_be_bytes_4}
-use Rattle.srt_seq.specs.Words.{word, word_at}
+use Rattle.srt_seq.specs.Words.{word, word_at, words_in}
 use Rattle.srt_seq.specs.declared.shared.Mode.{Mode}
 use Rattle.srt_seq.specs.declared.shared.Mode.TheVariants.{Live, Buffer}
 use Rattle.srt_hs.specs.declared.handshake.HsReq.{HsReq}
@@ -10,7 +10,7 @@ use Rattle.srt_hs.specs.declared.writing.RefusalCode.{RefusalCode}
 use Rattle.srt_hs.specs.declared.writing.RefusalCode.TheVariants as codes
 use Rattle.srt_hs.specs.declared.writing.AnswerKind.{AnswerKind}
 use Rattle.srt_hs.specs.declared.writing.AnswerKind.TheVariants.{Induction, Refusal, Conclusion}
-use Rattle.srt_hs.specs.Grammar.{Blocks, no_blocks, words_in, kind_of}
+use Rattle.srt_hs.specs.Grammar.{Blocks, no_blocks, kind_of}
 use Rattle.srt_hs.specs.Reading.{blocks_in, with_first, with_block, extension_in, handshake_in}
 use Rattle.srt_hs.specs.Text.{code_of, flags_of, fields_text, hsrsp_text, congestion_text, kind_text, blocks_text, answer_text}
 use Rattle.srt_hs.specs.RoundTrip.{AreWords, AreFewWords, KindFits, answered_blocks, answered_kind, fields, WhatIsWrittenReadsBack, HsrspReadsBack}

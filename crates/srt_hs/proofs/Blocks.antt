@@ -4,7 +4,8 @@ use Rattle.std.proofs.lemmas.Bool.{eqb-true, eqb-false, ltb-true, ltb-false, eq-
 use Rattle.std.proofs.lemmas.Bool.Decides.{nat_tests}
 use Rattle.srt_hs.specs.declared.handshake.HsFault.{HsFault}
 use Rattle.srt_hs.specs.declared.handshake.HsFault.TheVariants.{Short, TruncatedExtension, BadLength, Repeated}
-use Rattle.srt_hs.specs.Grammar.{Blocks, HasBlock, Adds, IsSkipped, HasBadLength, IsRepeated, HasBlockFault, hsreq_in, stream_id_in, words_in, type_of, length_of, contents_of, after_block, hsreq, kmreq, stream_id, congestion, filter, group, skipped, hsreq_length, stream_id_length, congestion_length, second_hsreq, second_stream_id, second_congestion}
+use Rattle.srt_seq.specs.Words.{words_in}
+use Rattle.srt_hs.specs.Grammar.{Blocks, HasBlock, Adds, IsSkipped, HasBadLength, IsRepeated, HasBlockFault, hsreq_in, stream_id_in, type_of, length_of, contents_of, after_block, hsreq, kmreq, stream_id, congestion, filter, group, skipped, hsreq_length, stream_id_length, congestion_length, second_hsreq, second_stream_id, second_congestion}
 use Rattle.srt_hs.specs.Reading.{with_hsreq, with_stream_id, with_congestion, with_block, with_first}
 
 pub chosen : {A : Type 0} (b : Bool) (x y z : A) → cond b x y ≡ z → ((b ≡ true) × (x ≡ z)) ⊎ ((b ≡ false) × (y ≡ z))

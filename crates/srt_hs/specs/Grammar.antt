@@ -1,7 +1,7 @@
 -- Handshakes as the wire spells them: a relation by cases, and the faults (section 3.2.1).
 use Rattle.std.specs.Prelude.{◌≡◌, ◌≢◌, ℕ, ◌+◌, ◌*◌, ◌<◌, ◌≤◌, ◌⊎◌, Bool, true, false, List, [], ◌∷◌, length, take, drop, slice_index, Option, None, Some, IsSome, if◌then◌else◌, ◌==◌}
 use Rattle.std.specs.Int.{w16, from_be_bytes}
-use Rattle.srt_seq.specs.Words.{word_at}
+use Rattle.srt_seq.specs.Words.{word_at, words_in}
 use Rattle.srt_hs.specs.declared.handshake.HsKind.{HsKind}
 use Rattle.srt_hs.specs.declared.handshake.HsKind.TheVariants.{Induction, WaveHand, Conclusion, Agreement, Done, Refusal}
 use Rattle.srt_hs.specs.declared.handshake.HsReq.{HsReq}
@@ -70,11 +70,6 @@ without_zeros (byte ∷ rest) = before_zeros byte (without_zeros rest)
 -- the bytes of a Stream ID (section 3.2.1.3)
 abbrev pub stream_id_in : List ℕ → List ℕ
 stream_id_in contents = without_zeros (turned_words contents)
-
--- the words of these bytes
-abbrev pub words_in : List ℕ → List ℕ
-words_in (a ∷ b ∷ c ∷ d ∷ rest) = word_at (a ∷ b ∷ c ∷ d ∷ []) 0 ∷ words_in rest
-words_in _ = []
 
 -- the first block of these bytes: its type, its length in bytes, its contents, and what follows it (section 3.2.1)
 abbrev pub type_of : List ℕ → ℕ

@@ -1,6 +1,7 @@
 -- What the crate's handshakes mean.
 use Rattle.std.specs.Prelude.{option_map, Result, Ok, Err}
-use Rattle.srt_hs.specs.Grammar.{Handshake, Blocks, stream_id_in, words_in}
+use Rattle.srt_seq.specs.Words.{words_in}
+use Rattle.srt_hs.specs.Grammar.{Handshake, Blocks, stream_id_in}
 use Rattle.srt_hs.specs.declared.handshake.HsFault.{HsFault}
 use Rattle.srt_hs.specs.declared.handshake.HsRef.{HsRef}
 use Rattle.srt_hs.specs.declared.handshake.BlocksRef.{BlocksRef}

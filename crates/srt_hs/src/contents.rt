@@ -1,7 +1,8 @@
 //! The contents of blocks that hold text.
 
-ghost use Rattle.std.specs.Prelude.{◌≡◌, ◌+◌, ◌%◌, ◌<◌, ◌≤◌, ◌++◌, length, take, IfSome, option_map};
-ghost use Rattle.srt_hs.specs.Grammar.{turned_words, without_zeros, words_in};
+ghost use Rattle.std.specs.Prelude.{◌≡◌, ◌+◌, ◌%◌, ◌<◌, ◌≤◌, ◌++◌, length, take, IfSome, IfNone, option_map};
+ghost use Rattle.srt_seq.specs.Words.{words_in};
+ghost use Rattle.srt_hs.specs.Grammar.{turned_words, without_zeros};
 ghost use Rattle.srt_hs.specs.View.{handshake_of};
 
 use crate::HsRef;
@@ -43,6 +44,7 @@ fn len_before_zeros(bytes: &[u8]) -> usize
 pub fn stream_id(hs: &HsRef<'_>, out: &mut [u8; 512]) -> Option<usize>
     ensures within { IfSome result (λ n. n ≤ 512) }
     ensures value { option_map (λ n. take n out.new) result ≡ (handshake_of hs.now).blocks.stream_id }
+    ensures none { IfNone result (out.new ≡ out.old) }
 {
     match hs.blocks.stream_id {
         None => None,

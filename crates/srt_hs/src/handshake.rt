@@ -7,9 +7,9 @@ ghost use Rattle.std.specs.Prelude.{◌≡◌, ◌%◌, ◌<◌, ◌≤◌, leng
 pub enum HsFault {
     /// Under 48 bytes.
     Short,
-    /// An extension block goes past the end.
+    /// 1 to 3 bytes are left behind the last extension block, or a block goes past the end.
     TruncatedExtension,
-    /// An extension block has a length that its type doesn't have.
+    /// An HSREQ not of 3 words, a Stream ID of over 128, or a CONGESTION block of none or over 4.
     BadLength,
     /// A second HSREQ, Stream ID or CONGESTION block.
     Repeated,

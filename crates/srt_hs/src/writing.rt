@@ -1,11 +1,10 @@
 //! The listener's answers, written to a buffer.
 
-ghost use Rattle.std.specs.Prelude.{◌≡◌, ◌+◌, ◌*◌, ◌≤◌, ◌++◌, length, take, flat_map, Some};
-ghost use Rattle.srt_seq.specs.Words.{word};
+ghost use Rattle.std.specs.Prelude.{◌≡◌, ℕ, ◌+◌, ◌*◌, ◌≤◌, ◌++◌, length, take, drop, Some};
 ghost use Rattle.srt_hs.specs.Text.{answer_text, code_of, fields_text, flags_of, hsrsp_text, congestion_text};
 
 use arrayvec::ArrayVec;
-use srt_seq::{Mode, write_at};
+use srt_seq::{Mode, write_at, write_words};
 
 /// Why a caller is refused (section 4.3).
 #[derive(Clone, Copy, Debug, PartialEq, Eq)]
@@ -95,6 +94,7 @@ fn write_fields(fields: Fields, out: &mut [u8]) -> usize
     requires { 48 ≤ length out.old }
     ensures end { result ≡ 48 }
     ensures written { take result out.new ≡ fields_text fields.extension fields.initial fields.mtu fields.window fields.kind fields.id fields.cookie }
+    ensures kept { (k : ℕ) → result ≤ k → drop k out.new ≡ drop k out.old }
 {
     let mut end = write_at(out, 0, &[0, 0, 0, 5, 0, 0]);
     end = write_at(out, end, &fields.extension.to_be_bytes());
@@ -129,36 +129,26 @@ fn hsrsp(mode: Mode, recv_ms: u16, send_ms: u16) -> [u8; 16]
     ]
 }
 
-/// Writes words at a place, one after another.
-fn write_words(words: &[u32], out: &mut [u8], at: usize) -> usize
-    requires { at + 4 * length words.now ≤ length out.old }
-    ensures end { result ≡ at + 4 * length words.now }
-    ensures written { take result out.new ≡ take at out.old ++ flat_map word words.now }
-{
-    let mut end = at;
-    for word in words {
-        end = write_at(out, end, &word.to_be_bytes());
-    }
-    end
-}
-
 /// Writes a CONGESTION block at a place.
+#[tactic(auto, using(srt_seq::proofs::WordBytes::length_of_words))]
 fn write_congestion(words: &[u32], out: &mut [u8], at: usize) -> usize
     requires few { length words.now ≤ 4 }
     requires room { at + 20 ≤ length out.old }
     ensures end { result ≡ at + 4 + 4 * length words.now }
     ensures written { take result out.new ≡ take at out.old ++ congestion_text (Some words.now) }
+    ensures kept { (k : ℕ) → result ≤ k → drop k out.new ≡ drop k out.old }
 {
     let end = write_at(out, at, &[0, 6]);
     let end = write_at(out, end, &(words.len() as u16).to_be_bytes());
-    write_words(words, out, end)
+    write_words(out, end, words)
 }
 
-/// Writes the answer's bytes after the packet's header, and answers how many they are.
+/// Writes the answer's bytes after the packet's header to the front of the buffer, and answers how many they are.
 #[tactic(auto, unfolding(crate::specs::Text::answer_text))]
 pub fn write(answer: &HsAnswer, out: &mut [u8; 84]) -> usize
     ensures within { result ≤ 84 }
     ensures written { take result out.new ≡ answer_text answer.now }
+    ensures kept { (k : ℕ) → result ≤ k → drop k out.new ≡ drop k out.old }
 {
     let mut fields = Fields {
         extension: 0,

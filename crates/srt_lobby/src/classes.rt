@@ -21,7 +21,7 @@ pub enum Cause {
 }
 
 impl Cause {
-    /// Its number, from 1.
+    /// The number by which a tape's output names it: 1 to 6, in the order above.
     pub fn number(self) -> u8
         ensures { result ≡ number_of self }
     {

@@ -13,12 +13,10 @@ ghost use Rattle.srt_lobby.specs.Names.{names_of};
 ghost use Rattle.srt_lobby.specs.Lobby.{answer_bytes, answered as is_answered, refused as is_refused, reason_of, route_named, route_asked, by_kind, of_conclusion, of_handshake, of_body, to_session, of_packet, class_of};
 
 use crate::{Cause, Class, Names};
-use srt_cookie::{Secret, cookie, right};
+use srt_cookie::{Secret, cookie, minute_of, right};
 use srt_hs::{AnswerKind, HsAnswer, HsKind, HsRef, RefusalCode, stream_id, write};
 use srt_packet::{Kind, PacketRef, decode};
 use srt_seq::{Peer, write_at};
-
-const MICROSECONDS_OF_A_MINUTE: u64 = 60_000_000;
 
 /// The packet of an answer, to this socket.
 fn answer(id: u32, initial: u32, what: AnswerKind) -> [u8; 64]
@@ -108,7 +106,7 @@ fn of_handshake(secret: &Secret, names: &Names, peer: Peer, moment: u64, hs: &Hs
 {
     match hs.kind {
         HsKind::Induction => {
-            let cookie = cookie(secret, peer, moment / MICROSECONDS_OF_A_MINUTE);
+            let cookie = cookie(secret, peer, minute_of(moment));
             answered(hs, AnswerKind::Induction(cookie))
         }
         HsKind::Conclusion => {

@@ -1,4 +1,3 @@
 pub mod Agreement
 pub mod Parts
-pub mod Words
 pub mod Sent

@@ -1,15 +1,11 @@
 -- The one output spelling of each packet (section 3, and this profile where it leaves a choice).
 use Rattle.std.specs.Prelude.{ℕ, ◌+◌, ◌<◌, ◌≤◌, List, [], ◌∷◌, ◌++◌, length, flat_map, if◌then◌else◌}
-use Rattle.srt_seq.specs.Words.{word}
+use Rattle.srt_seq.specs.Words.{word, words}
 use Rattle.srt_seq.specs.Window.{word_of}
 use Rattle.srt_seq.specs.Counts.{message_of}
 use Rattle.srt_packet.specs.declared.writing.Body.{Body}
 use Rattle.srt_packet.specs.declared.writing.Body.TheVariants.{Media, Handshake, KeepAlive, FullAck, LightAck, Nak, AckAck, DropRequest, Shutdown}
 use Rattle.srt_packet.specs.declared.writing.Packet.{Packet}
-
--- the bytes of words
-abbrev pub words : List ℕ → List ℕ
-words ns = flat_map word ns
 
 -- a data packet's number, or the top bit, the type and subtype 0 (section 3.2, table 1)
 abbrev pub word0_of : Body → ℕ

@@ -4,10 +4,10 @@ ghost use Rattle.std.specs.Prelude.{◌≡◌, ℕ, ◌+◌, ◌*◌, ◌≤◌,
 ghost use Rattle.srt_packet.specs.Grammar.{Spells};
 ghost use Rattle.srt_packet.specs.Reading.{packet_in};
 ghost use Rattle.srt_packet.specs.Sent.{sent};
-ghost use Rattle.srt_packet.specs.Text.{text, word0_of, word1_of, rest_of, words, IsWritable};
+ghost use Rattle.srt_packet.specs.Text.{text, word0_of, word1_of, rest_of, IsWritable};
 
 use arrayvec::ArrayVec;
-use srt_seq::{Msg26, Payload, Seq31, write_at};
+use srt_seq::{Msg26, Payload, Seq31, write_at, write_words};
 
 /// What a packet to be sent says beside its timestamp and its destination.
 #[derive(Drop)]
@@ -105,22 +105,8 @@ fn first_words(body: &Body) -> (u32, u32)
     }
 }
 
-/// Writes words at a place, and answers where they end.
-fn write_words(out: &mut [u8], at: usize, list: &[u32]) -> usize
-    requires { at + 4 * length list.now ≤ length out.old }
-    ensures end { result ≡ at + length (words list.now) }
-    ensures written { take result out.new ≡ take at out.old ++ words list.now }
-    ensures kept { (k : ℕ) → result ≤ k → drop k out.new ≡ drop k out.old }
-{
-    let mut end = at;
-    for word in list {
-        end = write_at(out, end, &word.to_be_bytes());
-    }
-    end
-}
-
 /// Writes what follows the header, and answers where it ends.
-#[tactic(auto, using(crate::proofs::Words::length_of_words))]
+#[tactic(auto, using(srt_seq::proofs::WordBytes::length_of_words))]
 fn write_rest(body: &Body, out: &mut [u8], at: usize) -> usize
     requires room { at + 1456 ≤ length out.old }
     ensures fits { length (rest_of body.now) ≤ 1456 }

@@ -1,3 +1,4 @@
 pub mod Windows
 pub mod Lifts
 pub mod TextPlaces
+pub mod WordBytes

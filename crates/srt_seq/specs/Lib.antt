@@ -8,3 +8,4 @@ pub mod Items
 pub mod Entries
 pub mod Texts
 pub mod Slots
+pub mod Given

@@ -11,6 +11,6 @@ text_at [] at = []
 text_at (t ∷ ts) zero = text_of t
 text_at (t ∷ ts) (suc at) = text_at ts at
 
--- texts stay where they are: the one of a place, where this is the first place's
+-- the slot of a place, where `first` is the slot of place 0: slots go round at the end
 abbrev pub turned : (width first at : ℕ) → ℕ
 turned width first at = if nat_lt (first + at) width then first + at else first + at - width

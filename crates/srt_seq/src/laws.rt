@@ -10,8 +10,8 @@ pub fn windows()
     ensures from_initial { NumbersFromInitial }
 {}
 
-/// A stamp stands for one time near another. A shifted stamp lifts to a shifted time, so a session may
-/// count from its first stamp.
+/// A timestamp stands for one time near another. A shifted timestamp lifts to a shifted time, so a session
+/// may count from its first timestamp.
 pub fn lifts()
     ensures time { LiftIsTheTime }
     ensures moves { LiftMoves }

@@ -1,5 +1,6 @@
 //! What every crate of the gateway speaks of: sequence numbers, message numbers and timestamps as they
-//! stand on the wire, words of 32 bits, and the types that routes, hub and configuration share.
+//! stand on the wire, words of 32 bits, the bytes of packets that rings keep in place, and the types that routes, hub
+//! and configuration share.
 #![tactic(auto)]
 
 mod entries;
@@ -17,7 +18,7 @@ pub use order::TextOrder;
 pub use shared::{Entry, Item, MOMENT_END, Mode, OpenFault, Payload, Peer, Role, Turned};
 pub use stamps::Stamp32;
 pub use texts::Text;
-pub use words::{read_word, write_at};
+pub use words::{read_word, write_at, write_words};
 
 #[cfg(test)]
 mod tests;

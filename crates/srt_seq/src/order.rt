@@ -4,7 +4,8 @@ ghost use Rattle.std.specs.Prelude.{◌≡◌, ℕ, ◌<◌, IfOk, vec_len, slic
 
 use std::alloc::{AllocError, Global};
 
-/// For each slot the index of its text.
+/// Which [`Text`](crate::Text) each slot of a ring of packets has: no two slots have the same, so that slots may exchange
+/// theirs and no bytes are lost.
 #[derive(Drop)]
 pub struct TextOrder {
     texts: Vec<usize>,
@@ -40,6 +41,8 @@ impl TextOrder {
         requires one { one < slots_of self.old }
         requires other { other < slots_of self.old }
         ensures slots { slots_of self.new ≡ slots_of self.old }
+        ensures one { text_of_slot self.new one ≡ text_of_slot self.old other }
+        ensures other { text_of_slot self.new other ≡ text_of_slot self.old one }
         ensures others { (slot : ℕ) → (slot ≡ one → ⊥) → (slot ≡ other → ⊥) → text_of_slot self.new slot ≡ text_of_slot self.old slot }
     {
         self.texts.swap(one, other);

@@ -19,7 +19,7 @@ pub struct Peer {
 pub enum Mode {
     /// Each payload at its time; what comes too late is left out (section 4.5).
     Live,
-    /// An unbroken run of bytes, as fast as it comes (section 4.3.2).
+    /// An unbroken run of bytes, as fast as it comes (section 4.2.2).
     Buffer,
 }
 

@@ -18,7 +18,7 @@ impl Stamp32 {
         Stamp32 { word }
     }
 
-    /// The time in microseconds that the stamp stands for: of all that are written so, the one from
+    /// The time in microseconds that the timestamp stands for: of all that are written so, the one from
     /// `elapsed` - 2^31 on and below `elapsed` + 2^31.
     pub fn lift(self, elapsed: i64) -> i64
         requires low { (pos 0) ≤ℤ (elapsed +ℤ pos (2 ^ 62)) }

@@ -41,7 +41,7 @@ fn a_window_reaches_across_the_wrap(rt: HostRuntime) -> Result<(), Fail> {
 }
 
 #[test]
-fn message_numbers_skip_zero(rt: HostRuntime) -> Result<(), Fail> {
+fn message_numbers_begin_at_1(rt: HostRuntime) -> Result<(), Fail> {
     assert_eq!(rt; Msg26::first().get(), 1);
     assert_eq!(rt; Msg26::first().next().get(), 2);
     Ok(())

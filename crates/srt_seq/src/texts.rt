@@ -51,12 +51,17 @@ impl Text {
         self.len = bytes.len();
     }
 
-    /// Copies the bytes out.
-    pub fn payload(&self) -> Payload
-        ensures { result.items ≡ text_of self.now }
+    /// Copies the bytes out, over what the payload held.
+    pub fn copy_to(&self, payload: &mut Payload)
+        ensures { payload.new.items ≡ text_of self.now }
     {
-        let mut payload = Payload::new();
+        if payload.len() == self.len {
+            payload
+                .as_mut_slice()
+                .copy_from_slice(&self.block.xs[..self.len]);
+            return;
+        }
+        payload.clear();
         let _ = payload.try_extend_from_slice(&self.block.xs[..self.len]);
-        payload
     }
 }

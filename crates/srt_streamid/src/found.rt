@@ -9,14 +9,18 @@ use srt_seq::Role;
 /// Where a name stands in the bytes.
 #[derive(Clone, Copy)]
 pub struct Span {
+    /// Its first byte's place.
     pub start: usize,
+    /// How many bytes it has.
     pub len: usize,
 }
 
 /// What was found so far.
 #[derive(Clone, Copy)]
 pub struct Found {
+    /// The route's name, where a part says it.
     pub name: Option<Span>,
+    /// What is wanted of the route, where a part says it.
     pub role: Option<Role>,
 }
 

@@ -1,5 +1,5 @@
 -- One deadline; deadlines counted from the opening.
-use Rattle.std.proofs.Common.{◌≡◌, ℕ, ◌+◌, ◌-◌, ◌≤◌, ℤ, pos, ◌+ℤ◌, ◌∙◌, refl, sym, arith}
+use Rattle.std.proofs.Common.{◌≡◌, ℕ, ◌+◌, ◌-◌, ◌≤◌, ℤ, pos, ◌+ℤ◌, ◌-ℤ◌, refl, arith}
 use Rattle.std.proofs.lemmas.Int.{ints}
 use Rattle.srt_seq.specs.Lift.{lift, stamped_from}
 use Rattle.srt_seq.proofs.Lifts.{lift_is, times_from_first}
@@ -21,10 +21,13 @@ deadlines_from_opening opening first word time delay =
     rw e (omega (arith, ints, t))
 
 -- the three ways to say when a packet is due
-pub due_from_opening : (opening first word now delay : ℕ) (due : ℤ) → opening ≤ now → due ≡ pos opening +ℤ due_time delay (now - opening) (stamped_from first word) →
-    IsDeadline opening first word now delay due × (due ≡ deadline_at opening first word now delay) × (due ≡ pos opening +ℤ due_time delay (now - opening) (stamped_from first word))
-due_from_opening opening first word now delay due le e =
-    let t : now ≡ opening + (now - opening) = omega arith in
-    let same : due ≡ deadline_at opening first word now delay = rw t (e ∙ sym (deadlines_from_opening opening first word (now - opening) delay)) in
+pub due_from_opening : (opening first word now delay : ℕ) (due : ℤ) → due ≡ pos opening +ℤ (lift (stamped_from first word) (pos now -ℤ pos opening) +ℤ pos delay) →
+    IsDeadline opening first word now delay due × (due ≡ deadline_at opening first word now delay) × (opening ≤ now → due ≡ pos opening +ℤ due_time delay (now - opening) (stamped_from first word))
+due_from_opening opening first word now delay due e =
+    let t = times_from_first first word (pos now -ℤ pos opening) in
+    let same : due ≡ deadline_at opening first word now delay = omega (arith, ints, t, e) in
     let l = lift_is word (sender_time opening first now) in
-    ((lift word (sender_time opening first now), l.0, same), same, e)
+    ((lift word (sender_time opening first now), l.0, same), same, λ le. rw (own le) at e)
+  where
+    own : opening ≤ now → pos now -ℤ pos opening ≡ pos (now - opening)
+    own le = omega (arith, ints, le)

@@ -33,14 +33,13 @@ impl Base {
     /// microseconds, the delay too. It is below 0 where the packet was due before moment 0.
     pub fn deadline(self, stamp: Stamp32, now: u64, delay: u32) -> i64
         requires early { now < 2 ^ 62 }
-        requires opened { opening_of self ≤ now }
         ensures moment { IsDeadline (opening_of self) (first_of self) stamp.word now delay result }
         ensures value { result ≡ deadline_at (opening_of self) (first_of self) stamp.word now delay }
         // Counted from the session's own beginning.
-        ensures own { result ≡ pos (opening_of self) +ℤ due_time delay (now - opening_of self) (stamped_from (first_of self) stamp.word) }
+        ensures own { opening_of self ≤ now → result ≡ pos (opening_of self) +ℤ due_time delay (now - opening_of self) (stamped_from (first_of self) stamp.word) }
     {
         let since_first = Stamp32::new(stamp.word.wrapping_sub(self.first.word));
-        let since_opening = since_first.lift((now - self.opening) as i64);
+        let since_opening = since_first.lift(now as i64 - self.opening as i64);
         self.opening as i64 + since_opening + i64::from(delay)
     }
 }

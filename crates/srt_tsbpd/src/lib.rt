@@ -1,4 +1,5 @@
-//! Delivery by timestamps: when a publisher's packet is due, and when a subscriber's is too late.
+//! Timestamp-based packet delivery (TSBPD, draft-sharabayko-srt-01, sections 4.5.1 and 4.6): when a publisher's packet is due, and
+//! when a subscriber's is too late.
 #![tactic(auto)]
 
 mod deadlines;

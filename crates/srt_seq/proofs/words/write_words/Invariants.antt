@@ -1,6 +1,6 @@
 use Rattle.std.proofs.Common.{◌≡◌, ℕ, ◌+◌, ◌*◌, ◌≤◌, ◌++◌, List, take, drop}
-use Rattle.srt_packet.specs.Text.{words}
-use Rattle.srt_packet.proofs.writing.write_words.Given as goal
+use Rattle.srt_seq.specs.Words.{words}
+use Rattle.srt_seq.proofs.words.write_words.Given as goal
 
 -- so many words of the list are written
 pub record IsWrittenTo (old new list : List ℕ) (at end count : ℕ) : Type 0 where

@@ -1,6 +1,6 @@
 -- The bytes of words.
 use Rattle.std.proofs.Common.{◌≡◌, ℕ, ◌*◌, List, [], ◌∷◌, length, arith}
-use Rattle.srt_packet.specs.Text.{words}
+use Rattle.srt_seq.specs.Words.{words}
 
 pub length_of_words : (ns : List ℕ) → length (words ns) ≡ 4 * length ns
 length_of_words [] = omega arith
