@@ -2,16 +2,20 @@
 use Rattle.std.proofs.Common.{◌≡◌, ℕ, zero, suc, ◌<◌, Bool, true, false, List, [], ◌∷◌, length, map, Some, refl, sym, ap, subst, ◌∙◌, arith}
 use Rattle.std.proofs.lemmas.Bool.{eq-eqb, eqb-true}
 use Rattle.std.specs.List.{slice_get}
+use Rattle.srt_seq.specs.Items.{Datagram}
 use Rattle.srt_seq.specs.Terms.{Terms}
 use Rattle.srt_lobby.specs.declared.classes.Class.{Class}
 use Rattle.srt_lobby.specs.declared.classes.Class.TheVariants.{Answer, Route, Dropped}
 use Rattle.srt_lobby.specs.Names.{AreDistinct, name_of}
+use Rattle.srt_lobby.specs.Lobby.{class_of}
 use Rattle.srt_lobby.specs.Laws.{HasRoute}
 use Rattle.srt_lobby.proofs.Kept.{own}
+use Rattle.srt_lobby.proofs.Distinct.{names_are_distinct}
 use Rattle.srt_route.specs.Route.{reply}
 use Rattle.srt_hub.specs.World.{is_route, lane_after, accepted, sent, IsQuiet}
 use Rattle.srt_hub.specs.Hubs.{names, terms_at}
-use Rattle.srt_hub.specs.Gateways.{sorting, ArrivalsAreOwn, StepsAreOwn, SentByOwnSteps, SentByAccepted}
+use Rattle.srt_hub.specs.Laws.{SortsByOwnName}
+use Rattle.srt_hub.specs.Gateways.{sorting, HaveRoute, ArrivalsAreOwn, StepsAreOwn, SentByOwnSteps, SentByAccepted}
 use Rattle.srt_hub.proofs.Isolation.{sent_is_whole, isolated}
 use Rattle.srt_hub.proofs.OwnSteps.{own_steps_decide, sorting_decides}
 
@@ -20,17 +24,17 @@ named_at [] r below = absurd (omega arith)
 named_at (e ∷ entries) zero below = refl
 named_at (e ∷ entries) (suc r) below = named_at entries r (omega arith)
 
-has_route : (entries : List Terms) (r : ℕ) (e : Terms) → r < length entries → terms_at entries r ≡ e → AreDistinct (names entries) → HasRoute (names entries) r e.name
-has_route entries r e below same distinct = record {
-  named = named_at entries r below ∙ ap (λ (f : Terms). Some f.name) same;
+has_route : (entries : List Terms) (r : ℕ) (name : List ℕ) → r < length entries → (terms_at entries r).name ≡ name → AreDistinct (names entries) → HasRoute (names entries) r name
+has_route entries r name below same distinct = record {
+  named = named_at entries r below ∙ ap Some same;
   distinct = distinct;
 }
 
 pub arrivals_are_own : ArrivalsAreOwn
 arrivals_are_own secret entries others r h d moment =
     own secret (names entries) (names others) r (terms_at entries r).name
-    (has_route entries r (terms_at entries r) h.below refl h.distinct)
-    (has_route others r (terms_at entries r) h.below_there (sym h.same_entry) h.distinct_there)
+    (has_route entries r (terms_at entries r).name h.below refl h.distinct)
+    (has_route others r (terms_at entries r).name h.below_there (sym h.same_name) h.distinct_there)
     d moment
 
 is_routes : (r : ℕ) (c : Class) → is_route r c ≡ true → c ≡ Route r
@@ -46,13 +50,26 @@ same_test true b there back = sym (there refl)
 same_test false true there back = back refl
 same_test false false there back = refl
 
-pub steps_are_own : StepsAreOwn
-steps_are_own secret entries others r h events =
-    sorting_decides (sorting secret entries) (sorting secret others) r events (λ d moment.
+tests_are_own : (secret : List ℕ) (entries others : List Terms) (r : ℕ) → HaveRoute entries others r → (d : Datagram) (moment : ℕ) → is_route r (sorting secret entries d moment) ≡ is_route r (sorting secret others d moment)
+tests_are_own secret entries others r h d moment =
     let either = arrivals_are_own secret entries others r h d moment in
     same_test (is_route r (sorting secret entries d moment)) (is_route r (sorting secret others d moment))
     (λ yes. tests_so r (sorting secret others d moment) (either.0 (is_routes r (sorting secret entries d moment) yes)))
-    (λ yes. tests_so r (sorting secret entries d moment) (either.1 (is_routes r (sorting secret others d moment) yes))))
+    (λ yes. tests_so r (sorting secret entries d moment) (either.1 (is_routes r (sorting secret others d moment) yes)))
+
+pub steps_are_own : StepsAreOwn
+steps_are_own secret entries others r h events = sorting_decides (sorting secret entries) (sorting secret others) r events (tests_are_own secret entries others r h)
+
+pub sorts_by_own_name : SortsByOwnName class_of
+sorts_by_own_name secret entries others r sound sound' below below' same =
+    tests_are_own secret entries others r
+    (record {
+      below = below;
+      below_there = below';
+      same_name = same;
+      distinct = names_are_distinct entries sound;
+      distinct_there = names_are_distinct others sound';
+    })
 
 pub sent_by_own_steps : SentByOwnSteps
 sent_by_own_steps secret entries others r same events events' steps =

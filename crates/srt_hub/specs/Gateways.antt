@@ -24,11 +24,11 @@ sent_of secret entries r events = sent (sorting secret entries) reply (terms_at 
 abbrev pub HasQuiet : (secret : List ℕ) → List Terms → ℕ → List Event → Type 0
 HasQuiet secret entries r events = IsQuiet (lane_after (sorting secret entries) reply (terms_at entries r) r events)
 
--- both have this route with the same entry, and in neither a name stands twice, as in all entries that a gateway opens with
+-- both have this route under the same name, and in neither a name stands twice, as in all entries that a gateway opens with
 pub record HaveRoute (entries others : List Terms) (r : ℕ) : Type 0 where
   pub below : r < length entries
   pub below_there : r < length others
-  pub same_entry : terms_at entries r ≡ terms_at others r
+  pub same_name : (terms_at entries r).name ≡ (terms_at others r).name
   pub distinct : AreDistinct (names entries)
   pub distinct_there : AreDistinct (names others)
 

@@ -1,6 +1,12 @@
--- What stands in the inbox, as the items that it is.
+-- What stands in the queues, as the items and the datagrams that it is.
+use Rattle.std.specs.Global.{Box}
 use Rattle.srt_hub.specs.declared.items.Timely.{Timely}
-use Rattle.srt_seq.specs.Items.{Item, told}
+use Rattle.srt_seq.specs.Items.{Datagram, Item, told}
+use Rattle.srt_route.specs.declared.replies.Reply.{Reply}
+use Rattle.srt_route.specs.Written.{written}
 
 abbrev pub item_in : Timely → Item
 item_in t = told t.item
+
+abbrev pub reply_in : Box Reply → Datagram
+reply_in b = written b.value

@@ -32,7 +32,7 @@ impl RouteStep for Route {
         Route::waits(self)
     }
 
-    fn next_reply(&mut self) -> Option<Reply> {
-        Route::next_reply(self)
+    fn next_reply(&mut self, place: &mut Box<Reply>) -> bool {
+        Route::next_reply(self, place)
     }
 }

@@ -1,8 +1,10 @@
 //! A route with its queues.
 
-ghost use Rattle.std.specs.Prelude.{◌≡◌, ℕ, ◌<◌, ◌≤◌, true, IfOk, IfErr, IfSome, IfNone, map, take, drop, option_map};
+ghost use Rattle.std.specs.Prelude.{◌≡◌, ℕ, ◌+◌, ◌<◌, ◌≤◌, true, IfOk, IfErr, IfSome, IfNone, map, take, drop, length, option_map};
+ghost use Rattle.std.specs.Vec.{vec_capacity};
 ghost use Rattle.std.specs.VecDeque.{deque_capacity};
 
+use crate::boxes::blank_boxes;
 use crate::items::Timely;
 use crate::parts::RouteStep;
 use srt_packet::encode;
@@ -11,16 +13,20 @@ use srt_seq::{Entry, OpenFault, Peer, Turned};
 use std::alloc::Global;
 use std::collections::VecDeque;
 
-/// A route with its queues, which have room for the capacities.
+/// A route with its queues, which have room for the capacities. Replies stand in boxes; the spare boxes are the free
+/// places of the outbox.
 #[derive(Drop)]
 pub struct Lane<R: RouteStep> {
     route: R,
     inbox: VecDeque<Timely>,
-    outbox: VecDeque<Reply>,
+    outbox: VecDeque<Box<Reply>>,
+    spare: Vec<Box<Reply>>,
     inbox_room: usize,
     outbox_room: usize,
     ghost inbox_fits: { inbox_room ≤ deque_capacity inbox },
     ghost outbox_fits: { outbox_room ≤ deque_capacity outbox },
+    ghost spare_fits: { outbox_room ≤ vec_capacity spare },
+    ghost boxes: { length outbox.items + length spare.items ≡ outbox_room },
 }
 
 /// What stands for a route of the world.
@@ -33,11 +39,10 @@ pub trait Standing {
 }
 
 impl<R: RouteStep> Standing for Lane<R> {
-    ghost use Rattle.srt_hub.specs.Queued.{item_in};
-    ghost use Rattle.srt_route.specs.Written.{written};
+    ghost use Rattle.srt_hub.specs.Queued.{item_in, reply_in};
     ghost use Rattle.srt_hub.specs.Stands.{IsLane};
 
-    ghost is = { λ lane e r m. IsLane e (λ items. R.stands lane.route e r items) (R.waiting lane.route) (map item_in lane.inbox.items) (map written lane.outbox.items) lane.inbox_room lane.outbox_room m };
+    ghost is = { λ lane e r m. IsLane e (λ items. R.stands lane.route e r items) (R.waiting lane.route) (map item_in lane.inbox.items) (map reply_in lane.outbox.items) lane.inbox_room lane.outbox_room m };
 }
 
 impl<R: RouteStep> Lane<R> {
@@ -63,10 +68,14 @@ impl<R: RouteStep> Lane<R> {
         let Ok(outbox) = VecDeque::with_capacity(alloc, outbox_room) else {
             return Err(OpenFault::OutOfMemory);
         };
+        let Ok(spare) = blank_boxes(alloc, outbox_room) else {
+            return Err(OpenFault::OutOfMemory);
+        };
         Ok(Lane {
             route,
             inbox,
             outbox,
+            spare,
             inbox_room,
             outbox_room,
         })
@@ -89,12 +98,11 @@ impl<R: RouteStep> Lane<R> {
         ensures answer { (e : Terms) (r : ℕ) (m : TheLane) → ⟦<Lane<R> as Standing>⟧.is self.old e r m → result ≡ turn e m }
     {
         if self.route.waits() {
-            if self.outbox.len() >= self.outbox_room {
+            let Some(mut place) = self.spare.pop() else {
                 return Turned::Blocked;
-            }
-            if let Some(reply) = self.route.next_reply() {
-                let _ = self.outbox.push_back(reply);
-            }
+            };
+            self.route.next_reply(&mut place);
+            let _ = self.outbox.push_back(place);
             return Turned::Moved;
         }
         let Some(timely) = self.inbox.pop_front() else {
@@ -113,10 +121,10 @@ impl<R: RouteStep> Lane<R> {
         ensures kept { IfSome result (λ sent. drop sent.1 out.new ≡ drop sent.1 out.old) }
         ensures none { IfNone result (out.new ≡ out.old) }
     {
-        let reply = self.outbox.front()?;
+        let reply = self.outbox.pop_front()?;
         let peer = reply.peer;
         let len = encode(&reply.packet, out);
-        let _ = self.outbox.pop_front();
+        let _ = self.spare.push(reply);
         Some((peer, len))
     }
 }

@@ -1,7 +1,8 @@
 //! Laws of the definitions, over all lists of events, all kinds of route and all lobbies. The hub's calls are
 //! proved to be the steps that these laws speak of.
 
-ghost use Rattle.srt_hub.specs.Laws.{SentIsFront, SentIsWhole, RoutesAreIsolated, GatewaysAreIsolated, OwnStepsDecide, SortingDecides, OwnNameDecides, OthersStay};
+ghost use Rattle.srt_hub.specs.Laws.{SentIsFront, SentIsWhole, RoutesAreIsolated, GatewaysAreIsolated, OwnStepsDecide, SortingDecides, SortsByOwnName, OwnNameDecides, OthersStay};
+ghost use Rattle.srt_lobby.specs.Lobby.{class_of};
 ghost use Rattle.srt_hub.specs.Gateways.{ArrivalsAreOwn, StepsAreOwn, SentByOwnSteps, SentByAccepted};
 ghost use Rattle.srt_hub.specs.Refusals.{FullIsAtCapacity, FullTickIsAtCapacity, BlockedIsAtCapacity, IdleIsEmpty, RefusedIsARoutes, LobbyAnswersAlone};
 
@@ -37,6 +38,8 @@ pub fn refusals()
 /// route's index and name, and each arrival alone; and what is sent for a route depends on what is its own alone.
 pub fn gateways()
     ensures arrivals { ArrivalsAreOwn }
+    // So the lobby sorts as `isolation` asks in its clause on own names.
+    ensures own_name { SortsByOwnName class_of }
     ensures steps { StepsAreOwn }
     ensures own_steps { SentByOwnSteps }
     ensures accepted { SentByAccepted }

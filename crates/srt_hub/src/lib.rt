@@ -3,6 +3,7 @@
 #![tactic(auto)]
 
 mod answers;
+mod boxes;
 mod entrance;
 mod gateways;
 mod hubs;

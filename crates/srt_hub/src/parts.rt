@@ -2,8 +2,7 @@
 //! route, by what these traits say and by nothing else: what a route replies and how arrivals are sorted are
 //! ghost members, which each kind defines for itself.
 
-ghost use Rattle.std.specs.Prelude.{◌≡◌, ◌↔◌, ℕ, ◌<◌, ◌≤◌, ◌^◌, ◌++◌, ◌∷◌, [], List, length, true, None, Some, Err, IfOk, IfErr, IfNone, map};
-ghost use Rattle.std.specs.Option.{option_to_list};
+ghost use Rattle.std.specs.Prelude.{◌≡◌, ◌↔◌, ℕ, ◌<◌, ◌≤◌, ◌^◌, ◌∷◌, [], List, length, true, false, None, Some, Err, IfOk, IfErr, map};
 ghost use Rattle.srt_seq.specs.declared.shared.OpenFault.{OpenFault as TheFault};
 ghost use Rattle.srt_cookie.specs.Cookie.{secret_bytes};
 ghost use Rattle.srt_lobby.specs.declared.classes.Class.{Class as TheClass};
@@ -80,9 +79,10 @@ pub trait RouteStep: Drop {
     fn waits(&self) -> bool
         ensures { (result ≡ true) ↔ (0 < length (waiting self.now)) };
 
-    /// Takes the first reply that waits, and changes nothing else. Takes no memory.
-    fn next_reply(&mut self) -> Option<Reply>
-        ensures first { waiting self.old ≡ map written (option_to_list result) ++ waiting self.new }
-        ensures none { IfNone result (waiting self.old ≡ []) }
+    /// Exchanges the place's box for that of the first reply that waits, and keeps the box that it got for later
+    /// replies. Takes no memory.
+    fn next_reply(&mut self, place: &mut Box<Reply>) -> bool
+        ensures first { result ≡ true → waiting self.old ≡ written place.new.value ∷ waiting self.new }
+        ensures none { result ≡ false → (waiting self.old ≡ []) × (self.new ≡ self.old) × (place.new ≡ place.old) }
         ensures stands { (e : Terms) (index : ℕ) (items : List TheItem) → stands self.old e index items → stands self.new e index items };
 }

@@ -2,6 +2,9 @@
 //! each item.
 
 ghost use Rattle.std.specs.Prelude.{◌≡◌, ℕ, ◌+◌, ◌-◌, ◌≤◌, ◌<◌, [], ◌∷◌, length, drop, replicate, slice_index, if◌then◌else◌, nat_lt, refl};
+ghost use Rattle.srt_packet.specs.declared.writing.Body.TheVariants.{KeepAlive};
+ghost use Rattle.srt_packet.specs.Text.{text};
+ghost use Rattle.srt_route.specs.Written.{written};
 
 use crate::{Arrived, Cause, Class, Hub, Lobby, OutOfMemory, Reply, RouteStep, Ticked};
 use srt_cookie::Secret;
@@ -53,6 +56,20 @@ const CALLER: Peer = Peer {
     port: 7,
 };
 
+/// A KEEPALIVE with this timestamp.
+fn keep_alive(stamp: u32) -> Reply
+    ensures { written result ≡ record { peer = record { ip = replicate 16 9; port = 7 }; bytes = text (record { stamp = stamp; dest = 5; body = KeepAlive }) } }
+{
+    Reply {
+        peer: CALLER,
+        packet: Packet {
+            stamp,
+            dest: 5,
+            body: Body::KeepAlive,
+        },
+    }
+}
+
 /// Sends two packets for each item.
 #[derive(Drop)]
 struct Twice {
@@ -61,9 +78,6 @@ struct Twice {
 }
 
 impl RouteStep for Twice {
-    ghost use Rattle.srt_packet.specs.declared.writing.Body.TheVariants.{KeepAlive};
-    ghost use Rattle.srt_packet.specs.Text.{text};
-
     ghost reply = { λ e index items. record { peer = record { ip = replicate 16 9; port = 7 }; bytes = text (record { stamp = 1; dest = 5; body = KeepAlive }) } ∷ record { peer = record { ip = replicate 16 9; port = 7 }; bytes = text (record { stamp = 2; dest = 5; body = KeepAlive }) } ∷ [] };
 
     ghost stands = { λ route e index items. Unit {0} };
@@ -83,30 +97,18 @@ impl RouteStep for Twice {
         self.left > 0
     }
 
-    fn next_reply(&mut self) -> Option<Reply> {
+    fn next_reply(&mut self, place: &mut Box<Reply>) -> bool {
         if self.left == 2 {
             self.left = 1;
-            return Some(Reply {
-                peer: CALLER,
-                packet: Packet {
-                    stamp: 1,
-                    dest: 5,
-                    body: Body::KeepAlive,
-                },
-            });
+            **place = keep_alive(1);
+            return true;
         }
         if self.left == 1 {
             self.left = 0;
-            return Some(Reply {
-                peer: CALLER,
-                packet: Packet {
-                    stamp: 2,
-                    dest: 5,
-                    body: Body::KeepAlive,
-                },
-            });
+            **place = keep_alive(2);
+            return true;
         }
-        None
+        false
     }
 }
 
@@ -224,6 +226,30 @@ fn a_full_outbox_blocks(rt: HostRuntime) -> Result<(), Fail> {
     assert_eq!(rt; hub.send(0, &mut out), Some((CALLER, 16)));
     assert_eq!(rt; hub.turn(0), Turned::Moved);
     assert_eq!(rt; hub.turn(0), Turned::Blocked);
+    Ok(())
+}
+
+/// The boxes of an outbox go round: more replies are sent than there are boxes, each in its turn.
+#[test]
+fn boxes_go_round(rt: HostRuntime) -> Result<(), Fail> {
+    let alloc = rt.alloc();
+    let mut hub = two_routes(alloc)?;
+    let mut out = [0; 1472];
+    assert_eq!(rt; hub.routes(), 2);
+    assert_eq!(rt; hub.tick(0, 1), Ticked::Accepted);
+    assert_eq!(rt; hub.turn(0), Turned::Applied);
+    assert_eq!(rt; hub.turn(0), Turned::Moved);
+    for _ in 0..20 {
+        assert_eq!(rt; hub.routes(), 2);
+        assert_eq!(rt; hub.turn(0), Turned::Moved);
+        assert_eq!(rt; hub.send(0, &mut out), Some((CALLER, 16)));
+        assert_eq!(rt; &out[..16], FIRST.as_slice());
+        assert_eq!(rt; hub.tick(0, 1), Ticked::Accepted);
+        assert_eq!(rt; hub.turn(0), Turned::Applied);
+        assert_eq!(rt; hub.turn(0), Turned::Moved);
+        assert_eq!(rt; hub.send(0, &mut out), Some((CALLER, 16)));
+        assert_eq!(rt; &out[..16], SECOND.as_slice());
+    }
     Ok(())
 }
 

@@ -6,7 +6,7 @@ use Rattle.srt_seq.specs.Runs.{Range, Run}
 use Rattle.srt_seq.specs.declared.numbers.Seq31.{Seq31}
 use Rattle.srt_loss.specs.Text.{range_of, loss_words}
 use Rattle.srt_packet.specs.declared.writing.Body.TheVariants as out
-use Rattle.srt_packet.specs.Text.{words}
+use Rattle.srt_seq.specs.Words.{words}
 use Rattle.arrayvec.specs.ArrayVec.{ArrayVec}
 use Rattle.srt_recvbuf.specs.Stands.{number_word, words_of, run_words}
 use Rattle.srt_pub.specs.Publishing.{FullAck, LightAck, KeepAlive, nak_report, nak_with}

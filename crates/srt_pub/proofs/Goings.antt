@@ -1,18 +1,18 @@
 -- A receiver goes on, and stays orderly.
 use Rattle.std.proofs.Common.{◌≡◌, ◌⊎◌, inl, inr, ℕ, suc, zero, ◌+◌, ◌-◌, ◌*◌, ◌^◌, ◌<◌, ◌≤◌, max, Bool, true, false, not, cond, ◌||◌, ◌&&◌, Option, Some, None, List, [], ◌∷◌, length, refl, sym, ap, subst, ◌∙◌, arith, ℤ, pos}
-use Rattle.std.specs.Prelude.{nat_lt, nat_le, ◌==◌, is_some, filter_map, int_le, option_map, IfSome}
+use Rattle.std.specs.Prelude.{nat_lt, nat_le, ◌==◌, is_some, filter_map, int_le, option_map}
 use Rattle.std.specs.List.{cons_option}
 use Rattle.std.proofs.lemmas.Bool.{cases_lt, cases_eq, cases_Bool, eq-eqb, ne_eqb, and_left, not-true, not-false, le-ltb}
 use Rattle.std.proofs.lemmas.Bool.Decides.{nat_tests}
 use Rattle.srt_seq.specs.declared.shared.Mode.{Mode}
 use Rattle.srt_seq.specs.declared.shared.Mode.TheVariants.{Live, Buffer}
+use Rattle.srt_seq.specs.Given.{given}
 use Rattle.srt_seq.specs.Window.{in_window}
 use Rattle.srt_seq.specs.Runs.{Range, span, least_from, numbers_from}
 use Rattle.srt_recvbuf.specs.Receiving.{Arrival, Request, Receiving, arrival_of, is_received, is_requested, is_dropped, is_missing, end_of, ack_point, moved_to, settled, passed, with_number, received, requested, waiting, nothing_yet, first_due, next_due, after_next}
 use Rattle.srt_recvbuf.specs.OneByOne.{NothingBeyond}
 use Rattle.srt_recvbuf.proofs.OneByOne.{found}
 use Rattle.srt_recvbuf.proofs.Points.{ack_points}
-use Rattle.arrayvec.specs.ArrayVec.{ArrayVec}
 use Rattle.srt_pub.specs.Stands.{Each, IsInMode, IsOrderly, GoesOn}
 
 -- the least number that passes a test
@@ -290,20 +290,14 @@ after_one mode width time room r (Some a) e narrow ends h =
     record { orderly = orderly_passed mode width r a k.low h; goes_on = goes_passed width r a narrow k.low (omega (arith, k.high, ends)) }
 
 -- a payload that is given isn't empty
-pub given_some : (time room : ℕ) (r : Receiving) (o : Option (ArrayVec ℕ)) → Each (λ (a : Arrival). 0 < length a.payload) r.arrivals → option_map (λ (p : ArrayVec ℕ). p.items) o ≡ option_map (λ (a : Arrival). a.payload) (next_due time room r) → IfSome o (λ (p : ArrayVec ℕ). 0 < length p.items)
-given_some time room r o filled e = by (next_due time room r) refl e
+pub given_some : (time room : ℕ) (r : Receiving) (is_due : Bool) (payload : List ℕ) → Each (λ (a : Arrival). 0 < length a.payload) r.arrivals → given is_due payload ≡ option_map (λ (a : Arrival). a.payload) (next_due time room r) → is_due ≡ true → 0 < length payload
+given_some time room r false payload filled e t = cc
+given_some time room r true payload filled e t = by (next_due time room r) refl e
   where
-    by : (q : Option Arrival) → next_due time room r ≡ q → option_map (λ (p : ArrayVec ℕ). p.items) o ≡ option_map (λ (a : Arrival). a.payload) q → IfSome o (λ (p : ArrayVec ℕ). 0 < length p.items)
-    by None is f = none_given o f
-      where
-        none_given : (o : Option (ArrayVec ℕ)) → option_map (λ (p : ArrayVec ℕ). p.items) o ≡ None → IfSome o (λ (p : ArrayVec ℕ). 0 < length p.items)
-        none_given None f = tt
-        none_given (Some p) f = cc
+    by : (q : Option Arrival) → next_due time room r ≡ q → Some payload ≡ option_map (λ (a : Arrival). a.payload) q → 0 < length payload
+    by None is f = cc
     by (Some a) is f =
         let w = next_waits time room r a is in
         let k = first_waiting (λ (x : Arrival). 0 < length x.payload) r a w.0 filled w.1 in
-        one_given o f k.holds
-      where
-        one_given : (o : Option (ArrayVec ℕ)) → option_map (λ (p : ArrayVec ℕ). p.items) o ≡ Some a.payload → 0 < length a.payload → IfSome o (λ (p : ArrayVec ℕ). 0 < length p.items)
-        one_given None f lt = tt
-        one_given (Some p) f lt = let same : p.items ≡ a.payload = cc in subst (λ (xs : List ℕ). 0 < length xs) (sym same) lt
+        let same : payload ≡ a.payload = cc in
+        subst (λ (xs : List ℕ). 0 < length xs) (sym same) k.holds

@@ -1,8 +1,9 @@
 -- What an event sends.
-use Rattle.std.proofs.Common.{◌≡◌, ◌≢◌, ℕ, ◌-◌, ◌<◌, Bool, true, false, cond, Option, Some, None, List, [], ◌∷◌, ◌++◌, length, map, refl, sym, ap, ◌∙◌, arith}
-use Rattle.std.specs.Prelude.{is_some, nat_le, ◌==◌}
+use Rattle.std.proofs.Common.{◌≡◌, ◌≢◌, ℕ, ◌-◌, ◌<◌, Bool, true, false, cond, Option, List, [], ◌∷◌, ◌++◌, length, map, refl, sym, ap, ◌∙◌, arith}
+use Rattle.std.specs.Prelude.{nat_le, ◌==◌}
 use Rattle.std.proofs.lemmas.Bool.{eqb-true}
 use Rattle.std.proofs.lemmas.List.{map-append}
+use Rattle.srt_seq.specs.Given.{given}
 use Rattle.srt_seq.specs.declared.numbers.Seq31.{Seq31}
 use Rattle.srt_loss.specs.Text.{range_of, loss_words}
 use Rattle.srt_packet.specs.declared.writing.Packet.{Packet}
@@ -44,14 +45,14 @@ pub noted_append : (time : ℕ) (xs ys : List Report) (notes : List Note) → no
 noted_append time [] ys notes = refl
 noted_append time (x ∷ xs) ys notes = noted_append time xs ys (Sent time x ∷ notes)
 
-pub alive_same : (caller initial time : ℕ) (p q : Option Packet) (xs ys : List Report) (notes : List Note) → texts (listed p) ≡ map (says caller initial time) xs → texts (listed q) ≡ map (says caller initial time) ys → keep_alive_after (is_some p) (is_some q) time (noted time ys (noted time xs notes)) ≡ keep_alives time (xs ++ ys) notes
-alive_same caller initial time None q (x ∷ xs) ys notes e f = cc
-alive_same caller initial time (Some p) q [] ys notes e f = cc
-alive_same caller initial time (Some p) q (x ∷ xs) ys notes e f = refl
-alive_same caller initial time None None [] (y ∷ ys) notes e f = cc
-alive_same caller initial time None (Some q) [] [] notes e f = cc
-alive_same caller initial time None (Some q) [] (y ∷ ys) notes e f = refl
-alive_same caller initial time None None [] [] notes e f = refl
+pub alive_same : (caller initial time : ℕ) (ack nak : Bool) (p q : Packet) (xs ys : List Report) (notes : List Note) → texts (listed (given ack p)) ≡ map (says caller initial time) xs → texts (listed (given nak q)) ≡ map (says caller initial time) ys → keep_alive_after ack nak time (noted time ys (noted time xs notes)) ≡ keep_alives time (xs ++ ys) notes
+alive_same caller initial time false nak p q (x ∷ xs) ys notes e f = cc
+alive_same caller initial time true nak p q [] ys notes e f = cc
+alive_same caller initial time true nak p q (x ∷ xs) ys notes e f = refl
+alive_same caller initial time false false p q [] (y ∷ ys) notes e f = cc
+alive_same caller initial time false true p q [] [] notes e f = cc
+alive_same caller initial time false true p q [] (y ∷ ys) notes e f = refl
+alive_same caller initial time false false p q [] [] notes e f = refl
 
 pub reports_are : (terms : Terms) (time : ℕ) (m : Publishing) (xs ys zs : List Report) → xs ≡ acks terms time m → ys ≡ naks terms time m → zs ≡ keep_alives time (xs ++ ys) m.notes → (xs ++ ys) ++ zs ≡ reports terms time m
 unfolding reports

@@ -1,29 +1,18 @@
 -- Words of numbers at a session's window.
-use Rattle.std.proofs.Common.{◌≡◌, inl, inr, ℕ, ◌+◌, ◌-◌, ◌%◌, ◌^◌, ◌<◌, ◌≤◌, Bool, true, false, not, ◌&&◌, Option, Some, None, length, refl, sym, ap, ◌∙◌, arith}
+use Rattle.std.proofs.Common.{◌≡◌, inl, inr, ℕ, ◌+◌, ◌%◌, ◌^◌, ◌<◌, ◌≤◌, Bool, true, false, not, ◌&&◌, Option, Some, None, refl, sym, ap, ◌∙◌, arith}
 use Rattle.std.specs.Prelude.{is_some, is_none, option_map}
-use Rattle.std.proofs.lemmas.List.{get_or_past}
 use Rattle.std.proofs.lemmas.Bool.{cases_lt}
 use Rattle.std.proofs.lemmas.Bool.Decides.{nat_tests}
 use Rattle.srt_seq.specs.Window.{in_window, counted_from}
-use Rattle.srt_recvbuf.specs.declared.window.Place.TheVariants.{Missing}
 use Rattle.srt_recvbuf.specs.declared.buffer.RecvBuf.{RecvBuf}
-use Rattle.srt_recvbuf.specs.Receiving.{Receiving, is_received, is_waiting}
-use Rattle.srt_seq.specs.Slots.{text_of_slot}
-use Rattle.srt_seq.specs.Texts.{text_at, turned}
-use Rattle.srt_recvbuf.specs.Cells.{cell_of, is_got}
+use Rattle.srt_recvbuf.specs.Receiving.{Receiving, is_waiting}
 use Rattle.srt_recvbuf.specs.OneByOne.{NothingBeyond}
 use Rattle.srt_recvbuf.specs.Stands as buffers
-use Rattle.srt_recvbuf.proofs.Buffers.{cell_received, own_none, own_some}
+use Rattle.srt_recvbuf.proofs.Buffers.{window_ends, own_none, own_some}
 use Rattle.srt_pub.specs.Publishing.{is_past_window}
 
 pub beyond : (width initial origin : ℕ) (b : RecvBuf) (r : Receiving) → buffers.StandsFor width initial origin b r → NothingBeyond width r
-beyond width initial origin b r h n le =
-    let w = b.window in
-    let d = n - r.position in
-    let e : r.position + d ≡ n = omega (arith, le) in
-    let past = get_or_past w.places.items d Missing (omega (arith, le, h.0)) in
-    let none = ap (λ p. is_got (cell_of p (text_at w.texts.items (text_of_slot w.order (turned (length w.places.items) w.first d))))) past in
-    ap (is_received r) (sym e) ∙ cell_received width initial origin _ _ _ _ r h.1 d ∙ none
+beyond width initial origin b r h = window_ends width initial origin b r h
 
 -- a word with its top bit set is no number
 pub no_number : (initial word position width : ℕ) → 2 ^ 31 ≤ word → in_window (counted_from initial word) position width ≡ None

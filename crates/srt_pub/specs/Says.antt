@@ -4,7 +4,8 @@ use Rattle.srt_seq.specs.Counts.{ack_number}
 use Rattle.srt_seq.specs.Runs.{Range, Run}
 use Rattle.srt_loss.specs.Text.{loss_words}
 use Rattle.srt_packet.specs.declared.writing.Body.{Body}
-use Rattle.srt_packet.specs.Text.{words, text}
+use Rattle.srt_seq.specs.Words.{words}
+use Rattle.srt_packet.specs.Text.{text}
 use Rattle.srt_recvbuf.specs.Stands.{number_word}
 use Rattle.srt_pub.specs.Publishing.{Report, FullAck, LightAck, NakOfAll, NakOfNew, KeepAlive}
 

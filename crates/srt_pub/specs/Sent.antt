@@ -1,8 +1,10 @@
 -- The packets of an event, in the order in which they are sent.
 use Rattle.std.specs.Prelude.{List, ◌++◌}
+use Rattle.srt_seq.specs.Given.{given}
 use Rattle.srt_packet.specs.declared.writing.Packet.{Packet}
 use Rattle.srt_pub.specs.Calls.{listed}
 use Rattle.srt_pub.specs.declared.reports.Reports.{Reports}
 
-abbrev pub packets_of : Reports → List Packet
-packets_of r = listed r.ack ++ listed r.nak ++ listed r.keep_alive
+-- what stands in the places that were written
+abbrev pub packets_of : Reports → (ack nak keep_alive : Packet) → List Packet
+packets_of r ack nak keep_alive = listed (given r.ack ack) ++ listed (given r.nak nak) ++ listed (given r.keep_alive keep_alive)

@@ -1,6 +1,7 @@
 //! Acknowledgements (draft-sharabayko-srt-01, sections 3.2.4, 3.2.8 and 4.8.1).
 
-ghost use Rattle.std.specs.Prelude.{◌≡◌, ℕ, ◌+◌, ◌-◌, ◌≤◌, ◌==◌, List, [], ◌∷◌, map, length, nat_le, nat_lt, ◌||◌, ◌&&◌, not, Option, option_map, IfOk, IfSome};
+ghost use Rattle.std.specs.Prelude.{◌≡◌, ℕ, ◌+◌, ◌-◌, ◌≤◌, ◌==◌, List, [], ◌∷◌, map, length, nat_le, nat_lt, ◌||◌, ◌&&◌, not, true, false, Option, option_map, IfOk, IfSome};
+ghost use Rattle.srt_seq.specs.Given.{given};
 ghost use Rattle.srt_seq.specs.Window.{word_of};
 ghost use Rattle.srt_rtt.specs.RoundTrip as times;
 ghost use Rattle.srt_recvbuf.specs.Stands.{number_word};
@@ -115,48 +116,58 @@ impl Acks {
     }
 
     /// Sends a Full ACK.
-    fn full(&mut self, time: u64, point: Seq31, available: u32, rtt: Rtt) -> Body
+    fn full(&mut self, time: u64, point: Seq31, available: u32, rtt: Rtt, body: &mut Body)
         ensures stands { (width position a : ℕ) (notes : List Note) → times.StandsFor rtt (samples notes) → available ≡ position + width - a → AcksStandFor width position a self.old notes → AcksStandFor width position a self.new (noted time (full_ack a available notes ∷ []) notes) }
-        ensures bytes { (width position a initial caller : ℕ) (notes : List Note) → times.StandsFor rtt (samples notes) → word_of point ≡ number_word initial a → AcksStandFor width position a self.old notes → body_bytes caller time result ≡ says caller initial time (full_ack a available notes) }
-        ensures writable { IsWritable result }
+        ensures bytes { (width position a initial caller : ℕ) (notes : List Note) → times.StandsFor rtt (samples notes) → word_of point ≡ number_word initial a → AcksStandFor width position a self.old notes → body_bytes caller time body.new ≡ says caller initial time (full_ack a available notes) }
+        ensures writable { IsWritable body.new }
     {
         self.same = self.same.saturating_add(1).min(PLACES);
         self.last = time;
         self.came = 0;
-        Body::FullAck {
+        *body = Body::FullAck {
             number: self.book.note(time),
             point,
             round_trip: rtt.rtt(),
             variance: rtt.var(),
             available,
-        }
+        };
     }
 
     /// Sends a Light ACK.
-    fn light(&mut self, time: u64, point: Seq31) -> Body
+    fn light(&mut self, time: u64, point: Seq31, body: &mut Body)
         ensures stands { (width position a : ℕ) (notes : List Note) → AcksStandFor width position a self.old notes → AcksStandFor width position a self.new (noted time (TheLightAck a ∷ []) notes) }
-        ensures bytes { (a initial caller : ℕ) → word_of point ≡ number_word initial a → body_bytes caller time result ≡ says caller initial time (TheLightAck a) }
-        ensures writable { IsWritable result }
+        ensures bytes { (a initial caller : ℕ) → word_of point ≡ number_word initial a → body_bytes caller time body.new ≡ says caller initial time (TheLightAck a) }
+        ensures writable { IsWritable body.new }
     {
         self.came = 0;
-        Body::LightAck { point }
+        *body = Body::LightAck { point };
     }
 
-    /// Sends the ACK that is due so long after the opening, where the acknowledgement point stands at
-    /// `point` and so many packets have room from there on.
-    pub fn report(&mut self, time: u64, point: Seq31, available: u32, rtt: Rtt) -> Option<Body>
+    /// Writes the ACK that is due so long after the opening, where the acknowledgement point stands at
+    /// `point` and so many packets have room from there on. Answers whether one is due.
+    pub fn report(
+        &mut self,
+        time: u64,
+        point: Seq31,
+        available: u32,
+        rtt: Rtt,
+        body: &mut Body,
+    ) -> bool
         ensures stands { (width position a : ℕ) (notes : List Note) → times.StandsFor rtt (samples notes) → available ≡ position + width - a → AcksStandFor width position a self.old notes → AcksStandFor width position a self.new (noted time (acks_at width a available time notes) notes) }
-        ensures bytes { (width position a initial caller : ℕ) (notes : List Note) → times.StandsFor rtt (samples notes) → available ≡ position + width - a → word_of point ≡ number_word initial a → AcksStandFor width position a self.old notes → map (body_bytes caller time) (listed result) ≡ map (says caller initial time) (acks_at width a available time notes) }
-        ensures count { (width position a : ℕ) (notes : List Note) → available ≡ position + width - a → AcksStandFor width position a self.old notes → length (listed result) ≡ length (acks_at width a available time notes) }
-        ensures writable { IfSome result (λ b. IsWritable b) }
+        ensures bytes { (width position a initial caller : ℕ) (notes : List Note) → times.StandsFor rtt (samples notes) → available ≡ position + width - a → word_of point ≡ number_word initial a → AcksStandFor width position a self.old notes → map (body_bytes caller time) (listed (given result body.new)) ≡ map (says caller initial time) (acks_at width a available time notes) }
+        ensures count { (width position a : ℕ) (notes : List Note) → available ≡ position + width - a → AcksStandFor width position a self.old notes → length (listed (given result body.new)) ≡ length (acks_at width a available time notes) }
+        ensures writable { result ≡ true → IsWritable body.new }
+        ensures kept { result ≡ false → body.new ≡ body.old }
     {
         if self.is_full_due(time) {
-            return Some(self.full(time, point, available, rtt));
+            self.full(time, point, available, rtt, body);
+            return true;
         }
         if self.is_light_due() {
-            return Some(self.light(time, point));
+            self.light(time, point, body);
+            return true;
         }
-        None
+        false
     }
 }
 

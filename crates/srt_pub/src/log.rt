@@ -1,6 +1,7 @@
 //! What is kept of all that happened in a session.
 
-ghost use Rattle.std.specs.Prelude.{◌≡◌, ℕ, ◌+◌, ◌-◌, ◌≤◌, List, [], ◌∷◌, map, IfOk, IfSome, nat_le, if◌then◌else◌};
+ghost use Rattle.std.specs.Prelude.{◌≡◌, ℕ, ◌+◌, ◌-◌, ◌≤◌, List, [], ◌∷◌, map, IfOk, true, false, nat_le, if◌then◌else◌};
+ghost use Rattle.srt_seq.specs.Given.{given};
 ghost use Rattle.srt_seq.specs.Window.{word_of};
 ghost use Rattle.srt_seq.specs.Runs.{Run};
 ghost use Rattle.srt_recvbuf.specs.Stands.{number_word};
@@ -84,15 +85,18 @@ impl Log {
         }
     }
 
-    /// Sends the ACK that is due.
-    pub fn ack(&mut self, time: u64, point: Seq31, available: u32) -> Option<Body>
+    /// Writes the ACK that is due. Answers whether one is.
+    pub fn ack(&mut self, time: u64, point: Seq31, available: u32, body: &mut Body) -> bool
         ensures stands { (width position a seen : ℕ) (notes : List Note) → available ≡ position + width - a → LogStandsFor width position a self.old notes seen → LogStandsFor width position a self.new (noted time (acks_at width a available time notes) notes) seen }
-        ensures bytes { (width position a seen initial caller : ℕ) (notes : List Note) → available ≡ position + width - a → word_of point ≡ number_word initial a → LogStandsFor width position a self.old notes seen → map (body_bytes caller time) (listed result) ≡ map (says caller initial time) (acks_at width a available time notes) }
-        ensures writable { IfSome result (λ b. IsWritable b) }
+        ensures bytes { (width position a seen initial caller : ℕ) (notes : List Note) → available ≡ position + width - a → word_of point ≡ number_word initial a → LogStandsFor width position a self.old notes seen → map (body_bytes caller time) (listed (given result body.new)) ≡ map (says caller initial time) (acks_at width a available time notes) }
+        ensures writable { result ≡ true → IsWritable body.new }
+        ensures kept { result ≡ false → body.new ≡ body.old }
     {
-        let body = self.acks.report(time, point, available, self.rtt)?;
-        self.sent = time;
-        Some(body)
+        if self.acks.report(time, point, available, self.rtt, body) {
+            self.sent = time;
+            return true;
+        }
+        false
     }
 
     /// Whether it is time for a NAK of all gaps.

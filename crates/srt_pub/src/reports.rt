@@ -1,14 +1,13 @@
 //! What a publisher's session sends at the end of an event.
 
-use srt_packet::Packet;
-
-/// What is sent at the end of an event: at most one packet of each kind, in this order.
-#[derive(Drop)]
+/// Which of the places for packets were written at the end of an event: those packets are sent, in this
+/// order.
+#[derive(Clone, Copy)]
 pub struct Reports {
     /// A Full or a Light ACK.
-    pub ack: Option<Packet>,
+    pub ack: bool,
     /// A NAK.
-    pub nak: Option<Packet>,
+    pub nak: bool,
     /// A KEEPALIVE, where nothing else is sent.
-    pub keep_alive: Option<Packet>,
+    pub keep_alive: bool,
 }

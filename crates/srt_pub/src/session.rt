@@ -1,6 +1,7 @@
 //! The session of a publisher.
 
-ghost use Rattle.std.specs.Prelude.{◌≡◌, ℕ, ◌+◌, ◌-◌, ◌*◌, ◌%◌, ◌^◌, ◌<◌, ◌≤◌, List, [], ◌∷◌, ◌++◌, map, length, All, Option, option_map, IfOk, IfSome, nat_lt, if◌then◌else◌};
+ghost use Rattle.std.specs.Prelude.{◌≡◌, ℕ, ◌+◌, ◌-◌, ◌*◌, ◌%◌, ◌^◌, ◌<◌, ◌≤◌, List, [], ◌∷◌, ◌++◌, map, length, true, false, Option, option_map, IfOk, nat_lt, if◌then◌else◌};
+ghost use Rattle.srt_seq.specs.Given.{given};
 ghost use Rattle.srt_seq.specs.Window.{word_of, counted_from};
 ghost use Rattle.srt_seq.specs.Lift.{stamped_from};
 ghost use Rattle.srt_packet.specs.View.{body_of};
@@ -157,16 +158,8 @@ impl Publisher {
         let Some(number) = Seq31::new(word) else {
             return false;
         };
-        let end = self.buffer.front().add(self.width());
+        let end = self.buffer.front().add(self.buffer.width());
         number.offset_in(end, 1 << 30).is_some()
-    }
-
-    /// How many packets the window has.
-    fn width(&self) -> u32
-        ensures { (terms : Terms) (initial opening first caller : ℕ) (m : Publishing) → StandsFor terms initial opening first caller self.now m → result ≡ terms.width }
-    {
-        let kept = steps(self.buffer.front(), self.buffer.ack_point());
-        self.buffer.available().saturating_add(kept)
     }
 
     /// An unencrypted data packet comes.
@@ -236,57 +229,60 @@ impl Publisher {
     }
 
     /// Delivers the first payload that waits, where it is due and there is room.
-    fn advance(&mut self, now: u64, room: u32) -> Option<Payload>
+    fn advance(&mut self, now: u64, room: u32, payload: &mut Payload) -> bool
         requires early { now < 2 ^ 62 }
         ensures stands { (terms : Terms) (initial opening stamp caller time : ℕ) (m : Publishing) → now ≡ opening + time → StandsFor terms initial opening stamp caller self.old m → StandsFor terms initial opening stamp caller self.new (after_delivery terms (next_due time room m.receiving) m) }
         ensures opening { opening_of self.new ≡ opening_of self.old }
-        ensures payload { (terms : Terms) (initial opening stamp caller time : ℕ) (m : Publishing) → now ≡ opening + time → StandsFor terms initial opening stamp caller self.old m → option_map (λ p. p.items) result ≡ option_map (λ (a : Arrival). a.payload) (next_due time room m.receiving) }
-        ensures some { (terms : Terms) (initial opening stamp caller : ℕ) (m : Publishing) → opening ≤ now → StandsFor terms initial opening stamp caller self.old m → IfSome result (λ p. 0 < length p.items) }
+        ensures payload { (terms : Terms) (initial opening stamp caller time : ℕ) (m : Publishing) → now ≡ opening + time → StandsFor terms initial opening stamp caller self.old m → given result payload.new.items ≡ option_map (λ (a : Arrival). a.payload) (next_due time room m.receiving) }
+        ensures some { (terms : Terms) (initial opening stamp caller : ℕ) (m : Publishing) → opening ≤ now → StandsFor terms initial opening stamp caller self.old m → result ≡ true → 0 < length payload.new.items }
+        ensures kept { result ≡ false → payload.new ≡ payload.old }
     {
         let front = self.buffer.front();
         let point = self.buffer.ack_point();
-        let payload = self.buffer.advance(now, room);
+        let is_due = self.buffer.advance(now, room, payload);
         self.follow(front, point);
-        payload
+        is_due
     }
 
     /// Delivers the payload at the front, where there is room.
-    fn deliver_in_order(&mut self, now: u64, room: u32) -> Option<Payload>
+    fn deliver_in_order(&mut self, now: u64, room: u32, payload: &mut Payload) -> bool
         requires early { now < 2 ^ 62 }
         ensures stands { (terms : Terms) (initial opening stamp caller time : ℕ) (m : Publishing) → terms.mode ≡ Mode.Buffer → now ≡ opening + time → StandsFor terms initial opening stamp caller self.old m → StandsFor terms initial opening stamp caller self.new (after_delivery terms (next_delivery terms time room m) m) }
         ensures opening { opening_of self.new ≡ opening_of self.old }
-        ensures payload { (terms : Terms) (initial opening stamp caller time : ℕ) (m : Publishing) → terms.mode ≡ Mode.Buffer → now ≡ opening + time → StandsFor terms initial opening stamp caller self.old m → option_map (λ p. p.items) result ≡ option_map (λ (a : Arrival). a.payload) (next_delivery terms time room m) }
-        ensures some { (terms : Terms) (initial opening stamp caller : ℕ) (m : Publishing) → opening ≤ now → StandsFor terms initial opening stamp caller self.old m → IfSome result (λ p. 0 < length p.items) }
+        ensures payload { (terms : Terms) (initial opening stamp caller time : ℕ) (m : Publishing) → terms.mode ≡ Mode.Buffer → now ≡ opening + time → StandsFor terms initial opening stamp caller self.old m → given result payload.new.items ≡ option_map (λ (a : Arrival). a.payload) (next_delivery terms time room m) }
+        ensures some { (terms : Terms) (initial opening stamp caller : ℕ) (m : Publishing) → opening ≤ now → StandsFor terms initial opening stamp caller self.old m → result ≡ true → 0 < length payload.new.items }
+        ensures kept { result ≡ false → payload.new ≡ payload.old }
     {
         if steps(self.buffer.front(), self.buffer.ack_point()) == 0 {
-            return None;
+            return false;
         }
-        self.advance(now, room)
+        self.advance(now, room, payload)
     }
 
-    /// A packet with this body.
-    fn packet(&self, time: u64, body: Body) -> Packet
-        ensures bytes { (caller : ℕ) → self.now.agreed.caller ≡ caller → text result ≡ body_bytes caller time body }
-        ensures body { result.body ≡ body }
+    /// A packet with its body goes to the caller, stamped with this time.
+    fn address(&self, time: u64, packet: &mut Packet)
+        ensures bytes { (caller : ℕ) → self.now.agreed.caller ≡ caller → text packet.new ≡ body_bytes caller time packet.old.body }
+        ensures body { packet.new.body ≡ packet.old.body }
     {
-        Packet {
-            stamp: (time % (1 << 32)) as u32,
-            dest: self.agreed.caller,
-            body,
-        }
+        packet.stamp = (time % (1 << 32)) as u32;
+        packet.dest = self.agreed.caller;
     }
 
-    /// Sends the ACK that is due.
-    fn ack(&mut self, time: u64) -> Option<Packet>
+    /// Writes the ACK that is due. Answers whether one is.
+    fn ack(&mut self, time: u64, packet: &mut Packet) -> bool
         ensures stands { (terms : Terms) (initial opening stamp caller : ℕ) (m : Publishing) → StandsFor terms initial opening stamp caller self.old m → StandsFor terms initial opening stamp caller self.new (record m { notes = noted time (acks terms time m) m.notes }) }
         ensures opening { opening_of self.new ≡ opening_of self.old }
-        ensures bytes { (terms : Terms) (initial opening stamp caller : ℕ) (m : Publishing) → StandsFor terms initial opening stamp caller self.old m → texts (listed result) ≡ map (says caller initial time) (acks terms time m) }
-        ensures writable { IfSome result (λ p. IsWritable p.body) }
+        ensures bytes { (terms : Terms) (initial opening stamp caller : ℕ) (m : Publishing) → StandsFor terms initial opening stamp caller self.old m → texts (listed (given result packet.new)) ≡ map (says caller initial time) (acks terms time m) }
+        ensures writable { result ≡ true → IsWritable packet.new.body }
+        ensures kept { result ≡ false → packet.new ≡ packet.old }
     {
-        let body = self
-            .log
-            .ack(time, self.buffer.ack_point(), self.buffer.available())?;
-        Some(self.packet(time, body))
+        let point = self.buffer.ack_point();
+        let available = self.buffer.available();
+        if self.log.ack(time, point, available, &mut packet.body) {
+            self.address(time, packet);
+            return true;
+        }
+        false
     }
 
     /// The runs that a NAK tells: of all gaps, or of those above what the last event saw.
@@ -301,43 +297,48 @@ impl Publisher {
         }
     }
 
-    /// Sends the NAK that is due.
-    fn nak(&mut self, time: u64) -> Option<Packet>
+    /// Writes the NAK that is due. Answers whether one is.
+    fn nak(&mut self, time: u64, packet: &mut Packet) -> bool
         ensures stands { (terms : Terms) (initial opening stamp caller : ℕ) (m : Publishing) → StandsFor terms initial opening stamp caller self.old m → StandsFor terms initial opening stamp caller self.new (record m { notes = noted time (naks terms time m) m.notes }) }
         ensures opening { opening_of self.new ≡ opening_of self.old }
-        ensures bytes { (terms : Terms) (initial opening stamp caller : ℕ) (m : Publishing) → StandsFor terms initial opening stamp caller self.old m → texts (listed result) ≡ map (says caller initial time) (naks terms time m) }
-        ensures writable { IfSome result (λ p. IsWritable p.body) }
+        ensures bytes { (terms : Terms) (initial opening stamp caller : ℕ) (m : Publishing) → StandsFor terms initial opening stamp caller self.old m → texts (listed (given result packet.new)) ≡ map (says caller initial time) (naks terms time m) }
+        ensures writable { result ≡ true → IsWritable packet.new.body }
+        ensures kept { result ≡ false → packet.new ≡ packet.old }
     {
         let all = self.log.is_nak_due(time);
         let runs = self.runs(all);
         if runs.is_empty() {
-            return None;
+            return false;
         }
         self.log.nak(time, all);
-        let body = Body::Nak {
+        packet.body = Body::Nak {
             losses: write(&runs),
         };
-        Some(self.packet(time, body))
+        self.address(time, packet);
+        true
     }
 
-    /// Sends a KEEPALIVE, where one is due and nothing else is sent.
-    fn keep_alive(&mut self, time: u64, ack: bool, nak: bool) -> Option<Packet>
+    /// Writes a KEEPALIVE, where one is due and nothing else is sent. Answers whether there is one.
+    fn keep_alive(&mut self, time: u64, ack: bool, nak: bool, packet: &mut Packet) -> bool
         ensures stands { (terms : Terms) (initial opening stamp caller : ℕ) (m : Publishing) → StandsFor terms initial opening stamp caller self.old m → StandsFor terms initial opening stamp caller self.new (record m { notes = noted time (keep_alive_after ack nak time m.notes) m.notes }) }
         ensures opening { opening_of self.new ≡ opening_of self.old }
-        ensures bytes { (terms : Terms) (initial opening stamp caller : ℕ) (m : Publishing) → StandsFor terms initial opening stamp caller self.old m → texts (listed result) ≡ map (says caller initial time) (keep_alive_after ack nak time m.notes) }
-        ensures writable { IfSome result (λ p. IsWritable p.body) }
+        ensures bytes { (terms : Terms) (initial opening stamp caller : ℕ) (m : Publishing) → StandsFor terms initial opening stamp caller self.old m → texts (listed (given result packet.new)) ≡ map (says caller initial time) (keep_alive_after ack nak time m.notes) }
+        ensures writable { result ≡ true → IsWritable packet.new.body }
+        ensures kept { result ≡ false → packet.new ≡ packet.old }
     {
         if ack {
-            return None;
+            return false;
         }
         if nak {
-            return None;
+            return false;
         }
         if self.log.is_silent(time) {
             self.log.keep_alive(time);
-            return Some(self.packet(time, Body::KeepAlive));
+            packet.body = Body::KeepAlive;
+            self.address(time, packet);
+            return true;
         }
-        None
+        false
     }
 
     /// The event is over.
@@ -351,39 +352,47 @@ impl Publisher {
 
     /// Delivers one payload, of 1 to 1456 bytes, where one is due now, in microseconds, and in buffer mode
     /// there is room for so many with each subscriber (none without one); in live mode `room` doesn't
-    /// count. An event delivers 64 at most: the caller stops then.
-    pub fn deliver(&mut self, now: u64, room: u32) -> Option<Payload>
+    /// count. It is written into the place, and the answer is whether there is one. An event delivers 64
+    /// at most: the caller stops then.
+    pub fn deliver(&mut self, now: u64, room: u32, payload: &mut Payload) -> bool
         requires early { now < 2 ^ 62 }
         ensures stands { (terms : Terms) (initial opening stamp caller time : ℕ) (m : Publishing) → now ≡ opening + time → StandsFor terms initial opening stamp caller self.old m → StandsFor terms initial opening stamp caller self.new (after_delivery terms (next_delivery terms time room m) m) }
         ensures opening { opening_of self.new ≡ opening_of self.old }
-        ensures payload { (terms : Terms) (initial opening stamp caller time : ℕ) (m : Publishing) → now ≡ opening + time → StandsFor terms initial opening stamp caller self.old m → option_map (λ p. p.items) result ≡ option_map (λ (a : Arrival). a.payload) (next_delivery terms time room m) }
-        ensures some { (terms : Terms) (initial opening stamp caller : ℕ) (m : Publishing) → opening ≤ now → StandsFor terms initial opening stamp caller self.old m → IfSome result (λ p. 0 < length p.items) }
+        ensures payload { (terms : Terms) (initial opening stamp caller time : ℕ) (m : Publishing) → now ≡ opening + time → StandsFor terms initial opening stamp caller self.old m → given result payload.new.items ≡ option_map (λ (a : Arrival). a.payload) (next_delivery terms time room m) }
+        ensures some { (terms : Terms) (initial opening stamp caller : ℕ) (m : Publishing) → opening ≤ now → StandsFor terms initial opening stamp caller self.old m → result ≡ true → 0 < length payload.new.items }
+        ensures kept { result ≡ false → payload.new ≡ payload.old }
     {
         match self.agreed.mode {
-            Mode::Live => self.advance(now, 1),
-            Mode::Buffer => self.deliver_in_order(now, room),
+            Mode::Live => self.advance(now, 1, payload),
+            Mode::Buffer => self.deliver_in_order(now, room, payload),
         }
     }
 
-    /// Ends an event: sends the ACK, the NAK and the KEEPALIVE that are due now, in microseconds, in this
-    /// order.
-    pub fn tick(&mut self, now: u64) -> Reports
+    /// Ends an event: writes the ACK, the NAK and the KEEPALIVE that are due now, in microseconds, each
+    /// into its place, and answers which. They are sent in this order.
+    pub fn tick(
+        &mut self,
+        now: u64,
+        ack: &mut Packet,
+        nak: &mut Packet,
+        keep_alive: &mut Packet,
+    ) -> Reports
         requires early { now < 2 ^ 62 }
         ensures stands { (terms : Terms) (initial opening stamp caller time : ℕ) (m : Publishing) → now ≡ opening + time → StandsFor terms initial opening stamp caller self.old m → StandsFor terms initial opening stamp caller self.new (reported terms time m) }
         ensures opening { opening_of self.new ≡ opening_of self.old }
-        ensures bytes { (terms : Terms) (initial opening stamp caller time : ℕ) (m : Publishing) → now ≡ opening + time → StandsFor terms initial opening stamp caller self.old m → texts (packets_of result) ≡ map (says caller initial time) (reports terms time m) }
-        ensures writable { All (λ p. IsWritable p.body) (packets_of result) }
-        ensures each { IfSome result.ack (λ p. IsWritable p.body) × IfSome result.nak (λ p. IsWritable p.body) × IfSome result.keep_alive (λ p. IsWritable p.body) }
+        ensures bytes { (terms : Terms) (initial opening stamp caller time : ℕ) (m : Publishing) → now ≡ opening + time → StandsFor terms initial opening stamp caller self.old m → texts (packets_of result ack.new nak.new keep_alive.new) ≡ map (says caller initial time) (reports terms time m) }
+        ensures each { (result.ack ≡ true → IsWritable ack.new.body) × (result.nak ≡ true → IsWritable nak.new.body) × (result.keep_alive ≡ true → IsWritable keep_alive.new.body) }
+        ensures kept { (result.ack ≡ false → ack.new ≡ ack.old) × (result.nak ≡ false → nak.new ≡ nak.old) × (result.keep_alive ≡ false → keep_alive.new ≡ keep_alive.old) }
     {
         let time = now.saturating_sub(self.agreed.opening);
-        let ack = self.ack(time);
-        let nak = self.nak(time);
-        let keep_alive = self.keep_alive(time, ack.is_some(), nak.is_some());
+        let is_ack = self.ack(time, ack);
+        let is_nak = self.nak(time, nak);
+        let is_keep_alive = self.keep_alive(time, is_ack, is_nak, keep_alive);
         self.see();
         Reports {
-            ack,
-            nak,
-            keep_alive,
+            ack: is_ack,
+            nak: is_nak,
+            keep_alive: is_keep_alive,
         }
     }
 }

@@ -1,11 +1,11 @@
 //! Sessions told by bytes. Each was opened at one second by the caller 1.
 
-ghost use Rattle.std.specs.Prelude.{◌≤◌, IfSome};
+ghost use Rattle.std.specs.Prelude.{◌≡◌, ◌≤◌, true};
 ghost use Rattle.srt_packet.specs.Text.{IsWritable};
 
 use crate::{PubEnd, Publisher};
-use srt_packet::{Packet, decode, encode};
-use srt_seq::{Mode, Seq31, Stamp32};
+use srt_packet::{Body, Packet, decode, encode};
+use srt_seq::{Mode, Payload, Seq31, Stamp32};
 use std::alloc::Global;
 use std::process::Abort;
 use std::test::Fail;
@@ -53,20 +53,27 @@ fn hear(publisher: &mut Publisher, bytes: &[u8], time: u32) -> Result<Option<Pub
     Ok(publisher.datagram(&packet, OPENING + u64::from(time)))
 }
 
-/// Asserts the bytes of a packet; no digits where there is none.
+/// A place for a packet.
+fn place() -> Packet {
+    Packet {
+        stamp: 0,
+        dest: 0,
+        body: Body::Shutdown,
+    }
+}
+
+/// Asserts the bytes of a place that was written; no digits where it wasn't.
 fn assert_bytes(
     rt: &(impl AllocGlobal + Abort),
-    packet: &Option<Packet>,
+    written: bool,
+    packet: &Packet,
     digits: &str,
 ) -> Result<(), Fail>
-    requires { IfSome packet.now (λ p. IsWritable p.body) }
+    requires { written ≡ true → IsWritable packet.now.body }
 {
     let wanted = hex::decode(rt.alloc(), digits)?;
     let mut out = [0u8; 1472];
-    let len = match packet {
-        Some(packet) => encode(packet, &mut out),
-        None => 0,
-    };
+    let len = if written { encode(packet, &mut out) } else { 0 };
     assert_eq!(rt; &out[..len], wanted.as_slice());
     Ok(())
 }
@@ -78,10 +85,18 @@ fn assert_sent(
     time: u32,
     digits: [&str; 3],
 ) -> Result<(), Fail> {
-    let sent = publisher.tick(OPENING + u64::from(time));
-    assert_bytes(rt, &sent.ack, digits[0])?;
-    assert_bytes(rt, &sent.nak, digits[1])?;
-    assert_bytes(rt, &sent.keep_alive, digits[2])
+    let mut ack = place();
+    let mut nak = place();
+    let mut keep_alive = place();
+    let sent = publisher.tick(
+        OPENING + u64::from(time),
+        &mut ack,
+        &mut nak,
+        &mut keep_alive,
+    );
+    assert_bytes(rt, sent.ack, &ack, digits[0])?;
+    assert_bytes(rt, sent.nak, &nak, digits[1])?;
+    assert_bytes(rt, sent.keep_alive, &keep_alive, digits[2])
 }
 
 /// Asserts how a packet ends the session.
@@ -106,10 +121,10 @@ fn assert_delivered(
     digits: &str,
 ) -> Result<(), Fail> {
     let wanted = hex::decode(rt.alloc(), digits)?;
-    match publisher.deliver(OPENING + u64::from(time), room) {
-        Some(payload) => assert_eq!(rt; payload.as_slice(), wanted.as_slice()),
-        None => assert!(rt; wanted.is_empty()),
-    }
+    let mut payload = Payload::new();
+    let is_due = publisher.deliver(OPENING + u64::from(time), room, &mut payload);
+    assert_eq!(rt; is_due, !wanted.is_empty());
+    assert_eq!(rt; payload.as_slice(), wanted.as_slice());
     Ok(())
 }
 

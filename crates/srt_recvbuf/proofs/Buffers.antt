@@ -1,19 +1,25 @@
 -- A window of cells and the record that it stands for.
-use Rattle.std.proofs.Common.{◌≡◌, ◌≢◌, ℕ, zero, suc, ◌+◌, ◌-◌, ◌%◌, ◌^◌, ◌<◌, ◌≤◌, ◌==◌, ℤ, pos, ◌+ℤ◌, Bool, true, false, not, ◌||◌, ◌&&◌, if◌then◌else◌, Option, None, Some, List, [], ◌∷◌, refl, sym, ap, subst, ◌∙◌, inl, inr, ◌⊎◌, max, min, arith}
+use Rattle.std.proofs.Common.{◌≡◌, ◌≢◌, ℕ, zero, suc, ◌+◌, ◌-◌, ◌%◌, ◌^◌, ◌<◌, ◌≤◌, ◌==◌, ℤ, pos, ◌+ℤ◌, Bool, true, false, not, ◌||◌, ◌&&◌, if◌then◌else◌, Option, None, Some, List, [], ◌∷◌, length, refl, sym, ap, subst, ◌∙◌, inl, inr, ◌⊎◌, max, min, arith}
 use Rattle.std.specs.Prelude.{is_some, option_map, filter_map, int_le, nat_le, nat_lt}
 use Rattle.std.specs.List.{cons_option}
 use Rattle.std.proofs.lemmas.Bool.{cases_eq, cases_lt, eq-eqb, ne_eqb}
 use Rattle.std.proofs.lemmas.Bool.Decides.{nat_tests}
 use Rattle.std.proofs.lemmas.Int.{ints}
 use Rattle.std.proofs.lemmas.Grind.{common_steps}
+use Rattle.std.proofs.lemmas.List.{get_or_past}
 use Rattle.srt_seq.specs.Window.{word_of, counted_from, in_window, offset_of}
 use Rattle.srt_seq.specs.declared.numbers.Seq31.{Seq31}
+use Rattle.srt_seq.specs.Slots.{text_of_slot}
+use Rattle.srt_seq.specs.Texts.{text_at, turned}
 use Rattle.srt_seq.specs.Runs.{least_from, numbers_from, Range, span}
 use Rattle.srt_recvbuf.specs.Receiving.{Arrival, Receiving, arrival_of, is_received, is_requested, is_missing, is_dropped, end_of, ack_point, with_number, put_of, moved_to, settled, waiting, first_due, next_due, requested, names}
 use Rattle.srt_recvbuf.specs.declared.buffer.Put.TheVariants.{New, Repeat}
+use Rattle.srt_recvbuf.specs.declared.buffer.RecvBuf.{RecvBuf}
+use Rattle.srt_recvbuf.specs.declared.window.Place.TheVariants.{Missing}
 use Rattle.srt_recvbuf.specs.declared.window.Window.{Window}
-use Rattle.srt_recvbuf.specs.Cells.{cell_at, Cell, Empty, GivenUp, Got, is_empty, is_got, is_given_up, given_up}
-use Rattle.srt_recvbuf.specs.Stands.{cell_for, IsWindowOf, number_word, own_range}
+use Rattle.srt_recvbuf.specs.Cells.{cell_at, cell_of, Cell, Empty, GivenUp, Got, is_empty, is_got, is_given_up, given_up}
+use Rattle.srt_recvbuf.specs.Stands.{StandsFor, cell_for, IsWindowOf, number_word, own_range}
+use Rattle.srt_recvbuf.specs.OneByOne.{NothingBeyond}
 use Rattle.srt_recvbuf.proofs.OneByOne.{found, skipped, found_number, number_or}
 
 -- where none of the first so many passes, and the next one does or is beyond the last place
@@ -59,6 +65,16 @@ module _ (width initial origin front end point : ℕ) (cells : ℕ → Cell) (r 
 
   pub point_is : point ≤ width → ack_point width r ≡ r.position + point
   point_is le = least_is (is_missing width r) r.position width point le (λ k lt. cell_missing k ∙ h.not_missing k lt) (λ lt. cell_missing point ∙ h.missing lt)
+
+-- nothing was received beyond the window
+pub window_ends : (width initial origin : ℕ) (b : RecvBuf) (r : Receiving) → StandsFor width initial origin b r → NothingBeyond width r
+window_ends width initial origin b r h n le =
+    let w = b.window in
+    let d = n - r.position in
+    let e : r.position + d ≡ n = omega (arith, le) in
+    let past = get_or_past w.places.items d Missing (omega (arith, le, h.0)) in
+    let none = ap (λ p. is_got (cell_of p (text_at w.texts.items (text_of_slot w.order (turned (length w.places.items) w.first d))))) past in
+    ap (is_received r) (sym e) ∙ cell_received width initial origin _ _ _ _ r h.1 d ∙ none
 
 -- the number of a window that a word stands for
 pub own_none : (initial position width word front : ℕ) → front ≡ number_word initial position → ((a : ℕ) → a % 2 ^ 31 ≡ front → option_map (λ d. a + d) None ≡ in_window word a width) → in_window (counted_from initial word) position width ≡ None

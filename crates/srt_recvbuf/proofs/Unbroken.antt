@@ -1,10 +1,10 @@
 -- What was received without a gap may be delivered one by one.
-use Rattle.std.proofs.Common.{◌≡◌, ◌≢◌, ℕ, zero, suc, ◌+◌, ◌-◌, ◌<◌, ◌≤◌, ◌==◌, Bool, true, false, not, ◌||◌, ◌&&◌, max, Option, None, Some, List, [], ◌∷◌, refl, sym, ap, subst, ◌∙◌, inl, inr, ◌⊎◌, arith}
+use Rattle.std.proofs.Common.{◌≡◌, ℕ, zero, suc, ◌+◌, ◌-◌, ◌<◌, Bool, true, false, not, ◌||◌, Option, None, Some, List, [], ◌∷◌, refl, sym, ap, subst, ◌∙◌, inl, inr, arith}
 use Rattle.std.specs.Prelude.{is_some, filter_map}
 use Rattle.std.specs.List.{cons_option}
-use Rattle.std.proofs.lemmas.Bool.{cases_eq, cases_lt, eq-eqb, ne_eqb}
+use Rattle.std.proofs.lemmas.Bool.{cases_eq, cases_lt, ne_eqb}
 use Rattle.srt_seq.specs.Runs.{least_from, numbers_from}
-use Rattle.srt_recvbuf.specs.Receiving.{Arrival, Request, Receiving, arrival_of, is_received, is_requested, is_missing, is_dropped, end_of, ack_point, waiting, unbroken, passed, moved_to}
+use Rattle.srt_recvbuf.specs.Receiving.{Arrival, Request, Receiving, arrival_of, is_received, is_missing, is_dropped, end_of, ack_point, waiting, unbroken, passed, moved_to}
 use Rattle.srt_recvbuf.specs.OneByOne.{NothingBeyond, UnbrokenOneByOne}
 use Rattle.srt_recvbuf.proofs.OneByOne.{found_number, number_or}
 use Rattle.srt_recvbuf.proofs.Points.{ack_points}

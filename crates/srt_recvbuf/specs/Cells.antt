@@ -1,5 +1,5 @@
 -- The places of a window, and what stands at each.
-use Rattle.std.specs.Prelude.{ℕ, zero, suc, ◌+◌, ◌-◌, ℤ, Bool, true, false, Option, None, Some, List, [], ◌∷◌, length, take, slice_index_or, not, nat_lt, if◌then◌else◌}
+use Rattle.std.specs.Prelude.{ℕ, ℤ, Bool, true, false, Option, None, Some, List, [], length, slice_index_or, not}
 use Rattle.srt_seq.specs.declared.texts.Text.{Text}
 use Rattle.srt_seq.specs.Texts.{text_at, turned}
 use Rattle.srt_recvbuf.specs.declared.window.Place.{Place}

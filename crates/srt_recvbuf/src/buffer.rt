@@ -1,6 +1,7 @@
 //! The receiver buffer.
 
 ghost use Rattle.std.specs.Prelude.{◌≡◌, ℕ, ◌+◌, ◌-◌, ◌%◌, ◌^◌, ◌<◌, ◌≤◌, ℤ, pos, ◌+ℤ◌, List, length, map, filter, take, Bool, Option, None, Some, option_map, IfOk, IfSome, true, false, nat_le, nat_lt, ◌&&◌};
+ghost use Rattle.srt_seq.specs.Given.{given};
 ghost use Rattle.srt_seq.specs.Window.{word_of, counted_from, in_window, offset_of};
 ghost use Rattle.srt_seq.specs.Runs.{runs, numbers_from};
 ghost use Rattle.srt_recvbuf.specs.Cells.{width_of, cell_at, is_empty, is_got};
@@ -109,6 +110,13 @@ impl RecvBuf {
             .find(Seek::NothingThere, self.point, self.window.width());
     }
 
+    /// How many places there are.
+    pub fn width(&self) -> u32
+        ensures { (width initial origin : ℕ) (r : Receiving) → StandsFor width initial origin self.now r → result ≡ width }
+    {
+        self.window.width() as u32
+    }
+
     /// The number from which on packets are taken.
     pub fn front(&self) -> Seq31
         ensures { (width initial origin : ℕ) (r : Receiving) → StandsFor width initial origin self.now r → word_of result ≡ number_word initial r.position }
@@ -144,23 +152,26 @@ impl RecvBuf {
         0 < self.end
     }
 
-    /// Gives the payload of the least number received at or above the front, if it is due by now (in
-    /// microseconds) and there is room; the front then stands past it and past dropped numbers. Its
-    /// bytes are copied once. In buffer mode it is called only where the acknowledgement point stands
-    /// above the front.
-    pub fn advance(&mut self, now: u64, room: u32) -> Option<Payload>
+    /// Writes the payload of the least number received at or above the front, if it is due by now (in
+    /// microseconds) and there is room; the front then stands past it and past dropped numbers. Answers
+    /// whether there is one; its bytes are copied once. In buffer mode it is called only where the
+    /// acknowledgement point stands above the front.
+    pub fn advance(&mut self, now: u64, room: u32, payload: &mut Payload) -> bool
         requires { now < 2 ^ 62 }
         ensures stands { (width initial origin time : ℕ) (r : Receiving) → now ≡ origin + time → StandsFor width initial origin self.old r → StandsFor width initial origin self.new (after_next width (next_due time room r) r) }
-        ensures answer { (width initial origin time : ℕ) (r : Receiving) → now ≡ origin + time → StandsFor width initial origin self.old r → option_map (λ p. p.items) result ≡ option_map (λ (a : Arrival). a.payload) (next_due time room r) }
+        ensures answer { (width initial origin time : ℕ) (r : Receiving) → now ≡ origin + time → StandsFor width initial origin self.old r → given result payload.new.items ≡ option_map (λ (a : Arrival). a.payload) (next_due time room r) }
+        ensures kept { result ≡ false → payload.new ≡ payload.old }
     {
         if room == 0 {
-            return None;
+            return false;
         }
-        let at = self.first_due(now)?;
-        let payload = self.window.payload(at);
+        let Some(at) = self.first_due(now) else {
+            return false;
+        };
+        self.window.copy_to(at, payload);
         self.shift(at + 1);
         self.settle();
-        Some(payload)
+        true
     }
 
     /// The place of the first packet that waits. None where it isn't due.

@@ -4,7 +4,7 @@ mod plain;
 mod random;
 
 use crate::{Put, RecvBuf};
-use srt_seq::Seq31;
+use srt_seq::{Payload, Seq31};
 use std::test::Fail;
 
 fn number(word: u32) -> Result<Seq31, Fail> {
@@ -21,10 +21,13 @@ fn buffer(rt: &HostRuntime, initial: u32) -> Result<RecvBuf, Fail> {
 }
 
 fn is_given(buffer: &mut RecvBuf, now: u32, bytes: &[u8]) -> bool {
-    match buffer.advance(u64::from(now), 64) {
-        Some(payload) => payload.as_slice() == bytes,
-        None => false,
-    }
+    let mut payload = Payload::new();
+    buffer.advance(u64::from(now), 64, &mut payload) && payload.as_slice() == bytes
+}
+
+fn gives_nothing(buffer: &mut RecvBuf, now: u32, room: u32) -> bool {
+    let mut payload = Payload::new();
+    !buffer.advance(u64::from(now), room, &mut payload)
 }
 
 #[test]
@@ -34,6 +37,7 @@ fn a_window_takes_each_number_once(rt: HostRuntime) -> Result<(), Fail> {
     assert_eq!(rt; buffer.put(number(39)?, 5, &[2]), Put::Outside);
     assert_eq!(rt; buffer.put(number(6)?, 5, &[2]), Put::Outside);
     assert_eq!(rt; buffer.put(number(38)?, 5, &[2]), Put::Repeat);
+    assert_eq!(rt; buffer.width(), 32);
     assert_eq!(rt; buffer.front().get(), 7);
     assert_eq!(rt; buffer.top().get(), 39);
     assert_eq!(rt; buffer.ack_point().get(), 7);
@@ -68,10 +72,10 @@ fn a_packet_behind_a_gap_waits_for_its_moment(rt: HostRuntime) -> Result<(), Fai
     let mut buffer = buffer(&rt, 7)?;
     assert_eq!(rt; buffer.put(number(9)?, 20, &[9, 9]), Put::New);
     assert_eq!(rt; buffer.put(number(7)?, 10, &[7]), Put::New);
-    assert!(rt; buffer.advance(9, 64).is_none());
-    assert!(rt; buffer.advance(20, 0).is_none());
+    assert!(rt; gives_nothing(&mut buffer, 9, 64));
+    assert!(rt; gives_nothing(&mut buffer, 20, 0));
     assert!(rt; is_given(&mut buffer, 10, &[7]));
-    assert!(rt; buffer.advance(19, 64).is_none());
+    assert!(rt; gives_nothing(&mut buffer, 19, 64));
     let runs = buffer.runs(buffer.front());
     assert_eq!(rt; runs.len(), 1);
     assert_eq!(rt; (runs[0].0.get(), runs[0].1.get()), (8, 8));
@@ -81,7 +85,25 @@ fn a_packet_behind_a_gap_waits_for_its_moment(rt: HostRuntime) -> Result<(), Fai
     assert_eq!(rt; buffer.front().get(), 10);
     assert_eq!(rt; buffer.runs(buffer.front()).len(), 0);
     assert_eq!(rt; buffer.available(), 32);
-    assert!(rt; buffer.advance(21, 64).is_none());
+    assert!(rt; gives_nothing(&mut buffer, 21, 64));
+    Ok(())
+}
+
+#[test]
+fn a_place_is_written_where_something_is_due(rt: HostRuntime) -> Result<(), Fail> {
+    let mut buffer = buffer(&rt, 7)?;
+    assert_eq!(rt; buffer.put(number(7)?, 1, &[7, 7]), Put::New);
+    assert_eq!(rt; buffer.put(number(8)?, 1, &[8]), Put::New);
+    assert_eq!(rt; buffer.put(number(9)?, 1, &[9]), Put::New);
+    assert_eq!(rt; buffer.put(number(10)?, 2, &[10, 10]), Put::New);
+    let mut payload = Payload::new();
+    for wanted in [&[7, 7][..], &[8][..], &[9][..]] {
+        assert!(rt; buffer.advance(1, 64, &mut payload));
+        assert_eq!(rt; payload.as_slice(), wanted);
+    }
+    assert!(rt; !buffer.advance(1, 64, &mut payload));
+    assert!(rt; !buffer.advance(2, 0, &mut payload));
+    assert_eq!(rt; payload.as_slice(), &[9][..]);
     Ok(())
 }
 

@@ -124,13 +124,13 @@ impl Window {
         }
     }
 
-    /// The bytes of a packet that stands at a place.
-    pub fn payload(&self, at: usize) -> Payload
+    /// Copies the bytes out of a packet that stands at a place.
+    pub fn copy_to(&self, at: usize, payload: &mut Payload)
         requires { at < width_of self.now }
-        ensures packet { is_got (cell_at self.now at) ≡ true → result.items ≡ payload_of (cell_at self.now at) }
-        ensures text { result.items ≡ text_at self.now.texts.items (text_of_slot self.now.order (turned (width_of self.now) self.now.first at)) }
+        ensures packet { is_got (cell_at self.now at) ≡ true → payload.new.items ≡ payload_of (cell_at self.now at) }
+        ensures text { payload.new.items ≡ text_at self.now.texts.items (text_of_slot self.now.order (turned (width_of self.now) self.now.first at)) }
     {
-        self.texts[self.text_index(at)].payload()
+        self.texts[self.text_index(at)].copy_to(payload);
     }
 
     /// A place gets the text of the first of the warm ones, where no packet stands at either.

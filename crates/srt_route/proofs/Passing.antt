@@ -5,6 +5,7 @@ use Rattle.std.specs.Option.{option_map}
 use Rattle.std.proofs.lemmas.Bool.Decides.{nat_tests}
 use Rattle.srt_seq.specs.declared.shared.Mode.{Mode}
 use Rattle.srt_seq.specs.declared.shared.Mode.TheVariants.{Live, Buffer}
+use Rattle.srt_seq.specs.Given.{given}
 use Rattle.srt_seq.specs.Terms.{Terms}
 use Rattle.srt_recvbuf.specs.Receiving.{Arrival}
 use Rattle.srt_sendbuf.specs.Sending.{room}
@@ -208,13 +209,13 @@ nothing_amid e index clock table media ss at s q body here =
     by k t is (Subscribes m) past = ap (amid_past (terms_of e t) (time_in t clock) q []) past ∙ sym past
 
 -- what was given, and what wasn't
-pub given_one : {P : Type 0} (items : P → List ℕ) (o : Option P) (n : Option Arrival) (x : P) → option_map items o ≡ option_map (λ (a : Arrival). a.payload) n → o ≡ Some x → (a : Arrival) × (n ≡ Some a) × (items x ≡ a.payload)
-given_one items o None x same is = absurd (let bad : Some (items x) ≡ None = sym (ap (option_map items) is) ∙ same in cc)
-given_one items o (Some a) x same is = (a, refl, let e : Some (items x) ≡ Some a.payload = sym (ap (option_map items) is) ∙ same in cc)
+pub given_one : (b : Bool) (x : List ℕ) (n : Option Arrival) → given b x ≡ option_map (λ (a : Arrival). a.payload) n → b ≡ true → (a : Arrival) × (n ≡ Some a) × (x ≡ a.payload)
+given_one b x None same is = absurd (let bad : Some x ≡ None = sym (ap (λ (c : Bool). given c x) is) ∙ same in cc)
+given_one b x (Some a) same is = (a, refl, let e : Some x ≡ Some a.payload = sym (ap (λ (c : Bool). given c x) is) ∙ same in cc)
 
-pub none_given : {P : Type 0} (items : P → List ℕ) (o : Option P) (n : Option Arrival) → option_map items o ≡ option_map (λ (a : Arrival). a.payload) n → o ≡ None → n ≡ None
-none_given items o None same is = refl
-none_given items o (Some a) same is = absurd (let bad : None ≡ Some a.payload = sym (ap (option_map items) is) ∙ same in cc)
+pub none_given : (b : Bool) (x : List ℕ) (n : Option Arrival) → given b x ≡ option_map (λ (a : Arrival). a.payload) n → b ≡ false → n ≡ None
+none_given b x None same is = refl
+none_given b x (Some a) same is = absurd (let bad : None ≡ Some a.payload = sym (ap (λ (c : Bool). given c x) is) ∙ same in cc)
 
 -- a turn that gives a payload
 pub turn_given : (e : Terms) (index clock : ℕ) (table : Table) (media first later : Media) (ss : List Session) (at : ℕ) (s : Session) (q : Publishing) (places : ℕ) (next : Option Arrival) (payload : List ℕ) (a : Arrival) → next ≡ next_delivery (terms_of e s).publisher (time_in s clock) places q → next ≡ Some a → payload ≡ a.payload → IsBody e index clock table media ss → IsPublisherAt ss at s q → HaveRoom e places ss → first.subscribers ≡ media.subscribers → publishers.StandsFor (terms_of e s).publisher s.conclusion.initial s.opening s.stamp s.conclusion.caller first.publisher (after_delivery (terms_of e s).publisher next q) → 0 < length payload → ((ts : List Session) → IsBody e index clock table first ts → 0 < length payload → HaveRoom e 1 ts → IsBody e index clock table later (map (changed (fed e clock payload)) ts)) → IsBody e index clock table later (turned e clock next (after_delivery (terms_of e s).publisher next q) ss)

@@ -4,7 +4,7 @@ use Rattle.srt_seq.specs.declared.shared.Peer.{Peer}
 use Rattle.srt_seq.specs.declared.shared.Mode.TheVariants.{Live, Buffer}
 use Rattle.srt_seq.specs.Terms.{Terms}
 use Rattle.srt_seq.specs.Items.{Item, Received, Tick, Datagram}
-use Rattle.srt_packet.specs.Text.{words}
+use Rattle.srt_seq.specs.Words.{words}
 use Rattle.srt_hs.specs.Reading.{handshake_in, blocks_in, with_first, with_block}
 use Rattle.srt_hs.specs.Text.{answer_text}
 use Rattle.srt_streamid.specs.Reading.{ask_in, list_in, with_part}

@@ -2,13 +2,13 @@
 use Rattle.std.proofs.Common.{◌≡◌, ℕ, ◌/◌, ◌%◌, ◌^◌, ◌<◌, ◌≤◌, Bool, true, false, cond, Option, None, Some, IfSome, List, [], ◌∷◌, ◌++◌, length, take, drop, flat_map, Result, Ok, Err, is_ok, nat_lt, ◌==◌, ◌&&◌, refl, sym, ap, subst, ◌∙◌, arith}
 use Rattle.std.specs.Bool.{⊤}
 use Rattle.std.proofs.lemmas.List.{length-take-le, length-drop}
-use Rattle.srt_seq.specs.Words.{word, word_at}
+use Rattle.srt_seq.specs.Words.{word, word_at, words_in}
 use Rattle.srt_seq.specs.declared.shared.Mode.{Mode}
 use Rattle.srt_seq.specs.declared.shared.Role.{Role}
 use Rattle.srt_packet.specs.Grammar as grammar
 use Rattle.srt_packet.specs.Grammar.{Packet, Spells}
 use Rattle.srt_packet.proofs.Agreement.{packet_only}
-use Rattle.srt_packet.proofs.Words.{length_of_words}
+use Rattle.srt_seq.proofs.WordBytes.{length_of_words}
 use Rattle.srt_hs.specs.declared.handshake.HsReq.{HsReq}
 use Rattle.srt_hs.specs.declared.handshake.HsKind.{HsKind}
 use Rattle.srt_hs.specs.declared.handshake.HsKind.TheVariants as kinds
@@ -18,7 +18,7 @@ use Rattle.srt_hs.specs.declared.writing.RefusalCode.TheVariants as codes
 use Rattle.srt_hs.specs.declared.writing.AnswerKind.{AnswerKind}
 use Rattle.srt_hs.specs.declared.writing.AnswerKind.TheVariants.{Induction, Refusal, Conclusion}
 use Rattle.srt_hs.specs.Grammar as greetings
-use Rattle.srt_hs.specs.Grammar.{Handshake, Blocks, HasBlock, Adds, SpellsBlocks, SpellsExtension, no_blocks, kind_of, words_in, length_of, contents_of}
+use Rattle.srt_hs.specs.Grammar.{Handshake, Blocks, HasBlock, Adds, SpellsBlocks, SpellsExtension, no_blocks, kind_of, length_of, contents_of}
 use Rattle.srt_hs.specs.Reading.{with_first, with_block, blocks_in, extension_in, handshake_in}
 use Rattle.srt_hs.specs.Text.{hsrsp_text, congestion_text, kind_text, blocks_text, answer_text}
 use Rattle.srt_hs.specs.RoundTrip.{answered_blocks}

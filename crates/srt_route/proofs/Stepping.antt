@@ -10,6 +10,7 @@ use Rattle.srt_route.specs.Route.{Reply, sent, after, clock_after, taken_by, pas
 use Rattle.srt_route.specs.Media.{IsBody}
 use Rattle.srt_route.specs.Reports.{AreSaid}
 use Rattle.srt_route.specs.Stands.{IsRoute, waiting, places}
+use Rattle.srt_route.specs.Waits.{replies_of}
 use Rattle.srt_route.proofs.Counts.{replies_have_places}
 use Rattle.srt_route.proofs.Saying.{said_then, same_said}
 
@@ -28,7 +29,7 @@ stands_more e index items item old middle new h moment same body some more =
       room = omega (arith, h.room, some, more);
     }
 
-pub replies_more : (e : Terms) (index : ℕ) (items : List Item) (item : Item) (old middle new : TheRoute) → IsRoute e index old (after e index items) → middle.clock ≡ max old.clock (moment_of item) → waiting old ≡ [] → AreSaid old.waiting.items middle.waiting.items (places old) (places middle) (map sent (taken_by e index item (after e index items)).answers) → AreSaid middle.waiting.items new.waiting.items (places middle) (places new) (said_at e middle.clock (taken_by e index item (after e index items)).sessions) → waiting new ≡ reply e index (item ∷ items)
+pub replies_more : (e : Terms) (index : ℕ) (items : List Item) (item : Item) (old middle new : TheRoute) → IsRoute e index old (after e index items) → middle.clock ≡ max old.clock (moment_of item) → waiting old ≡ [] → AreSaid (replies_of old.waiting) (replies_of middle.waiting) (places old) (places middle) (map sent (taken_by e index item (after e index items)).answers) → AreSaid (replies_of middle.waiting) (replies_of new.waiting) (places middle) (places new) (said_at e middle.clock (taken_by e index item (after e index items)).sessions) → waiting new ≡ reply e index (item ∷ items)
 replies_more e index items item old middle new h moment none one two =
     let m = after e index items in
     let clock : middle.clock ≡ clock_after item m = moment ∙ ap (λ (n : ℕ). max n (moment_of item)) h.clock_is in
@@ -37,7 +38,7 @@ replies_more e index items item old middle new h moment none one two =
     let first = packets_where e (clock_after item m) is_publisher (passed_by e index item m) in
     let second = packets_where e (clock_after item m) is_subscriber (passed_by e index item m) in
     let all : map sent answers ++ map sent (first ++ second) ≡ reply e index (item ∷ items) = sym (map-append sent answers (first ++ second)) ∙ ap (λ (rs : List Reply). map sent rs) (sym (append_assoc answers first second)) in
-    let said : AreSaid old.waiting.items new.waiting.items (places old) (places new) (reply e index (item ∷ items)) =
-    same_said all (said_then old.waiting.items middle.waiting.items new.waiting.items (places old) (places middle) (places new) (map sent answers) (map sent (first ++ second)) one (same_said (ap (λ (n : ℕ). said_at e n ss) clock) two)) in
-    let empty : length old.waiting.items ≡ 0 = sym (length-map old.waiting.items written) ∙ ap length none in
+    let said : AreSaid (replies_of old.waiting) (replies_of new.waiting) (places old) (places new) (reply e index (item ∷ items)) =
+    same_said all (said_then (replies_of old.waiting) (replies_of middle.waiting) (replies_of new.waiting) (places old) (places middle) (places new) (map sent answers) (map sent (first ++ second)) one (same_said (ap (λ (n : ℕ). said_at e n ss) clock) two)) in
+    let empty : length (replies_of old.waiting) ≡ 0 = sym (length-map (replies_of old.waiting) written) ∙ ap length none in
     said.waiting (omega (arith, empty, replies_have_places e index (item ∷ items), h.room)) ∙ ap (λ (ds : List Datagram). ds ++ reply e index (item ∷ items)) none

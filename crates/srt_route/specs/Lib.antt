@@ -8,6 +8,7 @@ pub mod ShiftLaws
 pub mod Relabel
 pub mod Writable
 pub mod Written
+pub mod Waits
 pub mod Tables
 pub mod Media
 pub mod Stands

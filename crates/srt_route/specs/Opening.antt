@@ -1,6 +1,5 @@
 -- Which entry a route can be opened with (this profile).
-use Rattle.std.specs.Prelude.{ℕ, Bool, Option, None, Some, List, length, nat_le, nat_lt, ◌==◌, ◌&&◌, ◌||◌, if◌then◌else◌}
-use Rattle.std.specs.List.{list_all}
+use Rattle.std.specs.Prelude.{ℕ, Option, None, Some, nat_lt, ◌&&◌, if◌then◌else◌}
 use Rattle.srt_seq.specs.declared.shared.OpenFault.{OpenFault}
 use Rattle.srt_seq.specs.declared.shared.OpenFault.TheVariants.{Names, Limits}
 use Rattle.srt_seq.specs.Terms.{Terms}

@@ -1,20 +1,20 @@
 -- What a route's fields stand for.
 use Rattle.std.specs.Prelude.{◌≡◌, ℕ, ◌+◌, ◌*◌, ◌≤◌, List, map}
-use Rattle.std.specs.VecDeque.{deque_capacity}
 use Rattle.srt_seq.specs.Terms.{Terms}
 use Rattle.srt_seq.specs.Items.{Datagram, Item}
 use Rattle.srt_route.specs.declared.state.Route.{Route as TheRoute}
 use Rattle.srt_route.specs.Written.{written}
+use Rattle.srt_route.specs.Waits.{replies_of, places_of}
 use Rattle.srt_route.specs.Route.{Route, after}
 use Rattle.srt_route.specs.Media.{IsBody}
 
 -- the datagrams that wait, the oldest first
 abbrev pub waiting : TheRoute → List Datagram
-waiting r = map written r.waiting.items
+waiting r = map written (replies_of r.waiting)
 
 -- how many replies a route has places for
 abbrev pub places : TheRoute → ℕ
-places r = deque_capacity r.waiting
+places r = places_of r.waiting
 
 -- the route of these sessions and this clock, the waiting replies aside. It has places for all replies to an item
 pub record IsRoute (e : Terms) (index : ℕ) (r : TheRoute) (m : Route) : Type 0 where

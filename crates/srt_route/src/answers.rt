@@ -7,23 +7,19 @@ ghost use Rattle.srt_route.specs.Route.{Answers, sent};
 use crate::replies::Reply;
 use arrayvec::ArrayVec;
 use srt_hs::{HsAnswer, write};
-use srt_packet::{Body, Packet};
+use srt_packet::Body;
 use srt_seq::Peer;
 
-/// An answer to the handshake of the caller's socket with this ID.
-pub fn answer_to(peer: Peer, caller: u32, answer: &HsAnswer) -> Reply
-    ensures { written result ≡ sent (record { peer = peer; packet = Answers caller answer.now }) }
+/// Writes an answer to the handshake of the caller's socket with this ID.
+pub fn answer_to(reply: &mut Reply, peer: Peer, caller: u32, answer: &HsAnswer)
+    ensures { written reply.new ≡ sent (record { peer = peer; packet = Answers caller answer.now }) }
 {
     let mut out = [0u8; 84];
     let len = write(answer, &mut out);
     let mut info = ArrayVec::new();
     let _ = info.try_extend_from_slice(&out[..len]);
-    Reply {
-        peer,
-        packet: Packet {
-            stamp: 0,
-            dest: caller,
-            body: Body::Handshake(info),
-        },
-    }
+    reply.peer = peer;
+    reply.packet.stamp = 0;
+    reply.packet.dest = caller;
+    reply.packet.body = Body::Handshake(info);
 }

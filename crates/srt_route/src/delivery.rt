@@ -110,38 +110,37 @@ fn room_after(mode: Mode, room: u32) -> u32
     }
 }
 
-/// The publisher's next payload goes to each open subscriber. False where there is none.
-fn pass_next(table: &Table, media: &mut Media, clock: u64, room: u32) -> bool
+/// The publisher's next payload is written into the place that is lent, and goes to each open subscriber. False where
+/// there is none.
+fn pass_next(table: &Table, media: &mut Media, clock: u64, room: u32, payload: &mut Payload) -> bool
     requires { clock < 2 ^ 62 }
     ensures given { (e : Terms) (index : ℕ) (sessions : List Session) (at : ℕ) (s : Session) (q : Publishing) → IsBody e index clock table.now media.old sessions → IsPublisherAt sessions at s q → result ≡ is_given (next_delivery (terms_of e s).publisher (time_in s clock) room q) }
     ensures body { (e : Terms) (index : ℕ) (sessions : List Session) (at : ℕ) (s : Session) (q : Publishing) → IsBody e index clock table.now media.old sessions → IsPublisherAt sessions at s q → HaveRoom e room sessions → IsBody e index clock table.now media.new (turned e clock (next_delivery (terms_of e s).publisher (time_in s clock) room q) (after_delivery (terms_of e s).publisher (next_delivery (terms_of e s).publisher (time_in s clock) room q) q) sessions) }
 {
-    match media.publisher.deliver(clock, room) {
-        Some(payload) => {
-            feed(table, media, clock, &payload);
-            true
-        }
-        None => false,
+    if !media.publisher.deliver(clock, room, payload) {
+        return false;
     }
+    feed(table, media, clock, payload);
+    true
 }
 
 /// The publisher's payloads go to each open subscriber, one by one.
-fn pass(table: &Table, media: &mut Media, clock: u64, room: u32)
+fn pass(table: &Table, media: &mut Media, clock: u64, room: u32, payload: &mut Payload)
     requires { clock < 2 ^ 62 }
     ensures { (e : Terms) (index : ℕ) (sessions : List Session) (at : ℕ) (s : Session) (q : Publishing) → IsBody e index clock table.now media.old sessions → IsPublisherAt sessions at s q → room ≡ unwrap_or (least_room e sessions) 0 → IsBody e index clock table.now media.new (delivered e clock sessions) }
 {
     let mut room = room;
     for turn in 0..MOST {
-        if !pass_next(table, media, clock, room) {
+        if !pass_next(table, media, clock, room, payload) {
             return;
         }
         room = room_after(table.mode, room);
     }
 }
 
-/// Delivers what is due, up to 64 payloads. In buffer mode each of them finds a place with every open
-/// subscriber, and without a subscriber nothing is delivered.
-pub fn deliver(table: &Table, media: &mut Media, clock: u64)
+/// Delivers what is due, up to 64 payloads, each by way of the place that is lent. In buffer mode each of them finds a
+/// place with every open subscriber, and without a subscriber nothing is delivered.
+pub fn deliver(table: &Table, media: &mut Media, clock: u64, payload: &mut Payload)
     requires early { clock < 2 ^ 62 }
     ensures { (e : Terms) (index : ℕ) (sessions : List Session) → IsBody e index clock table.now media.old sessions → IsBody e index clock table.now media.new (delivered e clock sessions) }
 {
@@ -149,5 +148,5 @@ pub fn deliver(table: &Table, media: &mut Media, clock: u64)
         return;
     }
     let room = least_room(table, media).unwrap_or(0);
-    pass(table, media, clock, room);
+    pass(table, media, clock, room, payload);
 }

@@ -17,6 +17,7 @@ mod routes;
 mod slots;
 mod state;
 mod tables;
+mod waiting;
 
 pub use conclusions::Conclusion;
 pub use replies::Reply;

@@ -3,7 +3,7 @@
 ghost use Rattle.std.specs.Prelude.{◌≡◌, true};
 ghost use Rattle.srt_route.specs.Writable.{is_writable};
 
-use srt_packet::Packet;
+use srt_packet::{Body, Packet};
 use srt_seq::Peer;
 
 /// A packet that a route sends.
@@ -14,4 +14,23 @@ pub struct Reply {
     /// What; it can be written.
     pub packet: Packet,
     pub ghost writable: { is_writable packet.body ≡ true },
+}
+
+impl Reply {
+    /// A place for replies: a KEEPALIVE to nobody, to be written over.
+    pub fn blank() -> Reply
+        ensures { result.packet.body ≡ Body.KeepAlive }
+    {
+        Reply {
+            peer: Peer {
+                ip: [0; 16],
+                port: 0,
+            },
+            packet: Packet {
+                stamp: 0,
+                dest: 0,
+                body: Body::KeepAlive,
+            },
+        }
+    }
 }

@@ -1,9 +1,8 @@
 //! Routes: the clock, the sessions, and the replies that wait.
 
-ghost use Rattle.std.specs.Prelude.{◌≡◌, ◌↔◌, ℕ, ◌+◌, ◌*◌, ◌<◌, ◌≤◌, ◌^◌, ◌++◌, ◌∷◌, [], List, length, None, Some, Err, IfOk, IfErr, IfNone, map, max, true};
-ghost use Rattle.std.specs.Option.{option_to_list};
-ghost use Rattle.std.specs.VecDeque.{deque_capacity};
+ghost use Rattle.std.specs.Prelude.{◌≡◌, ◌↔◌, ℕ, ◌+◌, ◌*◌, ◌<◌, ◌≤◌, ◌^◌, ◌++◌, ◌∷◌, [], List, length, None, Some, Err, IfOk, IfErr, map, max, true, false};
 ghost use Rattle.srt_seq.specs.declared.shared.OpenFault.{OpenFault as TheFault};
+ghost use Rattle.srt_seq.specs.Given.{given};
 ghost use Rattle.srt_seq.specs.Terms.{Terms, terms_of};
 ghost use Rattle.srt_seq.specs.Items.{Item as TheItem, told, moment_of};
 ghost use Rattle.srt_route.specs.Opening.{fault_of};
@@ -11,6 +10,7 @@ ghost use Rattle.srt_route.specs.Written.{written};
 ghost use Rattle.srt_route.specs.Sessions.{Session as TheSession, is_publisher, is_subscriber, reported};
 ghost use Rattle.srt_route.specs.Route.{Route as TheRoute, sent, taken_by, delivered, packets_where, reply};
 ghost use Rattle.srt_route.specs.Tables.{written_of};
+ghost use Rattle.srt_route.specs.Waits.{replies_of, places_of};
 ghost use Rattle.srt_route.specs.Media.{IsBody};
 ghost use Rattle.srt_route.specs.Reports.{AreSaid};
 ghost use Rattle.srt_route.specs.Stands.{IsRoute, stands, waiting, places};
@@ -20,10 +20,11 @@ use crate::items::tell;
 use crate::opening::check_entry;
 use crate::replies::Reply;
 use crate::reports::report;
-use crate::state::{Media, Route, Table};
+use crate::state::{Hands, Media, Route, Table};
+use crate::waiting::Waiting;
+use arrayvec::ArrayVec;
 use srt_seq::{Entry, Item, OpenFault};
-use std::alloc::Global;
-use std::collections::VecDeque;
+use std::alloc::{AllocError, Global};
 
 /// The later of two moments.
 fn later(clock: u64, moment: u64) -> u64
@@ -47,18 +48,30 @@ fn moment(item: &Item) -> u64
     }
 }
 
-/// At most one reply waits, behind those before. Takes no memory where there is a place.
-fn wait_for(waiting: &mut VecDeque<Reply>, reply: Option<Reply>)
-    ensures { AreSaid waiting.old.items waiting.new.items (deque_capacity waiting.old) (deque_capacity waiting.new) (written_of reply) }
+/// Where an answer is told, it waits, behind the replies before.
+fn wait_for(waiting: &mut Waiting, hand: &mut Box<Reply>, told: bool)
+    ensures { AreSaid (replies_of waiting.old) (replies_of waiting.new) (places_of waiting.old) (places_of waiting.new) (written_of (given told hand.old.value)) }
 {
-    if let Some(reply) = reply {
-        let _ = waiting.push_back(reply);
+    if told {
+        waiting.put(hand);
+    }
+}
+
+impl Hands {
+    /// The only call that takes memory.
+    fn open(alloc: Global) -> Result<Hands, AllocError> {
+        Ok(Hands {
+            reply: Box::new(alloc, Reply::blank())?,
+            ack: Box::new(alloc, Reply::blank())?,
+            nak: Box::new(alloc, Reply::blank())?,
+            keep_alive: Box::new(alloc, Reply::blank())?,
+        })
     }
 }
 
 impl Route {
-    /// A route that was told nothing. It takes the memory of all its sessions and of 66 replies for each and 4 more.
-    /// The name is looked at before the numbers.
+    /// A route that was told nothing. It takes the memory of all its sessions, of 66 replies for each and 4 more, and of
+    /// 4 replies at hand. The name is looked at before the numbers.
     pub fn open(alloc: Global, entry: &Entry, index: usize) -> Result<Route, OpenFault>
         ensures stands { IfOk result (λ route. stands route (terms_of entry.now) index []) }
         ensures none_waits { IfOk result (λ route. waiting route ≡ []) }
@@ -71,13 +84,18 @@ impl Route {
         let table = Table::open(alloc, entry, index)?;
         let media = Media::open(alloc, entry)?;
         let room = 4 + 66 * (entry.sessions as usize);
-        let Ok(waiting) = VecDeque::with_capacity(alloc, room) else {
+        let Ok(waiting) = Waiting::open(alloc, room) else {
+            return Err(OpenFault::OutOfMemory);
+        };
+        let Ok(hands) = Hands::open(alloc) else {
             return Err(OpenFault::OutOfMemory);
         };
         Ok(Route {
             clock: 0,
             table,
             media,
+            payload: ArrayVec::new(),
+            hands,
             waiting,
         })
     }
@@ -87,21 +105,33 @@ impl Route {
         requires { moment_of (told item.now) < 2 ^ 62 }
         ensures clock { self.new.clock ≡ max self.old.clock (moment_of (told item.now)) }
         ensures body { (e : Terms) (index : ℕ) (m : TheRoute) → IsRoute e index self.old m → IsBody e index self.new.clock self.new.table self.new.media (taken_by e index (told item.now) m).sessions }
-        ensures said { (e : Terms) (index : ℕ) (m : TheRoute) → IsRoute e index self.old m → AreSaid self.old.waiting.items self.new.waiting.items (deque_capacity self.old.waiting) (deque_capacity self.new.waiting) (map sent (taken_by e index (told item.now) m).answers) }
+        ensures said { (e : Terms) (index : ℕ) (m : TheRoute) → IsRoute e index self.old m → AreSaid (replies_of self.old.waiting) (replies_of self.new.waiting) (places_of self.old.waiting) (places_of self.new.waiting) (map sent (taken_by e index (told item.now) m).answers) }
     {
         self.clock = later(self.clock, moment(item));
-        let reply = tell(&mut self.table, &mut self.media, self.clock, item);
-        wait_for(&mut self.waiting, reply);
+        let told = tell(
+            &mut self.table,
+            &mut self.media,
+            self.clock,
+            item,
+            &mut self.hands.reply,
+        );
+        wait_for(&mut self.waiting, &mut self.hands.reply, told);
     }
 
     /// The event ends: payloads are delivered, and what sessions send waits.
     fn ends(&mut self)
         ensures clock { self.new.clock ≡ self.old.clock }
         ensures body { (e : Terms) (index : ℕ) (sessions : List TheSession) → IsBody e index self.old.clock self.old.table self.old.media sessions → IsBody e index self.old.clock self.new.table self.new.media (map (reported e self.old.clock) (delivered e self.old.clock sessions)) }
-        ensures said { (e : Terms) (index : ℕ) (sessions : List TheSession) → IsBody e index self.old.clock self.old.table self.old.media sessions → AreSaid self.old.waiting.items self.new.waiting.items (deque_capacity self.old.waiting) (deque_capacity self.new.waiting) (map sent (packets_where e self.old.clock is_publisher (delivered e self.old.clock sessions) ++ packets_where e self.old.clock is_subscriber (delivered e self.old.clock sessions))) }
+        ensures said { (e : Terms) (index : ℕ) (sessions : List TheSession) → IsBody e index self.old.clock self.old.table self.old.media sessions → AreSaid (replies_of self.old.waiting) (replies_of self.new.waiting) (places_of self.old.waiting) (places_of self.new.waiting) (map sent (packets_where e self.old.clock is_publisher (delivered e self.old.clock sessions) ++ packets_where e self.old.clock is_subscriber (delivered e self.old.clock sessions))) }
     {
-        deliver(&self.table, &mut self.media, self.clock);
-        report(&self.table, &mut self.media, self.clock, &mut self.waiting);
+        deliver(&self.table, &mut self.media, self.clock, &mut self.payload);
+        report(
+            &self.table,
+            &mut self.media,
+            self.clock,
+            &mut self.hands,
+            &mut self.waiting,
+        );
     }
 
     /// Tells the route an item. Answers how many replies wait then. Takes no memory.
@@ -121,15 +151,16 @@ impl Route {
     pub fn waits(&self) -> bool
         ensures { (result ≡ true) ↔ (0 < length (waiting self.now)) }
     {
-        !self.waiting.is_empty()
+        self.waiting.len() > 0
     }
 
-    /// Takes the first reply that waits, and changes nothing else. Takes no memory.
-    pub fn next_reply(&mut self) -> Option<Reply>
-        ensures first { waiting self.old ≡ map written (option_to_list result) ++ waiting self.new }
-        ensures none { IfNone result (waiting self.old ≡ []) }
+    /// Exchanges the place's box for the first reply that waits, and changes nothing else. The box that it was is kept
+    /// for later replies. False where none waits. Takes no memory.
+    pub fn next_reply(&mut self, place: &mut Box<Reply>) -> bool
+        ensures first { result ≡ true → waiting self.old ≡ written place.new.value ∷ waiting self.new }
+        ensures none { result ≡ false → (waiting self.old ≡ []) × (self.new ≡ self.old) × (place.new ≡ place.old) }
         ensures stands { (e : Terms) (index : ℕ) (items : List TheItem) → stands self.old e index items → stands self.new e index items }
     {
-        self.waiting.pop_front()
+        self.waiting.next(place)
     }
 }

@@ -2,6 +2,7 @@
 
 ghost use Rattle.std.specs.Prelude.{◌≡◌, ℕ, ◌+◌, ◌*◌, ◌%◌, ◌^◌, ◌<◌, true, false, None, Some, position, length, option_map};
 ghost use Rattle.std.specs.List.{list_any};
+ghost use Rattle.srt_seq.specs.Given.{given};
 ghost use Rattle.srt_route.specs.Sessions.{is_same_peer, id_of, publishes};
 ghost use Rattle.srt_route.specs.Tables.{is_session_of, session_passes, holds, has_publisher, is_vacant, heard_at, again_of, is_stored_for, stored_after, is_stale, stored_aged, is_kept_subscriber, written_of};
 
@@ -100,17 +101,18 @@ impl Slot {
         self.session = Some(session);
     }
 
-    /// The session's conclusion comes again: it is heard of, and answered as it was.
-    pub fn again(&mut self, clock: u64, peer: Peer) -> Option<Reply>
+    /// The session's conclusion comes again: it is heard of, and answered as it was. False where there is none.
+    pub fn again(&mut self, clock: u64, peer: Peer, reply: &mut Reply) -> bool
         ensures slot { self.new ≡ record { generation = self.old.generation; session = option_map (heard_at clock) self.old.session } }
-        ensures answer { written_of result ≡ again_of peer self.old.session }
+        ensures answer { written_of (given result reply.new) ≡ again_of peer self.old.session }
     {
         match &mut self.session {
             Some(session) => {
                 session.heard = clock;
-                Some(answer_to(peer, session.caller, &session.answer))
+                answer_to(reply, peer, session.caller, &session.answer);
+                true
             }
-            None => None,
+            None => false,
         }
     }
 

@@ -1,14 +1,13 @@
 //! What a route keeps.
 
 ghost use Rattle.std.specs.Prelude.{◌<◌, ◌≤◌, ◌^◌, length};
-ghost use Rattle.std.specs.VecDeque.{deque_capacity};
 
 use crate::replies::Reply;
 use crate::slots::Slot;
+use crate::waiting::Waiting;
 use srt_pub::Publisher;
-use srt_seq::Mode;
+use srt_seq::{Mode, Payload};
 use srt_sub::Subscriber;
-use std::collections::VecDeque;
 
 /// The sessions of a route, each in its place, and what conclusions are answered with.
 #[derive(Drop)]
@@ -29,12 +28,28 @@ pub struct Media {
     pub subscribers: Vec<Subscriber>,
 }
 
+/// Boxes at hand, to be written. Where one is given, a spare one comes to hand.
+#[derive(Drop)]
+pub struct Hands {
+    /// For an answer, and for a subscriber's packets.
+    pub reply: Box<Reply>,
+    /// For a publisher's ACK.
+    pub ack: Box<Reply>,
+    /// For its NAK.
+    pub nak: Box<Reply>,
+    /// For its KEEPALIVE.
+    pub keep_alive: Box<Reply>,
+}
+
 /// A route of the gateway.
 #[derive(Drop)]
 pub struct Route {
     pub(crate) clock: u64,
     pub(crate) table: Table,
     pub(crate) media: Media,
-    pub(crate) waiting: VecDeque<Reply>,
+    /// The payload that is delivered.
+    pub(crate) payload: Payload,
+    pub(crate) hands: Hands,
+    pub(crate) waiting: Waiting,
     pub(crate) ghost early: { clock < 2 ^ 62 },
 }

@@ -1,6 +1,6 @@
 //! Sessions open, are answered again and close, and each refusal. The cookie of the conclusions is free.
 
-use crate::Route;
+use crate::{Reply, Route};
 use srt_packet::encode;
 use srt_seq::{Entry, Item, Mode, OpenFault, Peer};
 use std::alloc::Global;
@@ -94,17 +94,15 @@ fn assert_told(
     };
     let waiting = route.step(item);
     let mut out = [0u8; 1472];
-    let len = match route.next_reply() {
-        Some(reply) => {
-            assert_eq!(rt; waiting, 1);
-            assert!(rt; reply.peer == from);
-            encode(&reply.packet, &mut out)
-        }
-        None => {
-            assert_eq!(rt; waiting, 0);
-            0
-        }
-    };
+    let mut len = 0;
+    let mut place = Box::new(rt.alloc(), Reply::blank())?;
+    if route.next_reply(&mut place) {
+        assert_eq!(rt; waiting, 1);
+        assert!(rt; place.peer == from);
+        len = encode(&place.packet, &mut out);
+    } else {
+        assert_eq!(rt; waiting, 0);
+    }
     let wanted = hex::decode(rt.alloc(), answer)?;
     assert_eq!(rt; &out[..len], wanted.as_slice());
     assert!(rt; !route.waits());

@@ -22,8 +22,8 @@ pub record Told : Type 0 where
 abbrev pub told : (initial : ℕ) → Due → Told
 told initial d = record { number = number_word initial d.number; message = message_number d.number; again = d.again; origin = d.origin; payload = d.payload }
 
-abbrev pub told_by : Out → Told
-told_by o = record { number = word_of o.number; message = message_of o.msg; again = o.again; origin = o.origin; payload = o.payload.items }
+abbrev pub told_by : Out → (payload : List ℕ) → Told
+told_by o payload = record { number = word_of o.number; message = message_of o.msg; again = o.again; origin = o.origin; payload = payload }
 
 -- numbers that are gone, in words: the first, the last, and the message number of the first
 pub record Gone : Type 0 where

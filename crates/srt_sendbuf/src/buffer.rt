@@ -1,6 +1,6 @@
 //! The sender buffer: what is queued and not acknowledged or expired, and which of it is lost.
 
-ghost use Rattle.std.specs.Prelude.{◌≡◌, ℕ, ◌+◌, ◌-◌, ◌%◌, ◌^◌, ◌<◌, ◌≤◌, ◌↔◌, false, List, [], ◌∷◌, length, slice_get, option_map, is_some, min, nat_lt, IsErr, IfOk, IfSome, OnErr};
+ghost use Rattle.std.specs.Prelude.{◌≡◌, ℕ, ◌+◌, ◌-◌, ◌%◌, ◌^◌, ◌<◌, ◌≤◌, ◌↔◌, false, List, [], ◌∷◌, length, slice_get, option_map, is_some, min, nat_lt, IsErr, IfOk, IfSome, IfNone, OnErr};
 ghost use Rattle.std.specs.List.{list_any};
 ghost use Rattle.srt_seq.specs.Window.{word_of, counted_from};
 ghost use Rattle.srt_seq.specs.Counts.{message_of, message_number};
@@ -20,8 +20,8 @@ const REACH: usize = 8192;
 /// answer tells it from a greater one.
 const BEHIND_END: usize = 16384;
 
-/// A packet that is to be sent now.
-#[derive(Drop)]
+/// A packet that is to be sent now, beside its bytes.
+#[derive(Clone, Copy, Debug, PartialEq, Eq)]
 pub struct Out {
     /// Its sequence number.
     pub number: Seq31,
@@ -31,8 +31,6 @@ pub struct Out {
     pub again: bool,
     /// When its payload was queued.
     pub origin: u64,
-    /// Its bytes.
-    pub payload: Payload,
 }
 
 /// Numbers that are asked for and gone: the first, the last, and the message number of the first
@@ -89,7 +87,7 @@ pub struct SendBuf {
 }
 
 impl SendBuf {
-    ghost use Rattle.srt_sendbuf.specs.Sending.{Sending, nothing_yet, front, base, next, room, in_flight, lost, queued, acknowledged_by, after_ack, is_growth, expired_before, ranges_from, range_from, asked, all_lost, sent, due, due_of, after_due, IsTimely, IsLater};
+    ghost use Rattle.srt_sendbuf.specs.Sending.{Sending, nothing_yet, front, base, next, room, in_flight, lost, queued, acknowledged_by, after_ack, is_growth, expired_before, ranges_from, range_from, asked, all_lost, sent, due, due_number, due_of, after_due, IsTimely, IsLater};
     ghost use Rattle.srt_sendbuf.specs.Told.{told, told_by, gone, gone_for, gone_by};
     ghost use Rattle.srt_sendbuf.specs.Stands.{StandsFor, IsMoved};
 
@@ -321,18 +319,19 @@ impl SendBuf {
         self.high = self.sent;
     }
 
-    /// The packet at a place.
-    fn out(&self, at: usize, again: bool) -> Option<Out>
+    /// The packet at a place; its bytes go into the payload.
+    fn out(&self, at: usize, again: bool, payload: &mut Payload) -> Option<Out>
         requires { at < length_of self.now.ring }
-        ensures { (width initial : ℕ) (r : Sending) → StandsFor width initial self.now r → option_map told_by result ≡ option_map (told initial) (due_of (front r + at) again (slice_get r.queue (front r + at))) }
+        ensures answer { (width initial : ℕ) (r : Sending) → StandsFor width initial self.now r → option_map (λ o. told_by o payload.new.items) result ≡ option_map (told initial) (due_of (front r + at) again (slice_get r.queue (front r + at))) }
+        ensures kept { IfNone result (payload.new ≡ payload.old) }
     {
         let place = self.ring.place(at)?;
+        self.ring.copy_to(at, payload);
         Some(Out {
             number: self.front.add(at as u32),
             msg: place.message,
             again,
             origin: place.origin,
-            payload: self.ring.payload(at),
         })
     }
 
@@ -354,18 +353,32 @@ impl SendBuf {
         self.sent += 1;
     }
 
+    /// Whether a packet is due: one is lost, or a new one waits and fewer than `window` are in flight.
+    pub fn is_due(&self, window: u32) -> bool
+        ensures { (width initial : ℕ) (r : Sending) → StandsFor width initial self.now r → result ≡ is_some (due_number window (lost r) r) }
+    {
+        if self.any_lost() {
+            return true;
+        }
+        if self.sent >= window as usize {
+            return false;
+        }
+        self.sent < self.ring.len()
+    }
+
     /// The packet that is due, which counts as sent: the lowest lost one, and where there is none the next
-    /// new one, if fewer than `window` are in flight.
-    pub fn next_due(&mut self, window: u32) -> Option<Out>
+    /// new one, if fewer than `window` are in flight. Its bytes go into the payload, over what it held.
+    pub fn next_due(&mut self, window: u32, payload: &mut Payload) -> Option<Out>
         ensures stands { (width initial : ℕ) (r : Sending) → StandsFor width initial self.old r → StandsFor width initial self.new (after_due window r) }
-        ensures answer { (width initial : ℕ) (r : Sending) → StandsFor width initial self.old r → option_map told_by result ≡ option_map (told initial) (due window r) }
+        ensures answer { (width initial : ℕ) (r : Sending) → StandsFor width initial self.old r → option_map (λ o. told_by o payload.new.items) result ≡ option_map (told initial) (due window r) }
+        ensures kept { IfNone result (payload.new ≡ payload.old) }
     {
         if self.low < self.high {
-            let out = self.out(self.low, true);
+            let out = self.out(self.low, true, payload);
             self.sent_again();
             out
         } else if self.sent < window as usize && self.sent < self.ring.len() {
-            let out = self.out(self.sent, false);
+            let out = self.out(self.sent, false, payload);
             self.sent_new();
             out
         } else {

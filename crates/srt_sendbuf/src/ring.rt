@@ -111,12 +111,12 @@ impl Ring {
         self.order.text(self.slot(at))
     }
 
-    /// The bytes of a packet.
-    pub fn payload(&self, at: usize) -> Payload
+    /// Copies the bytes of a packet out, over what the payload held.
+    pub fn copy_to(&self, at: usize, payload: &mut Payload)
         requires { at < width_of self.now }
-        ensures { result.items ≡ text_at self.now.texts.items (text_of_slot self.now.order (turned (width_of self.now) self.now.first at)) }
+        ensures { payload.new.items ≡ text_at self.now.texts.items (text_of_slot self.now.order (turned (width_of self.now) self.now.first at)) }
     {
-        self.texts[self.text_index(at)].payload()
+        self.texts[self.text_index(at)].copy_to(payload);
     }
 
     /// A packet comes after the last.

@@ -53,32 +53,37 @@ fn queued(buffer: &mut SendBuf, byte: u8, now: u64) -> Answer {
     }
 }
 
-fn due(buffer: &mut SendBuf, window: u32) -> Answer {
-    match buffer.next_due(window) {
-        Some(out) => match out.payload.first() {
-            Some(byte) => Answer::Packet(
+/// What is due, over a payload that held more.
+fn due(buffer: &mut SendBuf, window: u32) -> Result<Answer, Fail> {
+    let mut payload = Payload::new();
+    let _ = payload.try_extend_from_slice(&[0x7a, 0x7a]);
+    let is_due = buffer.is_due(window);
+    match buffer.next_due(window, &mut payload) {
+        Some(out) if is_due && payload.len() == 1 => match payload.first() {
+            Some(byte) => Ok(Answer::Packet(
                 out.number.get(),
                 out.msg.get(),
                 out.again,
                 out.origin,
                 *byte,
-            ),
-            None => Answer::Nothing,
+            )),
+            None => Err(Fail::from("an empty payload")),
         },
-        None => Answer::Nothing,
+        None if !is_due && payload.as_slice() == [0x7a, 0x7a].as_slice() => Ok(Answer::Nothing),
+        _ => Err(Fail::from("not what is due")),
     }
 }
 
-fn lost(buffer: &mut SendBuf, first: u32, last: u32) -> Answer {
+fn lost(buffer: &mut SendBuf, first: u32, last: u32) -> Result<Answer, Fail> {
     let a = first.to_be_bytes();
     let b = last.to_be_bytes();
     let text = [a[0], a[1], a[2], a[3], b[0], b[1], b[2], b[3]];
-    match read(&text) {
-        Ok(losses) => match buffer.lose(&losses) {
-            Some(run) => Answer::Gone(run.first.get(), run.last.get(), run.msg.get()),
-            None => Answer::Nothing,
-        },
-        Err(_) => Answer::Full,
+    let Ok(losses) = read(&text) else {
+        return Err(Fail::from("a loss list"));
+    };
+    match buffer.lose(&losses) {
+        Some(run) => Ok(Answer::Gone(run.first.get(), run.last.get(), run.msg.get())),
+        None => Ok(Answer::Nothing),
     }
 }
 
@@ -89,11 +94,11 @@ fn taken(buffer: &mut SendBuf, step: Step) -> Result<Answer, Fail> {
             Ok(Answer::Nothing)
         }
         Step::Queue(byte, now) => Ok(queued(buffer, byte, now)),
-        Step::Due(window) => Ok(due(buffer, window)),
+        Step::Due(window) => due(buffer, window),
         Step::Ack(word) => Ok(Answer::Is(buffer.ack(number(word)?))),
         Step::Grows(word) => Ok(Answer::Is(buffer.grows(number(word)?))),
         Step::Expire(before) => Ok(Answer::Count(buffer.expire(before))),
-        Step::Lose(first, last) => Ok(lost(buffer, first, last)),
+        Step::Lose(first, last) => lost(buffer, first, last),
         Step::LoseAll => {
             buffer.lose_all();
             Ok(Answer::Nothing)

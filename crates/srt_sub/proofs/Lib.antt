@@ -1,6 +1,7 @@
 pub mod Sound
 pub mod Turns
 pub mod Dues
+pub mod Medias
 pub mod Feeding
 pub mod Unheard
 pub mod Freshness

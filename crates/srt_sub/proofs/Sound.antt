@@ -21,7 +21,7 @@ use Rattle.srt_sub.specs.Emission.{EmissionBegins, StandsLater}
 use Rattle.srt_sub.specs.Endings.{is_short}
 use Rattle.srt_sendbuf.specs.Told.{Gone}
 use Rattle.srt_seq.specs.Runs.{Run}
-use Rattle.std.specs.Prelude.{IfSome, IfNone, is_some, option_map, if◌then◌else◌, ◌&&◌}
+use Rattle.std.specs.Prelude.{is_some, option_map, if◌then◌else◌, ◌&&◌}
 use Rattle.srt_sendbuf.specs.Sending.{room}
 
 -- a word with its top bit set is no number
@@ -138,11 +138,3 @@ does_fit Buffer terms payload s e some = refl
 
 pub has_no_room : (terms : Terms) (payload : List ℕ) (s : Sending) → room terms.width s ≡ 0 → fits Live terms payload s ≡ false
 has_no_room terms payload s e = let b : nat_lt 0 (room terms.width s) ≡ false = grind (arith, nat_tests, e) in rw b refl
-
-pub if_some : {A : Type 0} (o : Option A) (P Q : A → Type 0) → ((x : A) → P x → Q x) → IfSome o P → IfSome o Q
-if_some None P Q f h = h
-if_some (Some x) P Q f h = f x h
-
-pub if_none : {A : Type 0} (o : Option A) (P Q : Type 0) → (P → Q) → IfNone o P → IfNone o Q
-if_none None P Q f h = f h
-if_none (Some x) P Q f h = h

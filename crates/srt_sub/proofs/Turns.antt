@@ -4,6 +4,7 @@ use Rattle.std.specs.Prelude.{slice_get, nat_lt, nat_le, filter, map}
 use Rattle.std.specs.Option.{option_to_list}
 use Rattle.std.proofs.lemmas.Bool.{ne_eqb, ltb-true}
 use Rattle.std.proofs.lemmas.Bool.Decides.{nat_tests}
+use Rattle.srt_seq.specs.Given.{given}
 use Rattle.srt_seq.specs.Runs.{Run, numbers_from}
 use Rattle.srt_seq.specs.declared.shared.Mode.{Mode}
 use Rattle.srt_seq.specs.declared.shared.Mode.TheVariants.{Live, Buffer}
@@ -14,7 +15,7 @@ use Rattle.srt_sendbuf.specs.Sending.{Queued, Sending, All_of, front, next, in_f
 use Rattle.srt_sendbuf.proofs.OneByOne.{lost_one_by_one, new_one_by_one}
 use Rattle.srt_sub.specs.Subscribing.{Terms, Report, Dropped, Media, KeepAlive, Note, Sent, Subscribing, is_media, last_sent, last_growth, round_trip, flow_window, untold, drops_of, expired, expired_in, is_stale, presumed, most, again_of, new_of, media, media_of, keep_alives, noted, due_of, reports_of, sent_each, sent_of}
 use Rattle.srt_sub.specs.Says.{says}
-use Rattle.srt_sub.specs.Turns.{due_in, with_due}
+use Rattle.srt_sub.specs.Turns.{due_in, with_due, texts}
 use Rattle.srt_sub.specs.Stands.{StandsIn}
 use Rattle.srt_sub.specs.Emission.{IsLeft, IsNextAt}
 use Rattle.srt_sub.specs.declared.session.Subscriber.{Subscriber}
@@ -353,6 +354,15 @@ goes_on terms initial opening caller time given later p t middle m after left r 
                 };
           };
     }
+
+-- whether a packet was written
+pub wrote : (b : Bool) (p : Packet) (ts : List (List ℕ)) → b ≡ true → texts (given b p) ≡ ts → text p ∷ [] ≡ ts
+wrote true p ts b e = e
+wrote false p ts b e = absurd cc
+
+pub wrote_none : (b : Bool) (p : Packet) (ts : List (List ℕ)) → b ≡ false → texts (given b p) ≡ ts → [] ≡ ts
+wrote_none false p ts b e = e
+wrote_none true p ts b e = absurd cc
 
 -- what a packet says of what was due
 pub drop_said : (o : Option Run) (f : Report → List ℕ) (t : List ℕ) → t ∷ [] ≡ map f (drops_of o) → (run : Run) × (o ≡ Some run) × (t ≡ f (Dropped run))

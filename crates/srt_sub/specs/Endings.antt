@@ -3,20 +3,13 @@ use Rattle.std.specs.Prelude.{ℕ, ◌-◌, Bool, true, false, List, length, nat
 use Rattle.srt_seq.specs.declared.shared.Mode.{Mode}
 use Rattle.srt_seq.specs.declared.shared.Mode.TheVariants.{Live, Buffer}
 use Rattle.srt_packet.specs.Grammar as grammar
-use Rattle.srt_packet.specs.Text.{IsWritable}
 use Rattle.srt_sub.specs.declared.hearing.Took.{Took}
 use Rattle.srt_sub.specs.declared.hearing.Took.TheVariants.{Nothing, Answer, Ended}
-
--- the packet of an answer can be written
-abbrev pub IsAnswerWritable : Took → Type 0
-IsAnswerWritable (Answer packet) = IsWritable packet.body
-IsAnswerWritable Nothing = Unit {0}
-IsAnswerWritable Ended = Unit {0}
 
 abbrev pub is_ended : Took → Bool
 is_ended Ended = true
 is_ended Nothing = false
-is_ended (Answer packet) = false
+is_ended Answer = false
 
 abbrev pub is_shutdown : grammar.Body → Bool
 is_shutdown grammar.Shutdown = true

@@ -1,8 +1,7 @@
 -- The bytes of what a subscriber's session sends (section 3).
 use Rattle.std.specs.Prelude.{ℕ, ◌+◌, ◌%◌, ◌^◌, List, [], ◌∷◌, ◌++◌, if◌then◌else◌}
-use Rattle.srt_seq.specs.Words.{word}
+use Rattle.srt_seq.specs.Words.{word, words}
 use Rattle.srt_seq.specs.Counts.{message_number}
-use Rattle.srt_packet.specs.Text.{words}
 use Rattle.srt_sendbuf.specs.Told.{number_word}
 use Rattle.srt_sub.specs.Subscribing.{Report, Acked, Dropped, Media, KeepAlive}
 

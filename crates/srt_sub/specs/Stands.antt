@@ -5,6 +5,7 @@ use Rattle.srt_seq.specs.Runs.{Run}
 use Rattle.srt_rtt.specs.RoundTrip.{round_trip_of}
 use Rattle.srt_tsbpd.specs.Deadline.{too_late_at}
 use Rattle.srt_packet.specs.Text.{text}
+use Rattle.srt_packet.specs.declared.writing.Packet.{Packet}
 use Rattle.srt_sendbuf.specs.Sending.{Sending, IsTimely, IsLater}
 use Rattle.srt_sendbuf.specs.Told.{Gone, number_word, gone_by}
 use Rattle.srt_sendbuf.specs.Stands as places
@@ -54,8 +55,8 @@ StandsFor terms initial opening caller last s m = StandsIn terms initial opening
 abbrev pub IsWide : (width : ℕ) → Subscriber → Type 0
 IsWide width s = (initial : ℕ) × (kept : Sending) × places.StandsFor width initial s.buffer kept
 
--- the datagrams of an answer
-abbrev pub texts_of : Took → List (List ℕ)
-texts_of Nothing = []
-texts_of (Answer packet) = text packet ∷ []
-texts_of Ended = []
+-- the datagrams of an answer, of which this packet was written
+abbrev pub texts_of : Took → Packet → List (List ℕ)
+texts_of Answer packet = text packet ∷ []
+texts_of Nothing packet = []
+texts_of Ended packet = []

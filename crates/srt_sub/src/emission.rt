@@ -1,8 +1,9 @@
 //! What a session sends at the end of an event, packet by packet.
 
-ghost use Rattle.std.specs.Prelude.{◌≡◌, ℕ, ◌+◌, ◌-◌, ◌^◌, ◌<◌, ◌≤◌, List, [], ◌∷◌, map, option_map, length, IfSome, IfNone, false};
+ghost use Rattle.std.specs.Prelude.{◌≡◌, ℕ, ◌+◌, ◌-◌, ◌^◌, ◌<◌, ◌≤◌, List, [], ◌∷◌, map, true, false};
 ghost use Rattle.std.specs.Option.{option_to_list};
-ghost use Rattle.srt_packet.specs.Text.{text, IsWritable};
+ghost use Rattle.srt_seq.specs.Given.{given as written};
+ghost use Rattle.srt_packet.specs.Text.{IsWritable};
 ghost use Rattle.srt_sub.specs.Subscribing.{Terms, Subscribing, Report, Media, KeepAlive, expired, presumed, reported, drops, noted, most, keep_alives, is_stale};
 ghost use Rattle.srt_sub.specs.Says.{says};
 
@@ -34,79 +35,86 @@ impl Subscriber {
     }
 
     /// The drop request that is due.
-    fn next_drop(&mut self, time: u64) -> Option<Packet>
+    fn next_drop(&mut self, time: u64, packet: &mut Packet) -> bool
         ensures stands { (terms : Terms) (initial opening caller given : ℕ) (m : Subscribing) → StandsIn terms initial opening caller time given self.old m → StandsIn terms initial opening caller time given self.new (record m { notes = noted time (drops m.notes) m.notes }) }
-        ensures answer { (terms : Terms) (initial opening caller given : ℕ) (m : Subscribing) → StandsIn terms initial opening caller time given self.old m → texts result ≡ map (says caller initial time) (drops m.notes) }
-        ensures writable { IfSome result (λ p. IsWritable p.body) }
+        ensures answer { (terms : Terms) (initial opening caller given : ℕ) (m : Subscribing) → StandsIn terms initial opening caller time given self.old m → texts (written result packet.new) ≡ map (says caller initial time) (drops m.notes) }
+        ensures writable { result ≡ true → IsWritable packet.new.body }
+        ensures kept { result ≡ false → packet.new ≡ packet.old }
     {
-        let run = self.history.take_missed(time)?;
-        Some(dropped(run, time, self.caller))
+        let Some(run) = self.history.take_missed(time) else {
+            return false;
+        };
+        dropped(run, time, self.caller, packet);
+        true
     }
 
     /// The data packet that is due.
-    fn next_media(&mut self, time: u64) -> Option<Packet>
+    fn next_media(&mut self, time: u64, packet: &mut Packet) -> bool
         ensures stands { (terms : Terms) (initial opening caller given : ℕ) (m : Subscribing) → StandsIn terms initial opening caller time given self.old m → given ≤ 64 → StandsIn terms initial opening caller time (given_with (due_in (64 - given) terms m) given) self.new (with_due time (due_in (64 - given) terms m) m) }
-        ensures answer { (terms : Terms) (initial opening caller given : ℕ) (m : Subscribing) → StandsIn terms initial opening caller time given self.old m → given ≤ 64 → texts result ≡ map (λ d. says caller initial time (Media d.number d.again d.origin d.payload)) (option_to_list (due_in (64 - given) terms m)) }
-        ensures writable { IfSome result (λ p. IsWritable p.body) }
+        ensures answer { (terms : Terms) (initial opening caller given : ℕ) (m : Subscribing) → StandsIn terms initial opening caller time given self.old m → given ≤ 64 → texts (written result packet.new) ≡ map (λ d. says caller initial time (Media d.number d.again d.origin d.payload)) (option_to_list (due_in (64 - given) terms m)) }
+        ensures writable { result ≡ true → IsWritable packet.new.body }
+        ensures kept { result ≡ false → IsWritable packet.old.body → IsWritable packet.new.body }
     {
         if self.given >= MOST {
-            return None;
+            return false;
         }
-        let out = self.buffer.next_due(self.history.window)?;
+        if !media(packet, &mut self.buffer, self.history.window, self.caller) {
+            return false;
+        }
         self.history.give(time);
         self.given += 1;
-        // No payload that was fed is empty.
-        if out.payload.is_empty() {
-            return None;
-        }
-        Some(media(out, self.caller))
+        true
     }
 
     /// The keep-alive that is due where nothing was sent for a second.
-    fn next_keep_alive(&mut self, time: u64) -> Option<Packet>
+    fn next_keep_alive(&mut self, time: u64, packet: &mut Packet) -> bool
         ensures stands { (terms : Terms) (initial opening caller given : ℕ) (m : Subscribing) → StandsIn terms initial opening caller time given self.old m → StandsIn terms initial opening caller time given self.new (record m { notes = noted time (keep_alives time [] m.notes) m.notes }) }
-        ensures answer { (terms : Terms) (initial opening caller given : ℕ) (m : Subscribing) → StandsIn terms initial opening caller time given self.old m → texts result ≡ map (says caller initial time) (keep_alives time [] m.notes) }
-        ensures writable { IfSome result (λ p. IsWritable p.body) }
+        ensures answer { (terms : Terms) (initial opening caller given : ℕ) (m : Subscribing) → StandsIn terms initial opening caller time given self.old m → texts (written result packet.new) ≡ map (says caller initial time) (keep_alives time [] m.notes) }
+        ensures writable { result ≡ true → IsWritable packet.new.body }
+        ensures kept { result ≡ false → packet.new ≡ packet.old }
     {
-        if self.history.is_quiet(time) {
-            self.history.say(time);
-            Some(keep_alive(time, self.caller))
-        } else {
-            None
+        if !self.history.is_quiet(time) {
+            return false;
         }
+        self.history.say(time);
+        keep_alive(time, self.caller, packet);
+        true
     }
 
     /// The next packet at the session's own time, once what is too old is dropped.
-    fn turn(&mut self, time: u64) -> Option<Packet>
-        ensures some { IfSome result (λ p. (terms : Terms) (initial opening caller given : ℕ) (middle m : Subscribing) (left : List Report) → StandsIn terms initial opening caller time given self.old (expired terms time middle) → IsLeft terms time given (expired terms time middle) m left → IsNextAt terms initial opening caller time p self.new m left) }
-        ensures none { IfNone result ((terms : Terms) (initial opening caller given : ℕ) (middle m : Subscribing) (left : List Report) → StandsIn terms initial opening caller time given self.old (expired terms time middle) → IsLeft terms time given (expired terms time middle) m left → IsOverAt terms initial opening caller time self.new m left) }
-        ensures writable { IfSome result (λ p. IsWritable p.body) }
+    fn turn(&mut self, time: u64, packet: &mut Packet) -> bool
+        ensures some { result ≡ true → (terms : Terms) (initial opening caller given : ℕ) (middle m : Subscribing) (left : List Report) → StandsIn terms initial opening caller time given self.old (expired terms time middle) → IsLeft terms time given (expired terms time middle) m left → IsNextAt terms initial opening caller time packet.new self.new m left }
+        ensures none { result ≡ false → (terms : Terms) (initial opening caller given : ℕ) (middle m : Subscribing) (left : List Report) → StandsIn terms initial opening caller time given self.old (expired terms time middle) → IsLeft terms time given (expired terms time middle) m left → IsOverAt terms initial opening caller time self.new m left }
+        ensures writable { result ≡ true → IsWritable packet.new.body }
+        ensures kept { result ≡ false → IsWritable packet.old.body → IsWritable packet.new.body }
     {
         self.presume(time);
-        if let Some(packet) = self.next_drop(time) {
-            return Some(packet);
+        if self.next_drop(time, packet) {
+            return true;
         }
-        if let Some(packet) = self.next_media(time) {
-            return Some(packet);
+        if self.next_media(time, packet) {
+            return true;
         }
-        if let Some(packet) = self.next_keep_alive(time) {
-            return Some(packet);
+        if self.next_keep_alive(time, packet) {
+            return true;
         }
         self.given = 0;
-        None
+        false
     }
 
-    /// Gives the packets of an event's end one by one, each call the next, after dropping what is too old:
-    /// a drop request, what is sent again, what is sent first, and a keep-alive where there is nothing
-    /// else; at most 65. None once all are given; then the event is over.
-    pub fn emit(&mut self, now: u64) -> Option<Packet>
+    /// Writes the packets of an event's end one by one into the place that is lent, each call the next,
+    /// after dropping what is too old: a drop request, what is sent again, what is sent first, and a
+    /// keep-alive where there is nothing else; at most 65. False once all are given; then the event is
+    /// over, and what stands in the place is no packet of it.
+    pub fn emit(&mut self, now: u64, packet: &mut Packet) -> bool
         requires { now < 2 ^ 62 }
-        ensures some { IfSome result (λ p. (terms : Terms) (initial opening caller : ℕ) (m : Subscribing) (left : List Report) → Emitting terms initial opening caller now self.old m left → IsNext terms initial opening caller now p self.new m left) }
-        ensures none { IfNone result ((terms : Terms) (initial opening caller : ℕ) (m : Subscribing) (left : List Report) → Emitting terms initial opening caller now self.old m left → (left ≡ []) × StandsFor terms initial opening caller now self.new (reported terms (now - opening) (expired terms (now - opening) m))) }
-        ensures writable { IfSome result (λ p. IsWritable p.body) }
+        ensures some { result ≡ true → (terms : Terms) (initial opening caller : ℕ) (m : Subscribing) (left : List Report) → Emitting terms initial opening caller now self.old m left → IsNext terms initial opening caller now packet.new self.new m left }
+        ensures none { result ≡ false → (terms : Terms) (initial opening caller : ℕ) (m : Subscribing) (left : List Report) → Emitting terms initial opening caller now self.old m left → (left ≡ []) × StandsFor terms initial opening caller now self.new (reported terms (now - opening) (expired terms (now - opening) m)) }
+        ensures writable { result ≡ true → IsWritable packet.new.body }
+        ensures kept { result ≡ false → IsWritable packet.old.body → IsWritable packet.new.body }
     {
         self.drop_old(now);
         let time = self.time(now);
-        self.turn(time)
+        self.turn(time, packet)
     }
 }

@@ -1,17 +1,22 @@
 //! The packets that a session sends.
 
-ghost use Rattle.std.specs.Prelude.{◌≡◌, ℕ, ◌%◌, ◌^◌, ◌<◌, IfSome, option_map, length};
+ghost use Rattle.std.specs.Prelude.{◌≡◌, ℕ, ◌%◌, ◌^◌, ◌<◌, All, IfSome, map, option_map, length, true, false};
+ghost use Rattle.std.specs.Option.{option_to_list};
+ghost use Rattle.srt_seq.specs.Given.{given};
 ghost use Rattle.srt_seq.specs.Counts.{message_of, message_number};
 ghost use Rattle.srt_seq.specs.Runs.{Run};
-ghost use Rattle.srt_sendbuf.specs.Sending.{Due};
-ghost use Rattle.srt_sendbuf.specs.Told.{told, told_by, gone_by};
+ghost use Rattle.srt_sendbuf.specs.Sending.{Sending, Due, due, after_due};
+ghost use Rattle.srt_sendbuf.specs.Stands.{StandsFor};
+ghost use Rattle.srt_sendbuf.specs.Told.{told, gone_by};
 ghost use Rattle.srt_packet.specs.Text.{text, IsWritable};
 ghost use Rattle.srt_sub.specs.Subscribing.{Acked, Dropped, Media, KeepAlive};
 ghost use Rattle.srt_sub.specs.Says.{says};
 ghost use Rattle.srt_sub.specs.Stands.{run_gone};
+ghost use Rattle.srt_sub.specs.Turns.{is_media_body, told_in, texts};
 
 use srt_packet::{Body, Packet};
-use srt_sendbuf::{DropRun, Out};
+use srt_sendbuf::{DropRun, SendBuf};
+use srt_seq::{Msg26, Payload, Seq31};
 
 /// A time as a timestamp.
 fn stamp(time: u64) -> u32
@@ -21,59 +26,103 @@ fn stamp(time: u64) -> u32
 }
 
 /// The answer to a Full ACK.
-pub fn acked(mark: u32, time: u64, caller: u32) -> Packet
-    ensures text { (initial : ℕ) → text result ≡ says caller initial time (Acked mark) }
-    ensures writable { IsWritable result.body }
+pub fn acked(mark: u32, time: u64, caller: u32, packet: &mut Packet)
+    ensures text { (initial : ℕ) → text packet.new ≡ says caller initial time (Acked mark) }
+    ensures writable { IsWritable packet.new.body }
 {
-    Packet {
-        stamp: stamp(time),
-        dest: caller,
-        body: Body::AckAck { number: mark },
-    }
+    packet.stamp = stamp(time);
+    packet.dest = caller;
+    packet.body = Body::AckAck { number: mark };
 }
 
 /// A keep-alive.
-pub fn keep_alive(time: u64, caller: u32) -> Packet
-    ensures text { (initial : ℕ) → text result ≡ says caller initial time KeepAlive }
-    ensures writable { IsWritable result.body }
+pub fn keep_alive(time: u64, caller: u32, packet: &mut Packet)
+    ensures text { (initial : ℕ) → text packet.new ≡ says caller initial time KeepAlive }
+    ensures writable { IsWritable packet.new.body }
 {
-    Packet {
-        stamp: stamp(time),
-        dest: caller,
-        body: Body::KeepAlive,
-    }
+    packet.stamp = stamp(time);
+    packet.dest = caller;
+    packet.body = Body::KeepAlive;
 }
 
 /// A drop request.
-pub fn dropped(run: DropRun, time: u64, caller: u32) -> Packet
-    ensures text { (initial : ℕ) (r : Run) → gone_by run ≡ run_gone initial r → text result ≡ says caller initial time (Dropped r) }
-    ensures writable { IsWritable result.body }
+pub fn dropped(run: DropRun, time: u64, caller: u32, packet: &mut Packet)
+    ensures text { (initial : ℕ) (r : Run) → gone_by run ≡ run_gone initial r → text packet.new ≡ says caller initial time (Dropped r) }
+    ensures writable { IsWritable packet.new.body }
 {
-    Packet {
-        stamp: stamp(time),
-        dest: caller,
-        body: Body::DropRequest {
-            message: run.msg,
-            first: run.first,
-            last: run.last,
-        },
+    packet.stamp = stamp(time);
+    packet.dest = caller;
+    packet.body = Body::DropRequest {
+        message: run.msg,
+        first: run.first,
+        last: run.last,
+    };
+}
+
+/// A body that isn't a data packet's becomes one, with no bytes.
+fn become_media(body: &mut Body)
+    ensures { is_media_body body.new ≡ true }
+{
+    match body {
+        Body::Media { .. } => {}
+        _ => {
+            *body = Body::Media {
+                number: Seq31::ZERO,
+                message: Msg26::first(),
+                again: false,
+                payload: Payload::new(),
+            };
+        }
     }
 }
 
-/// A data packet.
-pub fn media(out: Out, caller: u32) -> Packet
-    requires { 0 < length out.payload.items }
-    ensures text { (initial time : ℕ) (d : Due) → told_by out ≡ told initial d → text result ≡ says caller initial time (Media d.number d.again d.origin d.payload) }
-    ensures writable { IsWritable result.body }
+/// Writes what is due into a data packet's body, its bytes over those that stood there. Answers when these
+/// were queued.
+fn fill(body: &mut Body, buffer: &mut SendBuf, window: u32) -> Option<u64>
+    requires { is_media_body body.old ≡ true }
+    ensures stands { (width initial : ℕ) (r : Sending) → StandsFor width initial buffer.old r → StandsFor width initial buffer.new (after_due window r) }
+    ensures answer { (width initial : ℕ) (r : Sending) → StandsFor width initial buffer.old r → All (λ q. 0 < length q.payload) r.queue → option_map (told_in body.new) result ≡ option_map (told initial) (due window r) }
+    ensures media { is_media_body body.new ≡ true }
+    ensures writable { IfSome result (λ origin. IsWritable body.new) }
 {
-    Packet {
-        stamp: stamp(out.origin),
-        dest: caller,
-        body: Body::Media {
-            number: out.number,
-            message: out.msg,
-            again: out.again,
-            payload: out.payload,
-        },
+    match body {
+        Body::Media {
+            number,
+            message,
+            again,
+            payload,
+        } => {
+            let out = buffer.next_due(window, payload)?;
+            *number = out.number;
+            *message = out.msg;
+            *again = out.again;
+            if payload.len() == 0 {
+                return None;
+            }
+            Some(out.origin)
+        }
+        _ => None,
     }
+}
+
+/// The data packet that is due. Its bytes are written once, into the packet, where that was a data packet
+/// of the same length before.
+pub fn media(packet: &mut Packet, buffer: &mut SendBuf, window: u32, caller: u32) -> bool
+    ensures stands { (width initial : ℕ) (r : Sending) → StandsFor width initial buffer.old r → StandsFor width initial buffer.new (after_due window r) }
+    ensures answer { (width initial time : ℕ) (r : Sending) → StandsFor width initial buffer.old r → All (λ q. 0 < length q.payload) r.queue → texts (given result packet.new) ≡ map (λ d. says caller initial time (Media d.number d.again d.origin d.payload)) (option_to_list (due window r)) }
+    ensures writable { result ≡ true → IsWritable packet.new.body }
+    ensures kept { result ≡ false → IsWritable packet.old.body → IsWritable packet.new.body }
+{
+    if !buffer.is_due(window) {
+        return false;
+    }
+    become_media(&mut packet.body);
+    let Some(origin) = fill(&mut packet.body, buffer, window) else {
+        // Never so: a packet is due, and no payload that was fed is empty.
+        packet.body = Body::KeepAlive;
+        return false;
+    };
+    packet.stamp = stamp(origin);
+    packet.dest = caller;
+    true
 }

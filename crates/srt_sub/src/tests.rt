@@ -4,7 +4,7 @@ ghost use Rattle.std.specs.Prelude.{◌^◌, ◌<◌};
 ghost use Rattle.srt_packet.specs.Text.{IsWritable};
 
 use crate::{Subscriber, Took};
-use srt_packet::{Packet, decode, encode};
+use srt_packet::{Body, Packet, decode, encode};
 use srt_seq::{MOMENT_END, Mode, Payload, Seq31};
 use std::alloc::Global;
 use std::test::Fail;
@@ -50,6 +50,15 @@ fn payload(bytes: usize) -> Payload {
     payload
 }
 
+/// A place for what is sent.
+fn blank() -> Packet {
+    Packet {
+        stamp: 0,
+        dest: 0,
+        body: Body::KeepAlive,
+    }
+}
+
 fn sends(alloc: Global, packet: &Packet, answer: Answer) -> Result<bool, Fail>
     requires { IsWritable packet.now.body }
 {
@@ -67,6 +76,7 @@ fn sends(alloc: Global, packet: &Packet, answer: Answer) -> Result<bool, Fail>
 fn hears(
     alloc: Global,
     session: &mut Subscriber,
+    place: &mut Packet,
     text: &str,
     now: u64,
     answer: Answer,
@@ -77,18 +87,18 @@ fn hears(
     let Ok(packet) = decode(&bytes) else {
         return Err(Fail::from("a packet"));
     };
-    match session.datagram(&packet, now) {
+    match session.datagram(&packet, now, place) {
         Took::Nothing => Ok(matches!(answer, Answer::Nothing)),
-        Took::Answer(packet) => sends(alloc, &packet, answer),
+        Took::Answer => sends(alloc, place, answer),
         Took::Ended => Ok(matches!(answer, Answer::Ends)),
     }
 }
 
-fn drained(session: &mut Subscriber, now: u64) -> u32
+fn drained(session: &mut Subscriber, place: &mut Packet, now: u64) -> u32
     requires { now < 2 ^ 62 }
 {
     for count in 0..100 {
-        if session.emit(now).is_none() {
+        if !session.emit(now, place) {
             return count;
         }
     }
@@ -98,6 +108,7 @@ fn drained(session: &mut Subscriber, now: u64) -> u32
 fn agrees(
     alloc: Global,
     session: &mut Subscriber,
+    place: &mut Packet,
     now: u64,
     step: Step,
     answer: Answer,
@@ -120,11 +131,14 @@ fn agrees(
                 _ => Ok(false),
             }
         }
-        Step::Hear(text) => hears(alloc, session, text, now, answer),
-        Step::Emit => match session.emit(now) {
-            Some(packet) => sends(alloc, &packet, answer),
-            None => Ok(matches!(answer, Answer::Nothing)),
-        },
+        Step::Hear(text) => hears(alloc, session, place, text, now, answer),
+        Step::Emit => {
+            if session.emit(now, place) {
+                sends(alloc, place, answer)
+            } else {
+                Ok(matches!(answer, Answer::Nothing))
+            }
+        }
         Step::Expire => {
             session.expire(now);
             Ok(true)
@@ -137,7 +151,7 @@ fn agrees(
             }
         }
         Step::Drain => {
-            let given = drained(session, now);
+            let given = drained(session, place, now);
             match answer {
                 Answer::Count(count) => Ok(given == count),
                 _ => Ok(false),
@@ -149,9 +163,10 @@ fn agrees(
 /// The first row, each a moment, a step and its answer, that a session of width 128 answers otherwise.
 fn other(alloc: Global, rows: &[(u64, Step, Answer)]) -> Result<Option<usize>, Fail> {
     let mut session = Subscriber::open(alloc, 128)?;
+    let mut place = blank();
     for at in 0..rows.len() {
         let (now, step, answer) = rows[at];
-        if now >= MOMENT_END || !agrees(alloc, &mut session, now, step, answer)? {
+        if now >= MOMENT_END || !agrees(alloc, &mut session, &mut place, now, step, answer)? {
             return Ok(Some(at));
         }
     }
@@ -397,6 +412,7 @@ fn hostile_loss_lists(rt: HostRuntime) -> Result<(), Fail> {
 #[test]
 fn many_packets(rt: HostRuntime) -> Result<(), Fail> {
     let mut session = Subscriber::open(rt.alloc(), 128)?;
+    let mut place = blank();
     session.start(1_000_000, number(9)?, 2, 120_000, Mode::Live, 76, 100);
     // With all its headers a packet has at most 76 bytes.
     assert!(rt; !session.feed(&payload(33), 1_000_000));
@@ -404,9 +420,9 @@ fn many_packets(rt: HostRuntime) -> Result<(), Fail> {
         assert!(rt; session.feed(&payload(32), 1_000_000));
     }
     assert_eq!(rt; session.room(), 58);
-    assert_eq!(rt; drained(&mut session, 1_000_000), 64);
-    assert_eq!(rt; drained(&mut session, 1_000_000), 6);
-    assert_eq!(rt; drained(&mut session, 1_000_000), 0);
+    assert_eq!(rt; drained(&mut session, &mut place, 1_000_000), 64);
+    assert_eq!(rt; drained(&mut session, &mut place, 1_000_000), 6);
+    assert_eq!(rt; drained(&mut session, &mut place, 1_000_000), 0);
     let rows = [
         (
             Step::Hear("800300000000000000000000001000008000000900000060"),
@@ -421,7 +437,14 @@ fn many_packets(rt: HostRuntime) -> Result<(), Fail> {
     for at in 0..rows.len() {
         let (step, answer) = rows[at];
         assert!(rt;
-            agrees(rt.alloc(), &mut session, 1_000_001, step, answer)?,
+            agrees(
+                rt.alloc(),
+                &mut session,
+                &mut place,
+                1_000_001,
+                step,
+                answer
+            )?,
             "{at}"
         );
     }

@@ -4,7 +4,7 @@ ghost use Rattle.std.specs.Prelude.{◌≤◌};
 
 use crate::tests::plain::{Plain, wire};
 use crate::{Put, RecvBuf};
-use srt_seq::Seq31;
+use srt_seq::{Payload, Seq31};
 use std::alloc::{AllocError, Global};
 use std::test::Fail;
 
@@ -123,9 +123,11 @@ impl Both {
             return true;
         }
         let room = self.dice.below(4);
-        let byte = match self.ours.advance(u64::from(self.now), room) {
-            Some(payload) => payload.first().copied(),
-            None => None,
+        let mut payload = Payload::new();
+        let byte = if self.ours.advance(u64::from(self.now), room, &mut payload) {
+            payload.first().copied()
+        } else {
+            None
         };
         byte == self.plain.advance(i64::from(self.now), room)
     }

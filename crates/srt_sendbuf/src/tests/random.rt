@@ -45,11 +45,13 @@ struct Both {
     now: u32,
     before: i64,
     ours: SendBuf,
+    /// Where what is due is written.
+    payload: Payload,
     plain: Plain,
 }
 
-fn due_of(out: &Out) -> Option<Due> {
-    let byte = *out.payload.first()?;
+fn due_of(out: Out, payload: &Payload) -> Option<Due> {
+    let byte = *payload.first()?;
     Some(Due {
         number: out.number,
         message: u64::from(out.msg.get()),
@@ -92,6 +94,7 @@ impl Both {
             now: 0,
             before: -8,
             ours: SendBuf::open(alloc, width)?,
+            payload: Payload::new(),
             plain: Plain::new(alloc, width, 0),
         })
     }
@@ -171,11 +174,12 @@ impl Both {
 
     fn send(&mut self) -> bool {
         let window = self.dice.below(self.width.wrapping_add(8));
-        let ours = match self.ours.next_due(window) {
-            Some(out) => due_of(&out),
+        let is_due = self.ours.is_due(window);
+        let ours = match self.ours.next_due(window, &mut self.payload) {
+            Some(out) => due_of(out, &self.payload),
             None => None,
         };
-        ours == self.plain.next_due(u64::from(window))
+        is_due == ours.is_some() && ours == self.plain.next_due(u64::from(window))
     }
 
     fn send_some(&mut self) -> bool {

@@ -1,7 +1,6 @@
 use Rattle.std.proofs.Common.{◌+◌, List, map}
 use Rattle.srt_hub.specs.World.{Event}
-use Rattle.srt_hub.specs.Queued.{item_in}
-use Rattle.srt_route.specs.Written.{written}
+use Rattle.srt_hub.specs.Queued.{item_in, reply_in}
 use Rattle.srt_hub.specs.Stands.{IsLane}
 use Rattle.srt_hub.specs.Hubs.{AreLanes, IsHub, names}
 use Rattle.srt_gateway.proofs.Replays.{started, goes_on, stops, no_more, ends_at_read}
@@ -21,7 +20,7 @@ returns-in-Ok-false g c secret entries h =
 pub returns-in-Err : goal.returns-in-Err
 returns-in-Err g c secret entries h =
     stops (g.L.Lobby.class secret (names entries)) g.R.RouteStep.reply entries _
-    (λ (events : List Event). IsHub (g.L.Lobby.knows c.answer_next.new.hub.lobby secret (names entries)) (AreLanes (λ lane e r m. IsLane e (λ items. g.R.RouteStep.stands lane.route e r items) (g.R.RouteStep.waiting lane.route) (map item_in lane.inbox.items) (map written lane.outbox.items) lane.inbox_room lane.outbox_room m) (g.L.Lobby.class secret (names entries)) g.R.RouteStep.reply entries c.answer_next.new.hub.lanes.items events))
+    (λ (events : List Event). IsHub (g.L.Lobby.knows c.answer_next.new.hub.lobby secret (names entries)) (AreLanes (λ lane e r m. IsLane e (λ items. g.R.RouteStep.stands lane.route e r items) (g.R.RouteStep.waiting lane.route) (map item_in lane.inbox.items) (map reply_in lane.outbox.items) lane.inbox_room lane.outbox_room m) (g.L.Lobby.class secret (names entries)) g.R.RouteStep.reply entries c.answer_next.new.hub.lanes.items events))
     (g.B.Read.remaining c.args.reader.now) (g.W.Write.contents c.args.writer.now) (g.B.Read.remaining c.loop-before.reader) (g.W.Write.contents c.loop-before.writer) (g.B.Read.remaining c.answer_next.new.reader) (g.W.Write.contents c.answer_next.new.writer) (c.loop-before.before + 1) c.in-Err.fault (c.loop-before.invariant secret entries h)
     (λ past s. c.in-Err.ensures secret entries past s)
 

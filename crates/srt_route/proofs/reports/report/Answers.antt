@@ -4,6 +4,7 @@ use Rattle.srt_route.specs.Sessions.{Session, is_publisher, is_subscriber}
 use Rattle.srt_route.specs.Route.{Reply as Answer, packets_where, sent}
 use Rattle.srt_route.specs.Media.{IsBody}
 use Rattle.srt_route.specs.Delivery.{changed, after_publisher}
+use Rattle.srt_route.specs.Waits.{replies_of}
 use Rattle.srt_route.proofs.Saying.{said_then, same_said, all_reported, same_packets}
 use Rattle.srt_route.proofs.reports.report.Goals as goal
 
@@ -21,5 +22,5 @@ returns-clause-said c e index ss body =
     let publishers = packets_where e c.args.clock is_publisher ss in
     let subscribers = packets_where e c.args.clock is_subscriber ss in
     same_said (sym (map-append sent publishers subscribers))
-    (said_then c.args.waiting.now.items c.report_publisher.new.waiting.items c.report_subscribers.new.waiting.items _ _ _ (map sent publishers) (map sent subscribers) one
+    (said_then (replies_of c.args.waiting.now) (replies_of c.report_publisher.new.waiting) (replies_of c.report_subscribers.new.waiting) _ _ _ (map sent publishers) (map sent subscribers) one
     (same_said (ap (λ (rs : List Answer). map sent rs) (same_packets e index c.args.clock c.args.table.now c.args.media.now ss body)) two))

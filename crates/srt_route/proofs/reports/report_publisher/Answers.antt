@@ -6,6 +6,7 @@ use Rattle.srt_seq.specs.declared.shared.Peer.{Peer}
 use Rattle.srt_pub.specs.Publishing as publishing
 use Rattle.srt_pub.specs.Says as publisher_text
 use Rattle.srt_route.specs.Media.{IsBody, datagrams_to}
+use Rattle.srt_route.specs.Waits.{replies_of}
 use Rattle.srt_route.proofs.Passing.{publisher_is}
 use Rattle.srt_route.proofs.Delivered.{some_publisher}
 use Rattle.srt_route.proofs.Saying.{nothing_said, same_said, publisher_packets, publisher_gone, no_publisher_gone, no_publisher_says, not_vacant, peer_is}
@@ -19,7 +20,7 @@ returns-in_default-clause-body c e index ss body =
 pub returns-in_default-clause-said : goal.returns-in_default-clause-said
 returns-in_default-clause-said c e index ss body =
     let none = ap (position has_publisher) (sym c.deref.ensures.value) ∙ (sym c.publisher_place.ensures ∙ c.in_default.is) in
-    same_said (sym (no_publisher_says e index c.args.clock c.args.table.now c.args.media.now ss body none)) (nothing_said c.args.waiting.now.items _)
+    same_said (sym (no_publisher_says e index c.args.clock c.args.table.now c.args.media.now ss body none)) (nothing_said (replies_of c.args.waiting.now) _)
 
 pub returns-in_default-session-clause-body : goal.returns-in_default-session-clause-body
 returns-in_default-session-clause-body c e index ss body =

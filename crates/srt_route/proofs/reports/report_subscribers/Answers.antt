@@ -1,8 +1,8 @@
 use Rattle.std.proofs.Common.{◌≡◌, ◌<◌, ℕ, ◌-◌, ◌+◌, ◌++◌, ◌∙◌, [], sym, ap, subst, append-nil, arith}
 use Rattle.std.specs.Option.{IsSome}
-use Rattle.std.specs.VecDeque.{deque_capacity}
 use Rattle.srt_route.specs.Sessions.{is_subscriber}
 use Rattle.srt_route.specs.Delivery.{changed, after_subscriber}
+use Rattle.srt_route.specs.Waits.{replies_of, places_of}
 use Rattle.srt_route.proofs.Places.{half_begins, half_ends}
 use Rattle.srt_route.proofs.Feeding.{not_there}
 use Rattle.srt_route.proofs.Saying.{nothing_said, same_said, said_from, IsTold, tell_step}
@@ -15,7 +15,7 @@ loop-at-init c e index ss body =
     record {
       half = half_begins e c.args.clock (changed (after_subscriber e c.args.clock)) c.args.media.now ss body.media_is;
       told = [];
-      said = nothing_said c.args.waiting.now.items _;
+      said = nothing_said (replies_of c.args.waiting.now) _;
       whole = ap (λ (n : ℕ). said_from e c.args.clock is_subscriber ss 0 n) all;
     }
 
@@ -25,8 +25,8 @@ loop-at-preserved c e index ss body =
     let below : c.loop-at.at < e.sessions = omega (arith, c.loop-at-test.true, c.len-at-end.ensures, body.table_is.stored.places_are) in
     elim c.match-get_mut.branch [
       | in-Some w ↦
-          subst (λ (v : _). IsTold e c.args.clock (c.loop-at.at + 1) c.match-get_mut.media ss c.args.waiting.now.items v.items (deque_capacity c.args.waiting.now) (deque_capacity v)) (sym w.waiting-is)
-          (tell_step e index c.args.clock c.args.table.now c.args.media.now c.loop-at.media c.match-get_mut.media ss c.loop-at.at w.index.result.now w.in-Some.subscriber.now w.report_place.new.subscriber c.args.waiting.now.items c.loop-at.waiting.items w.report_place.new.waiting.items _ _ _
+          subst (λ (v : _). IsTold e c.args.clock (c.loop-at.at + 1) c.match-get_mut.media ss (replies_of c.args.waiting.now) (replies_of v) (places_of c.args.waiting.now) (places_of v)) (sym w.waiting-is)
+          (tell_step e index c.args.clock c.args.table.now c.args.media.now c.loop-at.media c.match-get_mut.media ss c.loop-at.at w.index.result.now w.in-Some.subscriber.now w.report_place.new.subscriber (replies_of c.args.waiting.now) (replies_of c.loop-at.waiting) (replies_of w.report_place.new.waiting) _ _ _
           body below w.index.ensures w.in-Some.ensures.value w.report_place.ensures.none w.report_place.ensures.stands w.report_place.ensures.silent w.report_place.ensures.said w.media-is h)
       | in_default w ↦
           let there : IsSome c.get_mut.result = c.get_mut.ensures.variant.1 (omega (arith, below, h.half.as_many, c.loop-at.media.subscribers.ok.0)) in

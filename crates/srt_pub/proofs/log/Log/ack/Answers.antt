@@ -1,31 +1,30 @@
-use Rattle.std.proofs.Common.{length, ap, sym, subst, ◌∙◌}
+use Rattle.std.proofs.Common.{Bool, length, ap, sym, subst, ◌∙◌}
 use Rattle.srt_rtt.specs.RoundTrip as times
-use Rattle.srt_packet.specs.declared.writing.Body.{Body}
-use Rattle.std.specs.Prelude.{Option}
+use Rattle.srt_seq.specs.Given.{given}
 use Rattle.srt_pub.specs.Calls.{listed}
 use Rattle.srt_pub.proofs.Logs.{after_acks}
 use Rattle.srt_pub.proofs.log.Log.ack.Goals as goal
 
-pub returns-in_err-body-clause-stands : goal.returns-in_err-body-clause-stands
-returns-in_err-body-clause-stands c width position a seen notes is h =
+pub returns-then-report-clause-stands : goal.returns-then-report-clause-stands
+returns-then-report-clause-stands c width position a seen notes is h =
     let k = after_acks width a c.args.available c.args.time notes in
-    let none = sym (c.report.ensures.count width position a notes is h.acks) ∙ ap (λ (o : Option Body). length (listed o)) c.in_err-body.was in
+    let one = sym (c.report.ensures.count width position a notes is h.acks) ∙ ap (λ (b : Bool). length (listed (given b c.report.new.body))) c.if-report.true in
     record {
       acks = c.report.ensures.stands width position a notes h.times is h.acks;
       times = subst (times.StandsFor c.args.self.now.rtt) (sym k.samples_are) h.times;
       nak_is = h.nak_is ∙ sym k.nak_is;
-      sent_is = h.sent_is ∙ sym (k.nothing none);
+      sent_is = sym (k.something one);
       seen_is = h.seen_is;
     }
 
 pub returns-clause-stands : goal.returns-clause-stands
 returns-clause-stands c width position a seen notes is h =
     let k = after_acks width a c.args.available c.args.time notes in
-    let one = sym (c.report.ensures.count width position a notes is h.acks) ∙ ap (λ (o : Option Body). length (listed o)) c.in_ok-body.was in
+    let none = sym (c.report.ensures.count width position a notes is h.acks) ∙ ap (λ (b : Bool). length (listed (given b c.report.new.body))) c.if-report.false in
     record {
       acks = c.report.ensures.stands width position a notes h.times is h.acks;
       times = subst (times.StandsFor c.args.self.now.rtt) (sym k.samples_are) h.times;
       nak_is = h.nak_is ∙ sym k.nak_is;
-      sent_is = sym (k.something one);
+      sent_is = h.sent_is ∙ sym (k.nothing none);
       seen_is = h.seen_is;
     }

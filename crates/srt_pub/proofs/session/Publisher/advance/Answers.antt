@@ -17,14 +17,14 @@ returns-clause-stands c terms initial opening stamp caller time m n h =
     let width = terms.width in
     let o = next_due time c.args.room r in
     let k = after_one terms.mode width time c.args.room r o refl h.narrow (end_within width r (beyond width initial opening c.args.self.now.buffer r h.buffer)) h.orderly in
-    let all = c.follow.ensures.stands terms initial opening stamp caller m (after_next width o r) (c.front-front.ensures width initial opening r h.buffer) (c.ack_point-point.ensures width initial opening r h.buffer) (record { agreed = h.agreed; buffer = c.advance-payload.ensures.stands width initial opening time r n h.buffer; log = h.log; orderly = k.orderly; seen = h.seen; narrow = h.narrow; goes_on = k.goes_on }) in
+    let all = c.follow.ensures.stands terms initial opening stamp caller m (after_next width o r) (c.front-front.ensures width initial opening r h.buffer) (c.ack_point-point.ensures width initial opening r h.buffer) (record { agreed = h.agreed; buffer = c.advance-is_due.ensures.stands width initial opening time r n h.buffer; log = h.log; orderly = k.orderly; seen = h.seen; narrow = h.narrow; goes_on = k.goes_on }) in
     subst (λ (x : Publishing). StandsFor terms initial opening stamp caller c.follow.new.self x) (same_delivery terms m o) all
 
 pub returns-clause-payload : goal.returns-clause-payload
-returns-clause-payload c terms initial opening stamp caller time m n h = c.advance-payload.ensures.answer terms.width initial opening time m.receiving n h.buffer
+returns-clause-payload c terms initial opening stamp caller time m n h = c.advance-is_due.ensures.answer terms.width initial opening time m.receiving n h.buffer
 
 pub returns-clause-some : goal.returns-clause-some
 returns-clause-some c terms initial opening stamp caller m late h =
     let time = c.args.now - opening in
     let n : c.args.now ≡ opening + time = omega (arith, late) in
-    given_some time c.args.room m.receiving c.advance-payload.result h.orderly.filled (c.advance-payload.ensures.answer terms.width initial opening time m.receiving n h.buffer)
+    given_some time c.args.room m.receiving c.advance-is_due.result c.advance-is_due.new.payload.items h.orderly.filled (c.advance-is_due.ensures.answer terms.width initial opening time m.receiving n h.buffer)

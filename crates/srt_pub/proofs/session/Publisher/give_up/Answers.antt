@@ -1,5 +1,5 @@
 use Rattle.srt_pub.proofs.session.Publisher.give_up.Goals as goal
-use Rattle.std.proofs.Common.{◌≡◌, ℕ, ◌^◌, ◌≤◌, cond, Bool, inr, ap, sym, subst, arith}
+use Rattle.std.proofs.Common.{ℕ, ◌^◌, ◌≤◌, cond, Bool, inr, sym, subst, arith}
 use Rattle.std.proofs.lemmas.Bool.{le-ltb}
 use Rattle.srt_seq.specs.Window.{word_of, counted_from, offset_of}
 use Rattle.srt_seq.specs.declared.shared.Mode.{Mode}

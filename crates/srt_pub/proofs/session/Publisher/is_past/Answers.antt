@@ -14,7 +14,7 @@ pub returns : goal.returns
 returns c terms initial opening first caller m h =
     let r = m.receiving in
     let width = terms.width in
-    let w = c.width.ensures terms initial opening first caller m h in
+    let w = c.width.ensures width initial opening r h.buffer in
     let f = c.front.ensures width initial opening r h.buffer in
     let e = c.add-end.ensures.number (initial + r.position) (sym f) in
     let end : word_of c.add-end.result ≡ (initial + (r.position + width)) % 2 ^ 31 = omega (arith, e, w) in

@@ -16,4 +16,4 @@ returns-then-is_silent-clause-stands c terms initial opening stamp caller m h =
 pub returns-then-is_silent-clause-bytes : goal.returns-then-is_silent-clause-bytes
 returns-then-is_silent-clause-bytes c terms initial opening stamp caller m h =
     let e : keep_alive_after c.args.ack c.args.nak c.args.time m.notes ≡ KeepAlive ∷ [] = alive_is c.args.ack c.args.nak c.args.time m.notes c.if-ack.false c.if-nak.false (sym (c.is_silent.ensures _ _ _ _ m.notes h.log) ∙ c.if-is_silent.true) in
-    ap (λ (x : List ℕ). x ∷ []) (c.packet.ensures.bytes caller h.agreed.caller_is ∙ keep_alive_bytes caller initial c.args.time) ∙ sym (ap (map (says caller initial c.args.time)) e)
+    ap (λ (x : List ℕ). x ∷ []) (c.address.ensures.bytes caller h.agreed.caller_is ∙ keep_alive_bytes caller initial c.args.time) ∙ sym (ap (map (says caller initial c.args.time)) e)

@@ -40,10 +40,10 @@ returns-clause-bytes c terms initial opening stamp caller m h =
     let said = c.runs-runs.ensures terms initial opening stamp caller m h in
     let some = some_some initial c.runs-runs.result.items rs said (some_items c.runs-runs.result.items (sym c.is_empty.ensures ∙ c.if-is_empty.false)) in
     let e : naks terms c.args.time m ≡ nak_report all rs ∷ [] = naks_by terms c.args.time m all (c.is_nak_due-all.ensures _ _ _ _ m.notes h.log) ∙ nak_some all rs some in
-    ap (λ (x : List ℕ). x ∷ []) (c.packet.ensures.bytes caller h.agreed.caller_is ∙ nak_bytes all caller initial c.args.time c.write.result rs (c.write.ensures.value ∙ same_losses initial c.runs-runs.result.items rs said))
+    ap (λ (x : List ℕ). x ∷ []) (c.address.ensures.bytes caller h.agreed.caller_is ∙ nak_bytes all caller initial c.args.time c.write.result rs (c.write.ensures.value ∙ same_losses initial c.runs-runs.result.items rs said))
     ∙ sym (ap (map (says caller initial c.args.time)) e)
 
 pub returns-clause-writable : goal.returns-clause-writable
-returns-clause-writable c =
+returns-clause-writable c e =
     let words : 0 < length c.write.result.items = subst (λ (xs : List ℕ). 0 < length xs) (sym c.write.ensures.value) (pairs_have_words c.runs-runs.result.items (some_items c.runs-runs.result.items (sym c.is_empty.ensures ∙ c.if-is_empty.false))) in
-    subst (λ (b : Body). IsWritable b) (sym c.packet.ensures.body) words
+    subst (λ (b : Body). IsWritable b) (sym c.address.ensures.body) words

@@ -1,4 +1,4 @@
-use Rattle.std.proofs.Common.{◌+◌, length, refl, ap, ◌∙◌, arith}
+use Rattle.std.proofs.Common.{length, refl, ap, ◌∙◌, arith}
 use Rattle.srt_recvbuf.specs.Cells.{cell_in}
 use Rattle.srt_recvbuf.proofs.Places.{moved_on}
 use Rattle.srt_recvbuf.proofs.window.Window.slide.Goals as goal

@@ -1,6 +1,7 @@
 use Rattle.std.proofs.Common.{◌≡◌, ◌∙◌, ◌%◌, true, false, refl, sym, ap, arith}
 use Rattle.srt_packet.specs.View.{packet_of}
 use Rattle.srt_route.specs.declared.slots.Slot.{Slot}
+use Rattle.srt_seq.specs.Given.{given}
 use Rattle.srt_route.specs.Tables.{is_stored_for, session_passes, has_publisher, written_of}
 use Rattle.srt_route.proofs.Stored.{for_none_beyond, for_none_stored, for_one, same_read}
 use Rattle.srt_route.proofs.Taking.{none_arrived, publisher_arrived, subscriber_arrived, stored_role}
@@ -34,4 +35,4 @@ returns c e index sessions h =
     let same_too : c.index-2.result.now ≡ slot = same_read c.args.self.now.slots.items (packet.dest % 256) c.index-2.result.now slot (omega (arith, c.if-at-len.false, c.len.ensures)) c.index-2.ensures c.index_mut-2.ensures.value in
     let here = for_one e index c.args.self.now.slots.items sessions c.args.peer packet.dest (packet.dest % 256) slot h.table_is.stored c.args.self.now.few refl (omega (arith, c.if-at-len.false, c.len.ensures)) c.index_mut-2.ensures.value (ap (λ (x : Slot). session_passes (is_stored_for c.args.peer packet.dest) x.session) (sym same) ∙ (sym c.is_for.ensures ∙ c.if-not-is_for.false)) in
     let role = stored_role e index c.args.self.now.slots.items sessions c.args.peer packet.dest (packet.dest % 256) slot here.0 here.1 false here.2 (ap has_publisher (sym same_too) ∙ (sym c.has_publisher.ensures ∙ c.if-has_publisher.false)) in
-    subscriber_arrived e index c.args.clock c.args.peer packet c.args.self.now _ c.args.media.now _ sessions (packet.dest % 256) slot c.hear_subscriber.new.slot c.index_mut-3.result.now c.hear_subscriber.new.subscriber (written_of c.hear_subscriber.result) here.0 here.1 h c.index_mut-2.ensures.value c.index_mut-3.ensures.value here.2 role c.hear_subscriber.ensures.subscriber c.hear_subscriber.ensures.slot c.hear_subscriber.ensures.answer refl refl refl refl refl refl refl
+    subscriber_arrived e index c.args.clock c.args.peer packet c.args.self.now _ c.args.media.now _ sessions (packet.dest % 256) slot c.hear_subscriber.new.slot c.index_mut-3.result.now c.hear_subscriber.new.subscriber (written_of (given c.hear_subscriber.result c.hear_subscriber.new.reply)) here.0 here.1 h c.index_mut-2.ensures.value c.index_mut-3.ensures.value here.2 role c.hear_subscriber.ensures.subscriber c.hear_subscriber.ensures.slot c.hear_subscriber.ensures.answer refl refl refl refl refl refl refl

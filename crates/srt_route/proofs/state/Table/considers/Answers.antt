@@ -15,7 +15,7 @@ pub returns-in_default-free_place : goal.returns-in_default-free_place
 returns-in_default-free_place c e index sessions h none =
     let reason = reason_is e index c.args.self.now.slots.items sessions c.args.self.now.mode c.have_publisher.result c.args.c c.refused.result h.table_is.stored h.table_is.mode_is (c.have_publisher.ensures ∙ ap (list_any has_publisher) c.deref.ensures.value) c.refused.ensures in
     let full = none_free e index c.args.self.now.slots.items sessions (record { generation = 0; session = None }) h.table_is.stored (ap (position is_vacant) (sym c.deref-2.ensures.value) ∙ (sym c.free_place.ensures ∙ c.in_default-free_place.is)) in
-    full_taken e index c.args.clock c.args.peer c.args.stamp c.args.c sessions c.args.self.now c.args.media.now _ _ c.refusal-in_default-free_place.result h (reason ∙ c.in_default.is) full (c.refusal-in_default-free_place.ensures c.args.c refl) c.answer_to-in_default-free_place.ensures
+    full_taken e index c.args.clock c.args.peer c.args.stamp c.args.c sessions c.args.self.now c.args.media.now _ _ c.refusal-full.result h (reason ∙ c.in_default.is) full (c.refusal-full.ensures c.args.c refl) c.answer_to-in_default-free_place.ensures
 
 pub returns : goal.returns
 returns c e index sessions h none =

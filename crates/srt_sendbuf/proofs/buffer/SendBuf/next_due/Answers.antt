@@ -1,4 +1,4 @@
-use Rattle.std.proofs.Common.{◌≡◌, ℕ, ◌+◌, ◌<◌, Bool, Option, sym, ap, subst, ◌∙◌, arith}
+use Rattle.std.proofs.Common.{ℕ, ◌<◌, Bool, Option, sym, ap, subst, ◌∙◌, arith}
 use Rattle.std.specs.Prelude.{option_map}
 use Rattle.srt_sendbuf.specs.Sending.{sent_number, due_at}
 use Rattle.srt_sendbuf.specs.Places.{length_of}
@@ -18,7 +18,7 @@ pub returns-then-self-clause-answer : goal.returns-then-self-clause-answer
 returns-then-self-clause-answer c width initial r h =
     let s = c.args.self.now in
     let e = due_again c.args.window s.low r (first_lost initial _ _ _ _ _ _ _ _ _ _ r h.fields c.if-self.true s.high_in) in
-    c.out-out.ensures width initial r h ∙ sym (ap (λ (o : Option (ℕ × Bool)). option_map (told initial) (due_at r.queue o)) e)
+    c.out-out.ensures.answer width initial r h ∙ sym (ap (λ (o : Option (ℕ × Bool)). option_map (told initial) (due_at r.queue o)) e)
 
 pub returns-then-self-len-clause-stands : goal.returns-then-self-len-clause-stands
 returns-then-self-len-clause-stands c width initial r h =
@@ -32,7 +32,7 @@ returns-then-self-len-clause-answer c width initial r h =
     let s = c.args.self.now in
     let none = none_lost initial _ _ _ _ _ _ _ _ _ _ r h.fields c.if-self.false in
     let e = due_new c.args.window s.sent (length_of s.ring) r none h.fields.flying_is h.fields.queued_is c.if-self-window.true (omega (arith, c.if-self-len.true, c.len.ensures.value)) in
-    c.out-out-then-self-len.ensures width initial r h ∙ sym (ap (λ (o : Option (ℕ × Bool)). option_map (told initial) (due_at r.queue o)) e)
+    c.out-out-then-self-len.ensures.answer width initial r h ∙ sym (ap (λ (o : Option (ℕ × Bool)). option_map (told initial) (due_at r.queue o)) e)
 
 pub returns-else-self-window-clause-stands : goal.returns-else-self-window-clause-stands
 returns-else-self-window-clause-stands c width initial r h =

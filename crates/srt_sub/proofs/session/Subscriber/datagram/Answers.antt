@@ -1,4 +1,4 @@
-use Rattle.std.proofs.Common.{◌≡◌, ℕ, ◌-◌, sym, ap, subst, ◌∙◌, arith}
+use Rattle.std.proofs.Common.{◌≡◌, ℕ, ◌-◌, refl, sym, ap, subst, ◌∙◌, arith}
 use Rattle.std.specs.Prelude.{map}
 use Rattle.srt_packet.specs.View.{body_of}
 use Rattle.srt_packet.specs.declared.reading.Kind.{Kind}
@@ -77,6 +77,7 @@ returns-in_default c =
       answer = λ terms initial opening caller last m h le.
           let u = unheard initial c.args.packet.now.kind c.in_default.not-Ack c.in_default.not-Nak not_shutdown in
           sym (ap (λ y. map (says caller initial (c.args.now - opening)) (answers y)) u.heard);
-      writable = tt;
+      writable = λ e. absurd cc;
+      kept = λ e. refl;
       ended = (unheard 0 c.args.packet.now.kind c.in_default.not-Ack c.in_default.not-Nak not_shutdown).ends;
     }

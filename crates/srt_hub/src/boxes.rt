@@ -1,0 +1,19 @@
+//! Boxes for replies.
+
+ghost use Rattle.std.specs.Prelude.{◌≡◌, ◌≤◌, length, IfOk};
+ghost use Rattle.std.specs.Vec.{vec_capacity};
+
+use srt_route::Reply;
+use std::alloc::{AllocError, Global};
+
+/// So many boxes to be written, in a stack that has room for them all.
+pub fn blank_boxes(alloc: Global, count: usize) -> Result<Vec<Box<Reply>>, AllocError>
+    ensures count { IfOk result (λ spare. length spare.items ≡ count) }
+    ensures room { IfOk result (λ spare. count ≤ vec_capacity spare) }
+{
+    let mut spare = Vec::with_capacity(alloc, count)?;
+    while spare.len() < count {
+        spare.push(Box::new(alloc, Reply::blank())?)?;
+    }
+    Ok(spare)
+}
