@@ -21,17 +21,17 @@ def below(crates):
     return found
 
 
-def is_there(crate):
-    return os.path.isdir(f"{TOP}/crates/{crate}")
-
-
-def built(room, name, program, needs):
-    """The program's path, after it was proved and built in this empty folder."""
+def built(room, name, program, needs, answers=None):
+    """The program's path, after it was proved and built in this empty folder; `answers` gives the file of each function that has
+    proof answers."""
     found = below(needs)
     for crate in found:
         shutil.copytree(f"{TOP}/crates/{crate}", f"{room}/crates/{crate}")
     os.makedirs(f"{room}/crates/{name}/src")
     shutil.copyfile(program, f"{room}/crates/{name}/src/main.rt")
+    for function, path in (answers or {}).items():
+        os.makedirs(f"{room}/crates/{name}/proofs/{function}")
+        shutil.copyfile(path, f"{room}/crates/{name}/proofs/{function}/Answers.antt")
     with open(f"{room}/crates.txt", "w") as it:
         it.writelines([*found.values(), f"{name}: {' '.join(needs)}\n"])
     shutil.copyfile(f"{TOP}/HANDLES", f"{room}/HANDLES")
@@ -57,9 +57,6 @@ def least(program, count=7):
 
 def compare(title, program, needs):
     """Prints how long each stream takes at each width, and how many times as long as at 32 places."""
-    if not all(map(is_there, needs)):
-        print(f"{title}: not built yet")
-        return
     with tempfile.TemporaryDirectory(prefix="srtgw-bench-") as room:
         took = least(built(room, "bench", program, needs))
     print(f"{title}:")
