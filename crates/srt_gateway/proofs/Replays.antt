@@ -9,9 +9,9 @@ use Rattle.srt_gateway.specs.declared.replaying.ReplayFault.{ReplayFault}
 use Rattle.srt_gateway.specs.declared.replaying.ReplayFault.TheVariants.{Tape, OutOfMemory, Read, Write}
 use Rattle.srt_gateway.specs.Tape.{lines_of}
 use Rattle.srt_gateway.specs.Texts.{event_text}
-use Rattle.srt_gateway.specs.Known.{NoLine, Wrote}
+use Rattle.srt_gateway.specs.Known.{NoLine}
 use Rattle.srt_gateway.specs.Replay.{event_at, events_on, events_from, fault_on, fault_from, text_after, text_of, tape_text, front_text, Replays}
-use Rattle.srt_gateway.specs.Step.{History, NoEvent, TookEvent, Answered, with_past, IsReplaying}
+use Rattle.srt_gateway.specs.Step.{History, NoEvent, Answered, with_past, IsReplaying}
 
 abbrev Known : List ℕ → Option (List ℕ)
 Known xs = Some xs
@@ -130,7 +130,7 @@ whole_lines class reply entries Now r0 w0 r w n h tape before e f =
     let front : take (length a.lines) (lines_of tape) ≡ a.lines = ap (take (length a.lines)) a.lines_are ∙ take-append_seam a.lines (lines_of a.left) in
     (length a.lines, a.writer_is ∙ ap (λ (ls : List (List ℕ)). Known (before ++ text_of class reply entries ls)) (sym front))
 
-pub ends_at_read : (class : Sorting) (reply : Meaning) (entries : List Terms) (Now : History) (r0 w0 r w : Option (List ℕ)) (n : ℕ) → IsReplaying class reply entries Now r0 w0 r w n → Replays class reply entries r0 w0 w (Err Read)
+ends_at_read : (class : Sorting) (reply : Meaning) (entries : List Terms) (Now : History) (r0 w0 r w : Option (List ℕ)) (n : ℕ) → IsReplaying class reply entries Now r0 w0 r w n → Replays class reply entries r0 w0 w (Err Read)
 ends_at_read class reply entries Now r0 w0 r w n h tape before e f = whole_lines class reply entries Now r0 w0 r w n h tape before e f
 
 ends_at_memory : (class : Sorting) (reply : Meaning) (entries : List Terms) (Now : History) (r0 w0 r w : Option (List ℕ)) (n : ℕ) → IsReplaying class reply entries Now r0 w0 r w n → Replays class reply entries r0 w0 w (Err OutOfMemory)

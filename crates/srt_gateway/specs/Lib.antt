@@ -14,4 +14,5 @@ pub mod Pieces
 pub mod Parts
 pub mod Said
 pub mod Known
+pub mod Budget
 pub mod Step

@@ -1,7 +1,8 @@
 //! The configuration: a TOML table.
 
-ghost use Rattle.std.specs.Prelude.{◌≡◌, None, map};
+ghost use Rattle.std.specs.Prelude.{◌≡◌, None, map, true};
 ghost use Rattle.srt_seq.specs.Terms.{terms_of};
+ghost use Rattle.srt_seq.specs.Entries.{is_between};
 ghost use Rattle.srt_lobby.specs.Opening.{fault_of};
 
 mod address;
@@ -28,5 +29,6 @@ pub struct Config {
     pub workers: u32,
     /// Its routes, by their indexes: 1 to 511, with distinct names.
     pub entries: Vec<Entry>,
+    pub ghost served: { is_between 1 16 workers ≡ true },
     pub ghost sound: { fault_of (map terms_of entries.items) ≡ None },
 }

@@ -1,20 +1,18 @@
 //! The lines of a reader, taken by whole pieces.
 
-ghost use Rattle.std.specs.Prelude.{◌≡◌, ◌≢◌, ◌-◌, ◌<◌, ◌≤◌, IfOk, All, take, length};
+ghost use Rattle.std.specs.Prelude.{◌≡◌, ◌+◌, ◌<◌, ◌≤◌, IfOk, take};
 ghost use Rattle.srt_gateway.specs.Known.{TookPiece, TookOne};
+ghost use Rattle.srt_gateway.specs.Budget.{reads_left, LookRead, LineRead};
 
+use crate::budget::{Brought, ReadBudget, look};
 use memchr::memchr;
 use srt_seq::write_at;
-use std::io::{BufRead, Error, ErrorKind};
+use std::io::BufRead;
 
 /// The most bytes of a line.
 pub(crate) const LINE_MAX: usize = 4096;
 
-fn is_interrupted(e: &Error) -> bool {
-    e.kind() == ErrorKind::Interrupted
-}
-
-/// The reader failed.
+/// The reader failed, or may be asked no more.
 #[derive(Clone, Copy)]
 pub(crate) struct ReadFailed;
 
@@ -34,20 +32,23 @@ pub(crate) enum Piece {
 /// Looks once at what the reader has, and puts what belongs to the line behind the bytes that came before.
 fn take_piece<R: BufRead>(
     reader: &mut R,
+    budget: &mut ReadBudget,
     line: &mut [u8; LINE_MAX],
     len: usize,
 ) -> Result<Piece, ReadFailed>
-    requires { len ≤ 4096 }
-    ensures { IfOk result (TookPiece (R.remaining reader.old) (R.remaining reader.new) (take len line.old) line.new) }
+    requires len { len ≤ 4096 }
+    requires left { 0 < reads_left budget.old }
+    ensures spent { reads_left budget.new + 1 ≡ reads_left budget.old }
+    ensures reads { LookRead budget.new result }
+    ensures took { IfOk result (TookPiece (R.remaining reader.old) (R.remaining reader.new) (take len line.old) line.new) }
 {
-    let available = match reader.fill_buf() {
+    let available = match look(reader, budget) {
         Ok(available) => available,
-        Err(e) => {
-            return if is_interrupted(&e) {
-                Ok(Piece::Part(len))
-            } else {
-                Err(ReadFailed)
-            };
+        Err(_) => {
+            if budget.brought() == Brought::Nothing {
+                return Ok(Piece::Part(len));
+            }
+            return Err(ReadFailed);
         }
     };
     match memchr(b'\n', available) {
@@ -85,19 +86,20 @@ pub(crate) enum Taken {
     End,
 }
 
-/// Takes the next line and puts it at the front of the buffer. Each look at the reader lessens the budget;
-/// where it is used up, the reader counts as failed.
+/// Takes the next line and puts it at the front of the buffer. Where the budget of reads is spent, the reader counts as
+/// failed.
 pub(crate) fn next_line<R: BufRead>(
     reader: &mut R,
-    budget: &mut u64,
+    budget: &mut ReadBudget,
     line: &mut [u8; LINE_MAX],
 ) -> Result<Taken, ReadFailed>
-    ensures { IfOk result (TookOne (R.remaining reader.old) (R.remaining reader.new) line.new) }
+    ensures fewer { reads_left budget.new ≤ reads_left budget.old }
+    ensures reads { LineRead budget.new result }
+    ensures took { IfOk result (TookOne (R.remaining reader.old) (R.remaining reader.new) line.new) }
 {
     let mut len = 0;
-    while *budget > 0 {
-        *budget -= 1;
-        match take_piece(reader, line, len)? {
+    while budget.left() > 0 {
+        match take_piece(reader, budget, line, len)? {
             Piece::Part(more) => len = more,
             Piece::Line(whole) => return Ok(Taken::Line(whole)),
             Piece::Long => return Ok(Taken::Long),

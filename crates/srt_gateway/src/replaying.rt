@@ -9,8 +9,10 @@ ghost use Rattle.srt_hub.specs.World.{Event, Arrives, Ticks, Turns, Sends};
 ghost use Rattle.srt_hub.specs.Hubs.{names};
 ghost use Rattle.srt_gateway.specs.Said.{event_said, IsSound};
 ghost use Rattle.srt_gateway.specs.Replay.{Replays};
+ghost use Rattle.srt_gateway.specs.Budget.{reads_left, TurnRead, ReplayRead};
 ghost use Rattle.srt_gateway.specs.Step.{WasAnswered, EventAnswered, LineAnswered, Answered, IsReplaying};
 
+use crate::budget::ReadBudget;
 use crate::config::Config;
 use crate::events::{Said, read_event};
 use crate::lines::{LINE_MAX, Taken, next_line};
@@ -24,7 +26,7 @@ use std::io::{BufRead, Write};
 /// The most lines of a tape.
 pub(crate) const LINES_MAX: u32 = 1_000_000;
 
-/// The most looks at a reader, and the most tries to write one line.
+/// The most tries to write one line.
 pub(crate) const TRIES_MAX: u64 = 1 << 33;
 
 /// Why a replay ended early. What was written before stands.
@@ -34,7 +36,7 @@ pub enum ReplayFault {
     Tape(u32),
     /// The memory was refused.
     OutOfMemory,
-    /// The reader failed, or 2^33 reads brought no end and no fault.
+    /// The reader failed, or its reads are spent: 2^33 of them brought no end and no fault.
     Read,
     /// The writer failed, or took nothing of what was handed to it.
     Write,
@@ -167,11 +169,13 @@ fn answer_next<R: RouteStep, L: Lobby, B: BufRead, W: Write>(
     hub: &mut Hub<R, L>,
     reader: &mut B,
     writer: &mut W,
-    budget: &mut u64,
+    budget: &mut ReadBudget,
     buffers: &mut Buffers,
     number: u32,
 ) -> Result<bool, ReplayFault>
-    ensures { (secret : List ℕ) (entries : List Terms) (past : List Event) → ⟦<Hub<R, L> as Gateway>⟧.stands hub.old secret entries past → Answered (L.class secret (names entries)) R.reply entries past (⟦<Hub<R, L> as Gateway>⟧.stands hub.new secret entries) (B.remaining reader.old) (B.remaining reader.new) (W.contents writer.old) (W.contents writer.new) number result }
+    ensures fewer { reads_left budget.new ≤ reads_left budget.old }
+    ensures reads { TurnRead number budget.new result }
+    ensures answered { (secret : List ℕ) (entries : List Terms) (past : List Event) → ⟦<Hub<R, L> as Gateway>⟧.stands hub.old secret entries past → Answered (L.class secret (names entries)) R.reply entries past (⟦<Hub<R, L> as Gateway>⟧.stands hub.new secret entries) (B.remaining reader.old) (B.remaining reader.new) (W.contents writer.old) (W.contents writer.new) number result }
 {
     let len = match next_line(reader, budget, &mut buffers.line) {
         Ok(Taken::Line(len)) => len,
@@ -206,10 +210,12 @@ fn answer_lines<R: RouteStep, L: Lobby, B: BufRead, W: Write>(
     hub: &mut Hub<R, L>,
     reader: &mut B,
     writer: &mut W,
+    budget: &mut ReadBudget,
 ) -> Result<(), ReplayFault>
-    ensures { (secret : List ℕ) (entries : List Terms) → ⟦<Hub<R, L> as Gateway>⟧.stands hub.old secret entries [] → Replays (L.class secret (names entries)) R.reply entries (B.remaining reader.old) (W.contents writer.old) (W.contents writer.new) result }
+    ensures fewer { reads_left budget.new ≤ reads_left budget.old }
+    ensures reads { ReplayRead budget.new result }
+    ensures replays { (secret : List ℕ) (entries : List Terms) → ⟦<Hub<R, L> as Gateway>⟧.stands hub.old secret entries [] → Replays (L.class secret (names entries)) R.reply entries (B.remaining reader.old) (W.contents writer.old) (W.contents writer.new) result }
 {
-    let mut budget = TRIES_MAX;
     let mut buffers = Buffers {
         line: [0; LINE_MAX],
         datagram: [0; 2048],
@@ -217,37 +223,33 @@ fn answer_lines<R: RouteStep, L: Lobby, B: BufRead, W: Write>(
         text: [0; TEXT_MAX],
     };
     for before in 0..LINES_MAX + 1 {
-        match answer_next(
-            alloc,
-            hub,
-            reader,
-            writer,
-            &mut budget,
-            &mut buffers,
-            before + 1,
-        ) {
+        match answer_next(alloc, hub, reader, writer, budget, &mut buffers, before + 1) {
             Ok(true) => {}
             Ok(false) => return Ok(()),
             Err(fault) => return Err(fault),
         }
     }
-    // The line after the last that a tape may have is a fault, so this isn't reached.
-    Err(ReplayFault::Read)
+    // The line after the last that a tape may have is a fault.
+    unreachable!()
 }
 
 /// Replays a tape over a hub to which nothing has happened: each line's event happens, and its answer is written
 /// as a line. The tape is read and the text written in blocks as the reader and the writer hold them, so hand in
-/// ones with buffers. The writer is flushed in the end, unless it failed. Memory is taken for the copies of
+/// ones with buffers. Each look at the reader is one read of the budget, an interrupted one too; where no read is left,
+/// the reader counts as failed. The writer is flushed in the end, unless it failed. Memory is taken for the copies of
 /// routes' datagrams alone.
 pub fn replay_over<R: RouteStep, L: Lobby, B: BufRead, W: Write>(
     alloc: Global,
     hub: &mut Hub<R, L>,
     reader: &mut B,
     writer: &mut W,
+    budget: &mut ReadBudget,
 ) -> Result<(), ReplayFault>
-    ensures { (secret : List ℕ) (entries : List Terms) → ⟦<Hub<R, L> as Gateway>⟧.stands hub.old secret entries [] → Replays (L.class secret (names entries)) R.reply entries (B.remaining reader.old) (W.contents writer.old) (W.contents writer.new) result }
+    ensures fewer { reads_left budget.new ≤ reads_left budget.old }
+    ensures reads { ReplayRead budget.new result }
+    ensures replays { (secret : List ℕ) (entries : List Terms) → ⟦<Hub<R, L> as Gateway>⟧.stands hub.old secret entries [] → Replays (L.class secret (names entries)) R.reply entries (B.remaining reader.old) (W.contents writer.old) (W.contents writer.new) result }
 {
-    let answered = answer_lines(alloc, hub, reader, writer);
+    let answered = answer_lines(alloc, hub, reader, writer, budget);
     if answered == Err(ReplayFault::Write) {
         return answered;
     }
@@ -257,8 +259,8 @@ pub fn replay_over<R: RouteStep, L: Lobby, B: BufRead, W: Write>(
     }
 }
 
-/// Replays a tape over the gateway of a configuration, to which nothing has happened. It takes the memory of the
-/// configuration's routes first.
+/// Replays a tape over the gateway of a configuration, to which nothing has happened, within 2^33 reads. It takes the
+/// memory of the configuration's routes first.
 pub fn replay<B: BufRead, W: Write>(
     alloc: Global,
     config: &Config,
@@ -268,7 +270,7 @@ pub fn replay<B: BufRead, W: Write>(
     ensures { Replays (class_of (secret_bytes config.now.secret) (names (map terms_of config.now.entries.items))) reply (map terms_of config.now.entries.items) (B.remaining reader.old) (W.contents writer.old) (W.contents writer.new) result }
 {
     match SrtGateway::open(alloc, config.secret, config.entries.as_slice()) {
-        Ok(mut hub) => replay_over(alloc, &mut hub, reader, writer),
+        Ok(mut hub) => replay_over(alloc, &mut hub, reader, writer, &mut ReadBudget::full()),
         Err(OpenFault::OutOfMemory) => Err(ReplayFault::OutOfMemory),
         // A configuration has names and numbers that can be opened.
         Err(OpenFault::Names | OpenFault::Limits) => unreachable!(),

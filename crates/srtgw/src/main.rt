@@ -84,24 +84,31 @@ fn obey(
     }
 }
 
-/// The words of the command line. Words that aren't UTF-8 are refused as a wrong command line is.
-fn words_given(rt: &(impl Env + Eprint + AllocGlobal)) -> Result<Vec<String>, ExitCode> {
+/// The words of the command line; None where one of them isn't UTF-8.
+fn words_given(rt: &(impl Env + AllocGlobal)) -> Result<Option<Vec<String>>, Fault> {
     match env::args(rt) {
-        Ok(words) => words.collect(rt.alloc()).map_err(|_| ExitCode::FAILURE),
-        Err(error) if error.kind() == ErrorKind::InvalidData => {
+        Ok(words) => match words.collect(rt.alloc()) {
+            Ok(words) => Ok(Some(words)),
+            Err(_) => Err(Fault::Memory),
+        },
+        Err(error) if error.kind() == ErrorKind::InvalidData => Ok(None),
+        Err(_) => Err(Fault::Memory),
+    }
+}
+
+/// Does what the command line asks for. Words that aren't UTF-8 are refused as a wrong command line is.
+fn obey_words(rt: &(impl Env + Print + Eprint + Files + AllocGlobal)) -> Result<ExitCode, Fault> {
+    match words_given(rt)? {
+        Some(words) => obey(rt, words.as_slice()),
+        None => {
             let _ = rt.eprintln("error: a word of the command line is not UTF-8");
-            Err(ExitCode::from(2))
+            Ok(ExitCode::from(2))
         }
-        Err(_) => Err(ExitCode::FAILURE),
     }
 }
 
 fn main(rt: HostRuntime) -> ExitCode {
-    let words = match words_given(&rt) {
-        Ok(words) => words,
-        Err(status) => return status,
-    };
-    match obey(&rt, words.as_slice()) {
+    match obey_words(&rt) {
         Ok(status) => status,
         Err(fault) => status_of(&rt, Err(fault)),
     }

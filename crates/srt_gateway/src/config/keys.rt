@@ -1,7 +1,8 @@
 //! The keys of a table and their values.
 
-ghost use Rattle.std.specs.Prelude.{◌≡◌, ◌<◌, ◌^◌, option_map};
+ghost use Rattle.std.specs.Prelude.{◌≡◌, ◌<◌, ◌^◌, option_map, true, IfOk};
 ghost use Rattle.toml.specs.View.{table_view};
+ghost use Rattle.srt_seq.specs.Entries.{is_between};
 ghost use Rattle.srt_gateway.specs.FirstFault.{seen, Gives};
 ghost use Rattle.srt_gateway.specs.Keys.{is_key, least_unknown, known, value_at, value_seen, text_at, within, number_at};
 
@@ -64,7 +65,8 @@ pub(crate) fn text_at(table: &Table, key: Key) -> Result<&str, ConfigFault>
 }
 
 fn within(key: Key, low: u32, high: u32, number: i64) -> Result<u32, ConfigFault>
-    ensures { seen (λ n. n) result ≡ within key low high number }
+    ensures value { seen (λ n. n) result ≡ within key low high number }
+    ensures inside { IfOk result (λ n. is_between low high n ≡ true) }
 {
     if number < i64::from(low) || i64::from(high) < number {
         return Err(ConfigFault::OutOfRange(key));
@@ -75,7 +77,8 @@ fn within(key: Key, low: u32, high: u32, number: i64) -> Result<u32, ConfigFault
 /// The number at a key, which is to lie within these limits.
 #[tactic(auto, unfolding(crate::specs::Keys::number_at))]
 pub(crate) fn number_at(table: &Table, key: Key, low: u32, high: u32) -> Result<u32, ConfigFault>
-    ensures { seen (λ n. n) result ≡ number_at key low high (table_view table.now) }
+    ensures value { seen (λ n. n) result ≡ number_at key low high (table_view table.now) }
+    ensures inside { IfOk result (λ n. is_between low high n ≡ true) }
 {
     match value_at(table, key)?.as_integer() {
         Some(number) => within(key, low, high, number),

@@ -1,7 +1,7 @@
 //! Configurations.
 
 use super::{RIGHT, config_of};
-use crate::{ConfigFault, Key, read_config};
+use crate::{Config, ConfigFault, Key, read_config};
 use srt_cookie::{Secret, cookie};
 use srt_seq::{Mode, Peer};
 use std::process::Abort;
@@ -100,33 +100,87 @@ fn a_right_configuration(rt: HostRuntime) -> Result<(), Fail> {
     let second = &config.entries.as_slice()[1];
     assert_eq!(rt; second.name.as_str(), "files");
     assert_eq!(rt; second.mode, Mode::Buffer);
+    assert_eq!(rt; second.latency_ms, 120);
     assert_eq!(rt; second.buffer, 32);
     assert_eq!(rt; second.sessions, 3);
+    assert_eq!(rt; second.inbox, 16);
+    assert_eq!(rt; second.outbox, 16);
     Ok(())
+}
+
+/// The numbers of a configuration: the address's port, the workers, and the first route's.
+fn numbers_of(config: &Config) -> [u32; 7] {
+    let port = u32::from(config.bind.port);
+    match config.entries.as_slice().first() {
+        Some(first) => [
+            port,
+            config.workers,
+            first.latency_ms,
+            first.buffer,
+            first.sessions,
+            first.inbox,
+            first.outbox,
+        ],
+        None => [port, config.workers, 0, 0, 0, 0, 0],
+    }
 }
 
 #[test]
 fn limits_that_are_kept(rt: HostRuntime) -> Result<(), Fail> {
-    for (from, to) in [
-        ("127.0.0.1:0", "255.255.255.255:65535"),
-        ("workers = 1", "workers = 16"),
-        ("latency_ms = 120", "latency_ms = 20"),
-        ("latency_ms = 120", "latency_ms = 8_000"),
-        ("buffer = 1024", "buffer = 0x2000"),
-        ("sessions = 5", "sessions = 17"),
-        ("sessions = 5", "sessions = 1"),
-        ("inbox = 16", "inbox = 4096"),
-        ("outbox = 16", "outbox = 4096"),
-        ("\"studio\"", "\"Az09-_./\""),
-        ("\"studio\"", "\"filet\""),
+    for (from, to, numbers) in [
+        (":0\"", ":65535\"", [65535, 1, 120, 1024, 5, 16, 16]),
+        ("workers = 1", "workers = 16", [0, 16, 120, 1024, 5, 16, 16]),
         (
-            "\"studio\"",
-            "\"aaaaaaaaaaaaaaaaaaaaaaaaaaaaaaaaaaaaaaaaaaaaaaaaaaaaaaaaaaaaaaaa\"",
+            "latency_ms = 120",
+            "latency_ms = 20",
+            [0, 1, 20, 1024, 5, 16, 16],
+        ),
+        (
+            "latency_ms = 120",
+            "latency_ms = 8_000",
+            [0, 1, 8000, 1024, 5, 16, 16],
+        ),
+        (
+            "buffer = 1024",
+            "buffer = 0x2000",
+            [0, 1, 120, 8192, 5, 16, 16],
+        ),
+        (
+            "sessions = 5",
+            "sessions = 17",
+            [0, 1, 120, 1024, 17, 16, 16],
+        ),
+        ("sessions = 5", "sessions = 1", [0, 1, 120, 1024, 1, 16, 16]),
+        ("inbox = 16", "inbox = 4096", [0, 1, 120, 1024, 5, 4096, 16]),
+        (
+            "outbox = 16",
+            "outbox = 4096",
+            [0, 1, 120, 1024, 5, 16, 4096],
         ),
     ] {
         let text = changed(&rt, RIGHT, from, to)?;
         let config = config_of(&rt, text.as_str())?;
+        assert_eq!(rt; numbers_of(&config), numbers);
         assert_eq!(rt; config.entries.len(), 2);
+    }
+    Ok(())
+}
+
+#[test]
+fn names_and_addresses_that_are_kept(rt: HostRuntime) -> Result<(), Fail> {
+    let text = changed(&rt, RIGHT, "127.0.0.1", "255.254.0.10")?;
+    let config = config_of(&rt, text.as_str())?;
+    assert_eq!(rt; config.bind.ip, [255, 254, 0, 10]);
+    for name in [
+        "Az09-_./",
+        "filet",
+        "aaaaaaaaaaaaaaaaaaaaaaaaaaaaaaaaaaaaaaaaaaaaaaaaaaaaaaaaaaaaaaaa",
+    ] {
+        let text = changed(&rt, RIGHT, "studio", name)?;
+        let config = config_of(&rt, text.as_str())?;
+        assert_eq!(rt; config.entries.len(), 2);
+        assert_eq!(rt; config.entries.as_slice()[0].name.as_str(), name);
+        assert_eq!(rt; config.entries.as_slice()[1].name.as_str(), "files");
     }
     Ok(())
 }

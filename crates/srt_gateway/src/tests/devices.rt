@@ -63,6 +63,28 @@ impl Read for Repeating<'_> {
     }
 }
 
+/// Gives its bytes, and is interrupted ever after.
+#[derive(Drop)]
+pub(super) struct Stuck<'a> {
+    pub(super) bytes: &'a [u8],
+}
+
+impl Read for Stuck<'_> {
+    fn read(&mut self, buf: &mut [u8]) -> io::Result<usize> {
+        if self.bytes.is_empty() {
+            return Err(Error::from(ErrorKind::Interrupted));
+        }
+        let n = if self.bytes.len() < buf.len() {
+            self.bytes.len()
+        } else {
+            buf.len()
+        };
+        buf[..n].copy_from_slice(&self.bytes[..n]);
+        self.bytes = &self.bytes[n..];
+        Ok(n)
+    }
+}
+
 /// Takes bytes one at a time, is interrupted before each, and fails where its room is used up.
 #[derive(Drop)]
 pub(super) struct Narrow {

@@ -1,9 +1,10 @@
 use Rattle.std.proofs.Common.{◌≡◌, ◌≤◌, length, take}
 use Rattle.srt_gateway.specs.Known.{Took, NoLf}
+use Rattle.srt_gateway.specs.Budget.{reads_left}
 use Rattle.srt_gateway.proofs.lines.next_line.Given as goal
 
-abbrev pub invariant-loop-budget : goal.invariant-loop-budget
-invariant-loop-budget g l = record { took : Took (g.R.Read.remaining l.fn.reader) (g.R.Read.remaining l.reader) (take l.len l.line); inside : NoLf (take l.len l.line); within : l.len ≤ 4096; sized : length l.line ≡ 4096 }
+abbrev pub invariant-loop-reader : goal.invariant-loop-reader
+invariant-loop-reader g l = record { took : Took (g.R.Read.remaining l.fn.reader) (g.R.Read.remaining l.reader) (take l.len l.line); inside : NoLf (take l.len l.line); within : l.len ≤ 4096; sized : length l.line ≡ 4096; fewer : reads_left l.budget ≤ reads_left l.fn.budget }
 
-abbrev pub decreases-loop-budget : goal.decreases-loop-budget
-decreases-loop-budget g l = l.budget
+abbrev pub decreases-loop-reader : goal.decreases-loop-reader
+decreases-loop-reader g l = reads_left l.budget

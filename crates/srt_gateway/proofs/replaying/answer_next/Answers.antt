@@ -4,21 +4,21 @@ use Rattle.srt_gateway.specs.Known.{Wrote}
 use Rattle.srt_gateway.proofs.Numbered.{long_at, at_event}
 use Rattle.srt_gateway.proofs.replaying.answer_next.Goals as goal
 
-pub returns-in-Ok-Long : goal.returns-in-Ok-Long
-returns-in-Ok-Long g c secret entries past h =
-    let long = rw c.in-Ok-Long.field-0-is at c.in-Ok-Long.ensures in
+pub returns-in-Ok-Long-clause-answered : goal.returns-in-Ok-Long-clause-answered
+returns-in-Ok-Long-clause-answered g c secret entries past h =
+    let long = rw c.in-Ok-Long.field-0-is at c.in-Ok-Long.ensures.took in
     (refl, λ xs e. let p = long xs e in (p.0, p.1, p.2, long_at (length entries) c.args.number p.0 p.3), refl)
 
-pub returns-in-Ok-None : goal.returns-in-Ok-None
-returns-in-Ok-None g c secret entries past h =
-    let took = rw c.in-Ok-Line.field-0-is at c.in-Ok-Line.ensures in
+pub returns-in-Ok-None-clause-answered : goal.returns-in-Ok-None-clause-answered
+returns-in-Ok-None-clause-answered g c secret entries past h =
+    let took = rw c.in-Ok-Line.field-0-is at c.in-Ok-Line.ensures.took in
     let line = take c.in-Ok-Line.len c.next_line.new.line in
     let none = rw c.in-Ok-None.field-0-is at (c.in-Ok-None.ensures.answered secret entries past h) in
     (refl, λ xs e. let p = took.0 xs e in (line, lines_of p.0, p.2, at_event (length entries) c.args.number line (omega arith) ∙ none), refl)
 
-pub returns-in-Ok : goal.returns-in-Ok
-returns-in-Ok g c secret entries past h =
-    let took = rw c.in-Ok-Line.field-0-is at c.in-Ok-Line.ensures in
+pub returns-in-Ok-clause-answered : goal.returns-in-Ok-clause-answered
+returns-in-Ok-clause-answered g c secret entries past h =
+    let took = rw c.in-Ok-Line.field-0-is at c.in-Ok-Line.ensures.took in
     let line = take c.in-Ok-Line.len c.next_line.new.line in
     let p = rw c.in-Ok-Some.field-0-is at (c.in-Ok-Some.ensures.answered secret entries past h) in (
       p.0,
@@ -27,9 +27,9 @@ returns-in-Ok g c secret entries past h =
       p.2.1,
     )
 
-pub returns-in-Err-write_bytes : goal.returns-in-Err-write_bytes
-returns-in-Err-write_bytes g c secret entries past h =
-    let took = rw c.in-Ok-Line.field-0-is at c.in-Ok-Line.ensures in
+pub returns-in-Err-write_bytes-clause-answered : goal.returns-in-Err-write_bytes-clause-answered
+returns-in-Err-write_bytes-clause-answered g c secret entries past h =
+    let took = rw c.in-Ok-Line.field-0-is at c.in-Ok-Line.ensures.took in
     let line = take c.in-Ok-Line.len c.next_line.new.line in
     let p = rw c.in-Ok-Some.field-0-is at (c.in-Ok-Some.ensures.answered secret entries past h) in
     let w = c.in-Err-write_bytes.ensures.err in (
