@@ -1,5 +1,5 @@
 -- The lines of answers are those of the world's.
-use Rattle.std.proofs.Common.{◌≡◌, ℕ, false, List, Option, Some, sym, ap, ◌∙◌}
+use Rattle.std.proofs.Common.{◌≡◌, ℕ, false, List, Option, Some, ap, ◌∙◌}
 use Rattle.srt_seq.specs.declared.shared.Turned.{Turned}
 use Rattle.srt_hub.specs.declared.answers.Arrived.{Arrived}
 use Rattle.srt_hub.specs.declared.answers.Ticked.{Ticked}

@@ -1,5 +1,5 @@
 -- Reading in steps, of which the first that fails tells the fault.
-use Rattle.std.specs.Prelude.{◌≡◌, ℕ, ◌⊎◌, List, string_bytes, Option, None, Some, Result, Ok, Err}
+use Rattle.std.specs.Prelude.{◌≡◌, ℕ, ◌⊎◌, List, string_bytes, Result, Ok, Err}
 use Rattle.srt_gateway.specs.declared.config.faults.Key.{Key}
 use Rattle.srt_gateway.specs.declared.config.faults.ConfigFault.{ConfigFault}
 use Rattle.srt_gateway.specs.declared.config.faults.ConfigFault.TheVariants as code

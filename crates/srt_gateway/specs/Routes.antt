@@ -1,7 +1,7 @@
 -- What the tables of the routes say (this profile).
 use Rattle.std.specs.Prelude.{ℕ, suc, Bool, true, not, ◌&&◌, codes, List, [], ◌∷◌, ◌++◌, is_some, Result, Ok, Err, if◌then◌else◌}
 use Rattle.std.specs.Str.{bytes_eq}
-use Rattle.toml.specs.Data.{Data, Items, no_items, item, Members, as_array, as_table}
+use Rattle.toml.specs.Data.{Items, no_items, item, Members, as_array, as_table}
 use Rattle.srt_seq.specs.Terms.{Terms}
 use Rattle.srt_seq.specs.declared.shared.Mode.{Mode as TheMode}
 use Rattle.srt_seq.specs.declared.shared.Mode.TheVariants as mode

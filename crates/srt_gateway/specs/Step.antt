@@ -1,17 +1,15 @@
 -- One line of a replay.
 use Rattle.std.specs.Prelude.{◌≡◌, ℕ, ◌+◌, List, [], ◌∷◌, ◌++◌, length, take, Bool, true, false, Option, None, Some, Result, Ok, Err}
 use Rattle.srt_hub.specs.declared.answers.OutOfMemory.{OutOfMemory as NoMemory}
-use Rattle.srt_lobby.specs.declared.classes.Class.TheVariants.{Route}
-use Rattle.srt_seq.specs.Items.{Datagram}
 use Rattle.srt_seq.specs.Terms.{Terms}
-use Rattle.srt_hub.specs.World.{Event, Arrives, Sorting, Meaning}
+use Rattle.srt_hub.specs.World.{Event, Sorting, Meaning}
 use Rattle.srt_gateway.specs.declared.replaying.ReplayFault.{ReplayFault}
 use Rattle.srt_gateway.specs.declared.replaying.ReplayFault.TheVariants.{Tape, OutOfMemory, Read, Write}
 use Rattle.srt_gateway.specs.Tape.{lines_of}
 use Rattle.srt_gateway.specs.Events.{event_of}
 use Rattle.srt_gateway.specs.Texts.{event_text}
 use Rattle.srt_gateway.specs.Known.{TookLine, NoLine, Wrote}
-use Rattle.srt_gateway.specs.Replay.{event_at, events_from, text_after, text_of, fault_from}
+use Rattle.srt_gateway.specs.Replay.{event_at, events_from, text_of, fault_from}
 
 -- what a gateway stands for, by its events, the newest first
 abbrev pub History : Type 1

@@ -1,5 +1,5 @@
 -- The one output spelling of each packet (section 3, and this profile where it leaves a choice).
-use Rattle.std.specs.Prelude.{ℕ, ◌+◌, ◌<◌, ◌≤◌, List, [], ◌∷◌, ◌++◌, length, flat_map, if◌then◌else◌}
+use Rattle.std.specs.Prelude.{ℕ, ◌+◌, ◌<◌, ◌≤◌, List, [], ◌∷◌, ◌++◌, length, if◌then◌else◌}
 use Rattle.srt_seq.specs.Words.{word, words}
 use Rattle.srt_seq.specs.Window.{word_of}
 use Rattle.srt_seq.specs.Counts.{message_of}

@@ -1,12 +1,12 @@
 -- Times that don't go back, and packets sent one by one.
-use Rattle.std.proofs.Common.{◌≡◌, ℕ, zero, suc, ◌+◌, ◌-◌, ◌<◌, ◌≤◌, ◌==◌, max, Bool, true, false, if◌then◌else◌, Option, Some, List, [], ◌∷◌, ◌++◌, length, cond, inl, inr, refl, sym, ap, subst, ◌∙◌, arith}
-use Rattle.std.specs.Prelude.{ℤ, pos, negsuc, ◌≤ℤ◌, All, int_lt, filter, nat_lt}
+use Rattle.std.proofs.Common.{◌≡◌, ℕ, zero, suc, ◌+◌, ◌<◌, ◌≤◌, ◌==◌, Bool, true, false, if◌then◌else◌, List, [], ◌∷◌, ◌++◌, inl, inr, refl, sym, ap, ◌∙◌, arith}
+use Rattle.std.specs.Prelude.{ℤ, pos, negsuc, ◌≤ℤ◌, int_lt, filter}
 use Rattle.std.proofs.lemmas.Bool.{cases_eq, eq-eqb, ne_eqb, true≢false}
 use Rattle.std.proofs.lemmas.Bool.Decides.{nat_tests}
 use Rattle.std.proofs.lemmas.Int.{ints}
 use Rattle.std.proofs.lemmas.List.Elements.{All-nil, All-push}
 use Rattle.srt_seq.specs.Runs.{numbers_from}
-use Rattle.srt_sendbuf.specs.Sending.{Queued, Sending, nothing_yet, front, next, sent_end, in_flight, lost, is_marked, queued, queued_before, sent, IsTimely, IsLater}
+use Rattle.srt_sendbuf.specs.Sending.{Queued, Sending, front, next, in_flight, lost, is_marked, queued, sent, IsTimely, IsLater}
 use Rattle.srt_sendbuf.specs.OneByOne.{TimesGoOn, ExpiryGoesOn, LostOneByOne, NewOneByOne}
 use Rattle.srt_sendbuf.proofs.Fronts.{test, many, many_is}
 use Rattle.srt_sendbuf.proofs.Steps.{none_of}

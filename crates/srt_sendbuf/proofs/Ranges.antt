@@ -1,11 +1,11 @@
 -- Ranges counted from an initial number, and the part of a window that they have.
-use Rattle.std.proofs.Common.{◌≡◌, ℕ, zero, suc, ◌+◌, ◌-◌, ◌%◌, ◌^◌, ◌<◌, ◌≤◌, min, max, Bool, true, false, ◌&&◌, ◌||◌, if◌then◌else◌, Option, None, Some, List, [], ◌∷◌, map, inl, inr, ◌⊎◌, refl, sym, ap, ◌∙◌, arith}
+use Rattle.std.proofs.Common.{◌≡◌, ℕ, zero, suc, ◌+◌, ◌^◌, ◌<◌, ◌≤◌, Bool, true, false, ◌||◌, Option, None, Some, List, [], ◌∷◌, refl, sym, ap, ◌∙◌, arith}
 use Rattle.std.specs.Prelude.{nat_lt, nat_le}
 use Rattle.std.specs.List.{list_any}
 use Rattle.std.proofs.lemmas.Bool.{lt-ltb, or_right, true≢false}
 use Rattle.std.proofs.lemmas.Bool.Decides.{nat_tests}
 use Rattle.srt_seq.specs.Window.{offset_of, counted_from}
-use Rattle.srt_seq.specs.Runs.{Range, span, is_in, is_asked, numbers_from}
+use Rattle.srt_seq.specs.Runs.{Range, is_in, is_asked, numbers_from}
 use Rattle.std.specs.Prelude.{option_map, unwrap_or}
 use Rattle.srt_seq.specs.Window.{in_window}
 use Rattle.srt_seq.proofs.Windows.{numbers_from_initial}

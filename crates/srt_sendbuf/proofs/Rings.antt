@@ -1,10 +1,8 @@
 -- What stands at the places of a ring.
-use Rattle.std.proofs.Common.{◌≡◌, ◌≢◌, ℕ, zero, suc, ◌+◌, ◌<◌, ◌≤◌, ◌==◌, Bool, true, false, if◌then◌else◌, Option, None, Some, List, [], ◌∷◌, ◌++◌, length, drop, get_or, inl, inr, refl, sym, ap, ◌∙◌, arith}
+use Rattle.std.proofs.Common.{◌≡◌, ◌≢◌, ℕ, zero, suc, ◌+◌, ◌<◌, ◌≤◌, ◌==◌, true, false, if◌then◌else◌, Some, List, [], ◌∷◌, ◌++◌, length, drop, inl, inr, refl, sym, ap, ◌∙◌, arith}
 use Rattle.std.specs.Prelude.{slice_get, slice_set}
 use Rattle.std.proofs.lemmas.Bool.{cases_lt, cases_order, eq-eqb, ne_eqb}
-use Rattle.std.proofs.lemmas.Bool.Decides.{nat_tests}
 use Rattle.std.proofs.lemmas.Option.{slice_get_past}
-use Rattle.srt_seq.specs.Counts.{message_of}
 use Rattle.srt_seq.specs.declared.texts.Text.{Text}
 use Rattle.srt_sendbuf.specs.declared.ring.Place.{Place}
 use Rattle.srt_seq.specs.declared.order.TextOrder.{TextOrder}
@@ -12,7 +10,7 @@ use Rattle.srt_seq.specs.Slots.{text_of_slot, slots_of}
 use Rattle.srt_seq.specs.Texts.{text_of, text_at, turned}
 use Rattle.srt_seq.proofs.TextPlaces.{text_set, text_kept, turned_apart, turned_next, texts_apart}
 use Rattle.srt_sendbuf.specs.Marks.{is_lost}
-use Rattle.srt_sendbuf.specs.Places.{Kept, kept_of, kept_in}
+use Rattle.srt_sendbuf.specs.Places.{kept_of, kept_in}
 
 module _ {X : Type 0} where
   pub get_left : (xs ys : List X) (i : ℕ) → i < length xs → slice_get (xs ++ ys) i ≡ slice_get xs i

@@ -1,5 +1,5 @@
 -- The places of a ring, and what stands at each.
-use Rattle.std.specs.Prelude.{ℕ, zero, suc, ◌+◌, ◌-◌, ℤ, pos, int_lt, Bool, false, Option, None, Some, List, [], ◌∷◌, length, take, slice_get, nat_lt, if◌then◌else◌}
+use Rattle.std.specs.Prelude.{ℕ, ℤ, pos, int_lt, Bool, false, Option, None, Some, List, length, slice_get}
 use Rattle.srt_seq.specs.Counts.{message_of}
 use Rattle.srt_seq.specs.declared.texts.Text.{Text}
 use Rattle.srt_seq.specs.Texts.{text_at, turned}

@@ -1,4 +1,4 @@
-use Rattle.std.proofs.Common.{sym, ap}
+use Rattle.std.proofs.Common.{ap}
 use Rattle.toml.proofs.Views.{table_get}
 use Rattle.srt_gateway.specs.Keys.{value_at, present}
 use Rattle.srt_gateway.proofs.config.keys.value_at.Goals as goal

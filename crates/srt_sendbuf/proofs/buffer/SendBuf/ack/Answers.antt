@@ -1,4 +1,4 @@
-use Rattle.std.proofs.Common.{◌+◌, ℕ, Option, Some, sym, ap, subst, ◌∙◌, arith}
+use Rattle.std.proofs.Common.{◌+◌, ℕ, Option, ap, subst}
 use Rattle.std.specs.Prelude.{is_some}
 use Rattle.srt_sendbuf.specs.Sending.{base, after_ack, acknowledged}
 use Rattle.srt_sendbuf.specs.Stands.{StandsFor}

@@ -1,6 +1,6 @@
-use Rattle.std.proofs.Common.{◌≡◌, ◌+◌, refl, sym, arith}
+use Rattle.std.proofs.Common.{refl, sym}
 use Rattle.std.proofs.lemmas.Int.{to_z-of_z}
-use Rattle.srt_sendbuf.specs.Sending.{base, front, expired_before}
+use Rattle.srt_sendbuf.specs.Sending.{base, expired_before}
 use Rattle.srt_sendbuf.proofs.Fronts.{expired_front, expired_moved}
 use Rattle.srt_sendbuf.proofs.buffer.SendBuf.expire.Goals as goal
 

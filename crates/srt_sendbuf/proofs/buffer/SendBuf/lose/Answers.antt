@@ -1,9 +1,8 @@
-use Rattle.std.proofs.Common.{◌≡◌, ℕ, ◌-◌, ◌<◌, Bool, true, false, ◌||◌, if◌then◌else◌, Some, List, [], ◌∷◌, refl, sym, ap, ◌∙◌, arith}
+use Rattle.std.proofs.Common.{◌≡◌, ℕ, ◌-◌, ◌<◌, Bool, true, false, ◌||◌, Some, List, [], ◌∷◌, refl, sym, ap, ◌∙◌, arith}
 use Rattle.std.specs.List.{list_any}
 use Rattle.srt_seq.specs.Runs.{Range, is_in, is_asked, numbers_from}
 use Rattle.srt_loss.specs.Text.{range_of}
 use Rattle.srt_sendbuf.specs.Sending.{front, base, range_from, ranges_from, asked}
-use Rattle.srt_sendbuf.specs.Told.{gone}
 use Rattle.srt_sendbuf.proofs.Ranges.{any_of_both, any_alike, none_asked, some_asked}
 use Rattle.srt_sendbuf.proofs.Steps.{asked_nothing, asked_alike}
 use Rattle.srt_sendbuf.proofs.buffer.SendBuf.lose.Goals as goal

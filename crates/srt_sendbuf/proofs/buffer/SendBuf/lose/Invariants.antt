@@ -1,4 +1,4 @@
-use Rattle.std.proofs.Common.{◌≡◌, ℕ, ◌+◌, ◌-◌, ◌||◌, List, length}
+use Rattle.std.proofs.Common.{◌≡◌, ℕ, ◌-◌, ◌||◌, List, length}
 use Rattle.std.specs.List.{list_any}
 use Rattle.srt_seq.specs.Runs.{Range, is_asked, numbers_from}
 use Rattle.srt_sendbuf.specs.Sending.{Sending, front, base, asked, ranges_from}

@@ -1,4 +1,4 @@
-use Rattle.std.proofs.Common.{◌≡◌, ℕ, zero, suc, Bool, false, get_or, refl}
+use Rattle.std.proofs.Common.{◌≡◌, ℕ, zero, suc, false, get_or, refl}
 use Rattle.std.specs.Prelude.{◌/◌}
 use Rattle.std.proofs.Math.ListN.{replicate}
 use Rattle.srt_sendbuf.proofs.hints.Hints.new.Goals as goal

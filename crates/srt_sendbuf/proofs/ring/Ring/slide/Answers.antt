@@ -1,4 +1,4 @@
-use Rattle.std.proofs.Common.{drop, sym, ap, ◌∙◌, arith}
+use Rattle.std.proofs.Common.{drop, sym, ap, ◌∙◌}
 use Rattle.std.specs.Prelude.{slice_get}
 use Rattle.circular_buffer.specs.Buffer.{Buffer}
 use Rattle.srt_sendbuf.specs.declared.ring.Place.{Place}
