@@ -1,0 +1,4 @@
+pub mod Offers
+pub mod Moves
+pub mod Turns
+pub mod Syncs

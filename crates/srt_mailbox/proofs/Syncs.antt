@@ -1,0 +1,140 @@
+-- Threads may share a cell. A pass may be looked at from any thread: a reference to it shows nothing.
+use denote.RattleType.{RattleType}
+use denote.Param.Send.{IsSend, IsSync, part_keyless, sendable, struct_send, struct_sync, recorded_send, recorded_sync, view_send, view_sync}
+use denote.Struct.Declared.{shape}
+use Rattle.atomic_table.specs.contracts.shared.Seat as seat
+use Rattle.atomic_table.proofs.shared.Seat.TheSendSync as seat_is
+use Rattle.crossbeam_queue.proofs.array_queue.Slotted.TheSendSync as slotted
+use Rattle.crossbeam_queue.specs.contracts.array_queue.Slotted as slotted_c
+use Rattle.crossbeam_queue.specs.contracts.array_queue.Doing as doing_c
+use Rattle.crossbeam_queue.specs.contracts.array_queue.Turns as turns_c
+use Rattle.crossbeam_queue.specs.contracts.array_queue.TurnsTableRuleOptionDoingUnit.TheImpl as turns_impl
+use Rattle.counted_slot.proofs.Counted.TheSendSync as counted
+use Rattle.counted_slot.specs.contracts.OptionFits.TheImpl as option_fits
+use Rattle.std.specs.contracts.option.Option as option
+use Rattle.std.proofs.option.Option.TheSendSync as option_is
+use Rattle.std.specs.contracts.boxed.Box as boxed
+use Rattle.std.proofs.Crossing as heap
+use Rattle.std.specs.contracts.alloc.Global as heap_c
+use Rattle.std.specs.contracts.impls.GlobalAllocator.TheImpl as heap_impl
+use denote.Builtin as builtin
+use Rattle.srt_seq.specs.contracts.shared.Entry as entry
+use Rattle.crossbeam_queue.proofs.array_queue.plain.ArrayQueue.TheSendSync as plain_is
+use Rattle.crossbeam_queue.specs.contracts.array_queue.plain.ArrayQueue as plain
+use Rattle.srt_route.specs.contracts.replies.Reply as reply
+use Rattle.srt_route.proofs.replies.Reply.TheSendSync as reply_is
+use Rattle.srt_mailbox.specs.contracts.inbox_rule.InboxView as inbox_view
+use Rattle.srt_mailbox.specs.contracts.inbox_rule.Marked as marked
+use Rattle.srt_mailbox.proofs.inbox_rule.Marked.TheSendSync as marked_is
+use Rattle.srt_mailbox.specs.contracts.inbox_rule.InboxRule as inbox_rule
+use Rattle.srt_mailbox.specs.contracts.inbox_rule.InboxRuleProtocolMarkedInboxView.TheImpl as inbox_proto
+use Rattle.srt_mailbox.specs.contracts.inbox.Taker as taker
+use Rattle.srt_mailbox.specs.contracts.inbox.Taker.TheInside as taker_in
+use Rattle.srt_mailbox.specs.contracts.outbox_rule.OutboxView as outbox_view
+use Rattle.srt_mailbox.specs.contracts.outbox_rule.OutboxRule as outbox_rule
+use Rattle.srt_mailbox.specs.contracts.outbox_rule.OutboxRuleProtocolBoxReplyOutboxView.TheImpl as outbox_proto
+use Rattle.srt_mailbox.specs.contracts.outbox.Putter as putter
+use Rattle.srt_mailbox.specs.contracts.outbox.Putter.TheInside as putter_in
+use Rattle.srt_mailbox.specs.contracts.running.Running as running
+use Rattle.srt_mailbox.specs.contracts.running.Running.TheInside as running_in
+use Rattle.std.specs.contracts.snapshot.Snapshot as snapshot
+use Rattle.srt_route.specs.contracts.state.Route as route
+use Rattle.srt_route.proofs.state.Route.TheSendSync as route_is
+use Rattle.srt_mailbox.proofs.inbox.Taker.TheSendSync as taker_is
+use Rattle.srt_mailbox.proofs.outbox.Putter.TheSendSync as putter_is
+use Rattle.srt_mailbox.specs.contracts.cells.RouteCell as cell
+use Rattle.srt_mailbox.specs.contracts.cells.Label as label
+use Rattle.srt_mailbox.specs.contracts.cells.RunningFits.TheImpl as running_fits
+
+pub seat_sync : (S V : RattleType) → IsSend S → IsSync (seat.the_row S V)
+seat_sync S V s = record { shared = λ d b o ν q. part_keyless (seat.the_row S V) (seat_is.the_send S V s) q d b o }
+
+option_marked : IsSend (option.the_row marked.the_row)
+option_marked = search (sendable, option_is.the_send, marked_is.the_send) depth 30
+
+abbrev inbox_queue : RattleType
+inbox_queue = slotted_c.the_row (option.the_row marked.the_row) (doing_c.the_row marked.the_row inbox_view.the_row) (turns_c.the_row inbox_rule.the_row) heap_c.the_row (turns_impl.ghosts marked.the_row inbox_view.the_row inbox_rule.the_row inbox_proto.ghosts turns_impl.no_dict) heap_impl.ghosts
+
+inbox_queue_send : IsSend inbox_queue
+inbox_queue_send = slotted.the_send _ _ _ _ (turns_impl.ghosts marked.the_row inbox_view.the_row inbox_rule.the_row inbox_proto.ghosts turns_impl.no_dict) heap_impl.ghosts option_marked heap.send heap.frees
+
+inbox_queue_sync : IsSync inbox_queue
+inbox_queue_sync = slotted.the_sync _ _ _ _ (turns_impl.ghosts marked.the_row inbox_view.the_row inbox_rule.the_row inbox_proto.ghosts turns_impl.no_dict) heap_impl.ghosts option_marked heap.send heap.sync heap.frees
+
+taker_in_sync : IsSync taker_in.the_row
+taker_in_sync = recorded_sync (taker_in.the_field).row _ _ taker_in.the_type.to_one (struct_sync (shape taker_in.the_type) (heap.Arc-sync inbox_queue inbox_queue_send inbox_queue_sync, (seat_sync _ _ option_marked, tt)))
+
+taker_sync : IsSync taker.the_row
+taker_sync = view_sync _ _ _ _ _ taker_in_sync
+
+abbrev box_of : RattleType → RattleType
+box_of T = boxed.the_row T heap_c.the_row heap_impl.ghosts
+
+option_box : IsSend (option.the_row (box_of reply.the_row))
+option_box = option_is.the_send _ (heap.Box-send _ reply_is.the_send)
+
+abbrev outbox_queue : RattleType
+outbox_queue = slotted_c.the_row (option.the_row (box_of reply.the_row)) (doing_c.the_row (box_of reply.the_row) outbox_view.the_row) (turns_c.the_row outbox_rule.the_row) heap_c.the_row (turns_impl.ghosts (box_of reply.the_row) outbox_view.the_row outbox_rule.the_row outbox_proto.ghosts turns_impl.no_dict) heap_impl.ghosts
+
+outbox_queue_send : IsSend outbox_queue
+outbox_queue_send = slotted.the_send _ _ _ _ (turns_impl.ghosts (box_of reply.the_row) outbox_view.the_row outbox_rule.the_row outbox_proto.ghosts turns_impl.no_dict) heap_impl.ghosts option_box heap.send heap.frees
+
+outbox_queue_sync : IsSync outbox_queue
+outbox_queue_sync = slotted.the_sync _ _ _ _ (turns_impl.ghosts (box_of reply.the_row) outbox_view.the_row outbox_rule.the_row outbox_proto.ghosts turns_impl.no_dict) heap_impl.ghosts option_box heap.send heap.sync heap.frees
+
+snapshot_send : (Y : RattleType) → IsSend (snapshot.the_row Y)
+snapshot_send Y = record { owned = λ d vs. ((λ vss. (tt, ((λ uss. (tt, tt)), tt))), tt); leaving = λ k f vs. tt }
+
+snapshot_sync : (Y : RattleType) → IsSync (snapshot.the_row Y)
+snapshot_sync Y = record { shared = λ d b o κ q. part_keyless (snapshot.the_row Y) (snapshot_send Y) q d b o }
+
+abbrev spares : RattleType
+spares = plain.the_row (box_of reply.the_row) heap_c.the_row heap_impl.ghosts
+
+spares_send : IsSend spares
+spares_send = plain_is.the_send (box_of reply.the_row) heap_c.the_row heap_impl.ghosts (heap.Box-send _ reply_is.the_send) heap.send heap.frees
+
+spares_sync : IsSync spares
+spares_sync = plain_is.the_sync (box_of reply.the_row) heap_c.the_row heap_impl.ghosts (heap.Box-send _ reply_is.the_send) heap.send heap.sync heap.frees
+
+putter_in_sync : IsSync putter_in.the_row
+putter_in_sync = recorded_sync (putter_in.the_field).row _ _ putter_in.the_type.to_one (struct_sync (shape putter_in.the_type) (heap.Arc-sync outbox_queue outbox_queue_send outbox_queue_sync, (seat_sync _ _ option_box, (heap.Arc-sync spares spares_send spares_sync, tt))))
+
+putter_sync : IsSync putter.the_row
+putter_sync = view_sync _ _ _ _ _ putter_in_sync
+
+running_in_send : IsSend running_in.the_row
+running_in_send = recorded_send (running_in.the_field).row _ _ running_in.the_type.to_one (struct_send (shape running_in.the_type) (taker_is.the_send, (putter_is.the_send, (heap.Box-send route.the_row route_is.the_send, (option_is.the_field_send _ (heap.Box-send _ reply_is.the_send), (search sendable, (search sendable, (snapshot_send entry.the_row, (snapshot_send builtin.usize, tt)))))))))
+
+running_send : IsSend running.the_row
+running_send = view_send _ _ _ _ _ running_in_send
+
+running_in_sync : IsSync running_in.the_row
+running_in_sync = recorded_sync (running_in.the_field).row _ _ running_in.the_type.to_one (struct_sync (shape running_in.the_type) (taker_sync, (putter_sync, (heap.Box-sync route.the_row route_is.the_sync, (option_is.the_field_sync _ (heap.Box-sync _ reply_is.the_sync), (search sendable, (search sendable, (snapshot_sync entry.the_row, (snapshot_sync builtin.usize, tt)))))))))
+
+running_sync : IsSync running.the_row
+running_sync = view_sync _ _ _ _ _ running_in_sync
+
+-- a route behind its claim word may go to another thread
+pub cell_send : IsSend cell.the_row
+cell_send = recorded_send (cell.the_field).row _ _ cell.the_type.to_one
+    (struct_send (shape cell.the_type) (
+      search sendable,
+      (
+        counted.the_send (option.the_row running.the_row) label.the_row (option_fits.ghosts running.the_row label.the_row running_fits.ghosts option_fits.no_dict)
+            (option_is.the_send running.the_row running_send),
+        tt,
+      ),
+    ))
+
+-- and threads may share it
+pub cell_sync : IsSync cell.the_row
+cell_sync = recorded_sync (cell.the_field).row _ _ cell.the_type.to_one
+    (struct_sync (shape cell.the_type) (
+      search sendable,
+      (
+        counted.the_sync (option.the_row running.the_row) label.the_row (option_fits.ghosts running.the_row label.the_row running_fits.ghosts option_fits.no_dict)
+            (option_is.the_send running.the_row running_send) (option_is.the_sync running.the_row running_sync),
+        tt,
+      ),
+    ))

@@ -1,0 +1,6 @@
+use Rattle.std.proofs.Common.{refl}
+use Rattle.srt_mailbox.proofs.Offers.{polls, learns_polled}
+use Rattle.srt_mailbox.proofs.inbox.Ingress.offer.Goals as goal
+
+pub push_as-requires-clause-rule : goal.push_as-requires-clause-rule
+push_as-requires-clause-rule g c = (polls _ _ _ _ c.self.invariant.1 refl, learns_polled _ _ c.self.invariant.1)

@@ -1,0 +1,60 @@
+use Rattle.std.proofs.Common.{◌≡◌, ◌++◌, ◌∷◌, [], map, length, sym, ap, ◌∙◌, subst, rules, arith}
+use Rattle.std.proofs.lemmas.List.{length-append}
+use Rattle.crossbeam_queue.specs.Fifo.{Held}
+use Rattle.srt_seq.specs.Items.{told}
+use Rattle.srt_seq.specs.Terms.{terms_of}
+use Rattle.srt_route.specs.Route.{reply}
+use Rattle.srt_route.specs.Stands.{stands, waiting}
+use Rattle.srt_route.specs.Written.{written}
+use Rattle.srt_mailbox.specs.Counts.{counted}
+use Rattle.srt_mailbox.specs.Inbox.{applied, StoodAsTaken}
+use Rattle.srt_mailbox.specs.Ends.{Consumer, consumer}
+use Rattle.srt_mailbox.specs.Runs.{Run, run, waiting_at}
+use Rattle.srt_mailbox.proofs.Turns.{told_last, none_held, applied_replays, counted_more}
+use Rattle.srt_mailbox.proofs.running.Running.apply_item.Goals as goal
+
+pub invariant_of-self : goal.invariant_of-self
+invariant_of-self g c =
+    let inside = c.self.inside in
+    let e = terms_of inside.entry.value in
+    let r = inside.index.value in
+    let items = applied inside.taker.taken in
+    let x = c.in-Some.marked in
+    let none = ap (λ (w : Run). w.waiting) c.self.view_is ∙ c.requires in
+    let now = ap (λ l. l ++ waiting c.step-self-inside.new.self) (none_held inside.held inside.route.value none) in
+    let taken = ap (λ (k : Consumer). applied k.taken) c.in-Some.ensures ∙ told_last [] inside.taker.taken x in
+    let stood : stands c.deref_mut.result.now e r items = rw c.deref_mut.ensures.value c.self.invariant.0 in
+    let waits = now ∙ c.step-self-inside.ensures.replies e r items stood in (
+      rw taken (c.step-self-inside.ensures.stands e r items stood),
+      rw taken (applied_replays e r (map written inside.putter.put) (waiting_at inside.held inside.route.value) (waiting_at inside.held c.step-self-inside.new.self) items (told x.item) c.self.invariant.1 none waits),
+      c.step-self-inside.ensures.count ∙ ap length (sym now),
+      c.saturating_add-self-inside.ensures ∙ counted_more (length inside.taker.taken) inside.taken c.self.invariant.3 ∙ sym (ap counted (ap (λ (k : Consumer). length k.taken) c.in-Some.ensures ∙ length-append inside.taker.taken (x ∷ []))),
+    )
+
+pub returns-in-Some : goal.returns-in-Some
+returns-in-Some g c =
+    let inside = c.self.inside in
+    let e = terms_of inside.entry.value in
+    let r = inside.index.value in
+    let items = applied inside.taker.taken in
+    let x = c.in-Some.marked in
+    let none = ap (λ (w : Run). w.waiting) c.self.view_is ∙ c.requires in
+    let now = ap (λ l. l ++ waiting c.step-self-inside.new.self) (none_held inside.held inside.route.value none) in
+    let stood : stands c.deref_mut.result.now e r items = rw c.deref_mut.ensures.value c.self.invariant.0 in
+    let waits = now ∙ c.step-self-inside.ensures.replies e r items stood in (
+      x,
+      c.requires,
+      subst
+          (λ (w : Run). run e r c.take.new.self inside.putter (waiting_at inside.held c.step-self-inside.new.self) ≡ run w.terms w.index (consumer w.inbox.queue w.inbox.capacity (w.inbox.taken ++ x ∷ [])) w.outbox (reply w.terms w.index (told x.item ∷ applied w.inbox.taken)))
+          c.self.view_is
+          (λ i. run e r (c.in-Some.ensures i) inside.putter (waits i)),
+    )
+
+pub returns-in-None : goal.returns-in-None
+returns-in-None g c =
+    let inside = c.self.inside in
+    let empty = c.in-None.ensures in (
+      c.requires,
+      (λ i. run (terms_of inside.entry.value) inside.index.value (empty.0 i) inside.putter (waiting_at inside.held inside.route.value)) ∙ c.self.view_is,
+      subst (λ (w : Run). Held 0 (StoodAsTaken w.inbox.taken)) c.self.view_is empty.1,
+    )

@@ -1,0 +1,43 @@
+-- What a caller sees of the ends of a route's queues.
+use Rattle.std.specs.Prelude.{ℕ, List}
+use Rattle.atomic_table.specs.Seated.{TableId}
+use Rattle.srt_seq.specs.declared.shared.Item.{Item}
+use Rattle.srt_route.specs.declared.replies.Reply.{Reply}
+use Rattle.srt_mailbox.specs.declared.inbox_rule.Marked.{Marked}
+
+-- an end that offers items: which inbox, its capacity, and the items that were accepted, the oldest first
+pub record Producer : Type 0 where
+  pub queue : TableId
+  pub capacity : ℕ
+  pub offered : List Item
+
+abbrev pub producer : TableId → (capacity : ℕ) → (offered : List Item) → Producer
+producer q c xs = record { queue = q; capacity = c; offered = xs }
+
+-- the end that takes items
+pub record Consumer : Type 0 where
+  pub queue : TableId
+  pub capacity : ℕ
+  pub taken : List Marked
+
+abbrev pub consumer : TableId → (capacity : ℕ) → (taken : List Marked) → Consumer
+consumer q c xs = record { queue = q; capacity = c; taken = xs }
+
+-- the end that puts replies: which outbox, its capacity, and the replies that were put, the oldest first
+pub record Pipe : Type 0 where
+  pub queue : TableId
+  pub capacity : ℕ
+  pub put : List Reply
+
+abbrev pub pipe : TableId → (capacity : ℕ) → (put : List Reply) → Pipe
+pipe q c xs = record { queue = q; capacity = c; put = xs }
+
+-- the end that drains replies, and the reply that it drained last (before the first, an empty one)
+pub record Drained : Type 0 where
+  pub queue : TableId
+  pub capacity : ℕ
+  pub through : List Reply
+  pub hand : Reply
+
+abbrev pub drained : TableId → (capacity : ℕ) → (through : List Reply) → (hand : Reply) → Drained
+drained q c xs h = record { queue = q; capacity = c; through = xs; hand = h }

@@ -1,0 +1,103 @@
+-- The rule of the inbox: the items taken and then those held are what the poller and the clock offered, each in order.
+use Rattle.std.specs.Prelude.{◌≡◌, ℕ, Bool, true, false, List, [], ◌∷◌, ◌++◌}
+use mathlib.Core.Option.{some}
+use lib.ListN.{get_elem?}
+use Rattle.srt_seq.specs.declared.shared.Item.{Item}
+use Rattle.srt_seq.specs.Items.{Item as ToldItem, told}
+use Rattle.srt_mailbox.specs.declared.inbox_rule.Marked.{Marked}
+use Rattle.srt_mailbox.specs.declared.inbox_rule.InboxView.{InboxView}
+
+abbrev pub keep : Bool → Item → List Item → List Item
+keep true i is = i ∷ is
+keep false i is = is
+
+abbrev pub skip : Bool → Item → List Item → List Item
+skip true i is = is
+skip false i is = i ∷ is
+
+-- the items that the poller offered, in order
+abbrev pub polled_of : List Marked → List Item
+polled_of [] = []
+polled_of (m ∷ ms) = keep m.polled m.item (polled_of ms)
+
+-- the items that the clock offered, in order
+abbrev pub ticked_of : List Marked → List Item
+ticked_of [] = []
+ticked_of (m ∷ ms) = skip m.polled m.item (ticked_of ms)
+
+-- what the items told the route, the newest first
+abbrev pub told_before : List ToldItem → List Marked → List ToldItem
+told_before earlier [] = earlier
+told_before earlier (m ∷ ms) = told_before (told m.item ∷ earlier) ms
+
+abbrev pub applied : List Marked → List ToldItem
+applied taken = told_before [] taken
+
+abbrev pub view_of : (polls ticks takes : Bool) → (polled ticked : List Item) → (taken : List Marked) → InboxView
+view_of p q r ps qs ts = record { polls = p; ticks = q; takes = r; polled = ps; ticked = qs; taken = ts }
+
+abbrev pub fresh : InboxView
+fresh = view_of true true true [] [] []
+
+abbrev pub nobody : InboxView
+nobody = view_of false false false [] [] []
+
+-- the poller's pass splits off
+abbrev pub without_poller : InboxView → InboxView
+without_poller v = view_of false v.ticks v.takes [] v.ticked v.taken
+
+abbrev pub poller : InboxView → InboxView
+poller v = view_of v.polls false false v.polled [] []
+
+abbrev pub with_poller : InboxView → InboxView → InboxView
+with_poller v w = view_of w.polls v.ticks v.takes w.polled v.ticked v.taken
+
+-- the clock's pass splits off
+abbrev pub without_clock : InboxView → InboxView
+without_clock v = view_of v.polls false v.takes v.polled [] v.taken
+
+abbrev pub clock : InboxView → InboxView
+clock v = view_of false v.ticks false [] v.ticked []
+
+abbrev pub with_clock : InboxView → InboxView → InboxView
+with_clock v w = view_of v.polls w.ticks v.takes v.polled w.ticked v.taken
+
+-- what a pass of this number knows, where the passes with the three rights have the numbers p, q and r
+abbrev pub Knows : (p q r : ℕ) → (taken items : List Marked) → (pass : ℕ) → InboxView → Type 0
+Knows p q r taken items pass v =
+    (v.polls ≡ true → (pass ≡ p) × (v.polled ≡ polled_of (taken ++ items)))
+    × (v.ticks ≡ true → (pass ≡ q) × (v.ticked ≡ ticked_of (taken ++ items)))
+    × (v.takes ≡ true → (pass ≡ r) × (v.taken ≡ taken))
+
+-- one pass at most has each right, and knows all that was done by it
+abbrev pub Kept : (items : List Marked) → (views : List InboxView) → Type 0
+Kept items views =
+    (p : ℕ) × (q : ℕ) × (r : ℕ) × (taken : List Marked)
+    × ((pass : ℕ) (v : InboxView) → get_elem? views pass ≡ some v → Knows p q r taken items pass v)
+
+-- what a step of a pass makes of its view
+abbrev pub Polled : InboxView → Marked → InboxView → Type 0
+Polled v x w = w ≡ view_of v.polls v.ticks v.takes (v.polled ++ x.item ∷ []) v.ticked v.taken
+
+abbrev pub Ticked : InboxView → Marked → InboxView → Type 0
+Ticked v x w = w ≡ view_of v.polls v.ticks v.takes v.polled (v.ticked ++ x.item ∷ []) v.taken
+
+abbrev pub Took : InboxView → Marked → InboxView → Type 0
+Took v x w = w ≡ view_of v.polls v.ticks v.takes v.polled v.ticked (v.taken ++ x ∷ [])
+
+-- at one moment the rule stood with these items held, and a pass knew this
+abbrev pub Stood : (items : List Marked) → (InboxView → Type 0) → Type 0
+Stood items knows = (views : List InboxView) × (pass : ℕ) × (v : InboxView) × Kept items views × (get_elem? views pass ≡ some v) × knows v
+
+abbrev pub StoodAsPolled : (polled : List Item) → (items : List Marked) → Type 0
+StoodAsPolled polled items = Stood items (λ v. (v.polls ≡ true) × (v.polled ≡ polled))
+
+abbrev pub StoodAsTicked : (ticked : List Item) → (items : List Marked) → Type 0
+StoodAsTicked ticked items = Stood items (λ v. (v.ticks ≡ true) × (v.ticked ≡ ticked))
+
+abbrev pub StoodAsTaken : (taken items : List Marked) → Type 0
+StoodAsTaken taken items = Stood items (λ v. (v.takes ≡ true) × (v.taken ≡ taken))
+
+-- what the pass with all three rights knows of the items held
+abbrev pub KnowsAll : InboxView → (items : List Marked) → Type 0
+KnowsAll v items = (v.polled ≡ polled_of (v.taken ++ items)) × (v.ticked ≡ ticked_of (v.taken ++ items))

@@ -1,0 +1,61 @@
+-- The rule of the outbox: what was drained and then what is held is what was put, in order.
+use Rattle.std.specs.Prelude.{◌≡◌, ℕ, Bool, true, false, List, [], ◌∷◌, ◌++◌, map}
+use mathlib.Core.Option.{some}
+use lib.ListN.{get_elem?}
+use Rattle.std.specs.Global.{Box}
+use Rattle.srt_route.specs.declared.replies.Reply.{Reply}
+use Rattle.srt_mailbox.specs.declared.outbox_rule.OutboxView.{OutboxView}
+
+-- the replies in the boxes
+abbrev pub replies_in : List (Box Reply) → List Reply
+replies_in boxes = map (λ b. b.value) boxes
+
+abbrev pub view_of : (puts drains : Bool) → (put drained : List (Box Reply)) → OutboxView
+view_of a b put drained = record { puts = a; drains = b; put = put; drained = drained }
+
+abbrev pub fresh : OutboxView
+fresh = view_of true true [] []
+
+abbrev pub nobody : OutboxView
+nobody = view_of false false [] []
+
+-- the drain's pass splits off
+abbrev pub without_drain : OutboxView → OutboxView
+without_drain v = view_of v.puts false v.put []
+
+abbrev pub drain : OutboxView → OutboxView
+drain v = view_of false v.drains [] v.drained
+
+abbrev pub with_drain : OutboxView → OutboxView → OutboxView
+with_drain v w = view_of v.puts w.drains v.put w.drained
+
+-- what a pass of this number knows, where the passes with the two rights have the numbers p and q
+abbrev pub Knows : (p q : ℕ) → (drained items : List (Box Reply)) → (pass : ℕ) → OutboxView → Type 0
+Knows p q drained items pass v = (v.puts ≡ true → (pass ≡ p) × (v.put ≡ drained ++ items)) × (v.drains ≡ true → (pass ≡ q) × (v.drained ≡ drained))
+
+-- one pass at most has each right, and knows all that was done by it
+abbrev pub Kept : (items : List (Box Reply)) → (views : List OutboxView) → Type 0
+Kept items views =
+    (p : ℕ) × (q : ℕ) × (drained : List (Box Reply))
+    × ((pass : ℕ) (v : OutboxView) → get_elem? views pass ≡ some v → Knows p q drained items pass v)
+
+-- what a step of a pass makes of its view
+abbrev pub Put : OutboxView → Box Reply → OutboxView → Type 0
+Put v x w = w ≡ view_of v.puts v.drains (v.put ++ x ∷ []) v.drained
+
+abbrev pub Drained : OutboxView → Box Reply → OutboxView → Type 0
+Drained v x w = w ≡ view_of v.puts v.drains v.put (v.drained ++ x ∷ [])
+
+-- at one moment the rule stood with these boxes held, and a pass knew this
+abbrev pub Stood : (items : List (Box Reply)) → (OutboxView → Type 0) → Type 0
+Stood items knows = (views : List OutboxView) × (pass : ℕ) × (v : OutboxView) × Kept items views × (get_elem? views pass ≡ some v) × knows v
+
+abbrev pub StoodAsPut : (put : List Reply) → (items : List (Box Reply)) → Type 0
+StoodAsPut put items = Stood items (λ v. (v.puts ≡ true) × (replies_in v.put ≡ put))
+
+abbrev pub StoodAsDrained : (drained : List Reply) → (items : List (Box Reply)) → Type 0
+StoodAsDrained drained items = Stood items (λ v. (v.drains ≡ true) × (replies_in v.drained ≡ drained))
+
+-- what the pass with both rights knows of the boxes held
+abbrev pub KnowsAll : OutboxView → (items : List (Box Reply)) → Type 0
+KnowsAll v items = v.put ≡ v.drained ++ items

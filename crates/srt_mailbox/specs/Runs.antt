@@ -1,0 +1,64 @@
+-- A route between its queues, and what a turn makes of it.
+use Rattle.std.specs.Prelude.{◌≡◌, ℕ, Option, List, [], ◌∷◌, ◌++◌, map, option_to_list}
+use Rattle.std.specs.Global.{Box}
+use Rattle.crossbeam_queue.specs.Fifo.{Held}
+use Rattle.srt_seq.specs.declared.shared.Turned.{Turned}
+use Rattle.srt_seq.specs.declared.shared.Turned.TheVariants.{Moved, Applied, Blocked, Idle}
+use Rattle.srt_seq.specs.Items.{Datagram, told}
+use Rattle.srt_seq.specs.Terms.{Terms}
+use Rattle.srt_route.specs.declared.replies.Reply.{Reply}
+use Rattle.srt_route.specs.Route.{reply, solo}
+use Rattle.srt_route.specs.Written.{written}
+use Rattle.srt_route.specs.Stands.{waiting}
+use Rattle.srt_route.specs.declared.state.Route.{Route as TheRoute}
+use Rattle.srt_mailbox.specs.declared.inbox_rule.Marked.{Marked}
+use Rattle.srt_mailbox.specs.Inbox.{applied, StoodAsTaken}
+use Rattle.srt_mailbox.specs.Outbox.{replies_in, StoodAsPut}
+use Rattle.srt_mailbox.specs.Ends.{Consumer, consumer, Pipe, pipe}
+
+-- a route of these terms and this index, its ends of the two queues, and the datagrams that wait, the oldest first
+pub record Run : Type 0 where
+  pub terms : Terms
+  pub index : ℕ
+  pub inbox : Consumer
+  pub outbox : Pipe
+  pub waiting : List Datagram
+
+abbrev pub run : Terms → (index : ℕ) → Consumer → Pipe → (waiting : List Datagram) → Run
+run e r c p ws = record { terms = e; index = r; inbox = c; outbox = p; waiting = ws }
+
+-- the datagrams that wait: the reply that a full outbox handed back, and then those of the route
+abbrev pub waiting_at : Option (Box Reply) → TheRoute → List Datagram
+waiting_at held route = map written (replies_in (option_to_list held)) ++ waiting route
+
+-- what was put and then what waits is all that the route, alone, replies to the items that were taken
+abbrev pub Replays : Run → Type 0
+Replays r = map written r.outbox.put ++ r.waiting ≡ solo r.terms r.index (applied r.inbox.taken)
+
+-- an item was taken, and what it is replied waits
+abbrev pub AppliedOne : Run → Run → Type 0
+AppliedOne a b =
+    (x : Marked) × (a.waiting ≡ [])
+    × (b ≡ run a.terms a.index (consumer a.inbox.queue a.inbox.capacity (a.inbox.taken ++ x ∷ [])) a.outbox (reply a.terms a.index (told x.item ∷ applied a.inbox.taken)))
+
+-- the first reply that waits was put
+abbrev pub MovedOne : Run → Run → Type 0
+MovedOne a b =
+    (y : Reply) × (rest : List Datagram) × (a.waiting ≡ written y ∷ rest)
+    × (b ≡ run a.terms a.index a.inbox (pipe a.outbox.queue a.outbox.capacity (a.outbox.put ++ y ∷ [])) rest)
+
+-- a reply waits, and the outbox was full at some moment of the call; nothing changed
+abbrev pub WasBlocked : Run → Run → Type 0
+WasBlocked a b =
+    (first : Datagram) × (rest : List Datagram) × (a.waiting ≡ first ∷ rest)
+    × (b ≡ a) × Held a.outbox.capacity (StoodAsPut a.outbox.put)
+
+-- none waits, and the inbox was empty at some moment of the call; nothing changed
+abbrev pub WasIdle : Run → Run → Type 0
+WasIdle a b = (a.waiting ≡ []) × (b ≡ a) × Held 0 (StoodAsTaken a.inbox.taken)
+
+abbrev pub TurnedAs : Turned → Run → Run → Type 0
+TurnedAs Applied a b = AppliedOne a b
+TurnedAs Moved a b = MovedOne a b
+TurnedAs Blocked a b = WasBlocked a b
+TurnedAs Idle a b = WasIdle a b

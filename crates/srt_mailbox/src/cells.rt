@@ -1,0 +1,128 @@
+//! The place where workers find a route: a claim word, for which nobody waits, and the route behind it.
+
+ghost use Rattle.std.specs.Prelude.{◌≡◌, IfSome};
+ghost use Rattle.srt_seq.specs.Terms.{terms_of};
+ghost use Rattle.srt_mailbox.specs.Counts.{Grew};
+ghost use Rattle.srt_mailbox.specs.Cells.{Bears};
+ghost use Rattle.srt_mailbox.specs.Names.{name_in};
+ghost use Rattle.srt_mailbox.specs.declared.gates.Served.TheVariants.{Held};
+
+use crate::gates::{Gate, Served};
+use crate::inbox_rule::Inbox;
+use crate::outbox_rule::Outbox;
+use crate::running::Running;
+use counted_slot::{Counted, FREE, Fits, PRESENT, TAKEN};
+use srt_seq::Entry;
+use std::marker::Model;
+use std::snapshot::Snapshot;
+use std::sync::{Arc, Wait};
+
+/// Which route a cell holds, and its two queues. Contracts see their names.
+#[derive(Drop)]
+pub struct Label {
+    pub(crate) inbox: Arc<Inbox>,
+    pub(crate) outbox: Arc<Outbox>,
+    pub(crate) entry: Snapshot<Entry>,
+    pub(crate) index: Snapshot<usize>,
+}
+
+impl Model for Label {
+    ghost use Rattle.std.specs.Arc.{arc_value};
+    ghost use Rattle.srt_seq.specs.Terms.{terms_of};
+    ghost use Rattle.srt_mailbox.specs.Cells.{Name, name_of};
+
+    ghost Value = { Name };
+
+    ghost view = { λ s. name_of (terms_of s.entry.value) s.index.value (arc_value s.inbox).table.shared.table_id (arc_value s.outbox).table.shared.table_id };
+}
+
+impl Fits for Running {
+    ghost use Rattle.srt_mailbox.specs.Cells.{Bears};
+
+    type Tag = Label;
+
+    ghost fits = { λ label running. Bears label running };
+}
+
+/// A route that workers share. Whoever has claimed it has it alone; the place is empty while a call has the route.
+#[derive(Drop)]
+pub struct RouteCell {
+    index: usize,
+    slot: Counted<Option<Running>>,
+}
+
+impl RouteCell {
+    pub(crate) fn new(index: usize, running: Running, label: &Label) -> RouteCell
+        requires { Bears label.now running }
+        ensures { name_in result ≡ label.now }
+    {
+        RouteCell {
+            index,
+            slot: Counted::new(Some(running), label),
+        }
+    }
+
+    // Takes the route out, if nobody else has it.
+    pub(crate) fn claim(&self) -> Option<Running>
+        ensures { IfSome result (λ r. Bears (name_in self.now) r) }
+    {
+        let (found, claim) = self.slot.turn(FREE, TAKEN);
+        if found != FREE {
+            claim.done();
+            return None;
+        }
+        claim.put(None, PRESENT)
+    }
+
+    // Puts the route back. No claim lasts long here, so this alone may try again.
+    fn give_back<R: Wait>(&self, rt: &R, running: Running)
+        requires { Bears (name_in self.now) running }
+    {
+        for _ in rt.forever() {
+            let (found, claim) = self.slot.turn(PRESENT, TAKEN);
+            if found == PRESENT {
+                let _ = claim.put(Some(running), FREE);
+                return;
+            }
+            claim.done();
+        }
+    }
+
+    /// Lets the route make one turn, if nobody else has it and the gate passes. `Held` only if the gate refused, `Busy`
+    /// if another call had the route; neither makes a turn. Whatever is returned, the route is given back. Takes no
+    /// memory, and does not wait for the route.
+    pub fn serve<R: Wait, G: Gate>(&self, rt: &R, gate: &mut G) -> Served
+        ensures held { result ≡ Held → Grew (G.held gate.old) (G.held gate.new) }
+    {
+        let Some(mut running) = self.claim() else {
+            return Served::Busy;
+        };
+        let served = if gate.pass(self.index) {
+            Served::Turned(running.turn(rt))
+        } else {
+            Served::Held
+        };
+        self.give_back(rt, running);
+        served
+    }
+}
+
+/// What workers share. Code that hands a cell to threads is generic over this, so that it asks for `Sync` by a bound.
+pub trait Serve {
+    /// Lets the route make one turn, as `RouteCell::serve`.
+    fn serve<R: Wait, G: Gate>(&self, rt: &R, gate: &mut G) -> Served
+        ensures held { result ≡ Held → Grew (G.held gate.old) (G.held gate.new) };
+}
+
+impl Serve for RouteCell {
+    fn serve<R: Wait, G: Gate>(&self, rt: &R, gate: &mut G) -> Served {
+        RouteCell::serve(self, rt, gate)
+    }
+}
+
+fn is_sync<T: Sync + Send>(_it: &T) {}
+
+// Threads may share a cell.
+fn cell_is_sync(cell: &RouteCell) {
+    is_sync(cell);
+}

@@ -1,0 +1,178 @@
+//! The three ends of an inbox.
+
+ghost use Rattle.std.specs.Prelude.{◌≡◌, ◌<◌, ◌^◌, List, [], ◌∷◌, ◌++◌, length, true, IfOk, OnOk, IfErr, MatchOption};
+ghost use Rattle.std.specs.Arc.{arc_value};
+ghost use Rattle.crossbeam_queue.specs.Fifo.{Held};
+ghost use Rattle.srt_seq.specs.Items.{told, moment_of};
+ghost use Rattle.srt_mailbox.specs.Ends.{producer, consumer};
+ghost use Rattle.srt_mailbox.specs.Inbox.{StoodAsPolled, StoodAsTicked, StoodAsTaken, polled_of, ticked_of};
+ghost use Rattle.srt_mailbox.specs.declared.inbox_rule.Marked.{Marked as TheMarked};
+
+use crate::inbox_rule::{Clock, Inbox, InboxPass, Left, Marked, Poller, Polls, Takes, Ticks};
+use srt_seq::Item;
+use std::alloc::{AllocError, Global};
+use std::marker::Model;
+use std::sync::{Arc, Wait};
+
+/// The inbox was full at some moment of the call; the item comes back.
+#[derive(Debug, Drop)]
+pub struct Full {
+    /// The item that was offered.
+    pub item: Item,
+}
+
+/// The poller's end of a route's inbox. Contracts see which inbox, its capacity and the items that it accepted.
+#[derive(Drop)]
+pub struct Ingress {
+    queue: Arc<Inbox>,
+    pass: InboxPass,
+}
+
+impl Model for Ingress {
+    ghost use Rattle.std.specs.Prelude.{◌≡◌, true};
+    ghost use Rattle.std.specs.Arc.{arc_value};
+    ghost use Rattle.crossbeam_queue.specs.Passes.{IsPassOf, ruled_capacity};
+    ghost use Rattle.srt_mailbox.specs.Ends.{Producer, producer};
+
+    ghost Value = { Producer };
+
+    ghost view = { λ s. producer s.pass.table_id (ruled_capacity (arc_value s.queue)) s.pass.me.0.client.polled };
+
+    ghost invariant = { λ s. IsPassOf (arc_value s.queue) s.pass × (s.pass.me.0.client.polls ≡ true) };
+}
+
+/// The clock's end of a route's inbox. Contracts see which inbox, its capacity and the items that it accepted.
+#[derive(Drop)]
+pub struct ClockEnd {
+    queue: Arc<Inbox>,
+    pass: InboxPass,
+}
+
+impl Model for ClockEnd {
+    ghost use Rattle.std.specs.Prelude.{◌≡◌, true};
+    ghost use Rattle.std.specs.Arc.{arc_value};
+    ghost use Rattle.crossbeam_queue.specs.Passes.{IsPassOf, ruled_capacity};
+    ghost use Rattle.srt_mailbox.specs.Ends.{Producer, producer};
+
+    ghost Value = { Producer };
+
+    ghost view = { λ s. producer s.pass.table_id (ruled_capacity (arc_value s.queue)) s.pass.me.0.client.ticked };
+
+    ghost invariant = { λ s. IsPassOf (arc_value s.queue) s.pass × (s.pass.me.0.client.ticks ≡ true) };
+}
+
+/// The route's own end of its inbox.
+#[derive(Drop)]
+pub struct Taker {
+    queue: Arc<Inbox>,
+    pass: InboxPass,
+}
+
+impl Model for Taker {
+    ghost use Rattle.std.specs.Prelude.{◌≡◌, true};
+    ghost use Rattle.std.specs.Arc.{arc_value};
+    ghost use Rattle.crossbeam_queue.specs.Passes.{IsPassOf, ruled_capacity};
+    ghost use Rattle.srt_mailbox.specs.Ends.{Consumer, consumer};
+
+    ghost Value = { Consumer };
+
+    ghost view = { λ s. consumer s.pass.table_id (ruled_capacity (arc_value s.queue)) s.pass.me.0.client.taken };
+
+    ghost invariant = { λ s. IsPassOf (arc_value s.queue) s.pass × (s.pass.me.0.client.takes ≡ true) };
+}
+
+impl Ingress {
+    /// Puts an item last into the inbox. `Full` hands it back if the inbox was full at some moment of the call; then
+    /// nothing changed. The item's moment is in microseconds. Takes no memory.
+    pub fn offer<R: Wait>(&mut self, rt: &R, item: Item) -> Result<(), Full>
+        requires timely { moment_of (told item) < 2 ^ 62 }
+        ensures ok { OnOk result (self.new ≡ producer self.old.queue self.old.capacity (self.old.offered ++ item ∷ [])) }
+        ensures full { IfErr result (λ full. (full.item ≡ item) × (self.new ≡ self.old) × Held self.old.capacity (StoodAsPolled self.old.offered)) }
+    {
+        let marked = Marked { polled: true, item };
+        match self.queue.push_as::<Polls, R>(rt, &mut self.pass, marked) {
+            Ok(()) => Ok(()),
+            Err(back) => Err(Full { item: back.item }),
+        }
+    }
+}
+
+impl ClockEnd {
+    /// Puts an item last into the inbox. `Full` hands it back if the inbox was full at some moment of the call; then
+    /// nothing changed. The item's moment is in microseconds. Takes no memory.
+    pub fn offer<R: Wait>(&mut self, rt: &R, item: Item) -> Result<(), Full>
+        requires timely { moment_of (told item) < 2 ^ 62 }
+        ensures ok { OnOk result (self.new ≡ producer self.old.queue self.old.capacity (self.old.offered ++ item ∷ [])) }
+        ensures full { IfErr result (λ full. (full.item ≡ item) × (self.new ≡ self.old) × Held self.old.capacity (StoodAsTicked self.old.offered)) }
+    {
+        let marked = Marked {
+            polled: false,
+            item,
+        };
+        match self.queue.push_as::<Ticks, R>(rt, &mut self.pass, marked) {
+            Ok(()) => Ok(()),
+            Err(back) => Err(Full { item: back.item }),
+        }
+    }
+}
+
+impl Taker {
+    /// Takes the first item. `None` only if the inbox was empty at some moment of the call.
+    pub fn take<R: Wait>(&mut self, rt: &R) -> Option<Marked>
+        ensures { MatchOption result
+            ((self.new ≡ self.old) × Held 0 (StoodAsTaken self.old.taken))
+            (λ x. self.new ≡ consumer self.old.queue self.old.capacity (self.old.taken ++ x ∷ [])) }
+    {
+        self.queue.pop_as::<Takes, R>(rt, &mut self.pass)
+    }
+
+    /// Returns how many items are left, once the other two ends are here again. The items taken and then those left are
+    /// what the two ends offered, each in order.
+    pub fn settle<R: Wait>(self, rt: &R, ingress: Ingress, clock: ClockEnd) -> usize
+        requires { (ingress.queue ≡ self.queue) × (clock.queue ≡ self.queue) }
+        ensures { (left : List TheMarked) × (length left ≡ result) × (ingress.offered ≡ polled_of (self.taken ++ left)) × (clock.offered ≡ ticked_of (self.taken ++ left)) }
+    {
+        let Taker { queue, mut pass } = self;
+        let Ingress {
+            queue: _,
+            pass: polls,
+        } = ingress;
+        let ClockEnd {
+            queue: _,
+            pass: ticks,
+        } = clock;
+        queue.absorb::<Poller>(&mut pass, polls);
+        queue.absorb::<Clock>(&mut pass, ticks);
+        queue.len_as::<Left, R>(rt, &mut pass)
+    }
+
+    /// The queue that this end stands on.
+    pub fn share(&self) -> Result<Arc<Inbox>, AllocError>
+        ensures { IfOk result (λ q. (arc_value q).table.shared.table_id ≡ self.now.queue) }
+    {
+        Ok(Arc::try_clone(&self.queue)?)
+    }
+}
+
+/// The three ends of a new inbox, which holds nothing.
+pub fn open_inbox(alloc: Global, capacity: usize) -> Result<(Ingress, ClockEnd, Taker), AllocError>
+    requires { 0 < capacity }
+    ensures { IfOk result (λ r. (r.0 ≡ producer r.2.queue capacity []) × (r.1 ≡ producer r.2.queue capacity []) × (r.2 ≡ consumer r.2.queue capacity [])) }
+{
+    let (queue, mut pass) = Inbox::ruled(alloc, capacity)?;
+    let poller = queue.another::<Poller>(&mut pass);
+    let clock = queue.another::<Clock>(&mut pass);
+    let ours = Arc::new(alloc, queue)?;
+    let polls = Arc::try_clone(&ours)?;
+    let ticks = Arc::try_clone(&ours)?;
+    let ingress = Ingress {
+        queue: polls,
+        pass: poller,
+    };
+    let end = ClockEnd {
+        queue: ticks,
+        pass: clock,
+    };
+    let taker = Taker { queue: ours, pass };
+    Ok((ingress, end, taker))
+}

@@ -1,0 +1,77 @@
+//! A new route between new queues.
+
+ghost use Rattle.std.specs.Prelude.{◌≡◌, [], None, Some, Err, IfOk, IfErr};
+ghost use Rattle.srt_seq.specs.declared.shared.OpenFault.{OpenFault as TheFault};
+ghost use Rattle.srt_seq.specs.Terms.{Terms, terms_of};
+ghost use Rattle.srt_route.specs.Opening.{fault_of};
+ghost use Rattle.srt_route.specs.Stands.{stands, waiting};
+ghost use Rattle.srt_mailbox.specs.Ends.{producer, drained};
+ghost use Rattle.srt_mailbox.specs.Names.{name_in};
+
+use crate::cells::{Label, RouteCell};
+use crate::inbox::{ClockEnd, Ingress, open_inbox};
+use crate::outbox::{Drain, open_outbox};
+use crate::running::Running;
+use srt_route::Route;
+use srt_seq::{Entry, OpenFault};
+use std::alloc::{AllocError, Global};
+use std::snapshot::Snapshot;
+use std::sync::Wait;
+
+// The ends of a route that can be opened.
+fn joined<R: Wait>(
+    rt: &R,
+    alloc: Global,
+    route: Route,
+    entry: &Entry,
+    index: usize,
+) -> Result<(Ingress, ClockEnd, RouteCell, Drain), AllocError>
+    requires sound { fault_of (terms_of entry.now) index ≡ None }
+    requires stands { stands route (terms_of entry.now) index [] }
+    requires none_waits { waiting route ≡ [] }
+    ensures name { IfOk result (λ r. ((name_in r.2).terms ≡ terms_of entry.now) × ((name_in r.2).index ≡ index)) }
+    ensures ingress { IfOk result (λ r. r.0 ≡ producer (name_in r.2).inbox entry.now.inbox []) }
+    ensures clock { IfOk result (λ r. r.1 ≡ producer (name_in r.2).inbox entry.now.inbox []) }
+    ensures drain { IfOk result (λ r. r.3 ≡ drained (name_in r.2).outbox entry.now.outbox [] r.3.hand) }
+{
+    let (ingress, clock, taker) = open_inbox(alloc, entry.inbox as usize)?;
+    let (putter, drain) = open_outbox(rt, alloc, entry.outbox as usize)?;
+    let label = Label {
+        inbox: taker.share()?,
+        outbox: putter.share()?,
+        entry: Snapshot::of(entry),
+        index: Snapshot::of(&index),
+    };
+    let route = Box::new(alloc, route)?;
+    let running = Running::new(taker, putter, route, entry, index);
+    Ok((
+        ingress,
+        clock,
+        RouteCell::new(index, running, &label),
+        drain,
+    ))
+}
+
+/// A route that was told nothing, with the ends of its two empty queues: the poller's and the clock's of the inbox, the
+/// route behind its claim word, and the drain of the outbox. It takes all memory that the route will ever need. The
+/// name is looked at before the numbers, memory comes last; nothing is kept after a fault.
+pub fn open_route<R: Wait>(
+    rt: &R,
+    alloc: Global,
+    entry: &Entry,
+    index: usize,
+) -> Result<(Ingress, ClockEnd, RouteCell, Drain), OpenFault>
+    ensures name { IfOk result (λ r. ((name_in r.2).terms ≡ terms_of entry.now) × ((name_in r.2).index ≡ index)) }
+    ensures ingress { IfOk result (λ r. r.0 ≡ producer (name_in r.2).inbox entry.now.inbox []) }
+    ensures clock { IfOk result (λ r. r.1 ≡ producer (name_in r.2).inbox entry.now.inbox []) }
+    ensures drain { IfOk result (λ r. r.3 ≡ drained (name_in r.2).outbox entry.now.outbox [] r.3.hand) }
+    ensures sound { IfOk result (λ _. fault_of (terms_of entry.now) index ≡ None) }
+    ensures fault { (fault : TheFault) → fault_of (terms_of entry.now) index ≡ Some fault → result ≡ Err fault }
+    ensures memory { fault_of (terms_of entry.now) index ≡ None → IfErr result (λ fault. fault ≡ OpenFault.OutOfMemory) }
+{
+    let route = Route::open(alloc, entry, index)?;
+    match joined(rt, alloc, route, entry, index) {
+        Ok(ends) => Ok(ends),
+        Err(_) => Err(OpenFault::OutOfMemory),
+    }
+}

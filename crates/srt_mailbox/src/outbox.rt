@@ -1,0 +1,169 @@
+//! The two ends of an outbox.
+
+ghost use Rattle.std.specs.Prelude.{◌≡◌, ◌<◌, ◌≤◌, List, [], ◌∷◌, ◌++◌, length, true, false, IfOk, OnOk, IfErr};
+ghost use Rattle.std.specs.Arc.{arc_value};
+ghost use Rattle.crossbeam_queue.specs.Fifo.{Held};
+ghost use Rattle.srt_route.specs.declared.replies.Reply.{Reply as TheReply};
+ghost use Rattle.srt_mailbox.specs.Counts.{counted};
+ghost use Rattle.srt_mailbox.specs.Ends.{pipe, drained};
+ghost use Rattle.srt_mailbox.specs.Outbox.{StoodAsPut, StoodAsDrained};
+
+use crate::outbox_rule::{Draining, Drains, Left, Outbox, OutboxPass, Puts};
+use crate::spares::{Spares, empty_box, open_spares};
+use srt_route::Reply;
+use std::alloc::{AllocError, Global};
+use std::marker::Model;
+use std::mem;
+use std::sync::{Arc, Wait};
+
+/// The route's own end of its outbox, with the way back of the empty boxes.
+#[derive(Drop)]
+pub struct Putter {
+    queue: Arc<Outbox>,
+    pass: OutboxPass,
+    spares: Arc<Spares>,
+}
+
+impl Model for Putter {
+    ghost use Rattle.std.specs.Prelude.{◌≡◌, true};
+    ghost use Rattle.std.specs.Arc.{arc_value};
+    ghost use Rattle.crossbeam_queue.specs.Passes.{IsPassOf, ruled_capacity};
+    ghost use Rattle.srt_mailbox.specs.Outbox.{replies_in};
+    ghost use Rattle.srt_mailbox.specs.Ends.{Pipe, pipe};
+
+    ghost Value = { Pipe };
+
+    ghost view = { λ s. pipe s.pass.table_id (ruled_capacity (arc_value s.queue)) (replies_in s.pass.me.0.client.put) };
+
+    ghost invariant = { λ s. IsPassOf (arc_value s.queue) s.pass × (s.pass.me.0.client.puts ≡ true) };
+}
+
+/// The end of a route's outbox from which replies are drained. Contracts see which outbox, its capacity, the replies
+/// that were drained, and the last of them.
+#[derive(Drop)]
+pub struct Drain {
+    queue: Arc<Outbox>,
+    pass: OutboxPass,
+    spares: Arc<Spares>,
+    hand: Box<Reply>,
+    // how many replies were drained; it stops at 2^64 - 1
+    count: u64,
+}
+
+impl Model for Drain {
+    ghost use Rattle.std.specs.Prelude.{◌≡◌, true, length};
+    ghost use Rattle.std.specs.Arc.{arc_value};
+    ghost use Rattle.crossbeam_queue.specs.Passes.{IsPassOf, ruled_capacity};
+    ghost use Rattle.srt_mailbox.specs.Counts.{counted};
+    ghost use Rattle.srt_mailbox.specs.Outbox.{replies_in};
+    ghost use Rattle.srt_mailbox.specs.Ends.{Drained, drained};
+
+    ghost Value = { Drained };
+
+    ghost view = { λ s. drained s.pass.table_id (ruled_capacity (arc_value s.queue)) (replies_in s.pass.me.0.client.drained) s.hand.value };
+
+    ghost invariant = { λ s. IsPassOf (arc_value s.queue) s.pass × (s.pass.me.0.client.drains ≡ true) × (s.count ≡ counted (length (replies_in s.pass.me.0.client.drained))) };
+}
+
+impl Putter {
+    /// Puts a reply last into the outbox. The box comes back only if the outbox was full at some moment of the call.
+    pub fn put<R: Wait>(&mut self, rt: &R, reply: Box<Reply>) -> Result<(), Box<Reply>>
+        ensures ok { OnOk result (self.new ≡ pipe self.old.queue self.old.capacity (self.old.put ++ reply.value ∷ [])) }
+        ensures full { IfErr result (λ back. (back ≡ reply) × (self.new ≡ self.old) × Held self.old.capacity (StoodAsPut self.old.put)) }
+    {
+        self.queue.push_as::<Puts, R>(rt, &mut self.pass, reply)
+    }
+
+    /// An empty box, to be filled.
+    pub fn empty_box<R: Wait>(&self, rt: &R) -> Box<Reply> {
+        empty_box(rt, &self.spares)
+    }
+
+    /// Returns how many replies are left, once the other end is here again. The replies drained and then those left
+    /// are what was put.
+    pub fn settle<R: Wait>(self, rt: &R, drain: Drain) -> (usize, u64)
+        requires { drain.queue ≡ self.queue }
+        ensures left { (left : List TheReply) × (length left ≡ result.0) × (self.put ≡ drain.through ++ left) }
+        ensures drained { result.1 ≡ counted (length drain.through) }
+    {
+        let Putter {
+            queue,
+            mut pass,
+            spares: _,
+        } = self;
+        let Drain {
+            queue: _,
+            pass: drains,
+            spares: _,
+            hand: _,
+            count,
+        } = drain;
+        queue.absorb::<Draining>(&mut pass, drains);
+        (queue.len_as::<Left, R>(rt, &mut pass), count)
+    }
+
+    /// The queue that this end stands on.
+    pub fn share(&self) -> Result<Arc<Outbox>, AllocError>
+        ensures { IfOk result (λ q. (arc_value q).table.shared.table_id ≡ self.now.queue) }
+    {
+        Ok(Arc::try_clone(&self.queue)?)
+    }
+}
+
+impl Drain {
+    /// Takes the first reply out of the outbox, to be read by `reply`. False only if the outbox was empty at some
+    /// moment of the call; then nothing changed. Takes no memory: the box that held the reply before goes back to the
+    /// route.
+    pub fn take<R: Wait>(&mut self, rt: &R) -> bool
+        ensures some { result ≡ true → self.new ≡ drained self.old.queue self.old.capacity (self.old.through ++ self.new.hand ∷ []) self.new.hand }
+        ensures none { result ≡ false → (self.new ≡ self.old) × Held 0 (StoodAsDrained self.old.through) }
+    {
+        match self.queue.pop_as::<Drains, R>(rt, &mut self.pass) {
+            Some(reply) => {
+                let empty = mem::replace(&mut self.hand, reply);
+                let _ = self.spares.push(rt, empty);
+                self.count = self.count.saturating_add(1);
+                true
+            }
+            None => false,
+        }
+    }
+
+    /// The reply that was taken last; before the first, an empty one.
+    pub fn reply(&self) -> &Reply
+        ensures { result.now ≡ self.now.hand }
+    {
+        &self.hand
+    }
+}
+
+/// The two ends of a new outbox, which holds nothing.
+pub fn open_outbox<R: Wait>(
+    rt: &R,
+    alloc: Global,
+    capacity: usize,
+) -> Result<(Putter, Drain), AllocError>
+    requires { (0 < capacity) × (capacity ≤ 4096) }
+    ensures { IfOk result (λ r. (r.0 ≡ pipe r.0.queue capacity []) × (r.1 ≡ drained r.0.queue capacity [] r.1.hand)) }
+{
+    let (queue, mut pass) = Outbox::ruled(alloc, capacity)?;
+    let drains = queue.another::<Draining>(&mut pass);
+    let ours = Arc::new(alloc, queue)?;
+    let theirs = Arc::try_clone(&ours)?;
+    let spares = open_spares(rt, alloc, capacity + 2)?;
+    let back = Arc::try_clone(&spares)?;
+    let hand = Box::new(alloc, Reply::blank())?;
+    let putter = Putter {
+        queue: ours,
+        pass,
+        spares,
+    };
+    let drain = Drain {
+        queue: theirs,
+        pass: drains,
+        spares: back,
+        hand,
+        count: 0,
+    };
+    Ok((putter, drain))
+}

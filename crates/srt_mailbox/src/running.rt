@@ -1,0 +1,184 @@
+//! A route between its two queues, as the one who has claimed it holds it.
+
+ghost use Rattle.std.specs.Prelude.{◌≡◌, ◌<◌, ◌+◌, ℕ, List, [], ◌∷◌, None, length};
+ghost use Rattle.srt_seq.specs.Terms.{Terms, terms_of};
+ghost use Rattle.srt_seq.specs.Items.{Item as TheItem};
+ghost use Rattle.srt_route.specs.Stands.{stands, waiting};
+ghost use Rattle.srt_route.specs.Written.{written};
+ghost use Rattle.srt_mailbox.specs.Counts.{counted};
+ghost use Rattle.srt_mailbox.specs.Runs.{run, waiting_at, Replays, TurnedAs};
+
+use crate::inbox::Taker;
+use crate::outbox::Putter;
+use srt_route::{Reply, Route};
+use srt_seq::{Entry, Turned};
+use std::marker::Model;
+use std::snapshot::Snapshot;
+use std::sync::Wait;
+
+/// A route with its own ends of the inbox and of the outbox. It is small, since a claim moves it by value twice.
+#[derive(Drop)]
+pub struct Running {
+    taker: Taker,
+    putter: Putter,
+    route: Box<Route>,
+    // a reply that a full outbox handed back: the first that waits
+    held: Option<Box<Reply>>,
+    // how many replies wait
+    waiting: usize,
+    // how many items were taken; it stops at 2^64 - 1
+    taken: u64,
+    // the entry and the index that the route was opened with; they have no bytes
+    entry: Snapshot<Entry>,
+    index: Snapshot<usize>,
+}
+
+impl Model for Running {
+    ghost use Rattle.std.specs.Prelude.{◌≡◌, length};
+    ghost use Rattle.srt_seq.specs.Terms.{terms_of};
+    ghost use Rattle.srt_route.specs.Stands.{stands};
+    ghost use Rattle.srt_mailbox.specs.Counts.{counted};
+    ghost use Rattle.srt_mailbox.specs.Inbox.{applied};
+    ghost use Rattle.srt_mailbox.specs.Runs.{Run, run, waiting_at, Replays};
+
+    ghost Value = { Run };
+
+    ghost view = { λ s. run (terms_of s.entry.value) s.index.value s.taker s.putter (waiting_at s.held s.route.value) };
+
+    // The route stands for the items that were taken, and it replays.
+    ghost invariant = { λ s. stands s.route.value (terms_of s.entry.value) s.index.value (applied s.taker.taken) × Replays (run (terms_of s.entry.value) s.index.value s.taker s.putter (waiting_at s.held s.route.value)) × (s.waiting ≡ length (waiting_at s.held s.route.value)) × (s.taken ≡ counted (length s.taker.taken)) };
+}
+
+// Takes the first reply that waits, in its box.
+fn next_waiting<R: Wait>(
+    rt: &R,
+    held: &mut Option<Box<Reply>>,
+    route: &mut Route,
+    putter: &Putter,
+) -> Box<Reply>
+    requires { 0 < length (waiting_at held.old route.old) }
+    ensures stands { (e : Terms) (index : ℕ) (items : List TheItem) → stands route.old e index items → stands route.new e index items }
+    ensures held { held.new ≡ None }
+    ensures first { waiting_at held.old route.old ≡ written result.value ∷ waiting route.new }
+{
+    if let Some(reply) = held.take() {
+        return reply;
+    }
+    let mut place = putter.empty_box(rt);
+    let _ = route.next_reply(&mut place);
+    place
+}
+
+impl Running {
+    /// A route that was told nothing, at ends that nothing went through.
+    pub(crate) fn new(
+        taker: Taker,
+        putter: Putter,
+        route: Box<Route>,
+        entry: &Entry,
+        index: usize,
+    ) -> Running
+        requires fresh { stands route.value (terms_of entry.now) index [] }
+        requires none_waits { waiting route.value ≡ [] }
+        requires empty { (taker.taken ≡ []) × (putter.put ≡ []) }
+        ensures { result ≡ run (terms_of entry.now) index taker putter [] }
+    {
+        Running {
+            taker,
+            putter,
+            route,
+            held: None,
+            waiting: 0,
+            taken: 0,
+            entry: Snapshot::of(entry),
+            index: Snapshot::of(&index),
+        }
+    }
+
+    // Moves the first reply that waits to the outbox, unless that is full.
+    fn move_reply<R: Wait>(&mut self, rt: &R) -> Turned
+        requires { 0 < length self.old.waiting }
+        ensures { TurnedAs result self.old self.new }
+    {
+        let reply = next_waiting(rt, &mut self.held, &mut self.route, &self.putter);
+        match self.putter.put(rt, reply) {
+            Ok(()) => {
+                self.waiting -= 1;
+                Turned::Moved
+            }
+            Err(back) => {
+                self.held = Some(back);
+                Turned::Blocked
+            }
+        }
+    }
+
+    // Applies the first item of the inbox, unless that is empty.
+    fn apply_item<R: Wait>(&mut self, rt: &R) -> Turned
+        requires { self.old.waiting ≡ [] }
+        ensures { TurnedAs result self.old self.new }
+    {
+        match self.taker.take(rt) {
+            Some(marked) => {
+                self.waiting = self.route.step(marked.item);
+                self.taken = self.taken.saturating_add(1);
+                Turned::Applied
+            }
+            None => Turned::Idle,
+        }
+    }
+
+    /// Makes one turn: moves the first reply that waits to the outbox, or, if none waits, applies the first item of the
+    /// inbox. `Blocked` and `Idle` change nothing. Takes no memory.
+    pub fn turn<R: Wait>(&mut self, rt: &R) -> Turned
+        ensures { TurnedAs result self.old self.new }
+    {
+        if self.waiting > 0 {
+            self.move_reply(rt)
+        } else {
+            self.apply_item(rt)
+        }
+    }
+
+    /// What was put and then what waits is all that the route, alone, replies to the items that were taken, whoever
+    /// made its turns.
+    pub fn replays(&self)
+        ensures { Replays self.now }
+    {
+        let _waiting = self.waiting;
+    }
+
+    /// The two ends, how many items were taken, and how many replies wait.
+    pub(crate) fn into_parts(self) -> Parts
+        ensures ends { (result.taker ≡ self.inbox) × (result.putter ≡ self.outbox) }
+        ensures taken { result.taken ≡ counted (length self.inbox.taken) }
+        ensures waiting { result.waiting ≡ length self.waiting }
+        ensures replays { Replays self }
+    {
+        let Running {
+            taker,
+            putter,
+            route: _,
+            held: _,
+            waiting,
+            taken,
+            entry: _,
+            index: _,
+        } = self;
+        Parts {
+            taker,
+            putter,
+            taken,
+            waiting,
+        }
+    }
+}
+
+/// What a route that ends leaves.
+#[derive(Drop)]
+pub(crate) struct Parts {
+    pub taker: Taker,
+    pub putter: Putter,
+    pub taken: u64,
+    pub waiting: usize,
+}
