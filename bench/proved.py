@@ -11,7 +11,7 @@ TOP = os.path.dirname(os.path.dirname(os.path.realpath(__file__)))
 def below(crates):
     """These crates of the repository and those below them, with their lines of crates.txt."""
     with open(f"{TOP}/crates.txt") as it:
-        lines = {line.split(":")[0]: line for line in it if ":" in line}
+        lines = {line.split(":")[0].split()[0]: line for line in it if ":" in line}
     found, left = {}, list(crates)
     while left:
         crate = left.pop()

@@ -3,6 +3,8 @@
 
 ghost use Rattle.std.specs.Prelude.{◌≡◌, ◌<◌, ◌^◌, IfOk};
 ghost use Rattle.srt_seq.specs.Items.{told, moment_of};
+ghost use Rattle.srt_mailbox.specs.Cells.{AreEndsOf};
+ghost use Rattle.srt_mailbox.specs.Names.{name_in};
 
 use crate::gates::{Gate, Served};
 use crate::{Account, ClockEnd, Drain, Ingress, RouteCell, Serve, open_route, settle};
@@ -118,7 +120,9 @@ fn entry(alloc: Global) -> Result<Entry, Fail> {
     })
 }
 
-fn studio<R: Wait>(rt: &R, alloc: Global) -> Result<Ends, Fail> {
+fn studio<R: Wait>(rt: &R, alloc: Global) -> Result<Ends, Fail>
+    ensures { IfOk result (λ r. AreEndsOf (name_in r.2) r.0 r.1 r.3) }
+{
     match open_route(rt, alloc, &entry(alloc)?, 0) {
         Ok(ends) => Ok(ends),
         Err(_) => Err(Fail::from("the route opens")),
@@ -184,7 +188,9 @@ fn assert_drained(
     rt: &(impl AllocGlobal + Wait + Abort),
     drain: &mut Drain,
     wanted: Expected,
-) -> Result<(), Fail> {
+) -> Result<(), Fail>
+    ensures { drain.new.queue ≡ drain.old.queue }
+{
     assert!(rt; drain.take(rt));
     assert_at_hand(rt, drain, wanted)
 }
@@ -205,8 +211,58 @@ fn assert_at_hand(
 
 fn tick<R: Wait>(rt: &R, clock: &mut ClockEnd, moment: u64) -> bool
     requires { moment < 2 ^ 62 }
+    ensures { clock.new.queue ≡ clock.old.queue }
 {
     clock.offer(rt, Item::Tick { moment }).is_ok()
+}
+
+/// Offers a datagram n times, for all of which there is room.
+fn offer_times(
+    rt: &(impl AllocGlobal + Wait + Abort),
+    ingress: &mut Ingress,
+    coming: Coming,
+    n: usize,
+) -> Result<(), Fail>
+    ensures { ingress.new.queue ≡ ingress.old.queue }
+{
+    for turn in 0..n {
+        assert!(rt;
+            ingress.offer(rt, coming.item(rt.alloc())?).is_ok(),
+            "{turn}"
+        );
+    }
+    Ok(())
+}
+
+/// Drains n replies, and asserts that each is this one.
+fn drain_times(
+    rt: &(impl AllocGlobal + Wait + Abort),
+    drain: &mut Drain,
+    wanted: Expected,
+    n: usize,
+) -> Result<(), Fail>
+    ensures { drain.new.queue ≡ drain.old.queue }
+{
+    for turn in 0..n {
+        assert_drained(rt, drain, wanted)?;
+    }
+    Ok(())
+}
+
+/// The account of a route whose ends came from one opening.
+fn settled<R: Wait>(
+    rt: &R,
+    ingress: Ingress,
+    clock: ClockEnd,
+    cell: RouteCell,
+    drain: Drain,
+) -> Result<Account, Fail>
+    requires { AreEndsOf (name_in cell) ingress clock drain }
+{
+    match settle(rt, ingress, clock, cell, drain) {
+        Ok(account) => Ok(account),
+        Err(_) => Err(Fail::from("nobody has the route")),
+    }
 }
 
 #[test]
@@ -244,7 +300,7 @@ fn what_meets_a_full_inbox_comes_back(rt: HostRuntime) -> Result<(), Fail> {
     let alloc = rt.alloc();
     let (mut ingress, mut clock, cell, mut drain) = studio(&rt, alloc)?;
     for coming in [PUBLISHER, DATA, SUBSCRIBER] {
-        assert!(rt; ingress.offer(&rt, coming.item(alloc)?).is_ok());
+        offer_times(&rt, &mut ingress, coming, 1)?;
     }
     for _ in 0..13 {
         assert!(rt; tick(&rt, &mut clock, DELIVERY));
@@ -264,7 +320,7 @@ fn what_meets_a_full_inbox_comes_back(rt: HostRuntime) -> Result<(), Fail> {
     };
     assert!(rt; from == peer(DATA.port) && moment == DATA.moment);
     assert_eq!(rt; &head[..], hex::decode(alloc, &DATA.text[..32])?.as_slice());
-    assert_eq!(rt; body.as_slice(), &[0x68, 0x69]);
+    assert_eq!(rt; body.as_slice(), [0x68, 0x69].as_slice());
     assert!(rt; !tick(&rt, &mut clock, DELIVERY));
     assert_served(&rt, &cell, &[APPLIED]);
     assert!(rt; ingress.offer(&rt, DATA.item(alloc)?).is_ok());
@@ -287,47 +343,53 @@ fn what_meets_a_full_inbox_comes_back(rt: HostRuntime) -> Result<(), Fail> {
 fn a_full_outbox_blocks_the_route(rt: HostRuntime) -> Result<(), Fail> {
     let alloc = rt.alloc();
     let (mut ingress, mut clock, cell, mut drain) = studio(&rt, alloc)?;
+    offer_times(&rt, &mut ingress, PUBLISHER, 16)?;
     for _ in 0..16 {
-        assert!(rt; ingress.offer(&rt, PUBLISHER.item(alloc)?).is_ok());
         assert_served(&rt, &cell, &[APPLIED, MOVED]);
     }
-    for _ in 0..2 {
-        assert!(rt; ingress.offer(&rt, PUBLISHER.item(alloc)?).is_ok());
-    }
+    offer_times(&rt, &mut ingress, PUBLISHER, 2)?;
     assert_served(&rt, &cell, &[APPLIED, BLOCKED, BLOCKED]);
     assert!(rt; tick(&rt, &mut clock, 1_000_000));
-    for _ in 0..16 {
-        assert_drained(&rt, &mut drain, ANSWER)?;
-    }
+    drain_times(&rt, &mut drain, ANSWER, 16)?;
     assert_served(&rt, &cell, &[MOVED, APPLIED, MOVED, APPLIED, IDLE]);
-    for _ in 0..2 {
-        assert_drained(&rt, &mut drain, ANSWER)?;
-    }
+    drain_times(&rt, &mut drain, ANSWER, 2)?;
     assert!(rt; !drain.take(&rt));
-    match settle(&rt, ingress, clock, cell, drain) {
-        Ok(account) => assert_eq!(rt;
-            account,
-            Account {
-                taken: 19,
-                left: 0,
-                waiting: 0,
-                queued: 0,
-                drained: 18
-            }
-        ),
-        Err(_) => return Err(Fail::from("nobody has the route")),
-    }
+    let account = settled(&rt, ingress, clock, cell, drain)?;
+    assert_eq!(rt;
+        account,
+        Account {
+            taken: 19,
+            left: 0,
+            waiting: 0,
+            queued: 0,
+            drained: 18
+        }
+    );
     Ok(())
 }
 
-/// Offers a conclusion, serves the route so often, and drains where told. The account tells where it stands.
+/// Offers a conclusion, serves the route a few times, drains n replies, and ends the route.
+fn account_after(
+    rt: &(impl AllocGlobal + Wait + Abort),
+    turns: usize,
+    n: usize,
+) -> Result<Account, Fail> {
+    let (mut ingress, clock, cell, mut drain) = studio(rt, rt.alloc())?;
+    offer_times(rt, &mut ingress, PUBLISHER, 1)?;
+    for _ in 0..turns {
+        cell.serve(rt, &mut Fixed::open());
+    }
+    drain_times(rt, &mut drain, ANSWER, n)?;
+    settled(rt, ingress, clock, cell, drain)
+}
+
+/// The account tells where each item and reply is.
 #[test]
-fn an_account_tells_where_each_item_and_reply_is(rt: HostRuntime) -> Result<(), Fail> {
-    let alloc = rt.alloc();
-    for (turns, drains, wanted) in [
+fn an_account_tells_where_all_is(rt: HostRuntime) -> Result<(), Fail> {
+    for (turns, n, wanted) in [
         (
             0,
-            false,
+            0,
             Account {
                 taken: 0,
                 left: 1,
@@ -338,7 +400,7 @@ fn an_account_tells_where_each_item_and_reply_is(rt: HostRuntime) -> Result<(), 
         ),
         (
             1,
-            false,
+            0,
             Account {
                 taken: 1,
                 left: 0,
@@ -349,7 +411,7 @@ fn an_account_tells_where_each_item_and_reply_is(rt: HostRuntime) -> Result<(), 
         ),
         (
             2,
-            false,
+            0,
             Account {
                 taken: 1,
                 left: 0,
@@ -360,7 +422,7 @@ fn an_account_tells_where_each_item_and_reply_is(rt: HostRuntime) -> Result<(), 
         ),
         (
             2,
-            true,
+            1,
             Account {
                 taken: 1,
                 left: 0,
@@ -370,18 +432,167 @@ fn an_account_tells_where_each_item_and_reply_is(rt: HostRuntime) -> Result<(), 
             },
         ),
     ] {
-        let (mut ingress, clock, cell, mut drain) = studio(&rt, alloc)?;
-        assert!(rt; ingress.offer(&rt, PUBLISHER.item(alloc)?).is_ok());
-        for _ in 0..turns {
-            cell.serve(&rt, &mut Fixed::open());
+        assert_eq!(rt; account_after(&rt, turns, n)?, wanted);
+    }
+    Ok(())
+}
+
+/// Serves a route until it is told to stop, at most a million times.
+fn serve_until<C: Serve, R: Wait>(rt: &R, cell: &C, stop: &AtomicBool) {
+    let mut gate = Fixed::open();
+    for _ in 0..1_000_000 {
+        if stop.load(Ordering::SeqCst) {
+            return;
         }
-        if drains {
-            assert_drained(&rt, &mut drain, ANSWER)?;
-        }
-        match settle(&rt, ingress, clock, cell, drain) {
-            Ok(account) => assert_eq!(rt; account, wanted),
-            Err(_) => return Err(Fail::from("nobody has the route")),
+        match cell.serve(rt, &mut gate) {
+            Served::Turned(Turned::Applied) | Served::Turned(Turned::Moved) => {}
+            _ => thread::yield_now(),
         }
     }
+}
+
+/// Waits for the next reply, and asserts that it is this one.
+fn await_drained(
+    rt: &(impl AllocGlobal + Wait + Abort),
+    drain: &mut Drain,
+    wanted: Expected,
+) -> Result<(), Fail> {
+    for _ in 0..10_000_000 {
+        if drain.take(rt) {
+            return assert_at_hand(rt, drain, wanted);
+        }
+        thread::yield_now();
+    }
+    Err(Fail::from("a reply comes"))
+}
+
+/// Offers the stream's items, and then the publisher's conclusion 800 times over, and asserts each reply: a conclusion
+/// that comes again is answered again.
+fn offer_and_await(
+    rt: &(impl AllocGlobal + Wait + Abort),
+    ingress: &mut Ingress,
+    drain: &mut Drain,
+) -> Result<(), Fail> {
+    for coming in [PUBLISHER, DATA, SUBSCRIBER] {
+        offer_times(rt, ingress, coming, 1)?;
+    }
+    assert!(rt; ingress.offer(rt, Item::Tick { moment: DELIVERY }).is_ok());
+    for wanted in REPLIES {
+        await_drained(rt, drain, wanted)?;
+    }
+    for _ in 0..100 {
+        offer_times(rt, ingress, PUBLISHER, 8)?;
+        for _ in 0..8 {
+            await_drained(rt, drain, ANSWER)?;
+        }
+    }
+    Ok(())
+}
+
+/// Two threads serve the route while this one offers and drains.
+fn serve_by_two<C: Serve + Sync, R: AllocGlobal + Threads + Wait + Abort + Sync>(
+    rt: &R,
+    ingress: &mut Ingress,
+    cell: &C,
+    drain: &mut Drain,
+) -> Result<(), Fail> {
+    let stop = AtomicBool::new(false);
+    let told = &stop;
+    let (_, (_, offered)) = join(
+        rt,
+        || serve_until(rt, cell, told),
+        || {
+            join(
+                rt,
+                || serve_until(rt, cell, told),
+                || {
+                    let offered = offer_and_await(rt, ingress, drain);
+                    told.store(true, Ordering::SeqCst);
+                    offered
+                },
+            )
+        },
+    );
+    offered
+}
+
+/// Whichever of two workers makes a turn, the replies are those of the route alone, in order.
+#[test]
+fn two_workers_serve_as_one(rt: HostRuntime) -> Result<(), Fail> {
+    let (mut ingress, _clock, cell, mut drain) = studio(&rt, rt.alloc())?;
+    serve_by_two(&rt, &mut ingress, &cell, &mut drain)?;
+    assert!(rt; !drain.take(&rt));
+    Ok(())
+}
+
+/// A gate that stays until another thread was answered.
+#[derive(Drop)]
+struct Staying<'a> {
+    entered: &'a AtomicBool,
+    answered: &'a AtomicBool,
+}
+
+/// Waits for the flag, but not for ever.
+fn wait_for(flag: &AtomicBool) {
+    for _ in 0..1_000_000 {
+        if flag.load(Ordering::SeqCst) {
+            return;
+        }
+        thread::yield_now();
+    }
+}
+
+impl Gate for Staying<'_> {
+    ghost held = { λ _. 0 };
+
+    fn pass(&mut self, _route: usize) -> bool {
+        self.entered.store(true, Ordering::SeqCst);
+        wait_for(self.answered);
+        true
+    }
+
+    fn held(&self) -> u64 {
+        0
+    }
+}
+
+/// What a worker that stays in its gate got, and what another one got meanwhile, at the same route and at another.
+fn serve_beside<C: Serve + Sync, R: Threads + Wait + Sync>(
+    rt: &R,
+    cell: &C,
+    other: &C,
+) -> (Served, Served, Served) {
+    let inside = AtomicBool::new(false);
+    let done = AtomicBool::new(false);
+    let (entered, answered) = (&inside, &done);
+    let (stayed, (busy, free)) = join(
+        rt,
+        || cell.serve(rt, &mut Staying { entered, answered }),
+        || {
+            wait_for(entered);
+            let busy = cell.serve(rt, &mut Fixed::open());
+            let free = other.serve(rt, &mut Fixed::open());
+            answered.store(true, Ordering::SeqCst);
+            (busy, free)
+        },
+    );
+    (stayed, busy, free)
+}
+
+/// Served by one thread a route is never busy; served by another one it is, and a worker goes on elsewhere.
+#[test]
+fn nobody_waits_for_a_route(rt: HostRuntime) -> Result<(), Fail> {
+    let (_ingress, mut clock, cell, _drain) = studio(&rt, rt.alloc())?;
+    let (_other_ingress, mut other_clock, other, _other_drain) = studio(&rt, rt.alloc())?;
+    for _ in 0..1_000 {
+        assert!(rt; tick(&rt, &mut clock, 5));
+        assert_served(&rt, &cell, &[APPLIED, IDLE]);
+    }
+    assert!(rt; tick(&rt, &mut clock, 5));
+    assert!(rt; tick(&rt, &mut other_clock, 5));
+    let served = serve_beside(&rt, &cell, &other);
+    assert!(rt; served == (APPLIED, Served::Busy, APPLIED));
+    assert_served(&rt, &cell, &[IDLE]);
+    assert_served(&rt, &other, &[IDLE]);
     Ok(())
 }

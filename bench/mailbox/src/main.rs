@@ -1,0 +1,303 @@
+//! The mailbox's structure in plain Rust: a route between two bounded queues of many producers and consumers, behind a
+//! claim word, with replies in boxes that come back. The route answers each item with a copy of 80 bytes.
+use std::cell::UnsafeCell;
+use std::mem::MaybeUninit;
+use std::sync::atomic::{AtomicBool, AtomicU64, AtomicUsize, Ordering::SeqCst};
+use std::sync::Arc;
+use std::time::Instant;
+
+const CALLS: u64 = 2_000_000;
+
+struct Slot<T> {
+    stamp: AtomicUsize,
+    value: UnsafeCell<MaybeUninit<T>>,
+}
+
+/// A bounded queue: each slot has a stamp that says in which lap it may be written or read.
+struct Queue<T> {
+    head: AtomicUsize,
+    tail: AtomicUsize,
+    slots: Box<[Slot<T>]>,
+    lap: usize,
+}
+
+unsafe impl<T: Send> Sync for Queue<T> {}
+
+impl<T> Queue<T> {
+    fn new(capacity: usize) -> Queue<T> {
+        let slots = (0..capacity).map(|at| Slot { stamp: AtomicUsize::new(at), value: UnsafeCell::new(MaybeUninit::uninit()) }).collect();
+        Queue { head: AtomicUsize::new(0), tail: AtomicUsize::new(0), slots, lap: (capacity + 1).next_power_of_two() }
+    }
+
+    fn next(&self, place: usize) -> usize {
+        let at = place & (self.lap - 1);
+        if at + 1 < self.slots.len() { place + 1 } else { (place & !(self.lap - 1)).wrapping_add(self.lap) }
+    }
+
+    fn push(&self, value: T) -> Result<(), T> {
+        let mut tail = self.tail.load(SeqCst);
+        loop {
+            let slot = &self.slots[tail & (self.lap - 1)];
+            let stamp = slot.stamp.load(SeqCst);
+            if stamp == tail {
+                match self.tail.compare_exchange(tail, self.next(tail), SeqCst, SeqCst) {
+                    Ok(_) => {
+                        unsafe { (*slot.value.get()).write(value) };
+                        slot.stamp.store(tail + 1, SeqCst);
+                        return Ok(());
+                    }
+                    Err(found) => tail = found,
+                }
+            } else if stamp.wrapping_add(self.lap) == tail + 1 && self.head.load(SeqCst).wrapping_add(self.lap) == tail {
+                return Err(value);
+            } else {
+                tail = self.tail.load(SeqCst);
+            }
+        }
+    }
+
+    fn pop(&self) -> Option<T> {
+        let mut head = self.head.load(SeqCst);
+        loop {
+            let slot = &self.slots[head & (self.lap - 1)];
+            let stamp = slot.stamp.load(SeqCst);
+            if stamp == head + 1 {
+                match self.head.compare_exchange(head, self.next(head), SeqCst, SeqCst) {
+                    Ok(_) => {
+                        let value = unsafe { (*slot.value.get()).assume_init_read() };
+                        slot.stamp.store(head.wrapping_add(self.lap), SeqCst);
+                        return Some(value);
+                    }
+                    Err(found) => head = found,
+                }
+            } else if stamp == head && self.tail.load(SeqCst) == head {
+                return None;
+            } else {
+                head = self.head.load(SeqCst);
+            }
+        }
+    }
+}
+
+struct Reply {
+    #[allow(dead_code)]
+    bytes: [u8; 1500],
+}
+
+fn blank() -> Box<Reply> {
+    Box::new(Reply { bytes: [0; 1500] })
+}
+
+/// An item of the inbox, as large as the gateway's.
+struct Item {
+    polled: bool,
+    moment: u64,
+    head: [u8; 16],
+    peer: [u8; 18],
+    body: Vec<u8>,
+}
+
+/// What the route stands for here: it answers an item with a word.
+struct Route {
+    clock: u64,
+    waiting: Vec<Box<Reply>>,
+    spare: Vec<Box<Reply>>,
+}
+
+struct Running {
+    inbox: Arc<Queue<Item>>,
+    outbox: Arc<Queue<Box<Reply>>>,
+    spares: Arc<Queue<Box<Reply>>>,
+    route: Box<Route>,
+    held: Option<Box<Reply>>,
+    waiting: usize,
+    taken: u64,
+}
+
+#[derive(PartialEq)]
+enum Served {
+    Moved,
+    Applied,
+    Blocked,
+    Idle,
+    Busy,
+}
+
+impl Running {
+    fn turn(&mut self) -> Served {
+        if self.waiting > 0 {
+            let reply = match self.held.take() {
+                Some(reply) => reply,
+                None => {
+                    let mut place = self.spares.pop().unwrap();
+                    std::mem::swap(&mut place, self.route.waiting.last_mut().unwrap());
+                    let spare = self.route.waiting.pop().unwrap();
+                    self.route.spare.push(spare);
+                    place
+                }
+            };
+            return match self.outbox.push(reply) {
+                Ok(()) => {
+                    self.waiting -= 1;
+                    Served::Moved
+                }
+                Err(back) => {
+                    self.held = Some(back);
+                    Served::Blocked
+                }
+            };
+        }
+        match self.inbox.pop() {
+            Some(item) => {
+                self.route.clock = self.route.clock.max(item.moment);
+                if item.polled && item.head[0] == 0x80 && item.peer[0] == 0 && !item.body.is_empty() {
+                    let mut place = self.route.spare.pop().unwrap();
+                    place.bytes[0] = item.body[0];
+                    self.route.waiting.push(place);
+                    self.waiting = 1;
+                }
+                self.taken = self.taken.saturating_add(1);
+                Served::Applied
+            }
+            None => Served::Idle,
+        }
+    }
+}
+
+struct Cell {
+    word: AtomicU64,
+    place: UnsafeCell<Option<Running>>,
+}
+
+unsafe impl Sync for Cell {}
+
+impl Cell {
+    fn serve(&self, gate: &mut dyn FnMut() -> bool) -> Served {
+        if self.word.compare_exchange(0, 3, SeqCst, SeqCst).is_err() {
+            return Served::Busy;
+        }
+        let taken = unsafe { (*self.place.get()).take() };
+        self.word.store(1, SeqCst);
+        let Some(mut running) = taken else { return Served::Busy };
+        let served = if gate() { running.turn() } else { Served::Idle };
+        while self.word.compare_exchange(1, 3, SeqCst, SeqCst).is_err() {}
+        unsafe { *self.place.get() = Some(running) };
+        self.word.store(0, SeqCst);
+        served
+    }
+}
+
+struct Drain {
+    outbox: Arc<Queue<Box<Reply>>>,
+    spares: Arc<Queue<Box<Reply>>>,
+    hand: Box<Reply>,
+}
+
+impl Drain {
+    fn take(&mut self) -> bool {
+        let Some(reply) = self.outbox.pop() else { return false };
+        let empty = std::mem::replace(&mut self.hand, reply);
+        let _ = self.spares.push(empty);
+        true
+    }
+}
+
+fn open(capacity: usize) -> (Arc<Queue<Item>>, Cell, Drain) {
+    let inbox = Arc::new(Queue::new(capacity));
+    let outbox = Arc::new(Queue::new(capacity));
+    let spares = Arc::new(Queue::new(capacity + 3));
+    for _ in 0..capacity + 2 {
+        let _ = spares.push(blank());
+    }
+    let route = Box::new(Route { clock: 0, waiting: Vec::with_capacity(4), spare: vec![blank(), blank()] });
+    let running = Running { inbox: inbox.clone(), outbox: outbox.clone(), spares: spares.clone(), route, held: None, waiting: 0, taken: 0 };
+    let cell = Cell { word: AtomicU64::new(0), place: UnsafeCell::new(Some(running)) };
+    (inbox, cell, Drain { outbox, spares, hand: blank() })
+}
+
+fn item(body: &[u8]) -> Item {
+    Item { polled: true, moment: 1, head: [0x80; 16], peer: [0; 18], body: body.to_vec() }
+}
+
+fn shown(name: &str, start: Instant, calls: u64) {
+    println!("{name} {} ns", start.elapsed().as_nanos() as u64 * 100 / calls);
+}
+
+/// The same items without the queues: what the route itself costs, and the copy of each body.
+fn alone() {
+    let mut route = Route { clock: 0, waiting: Vec::with_capacity(4), spare: vec![blank(), blank()] };
+    let mut hand = blank();
+    let body = [7u8; 76];
+    let start = Instant::now();
+    for _ in 0..CALLS {
+        let item = std::hint::black_box(item(&body));
+        route.clock = route.clock.max(item.moment);
+        if item.polled && item.head[0] == 0x80 && item.peer[0] == 0 && !item.body.is_empty() {
+            let mut place = route.spare.pop().unwrap();
+            place.bytes[0] = item.body[0];
+            route.waiting.push(place);
+        }
+        let mut place = route.waiting.pop().unwrap();
+        std::mem::swap(&mut hand, &mut place);
+        route.spare.push(place);
+    }
+    shown("alone", start, CALLS);
+    std::hint::black_box(hand);
+}
+
+fn idle() {
+    let (_inbox, cell, _drain) = open(256);
+    let start = Instant::now();
+    for _ in 0..CALLS {
+        std::hint::black_box(cell.serve(&mut || true));
+    }
+    shown("idle", start, CALLS);
+}
+
+fn through() {
+    let (inbox, cell, mut drain) = open(256);
+    let body = [7u8; 76];
+    let start = Instant::now();
+    for _ in 0..CALLS {
+        let _ = inbox.push(std::hint::black_box(item(&body)));
+        cell.serve(&mut || true);
+        cell.serve(&mut || true);
+        drain.take();
+    }
+    shown("through", start, CALLS);
+}
+
+fn workers(name: &str, cells: &[&Cell]) {
+    let done = AtomicBool::new(false);
+    let turns: u64 = std::thread::scope(|scope| {
+        let handles: Vec<_> = cells
+            .iter()
+            .map(|cell| {
+                let done = &done;
+                scope.spawn(move || {
+                    let mut turns = 0u64;
+                    while !done.load(SeqCst) {
+                        if cell.serve(&mut || true) != Served::Busy {
+                            turns += 1;
+                        }
+                    }
+                    turns
+                })
+            })
+            .collect();
+        std::thread::sleep(std::time::Duration::from_millis(500));
+        done.store(true, SeqCst);
+        handles.into_iter().map(|it| it.join().unwrap()).sum()
+    });
+    println!("{name} {} ns", 500_000_000u64 * 100 / turns.max(1));
+}
+
+fn main() {
+    alone();
+    idle();
+    through();
+    let (_inbox, cell, _drain) = open(256);
+    let (_other_inbox, other, _other_drain) = open(256);
+    workers("one", &[&cell, &cell]);
+    workers("two", &[&cell, &other]);
+}
