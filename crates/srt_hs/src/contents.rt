@@ -1,6 +1,6 @@
 //! The contents of blocks that hold text.
 
-ghost use Rattle.std.specs.Prelude.{◌≡◌, ◌+◌, ◌%◌, ◌<◌, ◌≤◌, ◌++◌, length, take, IfSome, IfNone, option_map};
+ghost use Rattle.std.specs.Prelude.{◌≡◌, ℕ, ◌+◌, ◌%◌, ◌<◌, ◌≤◌, ◌++◌, length, take, drop, IfSome, IfNone, option_map};
 ghost use Rattle.srt_seq.specs.Words.{words_in};
 ghost use Rattle.srt_hs.specs.Grammar.{turned_words, without_zeros};
 ghost use Rattle.srt_hs.specs.View.{handshake_of};
@@ -16,6 +16,7 @@ fn turn_words(contents: &[u8], out: &mut [u8]) -> usize
     requires room { length contents.now ≤ length out.old }
     ensures end { result ≡ length contents.now }
     ensures written { take result out.new ≡ turned_words contents.now }
+    ensures kept { (k : ℕ) → result ≤ k → drop k out.new ≡ drop k out.old }
 {
     let mut rest = contents;
     let mut end = 0;
@@ -39,11 +40,13 @@ fn len_before_zeros(bytes: &[u8]) -> usize
     end
 }
 
-/// Writes the bytes of the Stream ID, without the zeros at their end, and answers how many they are.
-/// None where there is no such block.
+/// Writes the bytes of the Stream ID, and returns how many they are without the zeros at their end; these
+/// zeros are written too. Behind the length of the block the buffer stays as it was. Returns None and
+/// writes nothing if there is no such block.
 pub fn stream_id(hs: &HsRef<'_>, out: &mut [u8; 512]) -> Option<usize>
     ensures within { IfSome result (λ n. n ≤ 512) }
     ensures value { option_map (λ n. take n out.new) result ≡ (handshake_of hs.now).blocks.stream_id }
+    ensures kept { IfSome hs.now.blocks.stream_id (λ s. drop (length s.contents.now) out.new ≡ drop (length s.contents.now) out.old) }
     ensures none { IfNone result (out.new ≡ out.old) }
 {
     match hs.blocks.stream_id {

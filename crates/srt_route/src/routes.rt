@@ -75,7 +75,7 @@ impl Route {
     pub fn open(alloc: Global, entry: &Entry, index: usize) -> Result<Route, OpenFault>
         ensures stands { IfOk result (λ route. stands route (terms_of entry.now) index []) }
         ensures none_waits { IfOk result (λ route. waiting route ≡ []) }
-        ensures room { IfOk result (λ route. 4 + 66 * entry.now.sessions ≤ places route) }
+        ensures room { IfOk result (λ route. places route ≡ 4 + 66 * entry.now.sessions) }
         ensures sound { IfOk result (λ _. fault_of (terms_of entry.now) index ≡ None) }
         ensures fault { (fault : TheFault) → fault_of (terms_of entry.now) index ≡ Some fault → result ≡ Err fault }
         ensures memory { fault_of (terms_of entry.now) index ≡ None → IfErr result (λ fault. fault ≡ OpenFault.OutOfMemory) }

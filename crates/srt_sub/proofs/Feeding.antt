@@ -11,6 +11,11 @@ roomy : (mode : Mode) (terms : Terms) (time : ℕ) (s : Sending) → mode ≡ Bu
 roomy Live terms time s e some = absurd cc
 roomy Buffer terms time s e some = some
 
+-- in buffer mode nothing is too old, so where there was none there is none
+pub still_full : (mode : Mode) (terms : Terms) (time : ℕ) (s : Sending) → mode ≡ Buffer → room terms.width s ≡ 0 → room terms.width (expired_in mode terms time s) ≡ 0
+still_full Live terms time s e none = absurd cc
+still_full Buffer terms time s e none = none
+
 -- no place is free
 pub full : (mode : Mode) (terms : Terms) (time : ℕ) (payload : List ℕ) (s : Sending) → (mode ≡ Buffer → 0 < room terms.width s) → room terms.width (expired_in mode terms time s) ≡ 0 → fits mode terms payload (expired_in mode terms time s) ≡ false
 full Live terms time payload s some none = has_no_room terms payload (expired_in Live terms time s) none

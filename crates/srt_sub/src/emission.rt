@@ -54,6 +54,7 @@ impl Subscriber {
         ensures answer { (terms : Terms) (initial opening caller given : ℕ) (m : Subscribing) → StandsIn terms initial opening caller time given self.old m → given ≤ 64 → texts (written result packet.new) ≡ map (λ d. says caller initial time (Media d.number d.again d.origin d.payload)) (option_to_list (due_in (64 - given) terms m)) }
         ensures writable { result ≡ true → IsWritable packet.new.body }
         ensures kept { result ≡ false → IsWritable packet.old.body → IsWritable packet.new.body }
+        ensures same { result ≡ false → (terms : Terms) (initial opening caller given : ℕ) (m : Subscribing) → StandsIn terms initial opening caller time given self.old m → packet.new ≡ packet.old }
     {
         if self.given >= MOST {
             return false;
@@ -87,6 +88,7 @@ impl Subscriber {
         ensures none { result ≡ false → (terms : Terms) (initial opening caller given : ℕ) (middle m : Subscribing) (left : List Report) → StandsIn terms initial opening caller time given self.old (expired terms time middle) → IsLeft terms time given (expired terms time middle) m left → IsOverAt terms initial opening caller time self.new m left }
         ensures writable { result ≡ true → IsWritable packet.new.body }
         ensures kept { result ≡ false → IsWritable packet.old.body → IsWritable packet.new.body }
+        ensures same { result ≡ false → (terms : Terms) (initial opening caller given : ℕ) (m : Subscribing) → StandsIn terms initial opening caller time given self.old m → packet.new ≡ packet.old }
     {
         self.presume(time);
         if self.next_drop(time, packet) {
@@ -104,14 +106,15 @@ impl Subscriber {
 
     /// Writes the packets of an event's end one by one into the place that is lent, each call the next,
     /// after dropping what is too old: a drop request, what is sent again, what is sent first, and a
-    /// keep-alive where there is nothing else; at most 65. False once all are given; then the event is
-    /// over, and what stands in the place is no packet of it.
+    /// keep-alive where there is nothing else; at most 65. Returns false once all are given; then the event
+    /// is over, and the place is as it was.
     pub fn emit(&mut self, now: u64, packet: &mut Packet) -> bool
         requires { now < 2 ^ 62 }
         ensures some { result ≡ true → (terms : Terms) (initial opening caller : ℕ) (m : Subscribing) (left : List Report) → Emitting terms initial opening caller now self.old m left → IsNext terms initial opening caller now packet.new self.new m left }
         ensures none { result ≡ false → (terms : Terms) (initial opening caller : ℕ) (m : Subscribing) (left : List Report) → Emitting terms initial opening caller now self.old m left → (left ≡ []) × StandsFor terms initial opening caller now self.new (reported terms (now - opening) (expired terms (now - opening) m)) }
         ensures writable { result ≡ true → IsWritable packet.new.body }
         ensures kept { result ≡ false → IsWritable packet.old.body → IsWritable packet.new.body }
+        ensures same { result ≡ false → (terms : Terms) (initial opening caller : ℕ) (m : Subscribing) (left : List Report) → Emitting terms initial opening caller now self.old m left → packet.new ≡ packet.old }
     {
         self.drop_old(now);
         let time = self.time(now);

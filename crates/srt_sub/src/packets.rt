@@ -112,6 +112,7 @@ pub fn media(packet: &mut Packet, buffer: &mut SendBuf, window: u32, caller: u32
     ensures answer { (width initial time : ℕ) (r : Sending) → StandsFor width initial buffer.old r → All (λ q. 0 < length q.payload) r.queue → texts (given result packet.new) ≡ map (λ d. says caller initial time (Media d.number d.again d.origin d.payload)) (option_to_list (due window r)) }
     ensures writable { result ≡ true → IsWritable packet.new.body }
     ensures kept { result ≡ false → IsWritable packet.old.body → IsWritable packet.new.body }
+    ensures same { result ≡ false → (width initial : ℕ) (r : Sending) → StandsFor width initial buffer.old r → All (λ q. 0 < length q.payload) r.queue → packet.new ≡ packet.old }
 {
     if !buffer.is_due(window) {
         return false;

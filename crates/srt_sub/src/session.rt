@@ -1,8 +1,8 @@
 //! A subscriber's session: what it is given, and what it keeps.
 
-ghost use Rattle.std.specs.Prelude.{◌≡◌, ℕ, ◌-◌, ◌^◌, ◌<◌, ◌≤◌, length, IfOk};
+ghost use Rattle.std.specs.Prelude.{◌≡◌, ℕ, ◌-◌, ◌^◌, ◌<◌, ◌≤◌, length, IfOk, false};
 ghost use Rattle.srt_seq.specs.Window.{word_of};
-ghost use Rattle.srt_seq.specs.declared.shared.Mode.TheVariants.{Buffer};
+ghost use Rattle.srt_seq.specs.declared.shared.Mode.TheVariants.{Buffer, Live};
 ghost use Rattle.srt_sendbuf.specs.Sending.{room};
 ghost use Rattle.srt_sub.specs.Subscribing.{Terms, Subscribing, opened, expired, fed, fits};
 
@@ -42,7 +42,8 @@ impl Subscriber {
     pub fn open(alloc: Global, width: u32) -> Result<Subscriber, AllocError>
         requires some { 32 ≤ width }
         requires narrow { width ≤ 8192 }
-        ensures { IfOk result (λ s. IsWide width s) }
+        ensures wide { IfOk result (λ s. IsWide width s) }
+        ensures stands { IfOk result (λ s. StandsFor (record { mode = Live; width = width; delay = 0; mtu = 0; window = 0 }) 0 0 0 0 s opened) }
     {
         let buffer = SendBuf::open(alloc, width)?;
         Ok(Subscriber {
@@ -130,12 +131,13 @@ impl Subscriber {
         }
     }
 
-    /// Queues a payload, after dropping what is too old. False where it isn't for this subscriber: in live
-    /// mode, where there is no place for it or it is too long. In buffer mode the caller asks for `room`
-    /// first.
+    /// Queues a payload, after dropping what is too old. Returns false if it isn't for this subscriber: in
+    /// live mode if there is no place for it or it is too long. In buffer mode the caller asks for `room`
+    /// first; without room it returns false there too, and the session is as after `expire`.
     pub fn feed(&mut self, payload: &Payload, now: u64) -> bool
         requires { now < 2 ^ 62 }
         ensures stands { (terms : Terms) (initial opening caller last : ℕ) (m : Subscribing) → StandsFor terms initial opening caller last self.old m → last ≤ now → 0 < length payload.now.items → (terms.mode ≡ Buffer → 0 < room terms.width m.sending) → StandsFor terms initial opening caller now self.new (fed terms (now - opening) payload.now.items (expired terms (now - opening) m)) }
+        ensures full { (terms : Terms) (initial opening caller last : ℕ) (m : Subscribing) → StandsFor terms initial opening caller last self.old m → last ≤ now → terms.mode ≡ Buffer → room terms.width m.sending ≡ 0 → (result ≡ false) × StandsFor terms initial opening caller now self.new (expired terms (now - opening) m) }
         ensures answer { (terms : Terms) (initial opening caller last : ℕ) (m : Subscribing) → StandsFor terms initial opening caller last self.old m → last ≤ now → (terms.mode ≡ Buffer → 0 < room terms.width m.sending) → result ≡ fits terms.mode terms payload.now.items (expired terms (now - opening) m).sending }
     {
         self.expire(now);

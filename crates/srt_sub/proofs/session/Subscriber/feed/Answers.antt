@@ -7,7 +7,7 @@ use Rattle.srt_sub.specs.Subscribing.{Subscribing, expired}
 use Rattle.srt_sub.specs.Endings.{is_short}
 use Rattle.srt_sub.specs.Stands.{StandsIn}
 use Rattle.srt_sub.proofs.Sound.{changed, sound_queued, doesnt_fit, does_fit}
-use Rattle.srt_sub.proofs.Feeding.{full, fed_if, not_fed_if}
+use Rattle.srt_sub.proofs.Feeding.{full, still_full, fed_if, not_fed_if}
 use Rattle.srt_sub.proofs.session.Subscriber.feed.Goals as goal
 
 pub returns-then-not-is_short-clause-stands : goal.returns-then-not-is_short-clause-stands
@@ -81,3 +81,21 @@ returns-in-Err-clause-answer c terms initial opening caller last m h le roomy =
     let stands = c.expire.ensures terms initial opening caller last m h le in
     let none = (c.in-Err.ensures.full terms.width initial x.sending stands.buffer_is).0 refl in
     sym (full terms.mode terms now payload m.sending roomy none)
+
+pub returns-in-Ok-clause-full : goal.returns-in-Ok-clause-full
+returns-in-Ok-clause-full c terms initial opening caller last m h le buffered none =
+    let x = expired terms (c.args.now - opening) m in
+    let stands = c.expire.ensures terms initial opening caller last m h le in
+    let gone : room terms.width x.sending ≡ 0 = still_full terms.mode terms (c.args.now - opening) m.sending buffered none in
+    absurd (true≢false (sym ((c.in-Ok.ensures.full terms.width initial x.sending stands.buffer_is).1 gone)))
+
+pub returns-in-Err-clause-full : goal.returns-in-Err-clause-full
+returns-in-Err-clause-full c terms initial opening caller last m h le buffered none =
+    let now = c.args.now - opening in
+    let x = expired terms now m in
+    let s = c.expire.new.self in
+    let stands = c.expire.ensures terms initial opening caller last m h le in
+    (refl, subst (λ (b : SendBuf). StandsIn terms initial opening caller now 0 (record s { buffer = b }) x) (sym c.in-Err.ensures.same) stands)
+
+pub returns-then-not-is_short-clause-full : goal.returns-then-not-is_short-clause-full
+returns-then-not-is_short-clause-full c terms initial opening caller last m h le buffered none = (refl, c.expire.ensures terms initial opening caller last m h le)

@@ -87,3 +87,12 @@ returns-clause-kept c ended writable =
     let media = c.next_media.ensures.kept c.if-next_media.false (subst (λ (p : Packet). IsWritable p.body) (sym drop) writable) in
     let alive = c.next_keep_alive.ensures.kept c.if-next_keep_alive.false in
     subst (λ (p : Packet). IsWritable p.body) (sym alive) media
+
+pub returns-clause-same : goal.returns-clause-same
+returns-clause-same c said terms initial opening caller given m h =
+    let x = presumed c.args.time m in
+    let stands = c.presume.ensures terms initial opening caller given m h in
+    let after = c.next_drop.ensures.stands terms initial opening caller given x stands in
+    c.next_keep_alive.ensures.kept c.if-next_keep_alive.false
+    ∙ c.next_media.ensures.same c.if-next_media.false terms initial opening caller given _ after
+    ∙ c.next_drop.ensures.kept c.if-next_drop.false
