@@ -1,5 +1,5 @@
 -- The gateway with its lobby and its routes.
-use Rattle.std.proofs.Common.{◌≡◌, ℕ, zero, suc, ◌<◌, Bool, true, false, List, [], ◌∷◌, length, map, Some, refl, sym, ap, subst, ◌∙◌, arith}
+use Rattle.std.proofs.Common.{◌≡◌, ℕ, zero, suc, ◌<◌, Bool, true, false, List, [], ◌∷◌, ◌++◌, length, map, Some, refl, sym, ap, subst, ◌∙◌, arith}
 use Rattle.std.proofs.lemmas.Bool.{eq-eqb, eqb-true}
 use Rattle.std.specs.List.{slice_get}
 use Rattle.srt_seq.specs.Items.{Datagram}
@@ -15,7 +15,7 @@ use Rattle.srt_route.specs.Route.{reply}
 use Rattle.srt_hub.specs.World.{is_route, lane_after, accepted, sent, IsQuiet}
 use Rattle.srt_hub.specs.Hubs.{names, terms_at}
 use Rattle.srt_hub.specs.Laws.{SortsByOwnName}
-use Rattle.srt_hub.specs.Gateways.{sorting, HaveRoute, ArrivalsAreOwn, StepsAreOwn, SentByOwnSteps, SentByAccepted}
+use Rattle.srt_hub.specs.Gateways.{sorting, HaveRoute, ArrivalsAreOwn, StepsAreOwn, SentByOwnSteps, SentByAccepted, SoloIsTheRoutes}
 use Rattle.srt_hub.proofs.Isolation.{sent_is_whole, isolated}
 use Rattle.srt_hub.proofs.OwnSteps.{own_steps_decide, sorting_decides}
 
@@ -89,3 +89,7 @@ sent_by_accepted secret entries others r same events events' items quiet quiet' 
       subst (λ (f : Terms). sent here reply e r events ≡ sent there reply f r events') same (isolated here there reply e r events events' items_here quiet quiet_here),
       sent_is_whole here reply e r events quiet,
     )
+
+pub solo_is_the_routes : SoloIsTheRoutes
+solo_is_the_routes e index [] = refl
+solo_is_the_routes e index (item ∷ items) = ap (λ (ys : List Datagram). ys ++ reply e index (item ∷ items)) (solo_is_the_routes e index items)

@@ -6,6 +6,7 @@ use Rattle.srt_lobby.specs.declared.classes.Class.TheVariants.{Route}
 use Rattle.srt_lobby.specs.Names.{AreDistinct}
 use Rattle.srt_lobby.specs.Lobby.{class_of}
 use Rattle.srt_route.specs.Route.{reply}
+use Rattle.srt_route.specs.Route as route
 use Rattle.srt_hub.specs.World.{Event, Sorting, solo, lane_after, accepted, sent, IsQuiet}
 use Rattle.srt_hub.specs.Hubs.{names, terms_at}
 use Rattle.srt_hub.specs.Laws.{own_steps}
@@ -60,3 +61,8 @@ SentByAccepted =
     HasQuiet secret entries r events → HasQuiet secret others r events' →
     (sent_of secret entries r events ≡ sent_of secret others r events') ×
     (sent_of secret entries r events ≡ solo reply (terms_at entries r) r (accepted_of secret entries r events))
+
+-- what the route alone replies is what its own laws speak of, so that they hold of what was sent: with other sequence numbers,
+-- other timestamps or all later, as there
+abbrev pub SoloIsTheRoutes : Type 0
+SoloIsTheRoutes = (e : Terms) (index : ℕ) (items : List Item) → solo reply e index items ≡ route.solo e index items

@@ -26,5 +26,6 @@ pub mod ShiftedHeard
 pub mod ShiftedOutput
 pub mod ShiftedAnswers
 pub mod Sound
+pub mod Sendables
 pub mod Renumbered
 pub mod ShiftRows

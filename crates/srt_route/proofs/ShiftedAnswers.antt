@@ -82,7 +82,7 @@ what_shifts by initial what h =
     let bytes = kind_text initial what ++ blocks_text what in
     ap (λ r. cond (is_ok r) (shifted_at by 8 bytes) bytes) (sym (answer_reads initial what h).1) ∙ initial_shifts by initial what
 
-what_fits : (initial : ℕ) (what : AnswerKind) → IsReadable what → length (kind_text initial what ++ blocks_text what) ≤ 1456
+pub what_fits : (initial : ℕ) (what : AnswerKind) → IsReadable what → length (kind_text initial what ++ blocks_text what) ≤ 1456
 what_fits initial (Induction cookie) h = omega arith
 what_fits initial (Refusal code) h = omega arith
 what_fits initial (Conclusion mtu window id mode recv_ms send_ms None) h = omega arith

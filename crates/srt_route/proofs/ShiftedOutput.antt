@@ -102,11 +102,11 @@ range_some r = grind (arith, nat_tests)
 range_few : (r : Range) → length (range_words r) ≤ 2
 range_few r = grind (arith, nat_tests)
 
-losses_few : (initial : ℕ) (rs : List Run) → length (losses_said initial rs) ≤ 2 * length rs
+pub losses_few : (initial : ℕ) (rs : List Run) → length (losses_said initial rs) ≤ 2 * length rs
 losses_few initial [] = omega arith
 losses_few initial (r ∷ rs) = omega (arith, range_few (range_said initial r), losses_few initial rs, length-append (range_words (range_said initial r)) (losses_said initial rs))
 
-losses_some : (initial : ℕ) (rs : List Run) → 0 < length rs → 0 < length (losses_said initial rs)
+pub losses_some : (initial : ℕ) (rs : List Run) → 0 < length rs → 0 < length (losses_said initial rs)
 losses_some initial [] h = absurd (omega (arith, h))
 losses_some initial (r ∷ rs) h = omega (arith, range_some (range_said initial r), length-append (range_words (range_said initial r)) (losses_said initial rs))
 

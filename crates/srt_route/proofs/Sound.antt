@@ -426,7 +426,7 @@ after_sound e index (item ∷ items) =
     let clock = clock_after item m in
     each_mapped IsSound IsSound (reported e clock) (λ s sound. reported_at_sound e s.is_open (time_in s clock) s sound) (passed_by e index item m) (passed_by_sound e index items item (after_sound e index items))
 
-replies_said : (e : Terms) (index : ℕ) (items : List Item) (item : Item) → Each IsSaidReply (replies_to e index item (after e index items))
+pub replies_said : (e : Terms) (index : ℕ) (items : List Item) (item : Item) → Each (λ (x : Reply). IsSaid x.packet) (replies_to e index item (after e index items))
 replies_said e index items item =
     let m = after e index items in
     let clock = clock_after item m in

@@ -6,6 +6,7 @@ pub mod Route
 pub mod Shifted
 pub mod ShiftLaws
 pub mod Relabel
+pub mod Sendable
 pub mod Writable
 pub mod Written
 pub mod Waits

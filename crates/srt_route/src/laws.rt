@@ -2,11 +2,21 @@
 
 ghost use Rattle.srt_route.specs.Relabel.{Renumbers, Restamps, Moves};
 ghost use Rattle.srt_route.specs.Route.{RepliesHavePlaces};
+ghost use Rattle.srt_route.specs.Sendable.{PublishersSendPackets, SubscribersSendPackets, AnswersArePackets, RepliesArePackets};
 ghost use Rattle.srt_route.specs.ShiftLaws.{ShiftGoesRound, FourBytesAreTheWord, PacketsShift, LengthsStay, LossesShift, HandshakesShift, ConclusionsShift, PacketsRestamp, CountsStay, StampsStay, PublishersHearTheSame, SubscribersHearTheSame, PublishersSayOthers, SubscribersSayOthers, AnswersSayOthers, ConclusionsHaveFewWords};
 
 /// A route has places for the replies to any item.
 pub fn replies_have_places()
     ensures { RepliesHavePlaces }
+{}
+
+/// Each datagram of a reply is what a packet that can be sent is written as, and reads as that packet; so is
+/// what a publisher's session sends, what a subscriber's does, and each answer to a handshake.
+pub fn replies_are_packets()
+    ensures replies { RepliesArePackets }
+    ensures publishers { PublishersSendPackets }
+    ensures subscribers { SubscribersSendPackets }
+    ensures answers { AnswersArePackets }
 {}
 
 /// Nothing depends on where numbers, timestamps and moments begin. All sequence numbers shifted, round their

@@ -1,15 +1,16 @@
 //! The sender buffer: what is queued and not acknowledged or expired, and which of it is lost.
 
-ghost use Rattle.std.specs.Prelude.{◌≡◌, ℕ, ◌+◌, ◌-◌, ◌%◌, ◌^◌, ◌<◌, ◌≤◌, ◌↔◌, false, List, [], ◌∷◌, length, slice_get, option_map, is_some, min, nat_lt, IsErr, IfOk, IfSome, IfNone, OnErr};
+ghost use Rattle.std.specs.Prelude.{◌≡◌, ℕ, ◌+◌, ◌-◌, ◌%◌, ◌^◌, ◌<◌, ◌≤◌, ◌↔◌, ◌||◌, ◌++◌, true, false, List, [], ◌∷◌, All, length, map, slice_get, option_map, is_some, min, nat_lt, IsErr, IfOk, IfSome, IfNone, OnErr};
 ghost use Rattle.std.specs.List.{list_any};
 ghost use Rattle.srt_seq.specs.Window.{word_of, counted_from};
 ghost use Rattle.srt_seq.specs.Counts.{message_of, message_number};
-ghost use Rattle.srt_seq.specs.Runs.{Range, is_in, span, numbers_from};
+ghost use Rattle.srt_seq.specs.Runs.{Range, is_in, is_asked, span, numbers_from};
 ghost use Rattle.srt_loss.specs.Text.{range_of};
-ghost use Rattle.srt_sendbuf.specs.Places.{length_of};
+ghost use Rattle.srt_sendbuf.specs.Places.{length_of, lost_at};
 
-use crate::ring::Ring;
-use srt_loss::{LossRef, part_in};
+use crate::parts::{next_part, split};
+use crate::ring::{Marked, Ring};
+use srt_loss::{LossRef, Ranges, part_in};
 use srt_seq::{Msg26, Payload, Seq31};
 use std::alloc::{AllocError, Global};
 
@@ -87,7 +88,7 @@ pub struct SendBuf {
 }
 
 impl SendBuf {
-    ghost use Rattle.srt_sendbuf.specs.Sending.{Sending, nothing_yet, front, base, next, room, in_flight, lost, queued, acknowledged_by, after_ack, is_growth, expired_before, ranges_from, range_from, asked, all_lost, sent, due, due_number, due_of, after_due, IsTimely, IsLater};
+    ghost use Rattle.srt_sendbuf.specs.Sending.{Sending, nothing_yet, front, base, next, room, in_flight, lost, queued, acknowledged_by, after_ack, is_growth, expired_before, ranges_from, range_from, asked, asks_for_gone, all_lost, sent, due, due_number, due_of, after_due, IsTimely, IsLater};
     ghost use Rattle.srt_sendbuf.specs.Told.{told, told_by, gone, gone_for, gone_by};
     ghost use Rattle.srt_sendbuf.specs.Stands.{StandsFor, IsMoved};
 
@@ -252,15 +253,18 @@ impl SendBuf {
         count as u32
     }
 
-    /// Of the numbers in flight those that a range asks for are lost. Costs by these, not by the range.
-    fn lose_range(&mut self, range: (Seq31, Seq31))
+    /// Of the numbers in flight those that a range asks for are lost. Those of the run are passed over if
+    /// the range begins in it.
+    fn lose_range(&mut self, run: &mut Marked, range: (Seq31, Seq31))
         requires short { span (range_of range) < 2 ^ 30 }
-        ensures { (width initial : ℕ) (r : Sending) (taken : List Range) → StandsFor width initial self.old (asked taken r) → StandsFor width initial self.new (asked (range_from initial (range_of range) ∷ taken) r) }
+        requires marked { (d : ℕ) → run.old.from ≤ d → d < run.old.end → lost_at self.old.ring d ≡ true }
+        ensures stands { (width initial : ℕ) (r : Sending) (taken : List Range) → StandsFor width initial self.old (asked taken r) → StandsFor width initial self.new (asked (range_from initial (range_of range) ∷ taken) r) }
+        ensures marked { (d : ℕ) → run.new.from ≤ d → d < run.new.end → lost_at self.new.ring d ≡ true }
     {
         if let Some((first, last)) = part_in(range, self.front, self.sent as u32) {
             let first = first as usize;
             let end = last as usize + 1;
-            self.ring.mark_all(first, end);
+            self.ring.mark_past(run, first, end);
             if self.high > self.low {
                 self.low = self.low.min(first);
                 self.high = self.high.max(end);
@@ -269,6 +273,32 @@ impl SendBuf {
                 self.high = end;
             }
         }
+    }
+
+    /// Of the numbers in flight those that some ranges ask for are lost. In ascending order each is marked
+    /// once, whatever the ranges have in common.
+    fn lose_part(&mut self, part: &[(Seq31, Seq31)])
+        requires { All (λ r. span (range_of r) < 2 ^ 30) part.now }
+        ensures { (width initial : ℕ) (r : Sending) (taken : List Range) → StandsFor width initial self.old (asked taken r) → StandsFor width initial self.new (asked (ranges_from initial (map range_of part.now) ++ taken) r) }
+    {
+        let mut run = Marked { from: 0, end: 0 };
+        let mut rest = part;
+        while let Some(next) = split(rest) {
+            self.lose_range(&mut run, next.range);
+            rest = next.more;
+        }
+    }
+
+    /// Of the numbers in flight those that the next ranges of a list ask for are lost. Returns false if
+    /// none are left.
+    fn lose_next(&mut self, ranges: &mut Ranges<'_>) -> bool
+        ensures stands { (width initial : ℕ) (r : Sending) (taken : List Range) → StandsFor width initial self.old (asked taken r) → (more : List Range) × StandsFor width initial self.new (asked more r) × ((n : ℕ) → (is_asked taken n || is_asked (ranges_from initial ranges.old) n) ≡ (is_asked more n || is_asked (ranges_from initial ranges.new) n)) }
+        ensures shorter { result ≡ true → length ranges.new < length ranges.old }
+        ensures none { result ≡ false → ranges.new ≡ [] }
+    {
+        let part = next_part(ranges, self.front);
+        self.lose_part(part.as_slice());
+        part.len() > 0
     }
 
     /// Whether a range asks for a number that is gone, and that an acknowledgement may still bring.
@@ -283,6 +313,19 @@ impl SendBuf {
         }
     }
 
+    /// Whether one of a list's ranges does.
+    fn asks_any_gone(&self, losses: &LossRef<'_>) -> bool
+        ensures { (width initial : ℕ) (r : Sending) → StandsFor width initial self.now r → result ≡ asks_for_gone (ranges_from initial losses.now) r }
+    {
+        let mut ranges = losses.ranges();
+        while let Some(range) = ranges.next_range() {
+            if self.asks_gone(range) {
+                return true;
+            }
+        }
+        false
+    }
+
     /// The numbers that are gone, and that an acknowledgement may still bring.
     fn gone(&self) -> DropRun
         ensures { (width initial : ℕ) (r : Sending) → StandsFor width initial self.now r → base r < front r → gone_by result ≡ gone initial r }
@@ -294,19 +337,16 @@ impl SendBuf {
         }
     }
 
-    /// A loss list: of the numbers in flight those that it asks for are lost. Answers the numbers that
-    /// are gone where it asks for one of them. Costs by the list's ranges and by the numbers that are
-    /// lost by it, not by the width of a range.
+    /// A loss list: of the numbers in flight those that it asks for are lost. Returns the numbers that
+    /// are gone if it asks for one of them. Costs by the list's ranges and by the numbers that are lost by
+    /// it, each of which is marked once, and not by the widths of its ranges.
     pub fn lose(&mut self, losses: &LossRef<'_>) -> Option<DropRun>
         ensures stands { (width initial : ℕ) (r : Sending) → StandsFor width initial self.old r → StandsFor width initial self.new (asked (ranges_from initial losses.now) r) }
         ensures answer { (width initial : ℕ) (r : Sending) → StandsFor width initial self.old r → option_map gone_by result ≡ gone_for initial (ranges_from initial losses.now) r }
     {
+        let gone = self.asks_any_gone(losses);
         let mut ranges = losses.ranges();
-        let mut gone = false;
-        while let Some(range) = ranges.next_range() {
-            gone |= self.asks_gone(range);
-            self.lose_range(range);
-        }
+        while self.lose_next(&mut ranges) {}
         if gone { Some(self.gone()) } else { None }
     }
 

@@ -5,6 +5,7 @@
 mod buffer;
 mod hints;
 pub mod laws;
+mod parts;
 mod ring;
 
 pub use buffer::{DropRun, Full, Out, SendBuf};

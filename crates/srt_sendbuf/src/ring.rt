@@ -21,6 +21,15 @@ pub struct Place {
     pub lost: bool,
 }
 
+/// Places in a row that are to be sent again.
+#[derive(Clone, Copy, Debug)]
+pub struct Marked {
+    /// The first of them.
+    pub from: usize,
+    /// The place after the last of them.
+    pub end: usize,
+}
+
 /// The places of the packets that are kept, and a text for each place that there may be. A text stays
 /// where it is, and is set in place. A place has a slot, which stays with it, and a slot has a text. Of
 /// the texts that are free those that were used last are taken first, so that a stream that runs goes
@@ -390,6 +399,29 @@ impl Ring {
     {
         for at in from..end {
             self.mark(at, true);
+        }
+    }
+
+    /// All from here on and before the end are to be sent again. Those that stand in the run, which are
+    /// marked, are passed over if these begin in it; then it goes on to their end, and else they are the
+    /// run.
+    pub fn mark_past(&mut self, run: &mut Marked, from: usize, end: usize)
+        requires order { from ≤ end }
+        requires inside { end ≤ length_of self.old }
+        requires marked { (d : ℕ) → run.old.from ≤ d → d < run.old.end → lost_at self.old d ≡ true }
+        ensures width { width_of self.new ≡ width_of self.old }
+        ensures length { length_of self.new ≡ length_of self.old }
+        ensures kept { (d : ℕ) → kept_at self.new d ≡ kept_at self.old d }
+        ensures lost { (d : ℕ) → lost_at self.new d ≡ (if nat_le from d && nat_lt d end then true else lost_at self.old d) }
+        ensures marked { (d : ℕ) → run.new.from ≤ d → d < run.new.end → lost_at self.new d ≡ true }
+    {
+        if from < run.from || run.end < from {
+            self.mark_all(from, end);
+            run.from = from;
+            run.end = end;
+        } else if run.end < end {
+            self.mark_all(run.end, end);
+            run.end = end;
         }
     }
 

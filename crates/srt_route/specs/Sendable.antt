@@ -1,0 +1,36 @@
+-- All that is replied is what packets that can be sent are written as, and reads back as they do.
+use Rattle.std.specs.Prelude.{◌≡◌, ℕ, List, All, Ok}
+use Rattle.srt_seq.specs.Terms.{Terms}
+use Rattle.srt_seq.specs.Items.{Item}
+use Rattle.srt_packet.specs.declared.writing.Packet.{Packet}
+use Rattle.srt_packet.specs.Text.{text}
+use Rattle.srt_packet.specs.Sent.{CanBeSent, sent}
+use Rattle.srt_packet.specs.Reading.{packet_in}
+use Rattle.srt_hs.specs.declared.writing.HsAnswer.{HsAnswer}
+use Rattle.srt_pub.specs.Publishing as publisher
+use Rattle.srt_pub.specs.Says as publisher_text
+use Rattle.srt_sub.specs.Subscribing as subscriber
+use Rattle.srt_sub.specs.Says as subscriber_text
+use Rattle.srt_route.specs.Route.{Answers, output_text, reply}
+use Rattle.srt_route.specs.ShiftLaws.{IsPublishersReport, IsSubscribersReport, IsReadable}
+
+-- a packet that can be sent is written as these bytes, and they are read as it
+pub record IsSendable (bytes : List ℕ) : Type 0 where
+  pub packet : Packet
+  pub can_be_sent : CanBeSent packet
+  pub text_is : bytes ≡ text packet
+  pub read_is : packet_in bytes ≡ Ok (sent packet)
+
+-- case by case
+abbrev pub PublishersSendPackets : Type 0
+PublishersSendPackets = (caller initial time : ℕ) (report : publisher.Report) → IsPublishersReport report → IsSendable (publisher_text.says caller initial time report)
+
+abbrev pub SubscribersSendPackets : Type 0
+SubscribersSendPackets = (caller initial time : ℕ) (report : subscriber.Report) → IsSubscribersReport report → IsSendable (subscriber_text.says caller initial time report)
+
+abbrev pub AnswersArePackets : Type 0
+AnswersArePackets = (caller : ℕ) (a : HsAnswer) → IsReadable a.what → IsSendable (output_text (Answers caller a))
+
+-- whatever a route is told
+abbrev pub RepliesArePackets : Type 0
+RepliesArePackets = (e : Terms) (index : ℕ) (items : List Item) → All (λ d. IsSendable d.bytes) (reply e index items)
