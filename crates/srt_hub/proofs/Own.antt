@@ -2,7 +2,10 @@
 use Rattle.std.proofs.Common.{◌≡◌, ℕ, zero, suc, ◌<◌, Bool, true, false, List, [], ◌∷◌, ◌++◌, length, map, Some, refl, sym, ap, subst, ◌∙◌, arith}
 use Rattle.std.proofs.lemmas.Bool.{eq-eqb, eqb-true}
 use Rattle.std.specs.List.{slice_get}
-use Rattle.srt_seq.specs.Items.{Datagram}
+use Rattle.std.specs.Prelude.{All}
+use Rattle.std.proofs.lemmas.List.Elements.{All-nil, All-append, All-take}
+use Rattle.std.proofs.Math.Seq.{take-append_seam}
+use Rattle.srt_seq.specs.Items.{Datagram, Item}
 use Rattle.srt_seq.specs.Terms.{Terms}
 use Rattle.srt_lobby.specs.declared.classes.Class.{Class}
 use Rattle.srt_lobby.specs.declared.classes.Class.TheVariants.{Answer, Route, Dropped}
@@ -12,11 +15,13 @@ use Rattle.srt_lobby.specs.Laws.{HasRoute}
 use Rattle.srt_lobby.proofs.Kept.{own}
 use Rattle.srt_lobby.proofs.Distinct.{names_are_distinct}
 use Rattle.srt_route.specs.Route.{reply}
-use Rattle.srt_hub.specs.World.{is_route, lane_after, accepted, sent, IsQuiet}
+use Rattle.srt_route.specs.Sendable.{IsSendable}
+use Rattle.srt_route.proofs.Sendables.{replies_send}
+use Rattle.srt_hub.specs.World.{is_route, solo, lane_after, accepted, sent, IsQuiet}
 use Rattle.srt_hub.specs.Hubs.{names, terms_at}
 use Rattle.srt_hub.specs.Laws.{SortsByOwnName}
-use Rattle.srt_hub.specs.Gateways.{sorting, HaveRoute, ArrivalsAreOwn, StepsAreOwn, SentByOwnSteps, SentByAccepted, SoloIsTheRoutes}
-use Rattle.srt_hub.proofs.Isolation.{sent_is_whole, isolated}
+use Rattle.srt_hub.specs.Gateways.{sorting, HaveRoute, ArrivalsAreOwn, StepsAreOwn, SentByOwnSteps, SentByAccepted, SoloIsTheRoutes, SentArePackets}
+use Rattle.srt_hub.proofs.Isolation.{sent_is_front, sent_is_whole, isolated}
 use Rattle.srt_hub.proofs.OwnSteps.{own_steps_decide, sorting_decides}
 
 named_at : (entries : List Terms) (r : ℕ) → r < length entries → slice_get (map name_of entries) r ≡ Some (terms_at entries r).name
@@ -93,3 +98,16 @@ sent_by_accepted secret entries others r same events events' items quiet quiet' 
 pub solo_is_the_routes : SoloIsTheRoutes
 solo_is_the_routes e index [] = refl
 solo_is_the_routes e index (item ∷ items) = ap (λ (ys : List Datagram). ys ++ reply e index (item ∷ items)) (solo_is_the_routes e index items)
+
+solo_sendable : (e : Terms) (index : ℕ) (items : List Item) → All (λ d. IsSendable d.bytes) (solo reply e index items)
+solo_sendable e index [] = All-nil (λ d. IsSendable d.bytes)
+solo_sendable e index (item ∷ items) = All-append (λ d. IsSendable d.bytes) (solo reply e index items) (reply e index (item ∷ items)) (solo_sendable e index items) (replies_send e index (item ∷ items))
+
+pub sent_are_packets : SentArePackets
+sent_are_packets secret entries r events =
+    let e = terms_at entries r in
+    let class = sorting secret entries in
+    let front = sent_is_front class reply e r events in
+    let out = sent class reply e r events in
+    subst (λ (ys : List Datagram). All (λ d. IsSendable d.bytes) ys) (take-append_seam out front.0)
+    (All-take (λ d. IsSendable d.bytes) (length out) (out ++ front.0) (subst (λ (ys : List Datagram). All (λ d. IsSendable d.bytes) ys) (sym front.1) (solo_sendable e r (accepted class reply e r events))))

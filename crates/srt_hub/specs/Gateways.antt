@@ -1,5 +1,5 @@
 -- What holds of the gateway with its lobby and its routes.
-use Rattle.std.specs.Prelude.{◌≡◌, ◌↔◌, ℕ, ◌<◌, List, length}
+use Rattle.std.specs.Prelude.{◌≡◌, ◌↔◌, ℕ, ◌<◌, List, All, length}
 use Rattle.srt_seq.specs.Items.{Datagram, Item}
 use Rattle.srt_seq.specs.Terms.{Terms}
 use Rattle.srt_lobby.specs.declared.classes.Class.TheVariants.{Route}
@@ -7,6 +7,7 @@ use Rattle.srt_lobby.specs.Names.{AreDistinct}
 use Rattle.srt_lobby.specs.Lobby.{class_of}
 use Rattle.srt_route.specs.Route.{reply}
 use Rattle.srt_route.specs.Route as route
+use Rattle.srt_route.specs.Sendable.{IsSendable}
 use Rattle.srt_hub.specs.World.{Event, Sorting, solo, lane_after, accepted, sent, IsQuiet}
 use Rattle.srt_hub.specs.Hubs.{names, terms_at}
 use Rattle.srt_hub.specs.Laws.{own_steps}
@@ -66,3 +67,7 @@ SentByAccepted =
 -- other timestamps or all later, as there
 abbrev pub SoloIsTheRoutes : Type 0
 SoloIsTheRoutes = (e : Terms) (index : ℕ) (items : List Item) → solo reply e index items ≡ route.solo e index items
+
+-- whatever happens, each datagram that is sent for a route is what a packet that can be sent is written as, and reads as that packet
+abbrev pub SentArePackets : Type 0
+SentArePackets = (secret : List ℕ) (entries : List Terms) (r : ℕ) (events : List Event) → All (λ d. IsSendable d.bytes) (sent_of secret entries r events)

@@ -3,7 +3,7 @@
 
 ghost use Rattle.srt_hub.specs.Laws.{SentIsFront, SentIsWhole, RoutesAreIsolated, GatewaysAreIsolated, OwnStepsDecide, SortingDecides, SortsByOwnName, OwnNameDecides, OthersStay};
 ghost use Rattle.srt_lobby.specs.Lobby.{class_of};
-ghost use Rattle.srt_hub.specs.Gateways.{ArrivalsAreOwn, StepsAreOwn, SentByOwnSteps, SentByAccepted, SoloIsTheRoutes};
+ghost use Rattle.srt_hub.specs.Gateways.{ArrivalsAreOwn, StepsAreOwn, SentByOwnSteps, SentByAccepted, SoloIsTheRoutes, SentArePackets};
 ghost use Rattle.srt_hub.specs.Refusals.{FullIsAtCapacity, FullTickIsAtCapacity, BlockedIsAtCapacity, IdleIsEmpty, RefusedIsARoutes, LobbyAnswersAlone};
 
 /// No route's traffic changes another's. Take any two lists of arrivals, ticks, turns and sends over gateways with
@@ -45,4 +45,6 @@ pub fn gateways()
     ensures accepted { SentByAccepted }
     // What the route alone replies is the list that `srt_route::laws::renumbering` speaks of.
     ensures solo { SoloIsTheRoutes }
+    // Every datagram that is sent for a route is written as a packet, and reads as that one.
+    ensures packets { SentArePackets }
 {}
