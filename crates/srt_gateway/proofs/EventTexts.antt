@@ -1,8 +1,10 @@
 -- The lines of answers are those of the world's.
-use Rattle.std.proofs.Common.{◌≡◌, ℕ, false, List, Option, Some, ap, ◌∙◌}
+use Rattle.std.proofs.Common.{◌≡◌, ℕ, Bool, false, List, Option, None, Some, refl, ap, ◌∙◌}
 use Rattle.srt_seq.specs.declared.shared.Turned.{Turned}
 use Rattle.srt_hub.specs.declared.answers.Arrived.{Arrived}
 use Rattle.srt_hub.specs.declared.answers.Ticked.{Ticked}
+use Rattle.srt_lobby.specs.declared.classes.Class.{Class}
+use Rattle.srt_lobby.specs.declared.classes.Class.TheVariants.{Answer, Route, Dropped}
 use Rattle.srt_seq.specs.Items.{Datagram}
 use Rattle.srt_seq.specs.Terms.{Terms}
 use Rattle.srt_hub.specs.World.{Event, Arrives, Ticks, Turns, Sends, Sorting, Meaning, arrival_of, tick, turn, first}
@@ -24,3 +26,9 @@ turn_line class reply entries past r answer text t a = t ∙ ap turned_text a
 pub send_line : (class : Sorting) (reply : Meaning) (entries : List Terms) (past : List Event) (r : ℕ) (answer : Option Datagram) (text : List ℕ) → text ≡ sent_text answer → answer ≡ first (lane_at class reply entries r past).outbox → text ≡ event_text class reply entries past (Sends r)
 unfolding event_text
 send_line class reply entries past r answer text t a = t ∙ ap sent_text a
+
+-- an arrival without an answer is a route's
+pub routed : (k : Class) (refused : Bool) (rooms : ℕ → Bool) → None ≡ arrival_of refused rooms k → (r : ℕ) × (k ≡ Route r)
+routed (Answer bytes) refused rooms h = absurd cc
+routed (Dropped cause) refused rooms h = absurd cc
+routed (Route r) refused rooms h = (r, refl)

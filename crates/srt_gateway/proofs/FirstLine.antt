@@ -1,10 +1,12 @@
 -- The first line of some bytes.
-use Rattle.std.proofs.Common.{◌≡◌, ◌≢◌, ℕ, ◌+◌, List, [], ◌∷◌, ◌++◌, length, Option, refl, sym, ap, subst, ◌∙◌, ◌<◌, ◌≤◌, arith, append_assoc, length-append}
+use Rattle.std.proofs.Common.{◌≡◌, ◌≢◌, ℕ, zero, suc, ◌+◌, take, List, [], ◌∷◌, ◌++◌, length, Option, refl, sym, ap, subst, ◌∙◌, ◌<◌, ◌≤◌, arith, append_assoc, length-append}
 use Rattle.std.specs.List.{AllByRecursion}
 use Rattle.std.proofs.lemmas.Bool.{ne_eqb}
 use Rattle.std.proofs.lemmas.List.{append-nil}
 use Rattle.std.proofs.lemmas.List.Elements.{recursion_from_All, All-append}
-use Rattle.srt_gateway.specs.Known.{Took, TookLine, LongLine, NoLine, BeginsWith, AtEnd, NoLf}
+use Rattle.srt_gateway.specs.Known.{Took, TookLine, TookOne, LongLine, NoLine, BeginsWith, AtEnd, NoLf}
+use Rattle.srt_gateway.specs.declared.lines.Taken.{Taken}
+use Rattle.srt_gateway.specs.declared.lines.Taken.TheVariants.{Line, End}
 use Rattle.srt_gateway.specs.Tape.{lines_of, onto}
 
 abbrev IsInside : ℕ → Type 0
@@ -59,6 +61,13 @@ no_line old now line k none end xs e =
     empty : (line : List ℕ) → length line ≡ 0 → lines_of line ≡ []
     empty [] e = refl
     empty (b ∷ line) e = absurd (omega (arith, e))
+
+-- they ended behind this many bytes of a line
+pub ended_at : (old now new : Option (List ℕ)) (len : ℕ) (buffer : List ℕ) → Took old now (take len buffer) → NoLf (take len buffer) → length (take len buffer) ≡ len → len ≤ 4096 → AtEnd now → Took now new [] → (taken : Taken) → (len ≡ 0 → taken ≡ End) → (0 < len → taken ≡ Line len) → TookOne old new buffer taken
+ended_at old now new zero buffer k inside size short end t taken none some =
+    subst (TookOne old new buffer) (sym (none refl)) (no_line old now (take 0 buffer) k size end)
+ended_at old now new (suc n) buffer k inside size short end t taken none some =
+    subst (TookOne old new buffer) (sym (some (omega arith))) (line_last old now new (take (suc n) buffer) k inside (omega (arith, size)) end t, short)
 
 record Begun (bs ys : List ℕ) : Type 0 where
   first : List ℕ

@@ -1,7 +1,7 @@
 -- A replay over a gateway goes on and ends.
 use Rattle.std.proofs.Common.{◌≡◌, ℕ, zero, suc, ◌+◌, Bool, true, false, List, [], ◌∷◌, ◌++◌, length, take, drop, Option, Some, None, Result, Ok, Err, refl, sym, ap, subst, ◌∙◌, append_assoc, arith, length-append}
 use Rattle.std.proofs.lemmas.List.{append-nil, take-append-drop}
-use Rattle.std.proofs.Math.Seq.{take-append_seam}
+use Rattle.std.proofs.Math.Seq.{take-append_seam, drop-append_seam}
 use Rattle.std.specs.Io.KnownBytes.{Keeps}
 use Rattle.srt_seq.specs.Terms.{Terms}
 use Rattle.srt_hub.specs.World.{Event, Sorting, Meaning}
@@ -9,9 +9,10 @@ use Rattle.srt_gateway.specs.declared.replaying.ReplayFault.{ReplayFault}
 use Rattle.srt_gateway.specs.declared.replaying.ReplayFault.TheVariants.{Tape, OutOfMemory, Read, Write}
 use Rattle.srt_gateway.specs.Tape.{lines_of}
 use Rattle.srt_gateway.specs.Texts.{event_text}
-use Rattle.srt_gateway.specs.Known.{NoLine}
+use Rattle.srt_gateway.specs.Known.{NoLine, Wrote}
 use Rattle.srt_gateway.specs.Replay.{event_at, events_on, events_from, fault_on, fault_from, text_after, text_of, tape_text, front_text, Replays}
 use Rattle.srt_gateway.specs.Step.{History, NoEvent, Answered, with_past, IsReplaying}
+use Rattle.srt_gateway.proofs.Writing.{wrote_same}
 
 abbrev Known : List ℕ → Option (List ℕ)
 Known xs = Some xs
@@ -71,16 +72,16 @@ fault_line_is : (routes : ℕ) (tape : List ℕ) (lines behind : List (List ℕ)
 fault_line_is routes tape lines behind m are none is = ap (fault_from routes 1) are ∙ fault_behind routes 1 m lines behind none is
 
 pub started : (class : Sorting) (reply : Meaning) (entries : List Terms) (Now : History) (r w : Option (List ℕ)) → Now [] → IsReplaying class reply entries Now r w r w 1
-started class reply entries Now r w stands tape before e f =
-    record { lines = []; left = tape; lines_are = refl; number_is = refl; no_fault = refl; reader_is = e; writer_is = f ∙ ap Known (sym (append-nil before)); stands = stands }
+started class reply entries Now r w stands tape e =
+    record { lines = []; left = tape; lines_are = refl; number_is = refl; no_fault = refl; reader_is = e; wrote = λ ws f. f ∙ ap Known (sym (append-nil ws)); stands = stands }
 
 -- what a line's turn did, whatever happened before
 abbrev pub Step : Sorting → Meaning → List Terms → (Now Next : History) → (old new held holds : Option (List ℕ)) (number : ℕ) → Result Bool ReplayFault → Type 0
 Step class reply entries Now Next old new held holds number result = (past : List Event) → Now past → Answered class reply entries past Next old new held holds number result
 
 pub goes_on : (class : Sorting) (reply : Meaning) (entries : List Terms) (Now Next : History) (r0 w0 r w r' w' : Option (List ℕ)) (n : ℕ) → IsReplaying class reply entries Now r0 w0 r w n → Step class reply entries Now Next r r' w w' n (Ok true) → IsReplaying class reply entries Next r0 w0 r' w' (n + 1)
-goes_on class reply entries Now Next r0 w0 r w r' w' n h step tape before e f =
-    let a = h tape before e f in
+goes_on class reply entries Now Next r0 w0 r w r' w' n h step tape e =
+    let a = h tape e in
     let routes = length entries in
     let past = past_of entries a.lines in
     let s = step past a.stands in
@@ -100,45 +101,66 @@ goes_on class reply entries Now Next r0 w0 r w r' w' n h step tape before e f =
       number_is = omega (arith, a.number_is, length-append a.lines (line ∷ []));
       no_fault = fault_behind routes 1 n a.lines (line ∷ []) a.no_fault a.number_is ∙ fault_one routes n line [] event took.event_is;
       reader_is = b.1;
-      writer_is = s.2 (before ++ done) a.writer_is ∙ ap Known (append_assoc before done t ∙ ap (λ (xs : List ℕ). before ++ xs) (sym text));
+      wrote = λ ws f. s.2 (ws ++ done) (a.wrote ws f) ∙ ap Known (append_assoc ws done t ∙ ap (λ (xs : List ℕ). ws ++ xs) (sym text));
       stands = subst Next (sym gone) s.3;
     }
 
 ends : (class : Sorting) (reply : Meaning) (entries : List Terms) (Now : History) (r0 w0 r w : Option (List ℕ)) (n : ℕ) → IsReplaying class reply entries Now r0 w0 r w n → NoLine r → Replays class reply entries r0 w0 w (Ok tt)
-ends class reply entries Now r0 w0 r w n h none tape before e f =
-    let a = h tape before e f in
+ends class reply entries Now r0 w0 r w n h none tape e =
+    let a = h tape e in
     let routes = length entries in
     let b = none a.left a.reader_is in
     let done = text_of class reply entries a.lines in
     let text : tape_text class reply entries tape ≡ done = tape_text_is class reply entries tape a.lines (lines_of a.left) n a.lines_are a.no_fault a.number_is ∙ ap (λ (ls : List (List ℕ)). done ++ text_after class reply entries (past_of entries a.lines) (events_from routes n ls)) b ∙ append-nil done in
-    (a.writer_is ∙ ap (λ (xs : List ℕ). Known (before ++ xs)) (sym text), fault_line_is routes tape a.lines (lines_of a.left) n a.lines_are a.no_fault a.number_is ∙ ap (fault_from routes n) b)
+    (λ ws f. a.wrote ws f ∙ ap (λ (xs : List ℕ). Known (ws ++ xs)) (sym text), fault_line_is routes tape a.lines (lines_of a.left) n a.lines_are a.no_fault a.number_is ∙ ap (fault_from routes n) b)
 
 ends_at_fault : (class : Sorting) (reply : Meaning) (entries : List Terms) (Now : History) (r0 w0 r w : Option (List ℕ)) (n : ℕ) → IsReplaying class reply entries Now r0 w0 r w n → NoEvent r (length entries) n → Replays class reply entries r0 w0 w (Err (Tape n))
-ends_at_fault class reply entries Now r0 w0 r w n h none tape before e f =
-    let a = h tape before e f in
+ends_at_fault class reply entries Now r0 w0 r w n h none tape e =
+    let a = h tape e in
     let routes = length entries in
     let b = none a.left a.reader_is in
     let done = text_of class reply entries a.lines in
     let rest : events_from routes n (lines_of a.left) ≡ [] = ap (events_from routes n) b.2 ∙ events_none routes n b.0 b.1 b.3 in
     let text : tape_text class reply entries tape ≡ done = tape_text_is class reply entries tape a.lines (lines_of a.left) n a.lines_are a.no_fault a.number_is ∙ ap (λ (es : List Event). done ++ text_after class reply entries (past_of entries a.lines) es) rest ∙ append-nil done in
-    (a.writer_is ∙ ap (λ (xs : List ℕ). Known (before ++ xs)) (sym text), fault_line_is routes tape a.lines (lines_of a.left) n a.lines_are a.no_fault a.number_is ∙ ap (fault_from routes n) b.2 ∙ fault_none routes n b.0 b.1 b.3)
+    (λ ws f. a.wrote ws f ∙ ap (λ (xs : List ℕ). Known (ws ++ xs)) (sym text), fault_line_is routes tape a.lines (lines_of a.left) n a.lines_are a.no_fault a.number_is ∙ ap (fault_from routes n) b.2 ∙ fault_none routes n b.0 b.1 b.3)
 
 -- some whole lines were answered
-whole_lines : (class : Sorting) (reply : Meaning) (entries : List Terms) (Now : History) (r0 w0 r w : Option (List ℕ)) (n : ℕ) → IsReplaying class reply entries Now r0 w0 r w n → (tape before : List ℕ) → r0 ≡ Some tape → w0 ≡ Some before → (lines : ℕ) × (w ≡ Some (before ++ front_text class reply entries tape lines))
-whole_lines class reply entries Now r0 w0 r w n h tape before e f =
-    let a = h tape before e f in
-    let front : take (length a.lines) (lines_of tape) ≡ a.lines = ap (take (length a.lines)) a.lines_are ∙ take-append_seam a.lines (lines_of a.left) in
-    (length a.lines, a.writer_is ∙ ap (λ (ls : List (List ℕ)). Known (before ++ text_of class reply entries ls)) (sym front))
+front_is : (tape : List ℕ) (lines behind : List (List ℕ)) → lines_of tape ≡ lines ++ behind → take (length lines) (lines_of tape) ≡ lines
+front_is tape lines behind are = ap (take (length lines)) are ∙ take-append_seam lines behind
+
+front_wrote : (class : Sorting) (reply : Meaning) (entries : List Terms) (held w : Option (List ℕ)) (tape : List ℕ) (lines behind : List (List ℕ)) → lines_of tape ≡ lines ++ behind → Wrote held w (text_of class reply entries lines) → Wrote held w (front_text class reply entries tape (length lines))
+front_wrote class reply entries held w tape lines behind are wrote ws f =
+    wrote ws f ∙ ap (λ (ls : List (List ℕ)). Known (ws ++ text_of class reply entries ls)) (sym (front_is tape lines behind are))
 
 ends_at_read : (class : Sorting) (reply : Meaning) (entries : List Terms) (Now : History) (r0 w0 r w : Option (List ℕ)) (n : ℕ) → IsReplaying class reply entries Now r0 w0 r w n → Replays class reply entries r0 w0 w (Err Read)
-ends_at_read class reply entries Now r0 w0 r w n h tape before e f = whole_lines class reply entries Now r0 w0 r w n h tape before e f
+ends_at_read class reply entries Now r0 w0 r w n h tape e =
+    let a = h tape e in
+    (length a.lines, front_wrote class reply entries w0 w tape a.lines (lines_of a.left) a.lines_are a.wrote)
 
-ends_at_memory : (class : Sorting) (reply : Meaning) (entries : List Terms) (Now : History) (r0 w0 r w : Option (List ℕ)) (n : ℕ) → IsReplaying class reply entries Now r0 w0 r w n → Replays class reply entries r0 w0 w (Err OutOfMemory)
-ends_at_memory class reply entries Now r0 w0 r w n h tape before e f = whole_lines class reply entries Now r0 w0 r w n h tape before e f
+ends_at_memory : (class : Sorting) (reply : Meaning) (entries : List Terms) (Now Next : History) (r0 w0 r w r' w' : Option (List ℕ)) (n : ℕ) → IsReplaying class reply entries Now r0 w0 r w n → Step class reply entries Now Next r r' w w' n (Err OutOfMemory) → Replays class reply entries r0 w0 w (Err OutOfMemory)
+ends_at_memory class reply entries Now Next r0 w0 r w r' w' n h step tape e =
+    let a = h tape e in
+    let routes = length entries in
+    let s = step (past_of entries a.lines) a.stands in
+    let took = s.2 in
+    let b = took.took a.left a.reader_is in
+    let number : n ≡ length a.lines + 1 = omega (arith, a.number_is) in (
+      length a.lines,
+      front_wrote class reply entries w0 w tape a.lines (lines_of a.left) a.lines_are a.wrote,
+      record {
+        line = took.line;
+        behind = lines_of b.0;
+        event = s.0;
+        no_fault = ap (fault_from routes 1) (front_is tape a.lines (lines_of a.left) a.lines_are) ∙ a.no_fault;
+        line_is = ap (drop (length a.lines)) a.lines_are ∙ drop-append_seam a.lines (lines_of a.left) ∙ b.2;
+        event_is = subst (λ (m : ℕ). event_at routes m took.line ≡ Some s.0) number took.event_is;
+        wants = s.3;
+      },
+    )
 
 ends_at_write : (class : Sorting) (reply : Meaning) (entries : List Terms) (Now Next : History) (r0 w0 r w r' w' : Option (List ℕ)) (n : ℕ) → IsReplaying class reply entries Now r0 w0 r w n → Step class reply entries Now Next r r' w w' n (Err Write) → Replays class reply entries r0 w0 w' (Err Write)
-ends_at_write class reply entries Now Next r0 w0 r w r' w' n h step tape before e f =
-    let a = h tape before e f in
+ends_at_write class reply entries Now Next r0 w0 r w r' w' n h step tape e =
+    let a = h tape e in
     let routes = length entries in
     let past = past_of entries a.lines in
     let s = step past a.stands in
@@ -153,42 +175,37 @@ ends_at_write class reply entries Now Next r0 w0 r w r' w' n h step tape before 
     let parts : take k text ++ more ≡ text ++ rest = sym (append_assoc (take k text) (drop k text) rest) ∙ ap (λ (xs : List ℕ). xs ++ rest) (take-append-drop k text) in
     let coming : events_from routes n (lines_of a.left) ≡ event ∷ events_from routes (n + 1) (lines_of b.0) = ap (events_from routes n) b.2 ∙ events_one routes n took.line (lines_of b.0) event took.event_is in
     let whole : tape_text class reply entries tape ≡ done ++ (text ++ rest) = tape_text_is class reply entries tape a.lines (lines_of a.left) n a.lines_are a.no_fault a.number_is ∙ ap (λ (es : List Event). done ++ text_after class reply entries past es) coming in
-    (done ++ take k text, more, s.2.1 (before ++ done) a.writer_is ∙ ap Known (append_assoc before done (take k text)), append_assoc done (take k text) more ∙ ap (λ (xs : List ℕ). done ++ xs) parts ∙ sym whole)
+    (done ++ take k text, more, λ ws f. s.2.1 (ws ++ done) (a.wrote ws f) ∙ ap Known (append_assoc ws done (take k text)), append_assoc done (take k text) more ∙ ap (λ (xs : List ℕ). done ++ xs) parts ∙ sym whole)
 
 the_writer : (class : Sorting) (reply : Meaning) (entries : List Terms) (r0 w0 w w' : Option (List ℕ)) (answer : Result (Unit {0}) ReplayFault) → w' ≡ w → Replays class reply entries r0 w0 w answer → Replays class reply entries r0 w0 w' answer
 the_writer class reply entries r0 w0 w w' answer same h = subst (λ (v : Option (List ℕ)). Replays class reply entries r0 w0 v answer) (sym same) h
 
 pub stops : (class : Sorting) (reply : Meaning) (entries : List Terms) (Now Next : History) (r0 w0 r w r' w' : Option (List ℕ)) (n : ℕ) (fault : ReplayFault) → IsReplaying class reply entries Now r0 w0 r w n → Step class reply entries Now Next r r' w w' n (Err fault) → Replays class reply entries r0 w0 w' (Err fault)
-stops class reply entries Now Next r0 w0 r w r' w' n (Tape line) h step tape before e f =
-    let a = h tape before e f in
+stops class reply entries Now Next r0 w0 r w r' w' n (Tape line) h step tape e =
+    let a = h tape e in
     let s = step (past_of entries a.lines) a.stands in
-    the_writer class reply entries r0 w0 w w' (Err (Tape line)) s.2 (subst (λ (m : ℕ). Replays class reply entries r0 w0 w (Err (Tape m))) (sym s.0) (ends_at_fault class reply entries Now r0 w0 r w n h s.1)) tape before e f
-stops class reply entries Now Next r0 w0 r w r' w' n OutOfMemory h step tape before e f =
-    let a = h tape before e f in
-    the_writer class reply entries r0 w0 w w' (Err OutOfMemory) (step (past_of entries a.lines) a.stands) (ends_at_memory class reply entries Now r0 w0 r w n h) tape before e f
-stops class reply entries Now Next r0 w0 r w r' w' n Read h step tape before e f =
-    let a = h tape before e f in
-    the_writer class reply entries r0 w0 w w' (Err Read) (step (past_of entries a.lines) a.stands) (ends_at_read class reply entries Now r0 w0 r w n h) tape before e f
-stops class reply entries Now Next r0 w0 r w r' w' n Write h step tape before e f = ends_at_write class reply entries Now Next r0 w0 r w r' w' n h step tape before e f
+    the_writer class reply entries r0 w0 w w' (Err (Tape line)) s.2 (subst (λ (m : ℕ). Replays class reply entries r0 w0 w (Err (Tape m))) (sym s.0) (ends_at_fault class reply entries Now r0 w0 r w n h s.1)) tape e
+stops class reply entries Now Next r0 w0 r w r' w' n OutOfMemory h step tape e =
+    let a = h tape e in
+    the_writer class reply entries r0 w0 w w' (Err OutOfMemory) (step (past_of entries a.lines) a.stands).1 (ends_at_memory class reply entries Now Next r0 w0 r w r' w' n h step) tape e
+stops class reply entries Now Next r0 w0 r w r' w' n Read h step tape e =
+    let a = h tape e in
+    the_writer class reply entries r0 w0 w w' (Err Read) (step (past_of entries a.lines) a.stands) (ends_at_read class reply entries Now r0 w0 r w n h) tape e
+stops class reply entries Now Next r0 w0 r w r' w' n Write h step tape e = ends_at_write class reply entries Now Next r0 w0 r w r' w' n h step tape e
 
 pub no_more : (class : Sorting) (reply : Meaning) (entries : List Terms) (Now Next : History) (r0 w0 r w r' w' : Option (List ℕ)) (n : ℕ) → IsReplaying class reply entries Now r0 w0 r w n → Step class reply entries Now Next r r' w w' n (Ok false) → Replays class reply entries r0 w0 w' (Ok tt)
-no_more class reply entries Now Next r0 w0 r w r' w' n h step tape before e f =
-    let a = h tape before e f in
+no_more class reply entries Now Next r0 w0 r w r' w' n h step tape e =
+    let a = h tape e in
     let s = step (past_of entries a.lines) a.stands in
-    the_writer class reply entries r0 w0 w w' (Ok tt) s.1 (ends class reply entries Now r0 w0 r w n h s.0) tape before e f
+    the_writer class reply entries r0 w0 w w' (Ok tt) s.1 (ends class reply entries Now r0 w0 r w n h s.0) tape e
 
 -- a flush changes nothing
-kept : (w w' : Option (List ℕ)) (ws : List ℕ) → w ≡ Some ws → Keeps w w' → w' ≡ Some ws
-kept None w' ws e k = absurd cc
-kept (Some xs) None ws e k = absurd k
-kept (Some xs) (Some ys) ws e k = ap Known k ∙ e
-
 pub flushed : (class : Sorting) (reply : Meaning) (entries : List Terms) (r0 w0 w w' : Option (List ℕ)) (answer : Result (Unit {0}) ReplayFault) → Replays class reply entries r0 w0 w answer → Keeps w w' → Replays class reply entries r0 w0 w' answer
-flushed class reply entries r0 w0 w w' (Ok u) h k tape before e f = let a = h tape before e f in (kept w w' _ a.0 k, a.1)
-flushed class reply entries r0 w0 w w' (Err (Tape line)) h k tape before e f = let a = h tape before e f in (kept w w' _ a.0 k, a.1)
-flushed class reply entries r0 w0 w w' (Err OutOfMemory) h k tape before e f = let a = h tape before e f in (a.0, kept w w' _ a.1 k)
-flushed class reply entries r0 w0 w w' (Err Read) h k tape before e f = let a = h tape before e f in (a.0, kept w w' _ a.1 k)
-flushed class reply entries r0 w0 w w' (Err Write) h k tape before e f = let a = h tape before e f in (a.0, a.1, kept w w' _ a.2 k, a.3)
+flushed class reply entries r0 w0 w w' (Ok u) h k tape e = let a = h tape e in (wrote_same w0 w w' _ a.0 k, a.1)
+flushed class reply entries r0 w0 w w' (Err (Tape line)) h k tape e = let a = h tape e in (wrote_same w0 w w' _ a.0 k, a.1)
+flushed class reply entries r0 w0 w w' (Err OutOfMemory) h k tape e = let a = h tape e in (a.0, wrote_same w0 w w' _ a.1 k, a.2)
+flushed class reply entries r0 w0 w w' (Err Read) h k tape e = let a = h tape e in (a.0, wrote_same w0 w w' _ a.1 k)
+flushed class reply entries r0 w0 w w' (Err Write) h k tape e = let a = h tape e in (a.0, a.1, wrote_same w0 w w' _ a.2 k, a.3)
 
 -- the text of some first lines is a part of the text
 front_is_part : (class : Sorting) (reply : Meaning) (entries : List Terms) (past : List Event) (n k : ℕ) (lines : List (List ℕ)) → (more : List ℕ) × (text_after class reply entries past (events_from (length entries) n (take k lines)) ++ more ≡ text_after class reply entries past (events_from (length entries) n lines))
@@ -207,8 +224,8 @@ front_is_part class reply entries past n (suc k) (line ∷ lines) = onward (even
 
 -- whatever was written is a part of the text
 pub is_part : (class : Sorting) (reply : Meaning) (entries : List Terms) (r0 w0 w : Option (List ℕ)) (answer : Result (Unit {0}) ReplayFault) → Replays class reply entries r0 w0 w answer → Replays class reply entries r0 w0 w (Err Write)
-is_part class reply entries r0 w0 w (Ok u) h tape before e f = let a = h tape before e f in (tape_text class reply entries tape, [], a.0, append-nil (tape_text class reply entries tape))
-is_part class reply entries r0 w0 w (Err (Tape line)) h tape before e f = let a = h tape before e f in (tape_text class reply entries tape, [], a.0, append-nil (tape_text class reply entries tape))
-is_part class reply entries r0 w0 w (Err OutOfMemory) h tape before e f = let a = h tape before e f in let p = front_is_part class reply entries [] 1 a.0 (lines_of tape) in (front_text class reply entries tape a.0, p.0, a.1, p.1)
-is_part class reply entries r0 w0 w (Err Read) h tape before e f = let a = h tape before e f in let p = front_is_part class reply entries [] 1 a.0 (lines_of tape) in (front_text class reply entries tape a.0, p.0, a.1, p.1)
-is_part class reply entries r0 w0 w (Err Write) h tape before e f = h tape before e f
+is_part class reply entries r0 w0 w (Ok u) h tape e = let a = h tape e in (tape_text class reply entries tape, [], a.0, append-nil (tape_text class reply entries tape))
+is_part class reply entries r0 w0 w (Err (Tape line)) h tape e = let a = h tape e in (tape_text class reply entries tape, [], a.0, append-nil (tape_text class reply entries tape))
+is_part class reply entries r0 w0 w (Err OutOfMemory) h tape e = let a = h tape e in let p = front_is_part class reply entries [] 1 a.0 (lines_of tape) in (front_text class reply entries tape a.0, p.0, a.1, p.1)
+is_part class reply entries r0 w0 w (Err Read) h tape e = let a = h tape e in let p = front_is_part class reply entries [] 1 a.0 (lines_of tape) in (front_text class reply entries tape a.0, p.0, a.1, p.1)
+is_part class reply entries r0 w0 w (Err Write) h tape e = h tape e

@@ -1,5 +1,5 @@
 -- Known bytes of a writer.
-use Rattle.std.proofs.Common.{◌≡◌, ℕ, ◌+◌, ◌-◌, take, drop, length, arith, List, ◌++◌, Option, None, Some, ap, append_assoc, ◌∙◌}
+use Rattle.std.proofs.Common.{◌≡◌, ℕ, ◌+◌, ◌-◌, take, drop, length, arith, List, ◌++◌, Option, None, Some, refl, ap, append_assoc, ◌∙◌}
 use Rattle.std.proofs.lemmas.List.{take_rest, drop-take, take-take, take-append-drop}
 use Rattle.std.specs.Io.KnownBytes.{Appends, Keeps}
 use Rattle.srt_gateway.specs.Known.{Wrote}
@@ -26,3 +26,13 @@ wrote_same old (Some zs) (Some ys) bs h a ws e = ap (λ (xs : List ℕ). Some xs
 pub further : (at n : ℕ) (bytes : List ℕ) → take at bytes ++ take n (take (length bytes - at) (drop at bytes)) ≡ take (at + n) bytes
 further at n bytes =
     rw (take_rest bytes at, ← drop-take at n bytes, ← take-take at (at + n) bytes (omega arith)) (take-append-drop at (take (at + n) bytes))
+
+pub kept : (old : Option (List ℕ)) → Keeps old old
+kept None = tt
+kept (Some xs) = refl
+
+pub kept_on : (old now new : Option (List ℕ)) → Keeps old now → Keeps now new → Keeps old new
+kept_on None now new h k = tt
+kept_on (Some xs) None new h k = absurd h
+kept_on (Some xs) (Some ys) None h k = absurd k
+kept_on (Some xs) (Some ys) (Some zs) h k = k ∙ h

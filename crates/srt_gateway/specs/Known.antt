@@ -3,8 +3,8 @@ use Rattle.std.specs.Prelude.{◌≡◌, ◌≢◌, ℕ, ◌+◌, List, [], ◌�
 use Rattle.srt_gateway.specs.Tape.{lines_of, line_max}
 use Rattle.srt_gateway.specs.declared.lines.Taken.{Taken}
 use Rattle.srt_gateway.specs.declared.lines.Taken.TheVariants as taken
-use Rattle.srt_gateway.specs.declared.lines.Piece.{Piece}
-use Rattle.srt_gateway.specs.declared.lines.Piece.TheVariants.{Part, Line, Long, End}
+use Rattle.srt_gateway.specs.declared.reader.Piece.{Piece}
+use Rattle.srt_gateway.specs.declared.reader.Piece.TheVariants.{Part, Line, Long, End}
 
 -- where the old bytes are known, they are these and the new ones
 abbrev pub Took : (old new : Option (List ℕ)) → List ℕ → Type 0

@@ -14,5 +14,5 @@ pub mod Pieces
 pub mod Parts
 pub mod Said
 pub mod Known
-pub mod Budget
+pub mod Counted
 pub mod Step

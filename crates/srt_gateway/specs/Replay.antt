@@ -1,12 +1,14 @@
 -- What the replay of a tape writes (this profile).
-use Rattle.std.specs.Prelude.{◌≡◌, ℕ, ◌+◌, nat_le, List, [], ◌∷◌, ◌++◌, take, length, Option, None, Some, Result, Ok, Err, if◌then◌else◌}
+use Rattle.std.specs.Prelude.{◌≡◌, ℕ, ◌+◌, nat_le, List, [], ◌∷◌, ◌++◌, take, drop, length, Option, None, Some, Result, Ok, Err, if◌then◌else◌}
 use Rattle.srt_seq.specs.Terms.{Terms}
-use Rattle.srt_hub.specs.World.{Event, Sorting, Meaning}
+use Rattle.srt_lobby.specs.declared.classes.Class.TheVariants.{Route}
+use Rattle.srt_hub.specs.World.{Event, Arrives, Ticks, Turns, Sends, Sorting, Meaning}
 use Rattle.srt_gateway.specs.declared.replaying.ReplayFault.{ReplayFault}
 use Rattle.srt_gateway.specs.declared.replaying.ReplayFault.TheVariants.{Tape, OutOfMemory, Read, Write}
 use Rattle.srt_gateway.specs.Tape.{lines_of}
 use Rattle.srt_gateway.specs.Events.{event_of}
 use Rattle.srt_gateway.specs.Texts.{event_text}
+use Rattle.srt_gateway.specs.Known.{Wrote}
 
 -- the most lines of a tape
 abbrev pub lines_max : ℕ
@@ -57,18 +59,40 @@ front_text class reply entries tape lines = text_of class reply entries (take li
 abbrev pub fault_line : (routes : ℕ) → (tape : List ℕ) → Option ℕ
 fault_line routes tape = fault_from routes 1 (lines_of tape)
 
--- what a writer that held some bytes holds after the replay of a tape, by the answer
-abbrev pub HasReplayed : Sorting → Meaning → List Terms → (tape before : List ℕ) (after : Option (List ℕ)) → Result (Unit {0}) ReplayFault → Type 0
--- the whole text
-HasReplayed class reply entries tape before after (Ok u) = (after ≡ Some (before ++ tape_text class reply entries tape)) × (fault_line (length entries) tape ≡ None)
--- the text of the lines before the first that says no event
-HasReplayed class reply entries tape before after (Err (Tape line)) = (after ≡ Some (before ++ tape_text class reply entries tape)) × (fault_line (length entries) tape ≡ Some line)
--- the text of some first lines
-HasReplayed class reply entries tape before after (Err OutOfMemory) = (lines : ℕ) × (after ≡ Some (before ++ front_text class reply entries tape lines))
-HasReplayed class reply entries tape before after (Err Read) = (lines : ℕ) × (after ≡ Some (before ++ front_text class reply entries tape lines))
--- a part of the text from its beginning
-HasReplayed class reply entries tape before after (Err Write) = (text more : List ℕ) × (after ≡ Some (before ++ text)) × (text ++ more ≡ tape_text class reply entries tape)
+-- an arrival for whose copy memory is wanted: its class is a route
+abbrev pub WantsCopy : Sorting → Event → Type 0
+WantsCopy class (Arrives d moment refused) = (r : ℕ) × (class d moment ≡ Route r)
+WantsCopy class (Ticks r moment) = ⊥
+WantsCopy class (Turns r) = ⊥
+WantsCopy class (Sends r) = ⊥
 
--- the same of a reader and a writer, where they tell their bytes
+-- behind this many lines, of which each says an event, comes one that says such an arrival
+pub record WantsMemory (class : Sorting) (routes : ℕ) (tape : List ℕ) (lines : ℕ) : Type 0 where
+  pub line : List ℕ
+  pub behind : List (List ℕ)
+  pub event : Event
+  pub no_fault : fault_from routes 1 (take lines (lines_of tape)) ≡ None
+  pub line_is : drop lines (lines_of tape) ≡ line ∷ behind
+  pub event_is : event_at routes (lines + 1) line ≡ Some event
+  pub wants : WantsCopy class event
+
+-- what the replay of a tape answers, and what the writer, where its bytes are known, holds then
+abbrev pub HasReplayed : Sorting → Meaning → List Terms → (tape : List ℕ) (before after : Option (List ℕ)) → Result (Unit {0}) ReplayFault → Type 0
+-- the whole text
+HasReplayed class reply entries tape before after (Ok u) = Wrote before after (tape_text class reply entries tape) × (fault_line (length entries) tape ≡ None)
+-- the text of the lines before the first that says no event
+HasReplayed class reply entries tape before after (Err (Tape line)) = Wrote before after (tape_text class reply entries tape) × (fault_line (length entries) tape ≡ Some line)
+-- the text of the lines before an arrival of a route's
+HasReplayed class reply entries tape before after (Err OutOfMemory) = (lines : ℕ) × Wrote before after (front_text class reply entries tape lines) × WantsMemory class (length entries) tape lines
+-- the text of some first lines
+HasReplayed class reply entries tape before after (Err Read) = (lines : ℕ) × Wrote before after (front_text class reply entries tape lines)
+-- a part of the text from its beginning
+HasReplayed class reply entries tape before after (Err Write) = (text more : List ℕ) × Wrote before after text × (text ++ more ≡ tape_text class reply entries tape)
+
+-- the same of a reader, where it tells its bytes
 abbrev pub Replays : Sorting → Meaning → List Terms → (reader writer after : Option (List ℕ)) → Result (Unit {0}) ReplayFault → Type 0
-Replays class reply entries reader writer after result = (tape before : List ℕ) → reader ≡ Some tape → writer ≡ Some before → HasReplayed class reply entries tape before after result
+Replays class reply entries reader writer after result = (tape : List ℕ) → reader ≡ Some tape → HasReplayed class reply entries tape writer after result
+
+-- memory for the gateway was refused, and nothing was read or written
+abbrev pub WasRefused : {B W : Type 0} → (reader reader' : B) (writer writer' : W) → Result (Unit {0}) ReplayFault → Type 0
+WasRefused reader reader' writer writer' result = (result ≡ Err OutOfMemory) × (reader' ≡ reader) × (writer' ≡ writer)

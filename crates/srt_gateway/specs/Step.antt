@@ -9,7 +9,7 @@ use Rattle.srt_gateway.specs.Tape.{lines_of}
 use Rattle.srt_gateway.specs.Events.{event_of}
 use Rattle.srt_gateway.specs.Texts.{event_text}
 use Rattle.srt_gateway.specs.Known.{TookLine, NoLine, Wrote}
-use Rattle.srt_gateway.specs.Replay.{event_at, events_from, text_of, fault_from}
+use Rattle.srt_gateway.specs.Replay.{event_at, events_from, text_of, fault_from, WantsCopy}
 
 -- what a gateway stands for, by its events, the newest first
 abbrev pub History : Type 1
@@ -19,16 +19,16 @@ History = List Event → Type 0
 abbrev pub WasAnswered : Sorting → Meaning → List Terms → (past : List Event) (event : Event) (text : List ℕ) → History → Type 0
 WasAnswered class reply entries past event text After = (text ≡ event_text class reply entries past event) × After (event ∷ past)
 
--- an event's answer stands at the front of a buffer, or there was no memory for it
+-- an event's answer stands at the front of a buffer, or there was no memory for the copy of an arrival that is a route's
 abbrev pub EventAnswered : Sorting → Meaning → List Terms → (past : List Event) (event : Event) (buffer : List ℕ) → History → Result ℕ NoMemory → Type 0
 EventAnswered class reply entries past event buffer After (Ok n) = WasAnswered class reply entries past event (take n buffer) After
-EventAnswered class reply entries past event buffer After (Err fault) = Unit {0}
+EventAnswered class reply entries past event buffer After (Err fault) = WantsCopy class event
 
--- a line's answer stands at the front of a buffer, or the line says no event, or there was no memory
+-- a line's answer stands at the front of a buffer, or the line says no event, or one for whose copy there was no memory
 abbrev pub LineAnswered : Sorting → Meaning → List Terms → (past : List Event) (line buffer : List ℕ) → History → Result (Option ℕ) NoMemory → Type 0
 LineAnswered class reply entries past line buffer After (Ok (Some n)) = (event : Event) × (event_of (length entries) line ≡ Some event) × WasAnswered class reply entries past event (take n buffer) After
 LineAnswered class reply entries past line buffer After (Ok None) = event_of (length entries) line ≡ None
-LineAnswered class reply entries past line buffer After (Err fault) = Unit {0}
+LineAnswered class reply entries past line buffer After (Err fault) = (event : Event) × (event_of (length entries) line ≡ Some event) × WantsCopy class event
 
 -- where the bytes are known, their first line, of this number, says no event
 abbrev pub NoEvent : Option (List ℕ) → (routes number : ℕ) → Type 0
@@ -45,7 +45,7 @@ abbrev pub Answered : Sorting → Meaning → List Terms → (past : List Event)
 Answered class reply entries past After old new held holds number (Ok true) = (event : Event) × TookEvent old new (length entries) number event × Wrote held holds (event_text class reply entries past event) × After (event ∷ past)
 Answered class reply entries past After old new held holds number (Ok false) = NoLine old × (holds ≡ held)
 Answered class reply entries past After old new held holds number (Err (Tape line)) = (line ≡ number) × NoEvent old (length entries) number × (holds ≡ held)
-Answered class reply entries past After old new held holds number (Err OutOfMemory) = holds ≡ held
+Answered class reply entries past After old new held holds number (Err OutOfMemory) = (event : Event) × (holds ≡ held) × TookEvent old new (length entries) number event × WantsCopy class event
 Answered class reply entries past After old new held holds number (Err Read) = holds ≡ held
 Answered class reply entries past After old new held holds number (Err Write) = (event : Event) × TookEvent old new (length entries) number event × ((n : ℕ) × Wrote held holds (take n (event_text class reply entries past event)))
 
@@ -54,8 +54,8 @@ abbrev pub with_past : (past came : List Event) → List Event
 with_past past [] = past
 with_past past (event ∷ came) = with_past (event ∷ past) came
 
--- a replay under way, before the line of this number
-pub record Replayed (class : Sorting) (reply : Meaning) (entries : List Terms) (Now : History) (tape before : List ℕ) (reader writer : Option (List ℕ)) (number : ℕ) : Type 0 where
+-- a replay under way, before the line of this number; what is written is said where the writer's bytes are known
+pub record Replayed (class : Sorting) (reply : Meaning) (entries : List Terms) (Now : History) (tape : List ℕ) (held reader writer : Option (List ℕ)) (number : ℕ) : Type 0 where
   -- the lines that were answered, and the bytes that are left
   pub lines : List (List ℕ)
   pub left : List ℕ
@@ -63,8 +63,8 @@ pub record Replayed (class : Sorting) (reply : Meaning) (entries : List Terms) (
   pub number_is : number ≡ 1 + length lines
   pub no_fault : fault_from (length entries) 1 lines ≡ None
   pub reader_is : reader ≡ Some left
-  pub writer_is : writer ≡ Some (before ++ text_of class reply entries lines)
+  pub wrote : Wrote held writer (text_of class reply entries lines)
   pub stands : Now (with_past [] (events_from (length entries) 1 lines))
 
 abbrev pub IsReplaying : Sorting → Meaning → List Terms → (Now : History) → (old held reader writer : Option (List ℕ)) (number : ℕ) → Type 0
-IsReplaying class reply entries Now old held reader writer number = (tape before : List ℕ) → old ≡ Some tape → held ≡ Some before → Replayed class reply entries Now tape before reader writer number
+IsReplaying class reply entries Now old held reader writer number = (tape : List ℕ) → old ≡ Some tape → Replayed class reply entries Now tape held reader writer number

@@ -1,10 +1,10 @@
 -- What is written for the answer to each event (this profile).
-use Rattle.std.specs.Prelude.{ℕ, List, [], ◌∷◌, ◌++◌, Option, None, Some, codes, decimal}
+use Rattle.std.specs.Prelude.{ℕ, ◌+◌, List, [], ◌∷◌, ◌++◌, Option, None, Some, codes, decimal}
 use Rattle.hex.specs.Hex.{encode_lower}
 use Rattle.srt_seq.specs.declared.shared.Turned.{Turned}
 use Rattle.srt_seq.specs.declared.shared.Turned.TheVariants.{Moved, Applied, Blocked, Idle}
 use Rattle.srt_lobby.specs.declared.classes.Cause.{Cause}
-use Rattle.srt_lobby.specs.declared.classes.Cause.TheVariants.{Packet, UnknownId, NotHandshake, Handshake, WrongKind, WrongCookie}
+use Rattle.srt_lobby.specs.Numbers.{number_of}
 use Rattle.srt_hub.specs.declared.answers.Arrived.{Arrived}
 use Rattle.srt_hub.specs.declared.answers.Arrived.TheVariants as arrived
 use Rattle.srt_hub.specs.declared.answers.Ticked.{Ticked}
@@ -14,14 +14,9 @@ use Rattle.srt_seq.specs.Terms.{Terms}
 use Rattle.srt_hub.specs.World.{Event, Arrives, Ticks, Turns, Sends, Sorting, Meaning, arrival_of, tick, turn, first}
 use Rattle.srt_hub.specs.Hubs.{terms_at, lane_at, room_at}
 
--- the digit of a cause
+-- the digit of a cause's number
 abbrev pub digit_of : Cause → ℕ
-digit_of Packet = 49
-digit_of UnknownId = 50
-digit_of NotHandshake = 51
-digit_of Handshake = 52
-digit_of WrongKind = 53
-digit_of WrongCookie = 54
+digit_of cause = 48 + number_of cause
 
 -- a word and a route's number as a line, with its LF
 abbrev pub route_text : (words : List ℕ) (route : ℕ) → List ℕ

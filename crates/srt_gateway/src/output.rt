@@ -1,6 +1,7 @@
 //! Bytes written to a writer.
 
 ghost use Rattle.std.specs.Prelude.{ℕ, OnOk, OnErr, take};
+ghost use Rattle.std.specs.Io.KnownBytes.{Keeps};
 ghost use Rattle.srt_gateway.specs.Known.{Wrote};
 
 use crate::replaying::TRIES_MAX;
@@ -23,6 +24,23 @@ pub(crate) fn write_bytes<W: Write>(writer: &mut W, bytes: &[u8]) -> Result<(), 
         match writer.write(&bytes[at..]) {
             Ok(0) => return Err(WriteFailed),
             Ok(n) => at += n,
+            Err(e) => {
+                if e.kind() != ErrorKind::Interrupted {
+                    return Err(WriteFailed);
+                }
+            }
+        }
+    }
+    Err(WriteFailed)
+}
+
+/// Hands on what a writer holds. An interrupted flush is tried again.
+pub(crate) fn flush<W: Write>(writer: &mut W) -> Result<(), WriteFailed>
+    ensures { Keeps (W.contents writer.old) (W.contents writer.new) }
+{
+    for _ in 0..TRIES_MAX {
+        match writer.flush() {
+            Ok(()) => return Ok(()),
             Err(e) => {
                 if e.kind() != ErrorKind::Interrupted {
                     return Err(WriteFailed);

@@ -1,6 +1,6 @@
 //! Tapes replayed over a hub: each line's event happens, and its answer is written as a line.
 
-ghost use Rattle.std.specs.Prelude.{◌≡◌, ◌≤◌, ◌<◌, ◌^◌, ℕ, List, [], IfOk, IfSome, take, length, map, false};
+ghost use Rattle.std.specs.Prelude.{◌≡◌, ◌≤◌, ◌<◌, ◌^◌, ◌⊎◌, ℕ, List, [], IfOk, IfSome, take, length, map, false};
 ghost use Rattle.srt_seq.specs.Terms.{Terms, terms_of};
 ghost use Rattle.srt_cookie.specs.Cookie.{secret_bytes};
 ghost use Rattle.srt_lobby.specs.Lobby.{class_of};
@@ -8,15 +8,15 @@ ghost use Rattle.srt_route.specs.Route.{reply};
 ghost use Rattle.srt_hub.specs.World.{Event, Arrives, Ticks, Turns, Sends};
 ghost use Rattle.srt_hub.specs.Hubs.{names};
 ghost use Rattle.srt_gateway.specs.Said.{event_said, IsSound};
-ghost use Rattle.srt_gateway.specs.Replay.{Replays};
-ghost use Rattle.srt_gateway.specs.Budget.{reads_left, TurnRead, ReplayRead};
+ghost use Rattle.srt_gateway.specs.Replay.{Replays, WasRefused};
+ghost use Rattle.srt_gateway.specs.Counted.{source, reads_left, last_brought, TurnRead, ReplayRead};
 ghost use Rattle.srt_gateway.specs.Step.{WasAnswered, EventAnswered, LineAnswered, Answered, IsReplaying};
 
-use crate::budget::ReadBudget;
 use crate::config::Config;
 use crate::events::{Said, read_event};
 use crate::lines::{LINE_MAX, Taken, next_line};
-use crate::output::write_bytes;
+use crate::output::{flush, write_bytes};
+use crate::reader::CountedReader;
 use crate::texts::{TEXT_MAX, write_arrived, write_none, write_sent, write_ticked, write_turned};
 use srt_hub::{Gateway, Hub, Lobby, OutOfMemory, RouteStep, SrtGateway};
 use srt_seq::{OpenFault, Peer};
@@ -34,9 +34,9 @@ pub(crate) const TRIES_MAX: u64 = 1 << 33;
 pub enum ReplayFault {
     /// The line of this number, counted from 1, says no event.
     Tape(u32),
-    /// The memory was refused.
+    /// The memory was refused: for the gateway's routes, or for the copy of a route's datagram.
     OutOfMemory,
-    /// The reader failed, or its reads are spent: 2^33 of them brought no end and no fault.
+    /// The reader failed, or its reads are spent and brought no end and no fault.
     Read,
     /// The writer failed, or took nothing of what was handed to it.
     Write,
@@ -56,8 +56,10 @@ fn answer_arrival<R: RouteStep, L: Lobby>(
     ensures within { IfOk result (λ n. n ≤ 4096) }
     ensures answered { (secret : List ℕ) (entries : List Terms) (past : List Event) → ⟦<Hub<R, L> as Gateway>⟧.stands hub.old secret entries past → EventAnswered (L.class secret (names entries)) R.reply entries past (Arrives (record { peer = peer; bytes = bytes.now }) moment false) out.new (⟦<Hub<R, L> as Gateway>⟧.stands hub.new secret entries) result }
 {
-    let answer = hub.arrive(alloc, peer, bytes, moment)?;
-    Ok(write_arrived(&answer, out))
+    match hub.arrive(alloc, peer, bytes, moment) {
+        Ok(answer) => Ok(write_arrived(&answer, out)),
+        Err(fault) => Err(fault),
+    }
 }
 
 /// A route is told the time, and its answer's line is put at the front of `out`. Answers the line's length.
@@ -158,8 +160,10 @@ fn answer_line<R: RouteStep, L: Lobby>(
     let Some(event) = read_event(line, hub.routes(), datagram) else {
         return Ok(None);
     };
-    let end = answer_event(alloc, hub, event, datagram, packet, out)?;
-    Ok(Some(end))
+    match answer_event(alloc, hub, event, datagram, packet, out) {
+        Ok(end) => Ok(Some(end)),
+        Err(fault) => Err(fault),
+    }
 }
 
 /// Takes the next line, which has this number, and writes its answer. False where there is none.
@@ -167,17 +171,16 @@ fn answer_line<R: RouteStep, L: Lobby>(
 fn answer_next<R: RouteStep, L: Lobby, B: BufRead, W: Write>(
     alloc: Global,
     hub: &mut Hub<R, L>,
-    reader: &mut B,
+    reader: &mut CountedReader<B>,
     writer: &mut W,
-    budget: &mut ReadBudget,
     buffers: &mut Buffers,
     number: u32,
 ) -> Result<bool, ReplayFault>
-    ensures fewer { reads_left budget.new ≤ reads_left budget.old }
-    ensures reads { TurnRead number budget.new result }
-    ensures answered { (secret : List ℕ) (entries : List Terms) (past : List Event) → ⟦<Hub<R, L> as Gateway>⟧.stands hub.old secret entries past → Answered (L.class secret (names entries)) R.reply entries past (⟦<Hub<R, L> as Gateway>⟧.stands hub.new secret entries) (B.remaining reader.old) (B.remaining reader.new) (W.contents writer.old) (W.contents writer.new) number result }
+    ensures fewer { reads_left reader.new ≤ reads_left reader.old }
+    ensures reads { TurnRead number (reads_left reader.new) (last_brought reader.new) result }
+    ensures answered { (secret : List ℕ) (entries : List Terms) (past : List Event) → ⟦<Hub<R, L> as Gateway>⟧.stands hub.old secret entries past → Answered (L.class secret (names entries)) R.reply entries past (⟦<Hub<R, L> as Gateway>⟧.stands hub.new secret entries) (B.remaining (source reader.old)) (B.remaining (source reader.new)) (W.contents writer.old) (W.contents writer.new) number result }
 {
-    let len = match next_line(reader, budget, &mut buffers.line) {
+    let len = match next_line(reader, &mut buffers.line) {
         Ok(Taken::Line(len)) => len,
         Ok(Taken::Long) => return Err(ReplayFault::Tape(number)),
         Ok(Taken::End) => return Ok(false),
@@ -208,13 +211,12 @@ fn answer_next<R: RouteStep, L: Lobby, B: BufRead, W: Write>(
 fn answer_lines<R: RouteStep, L: Lobby, B: BufRead, W: Write>(
     alloc: Global,
     hub: &mut Hub<R, L>,
-    reader: &mut B,
+    reader: &mut CountedReader<B>,
     writer: &mut W,
-    budget: &mut ReadBudget,
 ) -> Result<(), ReplayFault>
-    ensures fewer { reads_left budget.new ≤ reads_left budget.old }
-    ensures reads { ReplayRead budget.new result }
-    ensures replays { (secret : List ℕ) (entries : List Terms) → ⟦<Hub<R, L> as Gateway>⟧.stands hub.old secret entries [] → Replays (L.class secret (names entries)) R.reply entries (B.remaining reader.old) (W.contents writer.old) (W.contents writer.new) result }
+    ensures fewer { reads_left reader.new ≤ reads_left reader.old }
+    ensures reads { ReplayRead (reads_left reader.new) (last_brought reader.new) result }
+    ensures replays { (secret : List ℕ) (entries : List Terms) → ⟦<Hub<R, L> as Gateway>⟧.stands hub.old secret entries [] → Replays (L.class secret (names entries)) R.reply entries (B.remaining (source reader.old)) (W.contents writer.old) (W.contents writer.new) result }
 {
     let mut buffers = Buffers {
         line: [0; LINE_MAX],
@@ -223,7 +225,7 @@ fn answer_lines<R: RouteStep, L: Lobby, B: BufRead, W: Write>(
         text: [0; TEXT_MAX],
     };
     for before in 0..LINES_MAX + 1 {
-        match answer_next(alloc, hub, reader, writer, budget, &mut buffers, before + 1) {
+        match answer_next(alloc, hub, reader, writer, &mut buffers, before + 1) {
             Ok(true) => {}
             Ok(false) => return Ok(()),
             Err(fault) => return Err(fault),
@@ -235,42 +237,42 @@ fn answer_lines<R: RouteStep, L: Lobby, B: BufRead, W: Write>(
 
 /// Replays a tape over a hub to which nothing has happened: each line's event happens, and its answer is written
 /// as a line. The tape is read and the text written in blocks as the reader and the writer hold them, so hand in
-/// ones with buffers. Each look at the reader is one read of the budget, an interrupted one too; where no read is left,
-/// the reader counts as failed. The writer is flushed in the end, unless it failed. Memory is taken for the copies of
-/// routes' datagrams alone.
+/// ones with buffers. Each look at the reader is one of its reads, an interrupted one too. The writer is flushed in
+/// the end, unless it failed. Memory is taken for the copies of routes' datagrams alone.
 pub fn replay_over<R: RouteStep, L: Lobby, B: BufRead, W: Write>(
     alloc: Global,
     hub: &mut Hub<R, L>,
-    reader: &mut B,
+    reader: &mut CountedReader<B>,
     writer: &mut W,
-    budget: &mut ReadBudget,
 ) -> Result<(), ReplayFault>
-    ensures fewer { reads_left budget.new ≤ reads_left budget.old }
-    ensures reads { ReplayRead budget.new result }
-    ensures replays { (secret : List ℕ) (entries : List Terms) → ⟦<Hub<R, L> as Gateway>⟧.stands hub.old secret entries [] → Replays (L.class secret (names entries)) R.reply entries (B.remaining reader.old) (W.contents writer.old) (W.contents writer.new) result }
+    ensures fewer { reads_left reader.new ≤ reads_left reader.old }
+    ensures reads { ReplayRead (reads_left reader.new) (last_brought reader.new) result }
+    ensures replays { (secret : List ℕ) (entries : List Terms) → ⟦<Hub<R, L> as Gateway>⟧.stands hub.old secret entries [] → Replays (L.class secret (names entries)) R.reply entries (B.remaining (source reader.old)) (W.contents writer.old) (W.contents writer.new) result }
 {
-    let answered = answer_lines(alloc, hub, reader, writer, budget);
+    let answered = answer_lines(alloc, hub, reader, writer);
     if answered == Err(ReplayFault::Write) {
         return answered;
     }
-    match writer.flush() {
+    match flush(writer) {
         Ok(()) => answered,
         Err(_) => Err(ReplayFault::Write),
     }
 }
 
-/// Replays a tape over the gateway of a configuration, to which nothing has happened, within 2^33 reads. It takes the
-/// memory of the configuration's routes first.
+/// Replays a tape over the gateway of a configuration, to which nothing has happened. It takes the memory of the
+/// configuration's routes first; where that is refused, nothing is read or written.
 pub fn replay<B: BufRead, W: Write>(
     alloc: Global,
     config: &Config,
-    reader: &mut B,
+    reader: &mut CountedReader<B>,
     writer: &mut W,
 ) -> Result<(), ReplayFault>
-    ensures { Replays (class_of (secret_bytes config.now.secret) (names (map terms_of config.now.entries.items))) reply (map terms_of config.now.entries.items) (B.remaining reader.old) (W.contents writer.old) (W.contents writer.new) result }
+    ensures fewer { reads_left reader.new ≤ reads_left reader.old }
+    ensures reads { WasRefused reader.old reader.new writer.old writer.new result ⊎ ReplayRead (reads_left reader.new) (last_brought reader.new) result }
+    ensures replays { WasRefused reader.old reader.new writer.old writer.new result ⊎ Replays (class_of (secret_bytes config.now.secret) (names (map terms_of config.now.entries.items))) reply (map terms_of config.now.entries.items) (B.remaining (source reader.old)) (W.contents writer.old) (W.contents writer.new) result }
 {
     match SrtGateway::open(alloc, config.secret, config.entries.as_slice()) {
-        Ok(mut hub) => replay_over(alloc, &mut hub, reader, writer, &mut ReadBudget::full()),
+        Ok(mut hub) => replay_over(alloc, &mut hub, reader, writer),
         Err(OpenFault::OutOfMemory) => Err(ReplayFault::OutOfMemory),
         // A configuration has names and numbers that can be opened.
         Err(OpenFault::Names | OpenFault::Limits) => unreachable!(),

@@ -5,7 +5,7 @@ mod devices;
 mod ends;
 mod events;
 
-use crate::{Config, ReplayFault, read_config, replay};
+use crate::{Config, CountedReader, ReplayFault, read_config, replay};
 use std::process::Abort;
 use std::test::Fail;
 
@@ -49,7 +49,7 @@ fn assert_replayed(
     text: &str,
     end: Result<(), ReplayFault>,
 ) {
-    let mut reader = tape;
+    let mut reader = CountedReader::new(tape);
     let mut writer = Vec::new(rt.alloc());
     match read_config(rt.alloc(), RIGHT) {
         Ok(config) => {

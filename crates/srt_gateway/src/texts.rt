@@ -14,14 +14,7 @@ pub(crate) const TEXT_MAX: usize = 4096;
 fn digit_of(cause: Cause) -> u8
     ensures { result ≡ the_digit cause }
 {
-    match cause {
-        Cause::Packet => b'1',
-        Cause::UnknownId => b'2',
-        Cause::NotHandshake => b'3',
-        Cause::Handshake => b'4',
-        Cause::WrongKind => b'5',
-        Cause::WrongCookie => b'6',
-    }
+    b'0' + cause.number()
 }
 
 /// Puts the decimal digits of a number at a place, and answers where they end.

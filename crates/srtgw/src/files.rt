@@ -2,7 +2,7 @@
 
 use crate::faults::Fault;
 use std::fs::File;
-use std::io::{ErrorKind, Read};
+use std::io::{self, ErrorKind, Read};
 use std::rt::Files;
 
 /// The most bytes of a configuration's file.
@@ -11,6 +11,14 @@ pub const CONFIG_MAX: u64 = 65_536;
 /// The most bytes of a tape's file.
 pub const TAPE_MAX: u64 = 67_108_864;
 
+/// The fault of a file that could not be opened or read.
+fn fault_of(error: &io::Error) -> Fault {
+    if error.kind() == ErrorKind::OutOfMemory {
+        return Fault::Memory;
+    }
+    Fault::File
+}
+
 /// The bytes of a file. A file that can't be read, or has more bytes than the limit, is a fault; no more
 /// than the limit and one byte is read of it.
 pub fn read_file(
@@ -18,14 +26,14 @@ pub fn read_file(
     path: &str,
     limit: u64,
 ) -> Result<Vec<u8>, Fault> {
-    let Ok(file) = File::open(rt, path) else {
-        return Err(Fault::File);
+    let file = match File::open(rt, path) {
+        Ok(file) => file,
+        Err(error) => return Err(fault_of(&error)),
     };
     let mut bytes = Vec::new(rt.alloc());
     match file.take(limit.saturating_add(1)).read_to_end(&mut bytes) {
         Ok(_) => {}
-        Err(error) if error.kind() == ErrorKind::OutOfMemory => return Err(Fault::Memory),
-        Err(_) => return Err(Fault::File),
+        Err(error) => return Err(fault_of(&error)),
     }
     if bytes.len() as u64 > limit {
         return Err(Fault::File);

@@ -7,7 +7,7 @@ mod words;
 
 use faults::Fault;
 use files::{CONFIG_MAX, TAPE_MAX, read_file};
-use srt_gateway::{Config, ConfigFault, read_config, replay};
+use srt_gateway::{Config, ConfigFault, CountedReader, read_config, replay};
 use std::io::{self, BufWriter, ErrorKind};
 use std::process::ExitCode;
 use std::rt::{Env, Files};
@@ -30,7 +30,10 @@ fn replay_file(
     let config = config_at(rt, config)?;
     let bytes = read_file(rt, tape, TAPE_MAX)?;
     match BufWriter::new(rt.alloc(), io::writer(rt)) {
-        Ok(mut writer) => Ok(replay(rt.alloc(), &config, &mut bytes.as_slice(), &mut writer)?),
+        Ok(mut writer) => {
+            let mut reader = CountedReader::new(bytes.as_slice());
+            Ok(replay(rt.alloc(), &config, &mut reader, &mut writer)?)
+        }
         Err(_) => Err(Fault::Memory),
     }
 }
@@ -77,10 +80,14 @@ fn obey(
             None => Err(Fault::Memory),
         },
         Err(error) if error.kind() == clap::error::ErrorKind::OutOfMemory => Err(Fault::Memory),
-        Err(error) => match error.print(rt) {
-            Ok(()) => Ok(ExitCode::from(error.exit_code() as u8)),
-            Err(_) => Err(Fault::Output),
-        },
+        Err(error) => {
+            let status = error.exit_code() as u8;
+            match error.print(rt) {
+                // A text that was asked for is output. Wrong words are told by the status in any case.
+                Err(_) if status == 0 => Err(Fault::Output),
+                _ => Ok(ExitCode::from(status)),
+            }
+        }
     }
 }
 

@@ -7,6 +7,9 @@ use srt_seq::{Mode, Peer};
 use std::process::Abort;
 use std::test::Fail;
 
+/// The secret of the bytes 0 to 31.
+const SECRET: &str = "\"000102030405060708090a0b0c0d0e0f101112131415161718191A1B1C1D1E1F\"";
+
 /// The text, with the first place of one line changed to another.
 fn changed(
     rt: &(impl AllocGlobal + Abort),
@@ -302,21 +305,61 @@ fn faults_of_the_routes(rt: HostRuntime) -> Result<(), Fail> {
     Ok(())
 }
 
+/// A configuration in which each key is wrong, and one of the table and one of each route is unknown.
+const WRONG: &str = "\
+extra = 1
+secret = 5
+bind = \"127.0.0:0\"
+workers = 17
+
+[[route]]
+buf = 1
+name = \"studio \"
+mode = \"file\"
+latency_ms = 19
+buffer = 31
+sessions = 18
+inbox = 15
+outbox = 4097
+
+[[route]]
+mod = 1
+name = \"studio\"
+mode = 5
+latency_ms = 120
+buffer = 32
+sessions = 3
+inbox = 16
+outbox = 16
+";
+
 #[test]
 fn the_first_fault_is_told(rt: HostRuntime) -> Result<(), Fail> {
-    assert_fault(&rt, "extra = 1\nsecret = 5\n", 2, "extra");
-    assert_fault(&rt, "secret = 5\nworkers = 17\n", 4, "secret");
-    let wrong = changed(&rt, RIGHT, "workers = 1", "workers = 17")?;
-    let wrong = changed(&rt, wrong.as_str(), "127.0.0.1", "127.0.0")?;
-    assert_fault(&rt, wrong.as_str(), 9, "bind");
-    let wrong = changed(&rt, RIGHT, "\"files\"", "\"studio\"")?;
-    assert_fault(&rt, wrong.as_str(), 7, "name");
-    let worse = changed(&rt, wrong.as_str(), "mode = \"buffer\"", "mode = \"file\"")?;
-    assert_fault(&rt, worse.as_str(), 7, "name");
-    let worse = changed(&rt, wrong.as_str(), "buffer = 32", "buffer = 32\nbuf = 1")?;
-    assert_fault(&rt, worse.as_str(), 2, "buf");
-    let worse = changed(&rt, wrong.as_str(), "sessions = 5", "sessions = 18")?;
-    assert_fault(&rt, worse.as_str(), 5, "sessions");
+    let mut text = String::from_str(rt.alloc(), WRONG)?;
+    // The first fault, and what mends it.
+    for (number, key, from, to) in [
+        (2, "extra", "extra = 1\n", ""),
+        (4, "secret", "5", "\"0\""),
+        (8, "secret", "\"0\"", SECRET),
+        (9, "bind", "127.0.0:0", "127.0.0.1:0"),
+        (5, "workers", "= 17\n", "= 16\n"),
+        (2, "buf", "buf = 1\n", ""),
+        (6, "name", "studio ", "studio"),
+        (5, "mode", "file", "live"),
+        (5, "latency_ms", "= 19\n", "= 20\n"),
+        (5, "buffer", "= 31\n", "= 33\n"),
+        (5, "sessions", "= 18\n", "= 17\n"),
+        (5, "inbox", "= 15\n", "= 16\n"),
+        (5, "outbox", "= 4097\n", "= 4096\n"),
+        (2, "mod", "mod = 1\n", ""),
+        (7, "name", "\"studio\"\nmode = 5", "\"files\"\nmode = 5"),
+        (4, "mode", "5\nlatency", "\"buffer\"\nlatency"),
+    ] {
+        assert_fault(&rt, text.as_str(), number, key);
+        text = changed(&rt, text.as_str(), from, to)?;
+    }
+    let config = config_of(&rt, text.as_str())?;
+    assert_eq!(rt; config.entries.len(), 2);
     Ok(())
 }
 

@@ -85,13 +85,15 @@ impl Read for Stuck<'_> {
     }
 }
 
-/// Takes bytes one at a time, is interrupted before each, and fails where its room is used up.
+/// Takes bytes one at a time, is interrupted before each, and fails where its room is used up. Its flushes are
+/// interrupted this many times, and then done, or failed where it is told to.
 #[derive(Drop)]
 pub(super) struct Narrow {
     pub(super) taken: Vec<u8>,
     pub(super) room: usize,
     pub(super) is_ready: bool,
     pub(super) flushes: u32,
+    pub(super) interruptions: u32,
     pub(super) flush_fails: bool,
 }
 
@@ -111,6 +113,10 @@ impl Write for Narrow {
     }
 
     fn flush(&mut self) -> io::Result<()> {
+        if self.interruptions > 0 {
+            self.interruptions -= 1;
+            return Err(Error::from(ErrorKind::Interrupted));
+        }
         self.flushes = self.flushes.saturating_add(1);
         if self.flush_fails {
             return Err(Error::from(ErrorKind::Other));

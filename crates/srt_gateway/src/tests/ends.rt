@@ -2,7 +2,7 @@
 
 use super::devices::{Counting, Dripping, Narrow, Repeating, Stuck};
 use super::{RIGHT, config_of};
-use crate::{Brought, ReadBudget, ReplayFault, replay, replay_over};
+use crate::{Brought, CountedReader, ReplayFault, replay, replay_over};
 use srt_hub::SrtGateway;
 use std::alloc::Global;
 use std::io::{BufRead, BufReader};
@@ -18,26 +18,9 @@ fn narrow(alloc: Global, room: usize) -> Narrow {
         room,
         is_ready: false,
         flushes: 0,
+        interruptions: 0,
         flush_fails: false,
     }
-}
-
-#[test]
-fn an_interrupted_reader_is_read_on(rt: HostRuntime) -> Result<(), Fail> {
-    let config = config_of(&rt, RIGHT)?;
-    let reader = Dripping {
-        bytes: TWO_LINES,
-        is_ready: false,
-        fails: false,
-    };
-    let mut reader = BufReader::with_capacity(rt.alloc(), 7, reader)?;
-    let mut writer = Vec::new(rt.alloc());
-    assert_eq!(rt;
-        replay(rt.alloc(), &config, &mut reader, &mut writer),
-        Ok(())
-    );
-    assert_eq!(rt; writer.as_slice(), b"dropped 1\ndropped 3\n".as_slice());
-    Ok(())
 }
 
 #[test]
@@ -48,20 +31,26 @@ fn a_reader_that_fails_in_a_line(rt: HostRuntime) -> Result<(), Fail> {
         is_ready: false,
         fails: true,
     };
-    let mut reader = BufReader::with_capacity(rt.alloc(), 7, reader)?;
-    let mut writer = Vec::new(rt.alloc());
-    assert_eq!(rt;
-        replay(rt.alloc(), &config, &mut reader, &mut writer),
-        Err(ReplayFault::Read)
-    );
-    assert_eq!(rt; writer.as_slice(), b"dropped 1\n".as_slice());
+    let mut reader = CountedReader::new(BufReader::with_capacity(rt.alloc(), 7, reader)?);
+    let mut writer = narrow(rt.alloc(), 10);
+    // It is flushed, and not asked again.
+    for flushes in 1..3 {
+        assert_eq!(rt;
+            replay(rt.alloc(), &config, &mut reader, &mut writer),
+            Err(ReplayFault::Read)
+        );
+        assert_eq!(rt; writer.taken.as_slice(), b"dropped 1\n".as_slice());
+        assert_eq!(rt; writer.flushes, flushes);
+        assert_eq!(rt; reader.brought(), Brought::Failure);
+        assert_eq!(rt; reader.left(), (1 << 33) - 122);
+    }
     Ok(())
 }
 
-/// Asserts how a replay within so many reads ends, what it writes, and what the last read brought.
-fn assert_within<B: BufRead>(
+/// Asserts how a replay that takes all of this number of reads ends, what it writes, and what the last read brought.
+fn assert_within<B: BufRead + Drop>(
     rt: &(impl AllocGlobal + Abort),
-    reader: &mut B,
+    reader: B,
     reads: u64,
     text: &str,
     end: Result<(), ReplayFault>,
@@ -72,22 +61,41 @@ fn assert_within<B: BufRead>(
         return Err(Fail::from("a gateway"));
     };
     let mut writer = Vec::new(rt.alloc());
-    let mut budget = ReadBudget::of(reads);
-    let ended = replay_over(rt.alloc(), &mut hub, reader, &mut writer, &mut budget);
+    let mut reader = CountedReader::within(reader, reads);
+    let ended = replay_over(rt.alloc(), &mut hub, &mut reader, &mut writer);
     assert_eq!(rt; writer.as_slice(), text.as_bytes());
     assert_eq!(rt; ended, end);
-    assert_eq!(rt; budget.brought(), brought);
-    assert_eq!(rt; budget.left(), 0);
+    assert_eq!(rt; reader.brought(), brought);
+    assert_eq!(rt; reader.left(), 0);
     Ok(())
+}
+
+#[test]
+fn each_look_is_one_read(rt: HostRuntime) -> Result<(), Fail> {
+    let reader = Dripping {
+        bytes: TWO_LINES,
+        is_ready: false,
+        fails: false,
+    };
+    // Each byte and the end come behind an interruption.
+    let reads = 2 * TWO_LINES.len() as u64 + 2;
+    assert_within(
+        &rt,
+        BufReader::with_capacity(rt.alloc(), 7, reader)?,
+        reads,
+        "dropped 1\ndropped 3\n",
+        Ok(()),
+        Brought::End,
+    )
 }
 
 #[test]
 fn a_reader_that_is_interrupted_for_ever(rt: HostRuntime) -> Result<(), Fail> {
     let reader = Stuck { bytes: TWO_LINES };
-    let mut reader = BufReader::with_capacity(rt.alloc(), 4096, reader)?;
+    let reader = BufReader::with_capacity(rt.alloc(), 4096, reader)?;
     assert_within(
         &rt,
-        &mut reader,
+        reader,
         1000,
         "dropped 1\ndropped 3\n",
         Err(ReplayFault::Read),
@@ -102,10 +110,10 @@ fn a_reader_without_an_end(rt: HostRuntime) -> Result<(), Fail> {
         at: 0,
         times: u32::MAX,
     };
-    let mut reader = BufReader::with_capacity(rt.alloc(), 4096, reader)?;
+    let reader = BufReader::with_capacity(rt.alloc(), 4096, reader)?;
     assert_within(
         &rt,
-        &mut reader,
+        reader,
         3,
         "dropped 1\ndropped 1\ndropped 1\n",
         Err(ReplayFault::Read),
@@ -119,10 +127,9 @@ fn the_read_that_shows_the_end(rt: HostRuntime) -> Result<(), Fail> {
         (2, Err(ReplayFault::Read), Brought::Bytes),
         (3, Ok(()), Brought::End),
     ] {
-        let mut reader = TWO_LINES;
         assert_within(
             &rt,
-            &mut reader,
+            TWO_LINES,
             reads,
             "dropped 1\ndropped 3\n",
             end,
@@ -135,12 +142,14 @@ fn the_read_that_shows_the_end(rt: HostRuntime) -> Result<(), Fail> {
 #[test]
 fn an_interrupted_writer_is_written_on(rt: HostRuntime) -> Result<(), Fail> {
     let config = config_of(&rt, RIGHT)?;
-    let mut reader = TWO_LINES;
+    let mut reader = CountedReader::new(TWO_LINES);
     let mut writer = narrow(rt.alloc(), 20);
+    writer.interruptions = 3;
     assert_eq!(rt;
         replay(rt.alloc(), &config, &mut reader, &mut writer),
         Ok(())
     );
+    assert_eq!(rt; writer.interruptions, 0);
     assert_eq!(rt;
         writer.taken.as_slice(),
         b"dropped 1\ndropped 3\n".as_slice()
@@ -149,10 +158,50 @@ fn an_interrupted_writer_is_written_on(rt: HostRuntime) -> Result<(), Fail> {
     Ok(())
 }
 
+/// A publisher's and a subscriber's conclusions, which are applied.
+const SESSIONS: &[u8] =
+    b"A 1000000 00000000000000000000ffff7f000001 5000 80000000000000000000000000000000\
+00000005000000050000000500\
+0005dc00002000ffffffff00000001ecc958a6000000000000000000000000000000000001000300010500000000bf00780078\
+000500063a3a212374733d726f696475703d6d2c696c627500006873\nU 0\n\
+A 1010000 00000000000000000000ffff7f000001 5001 80000000000000000000000000000000\
+00000005000000050000000900\
+0005dc00002000ffffffff000000026e4680bd000000000000000000000000000000000001000300010500000000bf00780078\
+000500063a3a212374733d726f696475723d6d2c6575716500007473\nU 0\nU 0\nU 0\nU 0\nS 0\nS 0\n";
+
+#[test]
+fn the_longest_line_is_written_byte_by_byte(rt: HostRuntime) -> Result<(), Fail> {
+    let config = config_of(&rt, RIGHT)?;
+    let mut tape = Vec::new(rt.alloc());
+    tape.extend_from_slice(SESSIONS)?;
+    tape.extend_from_slice(b"A 1020000 00000000000000000000ffff7f000001 5000 ")?;
+    tape.extend_from_slice(b"00000005e0000001000003e800100000")?;
+    let mut line = Vec::new(rt.alloc());
+    line.extend_from_slice(b"\nsent 00000000000000000000ffff7f000001 5001 ")?;
+    line.extend_from_slice(b"00000009e00000010001b19800000002")?;
+    for _ in 0..1456 {
+        tape.extend_from_slice(b"c5")?;
+        line.extend_from_slice(b"c5")?;
+    }
+    tape.extend_from_slice(b"\nU 0\nT 0 1121000\nU 0\nU 0\nU 0\nU 0\nS 0\nS 0\nS 0\n")?;
+    line.extend_from_slice(b"\n")?;
+    let mut reader = CountedReader::new(tape.as_slice());
+    let mut writer = narrow(rt.alloc(), 10_000);
+    assert_eq!(rt;
+        replay(rt.alloc(), &config, &mut reader, &mut writer),
+        Ok(())
+    );
+    assert!(rt;
+        writer.taken.as_slice().ends_with(line.as_slice()),
+        "the longest line"
+    );
+    Ok(())
+}
+
 #[test]
 fn a_writer_that_fails_in_a_line(rt: HostRuntime) -> Result<(), Fail> {
     let config = config_of(&rt, RIGHT)?;
-    let mut reader = TWO_LINES;
+    let mut reader = CountedReader::new(TWO_LINES);
     let mut writer = narrow(rt.alloc(), 15);
     assert_eq!(rt;
         replay(rt.alloc(), &config, &mut reader, &mut writer),
@@ -166,7 +215,7 @@ fn a_writer_that_fails_in_a_line(rt: HostRuntime) -> Result<(), Fail> {
 #[test]
 fn a_writer_whose_flush_fails(rt: HostRuntime) -> Result<(), Fail> {
     let config = config_of(&rt, RIGHT)?;
-    let mut reader = TWO_LINES;
+    let mut reader = CountedReader::new(TWO_LINES);
     let mut writer = narrow(rt.alloc(), 20);
     writer.flush_fails = true;
     assert_eq!(rt;
@@ -183,7 +232,8 @@ fn a_writer_whose_flush_fails(rt: HostRuntime) -> Result<(), Fail> {
 #[test]
 fn a_fault_flushes(rt: HostRuntime) -> Result<(), Fail> {
     let config = config_of(&rt, RIGHT)?;
-    let mut reader: &[u8] = b"A 0 00000000000000000000ffff7f000001 5000 \nA\n";
+    let tape: &[u8] = b"A 0 00000000000000000000ffff7f000001 5000 \nA\n";
+    let mut reader = CountedReader::new(tape);
     let mut writer = narrow(rt.alloc(), 20);
     assert_eq!(rt;
         replay(rt.alloc(), &config, &mut reader, &mut writer),
@@ -206,7 +256,7 @@ fn a_million_lines(rt: HostRuntime) -> Result<(), Fail> {
             at: 0,
             times,
         };
-        let mut reader = BufReader::new(rt.alloc(), reader)?;
+        let mut reader = CountedReader::new(BufReader::new(rt.alloc(), reader)?);
         let mut writer = Counting { bytes: 0 };
         assert_eq!(rt; replay(rt.alloc(), &config, &mut reader, &mut writer), end);
         assert_eq!(rt; writer.bytes, 10_000_000);

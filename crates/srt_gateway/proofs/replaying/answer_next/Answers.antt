@@ -37,3 +37,14 @@ returns-in-Err-write_bytes-clause-answered g c secret entries past h =
       record { line = line; took = took.0; event_is = at_event (length entries) c.args.number line (omega arith) ∙ p.1 },
       (w.0, subst (λ (bs : List ℕ). Wrote (g.W.Write.contents c.args.writer.now) (g.W.Write.contents c.write_bytes.new.writer) (take w.0 bs)) p.2.0 w.1),
     )
+
+pub returns-in-Err-answer_line-clause-answered : goal.returns-in-Err-answer_line-clause-answered
+returns-in-Err-answer_line-clause-answered g c secret entries past h =
+    let took = rw c.in-Ok-Line.field-0-is at c.in-Ok-Line.ensures.took in
+    let line = take c.in-Ok-Line.len c.next_line.new.line in
+    let p = c.in-Err-answer_line.ensures.answered secret entries past h in (
+      p.0,
+      refl,
+      record { line = line; took = took.0; event_is = at_event (length entries) c.args.number line (omega arith) ∙ p.1 },
+      p.2,
+    )

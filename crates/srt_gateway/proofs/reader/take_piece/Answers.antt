@@ -4,7 +4,7 @@ use Rattle.std.specs.Io.BufRead.{FillKeeps}
 use Rattle.std.proofs.BufReadLemmas.{Consumes_shown}
 use Rattle.srt_gateway.specs.Known.{Took}
 use Rattle.srt_gateway.proofs.Taking.{no_lf, no_lf_whole, through_lf, begins, begins_whole, took_from}
-use Rattle.srt_gateway.proofs.lines.take_piece.Goals as goal
+use Rattle.srt_gateway.proofs.reader.take_piece.Goals as goal
 
 pub returns-then-end-len-clause-took : goal.returns-then-end-len-clause-took
 returns-then-end-len-clause-took g c =

@@ -1,0 +1,81 @@
+-- A reader that counts its reads: how many may still be asked for, and what the last one brought.
+use Rattle.std.specs.Prelude.{◌≡◌, ◌≢◌, ℕ, ◌<◌, ◌≤◌, Bool, true, false, List, length, Result, Ok, Err}
+use Rattle.std.specs.IoError.{error_kind}
+use Rattle.std.specs.declared.io.Error.{Error}
+use Rattle.std.specs.declared.io.ErrorKind.TheVariants.{Interrupted}
+use denote.Ref.{Bor}
+use Rattle.srt_gateway.specs.declared.reader.Brought.{Brought}
+use Rattle.srt_gateway.specs.declared.reader.Brought.TheVariants.{Nothing, Bytes, End, Failure}
+use Rattle.srt_gateway.specs.declared.reader.ReadBudget.{ReadBudget}
+use Rattle.srt_gateway.specs.declared.reader.CountedReader.{CountedReader}
+use Rattle.srt_gateway.specs.declared.reader.ReadFailed.{ReadFailed}
+use Rattle.srt_gateway.specs.declared.reader.Piece.{Piece}
+use Rattle.srt_gateway.specs.declared.reader.Piece.TheVariants as piece
+use Rattle.srt_gateway.specs.declared.lines.Taken.{Taken}
+use Rattle.srt_gateway.specs.declared.lines.Taken.TheVariants as taken
+use Rattle.srt_gateway.specs.declared.replaying.ReplayFault.{ReplayFault}
+use Rattle.srt_gateway.specs.declared.replaying.ReplayFault.TheVariants.{Tape, OutOfMemory, Read, Write}
+use Rattle.srt_gateway.specs.Replay.{lines_max}
+
+abbrev pub left_in : ReadBudget → ℕ
+left_in budget = budget.left
+
+abbrev pub brought_in : ReadBudget → Brought
+brought_in budget = budget.brought
+
+-- the reader that is counted
+abbrev pub source : {R : Type 0} → CountedReader R → R
+source reader = reader.reader
+
+-- how many reads may still be asked of it
+abbrev pub reads_left : {R : Type 0} → CountedReader R → ℕ
+reads_left reader = left_in reader.budget
+
+-- what the last one brought
+abbrev pub last_brought : {R : Type 0} → CountedReader R → Brought
+last_brought reader = brought_in reader.budget
+
+-- what a read's answer says that it brought
+abbrev pub BroughtBy : Result (Bor (List ℕ)) Error → Brought → Type 0
+BroughtBy (Ok bytes) brought = (length bytes.now ≡ 0 → brought ≡ End) × (0 < length bytes.now → brought ≡ Bytes)
+BroughtBy (Err e) brought = (error_kind e ≡ Interrupted → brought ≡ Nothing) × (error_kind e ≢ Interrupted → brought ≡ Failure)
+
+-- a read is left, and the last one didn't fail
+abbrev pub MayLook : {R : Type 0} → CountedReader R → Type 0
+MayLook reader = (0 < reads_left reader) × (last_brought reader ≢ Failure)
+
+-- the last read failed, or none is left
+abbrev pub WasUnread : (left : ℕ) → Brought → Type 0
+WasUnread left brought = brought ≢ Failure → left ≡ 0
+
+-- what a look at a reader, a line's reading, a line's turn and a whole replay have to do with the reads; after each
+-- answer but that the reader was not read, the last read didn't fail
+abbrev pub PieceRead : Brought → Result Piece ReadFailed → Type 0
+PieceRead brought (Ok (piece.Part n)) = brought ≢ Failure
+PieceRead brought (Ok (piece.Line n)) = brought ≢ Failure
+PieceRead brought (Ok piece.Long) = brought ≢ Failure
+PieceRead brought (Ok piece.End) = brought ≡ End
+PieceRead brought (Err fault) = brought ≡ Failure
+
+abbrev pub LineRead : (left : ℕ) → Brought → Result Taken ReadFailed → Type 0
+LineRead left brought (Ok (taken.Line n)) = brought ≢ Failure
+LineRead left brought (Ok taken.Long) = brought ≢ Failure
+LineRead left brought (Ok taken.End) = brought ≡ End
+LineRead left brought (Err fault) = WasUnread left brought
+
+abbrev pub TurnRead : (number left : ℕ) → Brought → Result Bool ReplayFault → Type 0
+TurnRead number left brought (Ok true) = number ≤ lines_max
+TurnRead number left brought (Ok false) = brought ≡ End
+TurnRead number left brought (Err (Tape line)) = brought ≢ Failure
+TurnRead number left brought (Err OutOfMemory) = brought ≢ Failure
+TurnRead number left brought (Err Read) = WasUnread left brought
+TurnRead number left brought (Err Write) = brought ≢ Failure
+
+-- a replay that is done came to the reader's end; one that ended as unread was failed by the reader, or spent the reads;
+-- one that ended as unwritten may have found that in the flush after a failed read
+abbrev pub ReplayRead : (left : ℕ) → Brought → Result (Unit {0}) ReplayFault → Type 0
+ReplayRead left brought (Ok u) = brought ≡ End
+ReplayRead left brought (Err (Tape line)) = brought ≢ Failure
+ReplayRead left brought (Err OutOfMemory) = brought ≢ Failure
+ReplayRead left brought (Err Read) = WasUnread left brought
+ReplayRead left brought (Err Write) = Unit {0}

@@ -1,0 +1,212 @@
+//! A reader that counts its reads.
+
+ghost use Rattle.std.specs.Prelude.{◌≡◌, ◌≢◌, ◌<◌, ◌≤◌, ◌+◌, ◌^◌, [], true, false, IfOk, IfSome, length, take};
+ghost use Rattle.std.specs.Io.{StartsWith};
+ghost use Rattle.std.specs.Io.BufRead.{Rests, FillKeeps};
+ghost use Rattle.srt_gateway.specs.Known.{TookPiece};
+ghost use Rattle.srt_gateway.specs.Counted.{BroughtBy, MayLook, WasUnread, PieceRead, source, reads_left, last_brought, left_in, brought_in};
+ghost use types.Logic.{sem};
+
+use crate::lines::LINE_MAX;
+use memchr::memchr;
+use srt_seq::write_at;
+use std::io::{self, BufRead, ErrorKind};
+
+/// The most reads of one replay.
+const READS_MAX: u64 = 1 << 33;
+
+/// What a read brought.
+#[derive(Clone, Copy, Debug, PartialEq, Eq)]
+pub enum Brought {
+    /// Nothing yet: no read was asked for, or the last one was interrupted.
+    Nothing,
+    /// Bytes.
+    Bytes,
+    /// The end: there are no further bytes.
+    End,
+    /// That the reader failed.
+    Failure,
+}
+
+/// How many reads may still be asked of a reader, and what the last one brought.
+#[derive(Drop)]
+struct ReadBudget {
+    left: u64,
+    brought: Brought,
+}
+
+/// A reader, how many reads may still be asked of it, and what the last one brought. The reader is reached by
+/// nothing else: each look at what it has is one read of the budget, an interrupted one too. After a failed read,
+/// and when the budget is spent, it is not asked again.
+#[derive(Drop)]
+pub struct CountedReader<R> {
+    reader: R,
+    budget: ReadBudget,
+}
+
+/// The reader failed, or may be asked no more.
+#[derive(Clone, Copy)]
+pub(crate) struct ReadFailed;
+
+/// What one look at a reader gave. A length is that of the line as far as it came.
+#[derive(Clone, Copy)]
+pub(crate) enum Piece {
+    /// A part of the line, or nothing.
+    Part(usize),
+    /// The rest of the line, and its LF.
+    Line(usize),
+    /// More than a line may have; it is still in the reader.
+    Long,
+    /// There is nothing more.
+    End,
+}
+
+/// What a read brought that gave this.
+fn brought_by(shown: &io::Result<&[u8]>) -> Brought
+    ensures { BroughtBy shown.now result }
+{
+    match shown {
+        Ok(bytes) => {
+            if bytes.is_empty() {
+                return Brought::End;
+            }
+            Brought::Bytes
+        }
+        Err(e) => {
+            if e.kind() == ErrorKind::Interrupted {
+                return Brought::Nothing;
+            }
+            Brought::Failure
+        }
+    }
+}
+
+/// Looks at what the reader has: one read of the budget, which keeps what it brought.
+fn look<'a, R: BufRead>(reader: &'a mut R, budget: &mut ReadBudget) -> io::Result<&'a [u8]>
+    requires { 0 < left_in budget.old }
+    ensures spent { left_in budget.new + 1 ≡ left_in budget.old }
+    ensures brought { BroughtBy result (brought_in budget.new) }
+    ensures front { IfSome (R.remaining reader.old) (λ xs. IfOk result (λ s. StartsWith xs s.now)) }
+    ensures end { IfSome (R.remaining reader.old) (λ xs. IfOk result (λ s. length s.now ≡ 0 → xs ≡ [])) }
+    ensures* after_borrow { sem 𝓛 (Rests R.row reader.entry (λ new. FillKeeps (R.remaining reader.old) (R.remaining new) (R.consumable_len new) result)) }
+{
+    budget.left -= 1;
+    let shown = reader.fill_buf();
+    budget.brought = brought_by(&shown);
+    shown
+}
+
+/// Looks once at what the reader has, and puts what belongs to the line behind the bytes that came before.
+fn take_piece<R: BufRead>(
+    reader: &mut R,
+    budget: &mut ReadBudget,
+    line: &mut [u8; LINE_MAX],
+    len: usize,
+) -> Result<Piece, ReadFailed>
+    requires len { len ≤ 4096 }
+    requires left { 0 < left_in budget.old }
+    ensures spent { left_in budget.new + 1 ≡ left_in budget.old }
+    ensures reads { PieceRead (brought_in budget.new) result }
+    ensures took { IfOk result (TookPiece (R.remaining reader.old) (R.remaining reader.new) (take len line.old) line.new) }
+{
+    let available = match look(reader, budget) {
+        Ok(available) => available,
+        Err(_) => {
+            return match budget.brought {
+                Brought::Nothing => Ok(Piece::Part(len)),
+                Brought::Bytes | Brought::End | Brought::Failure => Err(ReadFailed),
+            };
+        }
+    };
+    match memchr(b'\n', available) {
+        Some(end) => {
+            if end > LINE_MAX - len {
+                return Ok(Piece::Long);
+            }
+            let new_len = write_at(line, len, &available[..end]);
+            reader.consume(end + 1);
+            Ok(Piece::Line(new_len))
+        }
+        None => {
+            let end = available.len();
+            if end == 0 {
+                return Ok(Piece::End);
+            }
+            if end > LINE_MAX - len {
+                return Ok(Piece::Long);
+            }
+            let new_len = write_at(line, len, available);
+            reader.consume(end);
+            Ok(Piece::Part(new_len))
+        }
+    }
+}
+
+impl<R> CountedReader<R> {
+    /// A reader with the 2^33 reads of a replay.
+    pub fn new(reader: R) -> CountedReader<R>
+        ensures source { source result ≡ reader }
+        ensures left { reads_left result ≡ 2 ^ 33 }
+        ensures brought { last_brought result ≡ Brought.Nothing }
+    {
+        CountedReader::within(reader, READS_MAX)
+    }
+
+    /// A reader that may be asked for this number of reads.
+    pub fn within(reader: R, reads: u64) -> CountedReader<R>
+        ensures source { source result ≡ reader }
+        ensures left { reads_left result ≡ reads }
+        ensures brought { last_brought result ≡ Brought.Nothing }
+    {
+        CountedReader {
+            reader,
+            budget: ReadBudget {
+                left: reads,
+                brought: Brought::Nothing,
+            },
+        }
+    }
+
+    /// How many reads may still be asked for.
+    pub fn left(&self) -> u64
+        ensures { result ≡ reads_left self.now }
+    {
+        self.budget.left
+    }
+
+    /// What the last read brought.
+    pub fn brought(&self) -> Brought
+        ensures { result ≡ last_brought self.now }
+    {
+        self.budget.brought
+    }
+
+    /// Whether a read is left and the last one didn't fail.
+    pub(crate) fn may_look(&self) -> bool
+        ensures yes { result ≡ true → MayLook self.now }
+        ensures no { result ≡ false → WasUnread (reads_left self.now) (last_brought self.now) }
+    {
+        match self.brought() {
+            Brought::Failure => false,
+            Brought::Nothing | Brought::Bytes | Brought::End => self.left() > 0,
+        }
+    }
+}
+
+impl<R: BufRead> CountedReader<R> {
+    /// Looks once at what the reader has, which is one read, and puts what belongs to the line behind the bytes that
+    /// came before.
+    pub(crate) fn take_piece(
+        &mut self,
+        line: &mut [u8; LINE_MAX],
+        len: usize,
+    ) -> Result<Piece, ReadFailed>
+        requires len { len ≤ 4096 }
+        requires may { MayLook self.old }
+        ensures spent { reads_left self.new + 1 ≡ reads_left self.old }
+        ensures reads { PieceRead (last_brought self.new) result }
+        ensures took { IfOk result (TookPiece (R.remaining (source self.old)) (R.remaining (source self.new)) (take len line.old) line.new) }
+    {
+        take_piece(&mut self.reader, &mut self.budget, line, len)
+    }
+}
