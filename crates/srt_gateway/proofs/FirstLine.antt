@@ -9,10 +9,10 @@ use Rattle.srt_gateway.specs.declared.lines.Taken.{Taken}
 use Rattle.srt_gateway.specs.declared.lines.Taken.TheVariants.{Line, End}
 use Rattle.srt_gateway.specs.Tape.{lines_of, onto}
 
-abbrev IsInside : ℕ → Type 0
+abbrev pub IsInside : ℕ → Type 0
 IsInside b = b ≢ 10
 
-ended : (line ys : List ℕ) → AllByRecursion IsInside line → lines_of (line ++ 10 ∷ ys) ≡ line ∷ lines_of ys
+pub ended : (line ys : List ℕ) → AllByRecursion IsInside line → lines_of (line ++ 10 ∷ ys) ≡ line ∷ lines_of ys
 ended [] ys h = refl
 ended (b ∷ line) ys h = rw (ne_eqb b 10 h.0, ended line ys h.1) refl
 

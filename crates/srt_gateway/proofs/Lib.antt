@@ -6,6 +6,7 @@ pub mod Writing
 pub mod EventTexts
 pub mod Numbered
 pub mod Replays
+pub mod SentLines
 pub mod Parted
 pub mod TableKeys
 pub mod RouteItems

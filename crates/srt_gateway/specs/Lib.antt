@@ -16,3 +16,4 @@ pub mod Said
 pub mod Known
 pub mod Counted
 pub mod Step
+pub mod Sent

@@ -4,6 +4,7 @@
 mod config;
 mod events;
 mod fields;
+pub mod laws;
 mod lines;
 mod numbers;
 mod output;

@@ -1,0 +1,12 @@
+//! Laws of the definitions.
+
+ghost use Rattle.srt_gateway.specs.Sent.{SentLinesTell, TapesAreIsolated};
+
+/// No route's traffic changes what a replay writes for another. The lines `sent` at a tape's sends of a route are
+/// those of the datagrams that were sent for it. Take two tapes, replayed over gateways with the same secret and the
+/// same entry for that route: if its inbox accepted the same items and nothing of it waits in the end, these lines
+/// are the same, and tell what the route alone replies.
+pub fn tapes()
+    ensures lines { SentLinesTell }
+    ensures isolated { TapesAreIsolated }
+{}
