@@ -1,6 +1,6 @@
 -- What a session delivers and sends, worked out from the definitions.
-use Rattle.std.proofs.Common.{◌≡◌, ℕ, zero, suc, ◌+◌, true, false, Option, None, Some, List, [], ◌∷◌, refl}
-use Rattle.std.specs.Prelude.{map}
+use Rattle.std.proofs.Common.{◌≡◌, ℕ, zero, suc, ◌+◌, true, false, Option, None, Some, List, [], ◌∷◌, length, refl}
+use Rattle.std.specs.Prelude.{map, option_map}
 use Rattle.srt_seq.specs.declared.shared.Mode.TheVariants.{Live, Buffer}
 use Rattle.srt_seq.specs.Window.{in_window}
 use Rattle.srt_seq.specs.Lift.{lift, stamped_from}
@@ -9,7 +9,7 @@ use Rattle.srt_recvbuf.specs.Receiving.{Arrival, gaps, is_dropped}
 use Rattle.srt_pub.specs.declared.ends.PubEnd.{PubEnd}
 use Rattle.srt_pub.specs.declared.ends.PubEnd.TheVariants as ends
 use Rattle.srt_pub.specs.Heard.{heard_from}
-use Rattle.srt_pub.specs.Publishing.{Terms, Publishing, opened, took, deliveries, delivered, reports, reported, round_trip, confirmed_by, is_full_due, acks_at, naks}
+use Rattle.srt_pub.specs.Publishing.{Terms, Publishing, opened, took, deliveries, delivered, reports, reported, Full, latest_confirmed, round_trip, confirmed_by, is_full_due, acks_at, naks}
 use Rattle.srt_pub.specs.Calls.{ended}
 use Rattle.srt_pub.specs.Says.{says}
 
@@ -166,3 +166,28 @@ full_window = (refl, refl)
 alive : (sends (in_buffer 32) 0 (still 999_999 ∷ []) ≡ []) × (sends (in_buffer 32) 0 (still 1_000_000 ∷ still 999_999 ∷ []) ≡ (0x80 ∷ 1 ∷ 0 ∷ 0 ∷ 0 ∷ 0 ∷ 0 ∷ 0 ∷ 0 ∷ 0xf ∷ 0x42 ∷ 0x40 ∷ 0 ∷ 0 ∷ 0 ∷ 1 ∷ []) ∷ [])
 unfolding in_window lift confirmed_by is_full_due acks_at naks reports deliveries says
 alive = (refl, refl)
+
+-- in buffer mode the window is never lost
+window_stays : ended (in_buffer 32) 0 (comes 0 0 32 0x61).body (after (in_buffer 32) 0 []) ≡ None
+unfolding in_window lift confirmed_by is_full_due acks_at naks reports deliveries says
+window_stays = refl
+
+-- in buffer mode an event delivers 64 payloads at most
+abbrev takes : (time : ℕ) → Event
+takes time = record { time = time; stamp = 0; body = KeepAlive; room = Some 1000 }
+
+sixty_four : (length (delivers (in_buffer 128) 0 (takes 10_000 ∷ many 0 66)) ≡ 64) × (length (delivers (in_buffer 128) 0 (takes 10_001 ∷ takes 10_000 ∷ many 0 66)) ≡ 2)
+unfolding in_window lift confirmed_by is_full_due acks_at naks reports deliveries says
+sixty_four = (refl, refl)
+
+-- of two Full ACKs the later is the last confirmed, though the earlier is confirmed after it
+abbrev two_acked : List Event
+two_acked = still 170_000 ∷ comes 160_000 1_000 8 0x63 ∷ still 150_000 ∷ two
+
+last_confirmed : option_map (λ (f : Full). f.index) (latest_confirmed (after (live 1024 1_000_000) 7 (confirms 190_000 1 ∷ confirms 180_000 2 ∷ two_acked)).notes) ≡ Some 1
+unfolding in_window lift confirmed_by is_full_due acks_at naks reports deliveries says
+last_confirmed = refl
+
+first_confirmed : option_map (λ (f : Full). f.index) (latest_confirmed (after (live 1024 1_000_000) 7 (confirms 190_000 1 ∷ two_acked)).notes) ≡ Some 0
+unfolding in_window lift confirmed_by is_full_due acks_at naks reports deliveries says
+first_confirmed = refl

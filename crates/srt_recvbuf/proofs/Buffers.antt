@@ -19,7 +19,7 @@ use Rattle.srt_recvbuf.specs.declared.window.Place.TheVariants.{Missing}
 use Rattle.srt_recvbuf.specs.declared.window.Window.{Window}
 use Rattle.srt_recvbuf.specs.Cells.{cell_at, cell_of, Cell, Empty, GivenUp, Got, is_empty, is_got, is_given_up, given_up}
 use Rattle.srt_recvbuf.specs.Stands.{StandsFor, cell_for, IsWindowOf, number_word, own_range}
-use Rattle.srt_recvbuf.specs.OneByOne.{NothingBeyond}
+use Rattle.srt_recvbuf.specs.OneByOne.{NothingBeyond, NothingDroppedBeyond}
 use Rattle.srt_recvbuf.proofs.OneByOne.{found, skipped, found_number, number_or}
 
 -- where none of the first so many passes, and the next one does or is beyond the last place
@@ -75,6 +75,15 @@ window_ends width initial origin b r h n le =
     let past = get_or_past w.places.items d Missing (omega (arith, le, h.0)) in
     let none = ap (λ p. is_got (cell_of p (text_at w.texts.items (text_of_slot w.order (turned (length w.places.items) w.first d))))) past in
     ap (is_received r) (sym e) ∙ cell_received width initial origin _ _ _ _ r h.1 d ∙ none
+
+pub drops_end : (width initial origin : ℕ) (b : RecvBuf) (r : Receiving) → StandsFor width initial origin b r → NothingDroppedBeyond width r
+drops_end width initial origin b r h n le =
+    let w = b.window in
+    let d = n - r.position in
+    let e : r.position + d ≡ n = omega (arith, le) in
+    let past = get_or_past w.places.items d Missing (omega (arith, le, h.0)) in
+    let none = ap (λ p. is_given_up (cell_of p (text_at w.texts.items (text_of_slot w.order (turned (length w.places.items) w.first d))))) past in
+    ap (is_dropped width r) (sym e) ∙ cell_dropped width initial origin _ _ _ _ r h.1 d ∙ none
 
 -- the number of a window that a word stands for
 pub own_none : (initial position width word front : ℕ) → front ≡ number_word initial position → ((a : ℕ) → a % 2 ^ 31 ≡ front → option_map (λ d. a + d) None ≡ in_window word a width) → in_window (counted_from initial word) position width ≡ None

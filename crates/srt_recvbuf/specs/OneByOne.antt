@@ -1,6 +1,6 @@
 -- Payloads may be delivered one by one.
 use Rattle.std.specs.Prelude.{◌≡◌, ℕ, ◌+◌, ◌<◌, ◌≤◌, false, List, [], ◌∷◌}
-use Rattle.srt_recvbuf.specs.Receiving.{Arrival, Receiving, is_received, ack_point, waiting, unbroken, passed}
+use Rattle.srt_recvbuf.specs.Receiving.{Arrival, Receiving, is_received, is_dropped, ack_point, waiting, unbroken, passed}
 
 -- after the first one is delivered, the others wait
 abbrev pub OthersWait : Type 0
@@ -13,6 +13,10 @@ PassesOneByOne = (width : ℕ) (r : Receiving) (a b : Arrival) (more : List Arri
 -- nothing was received beyond the window
 abbrev pub NothingBeyond : (width : ℕ) → Receiving → Type 0
 NothingBeyond width r = (n : ℕ) → r.position + width ≤ n → is_received r n ≡ false
+
+-- nor is anything dropped there
+abbrev pub NothingDroppedBeyond : (width : ℕ) → Receiving → Type 0
+NothingDroppedBeyond width r = (n : ℕ) → r.position + width ≤ n → is_dropped width r n ≡ false
 
 -- where nothing was dropped and the acknowledgement point stands above the position, the first that waits is the first without a gap, and
 -- after it is delivered the others without a gap are left

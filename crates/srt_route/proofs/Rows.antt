@@ -1,5 +1,5 @@
 -- What routes reply, worked out from bytes to bytes.
-use Rattle.std.proofs.Common.{◌≡◌, ℕ, zero, suc, ◌+◌, List, [], ◌∷◌, ◌++◌, refl}
+use Rattle.std.proofs.Common.{◌≡◌, ℕ, zero, suc, ◌+◌, Bool, true, false, List, [], ◌∷◌, ◌++◌, map, refl}
 use Rattle.srt_seq.specs.declared.shared.Peer.{Peer}
 use Rattle.srt_seq.specs.declared.shared.Mode.TheVariants.{Live, Buffer}
 use Rattle.srt_seq.specs.Terms.{Terms}
@@ -15,6 +15,7 @@ use Rattle.srt_pub.specs.Publishing.{confirmed_by, is_full_due, acks_at, naks, r
 use Rattle.srt_pub.specs.Says.{says, body_bytes}
 use Rattle.srt_seq.specs.Lift.{lift}
 use Rattle.srt_route.specs.Conclusions.{conclusion_in, conclusion_of}
+use Rattle.srt_route.specs.Sessions.{Session, id_of}
 use Rattle.srt_route.specs.Route.{reply, after}
 use Rattle.srt_route.specs.Shifted.{renumbered_items, shifted_handshake, renumbered}
 
@@ -252,3 +253,18 @@ window_is_lost = refl
 window_is_kept : reply narrow 0 (publisher_opens ∷ number_comes 37 ∷ number_comes 36 ∷ publisher_opens ∷ []) ≡ narrow_answer 0x100000 ∷ []
 unfolding handshake_in blocks_in with_first with_block answer_text ask_in list_in with_part conclusion_in conclusion_of is_utf8 chars encode in_window lift confirmed_by is_full_due acks_at naks reports deliveries says body_bytes
 window_is_kept = refl
+
+-- a socket ID has the generation modulo 4096, of which 65536 is a multiple
+ids_go_round : (id_of 0 4095 3 ≡ 0x1f_ff03) × (id_of 0 4096 3 ≡ 0x10_0003) × (id_of 0 4097 3 ≡ 0x10_0103) × (id_of 0 65535 3 ≡ 0x1f_ff03) × (id_of 0 65536 3 ≡ 0x10_0003) × (id_of 0 65537 3 ≡ 0x10_0103)
+ids_go_round = (refl, refl, refl, refl, refl, refl)
+
+-- a handshake to a session's ID is a sign of life
+abbrev greets : (moment : ℕ) → Item
+greets moment = came 5000 moment (words (0x80000000 ∷ 0 ∷ 0 ∷ 0x100000 ∷ 5 ∷ 5 ∷ 5 ∷ 0x5dc ∷ 0x2000 ∷ 0xffffffff ∷ 1 ∷ 0 ∷ 0 ∷ 0 ∷ 0 ∷ 0 ∷ []))
+
+abbrev are_open : List Item → List Bool
+are_open items = map (λ (s : Session). s.is_open) (after studio 0 items).sessions
+
+greeted : (are_open (Tick 6_500_000 ∷ greets 5_000_000 ∷ publisher_opens ∷ []) ≡ true ∷ []) × (are_open (Tick 6_500_000 ∷ publisher_opens ∷ []) ≡ false ∷ [])
+unfolding handshake_in blocks_in with_first with_block answer_text ask_in list_in with_part conclusion_in conclusion_of is_utf8 chars encode in_window lift confirmed_by is_full_due acks_at naks reports deliveries says body_bytes
+greeted = (refl, refl)

@@ -118,3 +118,21 @@ many_asked = refl
 too_many_asked : sends (live 120_000) 9 2 (asks_many 9 ∷ feeds 1_000_000 ∷ []) ≡ []
 unfolding in_window
 too_many_asked = refl
+
+-- an acknowledgement that brings a greater number puts off that all is sent again, also where what it acknowledges is gone already
+abbrev gone_first : List Event
+gone_first = still 2_000_001 ∷ feeds 1_900_000 ∷ feeds 1_000_000 ∷ []
+
+abbrev light_ack : (time number : ℕ) → Event
+light_ack time number = record { time = time; body = Ack 0 (0 ∷ 0 ∷ 0 ∷ number ∷ []); payloads = [] }
+
+abbrev second_again : List (List ℕ)
+second_again = (0 ∷ 0 ∷ 0 ∷ 10 ∷ 0xe4 ∷ 0 ∷ 0 ∷ 2 ∷ 0 ∷ 0x1c ∷ 0xfd ∷ 0xe0 ∷ 0 ∷ 0 ∷ 0 ∷ 2 ∷ 0x68 ∷ 0x69 ∷ []) ∷ []
+
+not_put_off : (sends (live 120_000) 9 2 (still 2_219_999 ∷ gone_first) ≡ []) × (sends (live 120_000) 9 2 (still 2_220_000 ∷ gone_first) ≡ second_again)
+unfolding in_window
+not_put_off = (refl, refl)
+
+put_off : (sends (live 120_000) 9 2 (still 2_419_999 ∷ light_ack 2_100_000 10 ∷ gone_first) ≡ []) × (sends (live 120_000) 9 2 (still 2_420_000 ∷ light_ack 2_100_000 10 ∷ gone_first) ≡ second_again)
+unfolding in_window
+put_off = (refl, refl)
