@@ -7,6 +7,7 @@ pub mod EventTexts
 pub mod Numbered
 pub mod Replays
 pub mod SentLines
+pub mod KeyFaults
 pub mod Parted
 pub mod TableKeys
 pub mod RouteItems

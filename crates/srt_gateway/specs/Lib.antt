@@ -17,3 +17,4 @@ pub mod Known
 pub mod Counted
 pub mod Step
 pub mod Sent
+pub mod KeyFaults

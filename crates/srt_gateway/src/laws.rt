@@ -1,6 +1,7 @@
 //! Laws of the definitions.
 
 ghost use Rattle.srt_gateway.specs.Sent.{SentLinesTell, TapesAreIsolated};
+ghost use Rattle.srt_gateway.specs.KeyFaults.{TellsFirstFault};
 
 /// No route's traffic changes what a replay writes for another. The lines `sent` at a tape's sends of a route are
 /// those of the datagrams that were sent for it. Take two tapes, replayed over gateways with the same secret and the
@@ -9,4 +10,10 @@ ghost use Rattle.srt_gateway.specs.Sent.{SentLinesTell, TapesAreIsolated};
 pub fn tapes()
     ensures lines { SentLinesTell }
     ensures isolated { TapesAreIsolated }
+{}
+
+/// The fault of a configuration is that of the first key that has one: the least unknown key of the table, `secret`,
+/// `bind`, `workers` and `route`, and then each route's least unknown key and its keys in turn.
+pub fn configurations()
+    ensures { TellsFirstFault }
 {}

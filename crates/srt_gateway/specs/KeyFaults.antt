@@ -1,0 +1,100 @@
+-- What is wrong with a configuration, said key by key: beside the functions that read it (this profile).
+use Rattle.std.specs.Prelude.{◌≡◌, ℕ, ℤ, pos, ◌⊎◌, ◌↔◌, true, false, codes, List, [], ◌∷◌, ◌++◌, Option, Some, None, Ok, Err}
+use Rattle.std.specs.Str.{bytes_eq}
+use Rattle.toml.specs.Data.{Data, Members, Items, no_items, item, get_member, as_str, as_integer, as_array, as_table}
+use Rattle.hex.specs.Hex.{decode_sized}
+use Rattle.srt_seq.specs.Entries.{is_between, is_name}
+use Rattle.srt_seq.specs.Terms.{Terms}
+use Rattle.srt_lobby.specs.Opening.{is_taken}
+use Rattle.srt_gateway.specs.declared.config.faults.Key.{Key}
+use Rattle.srt_gateway.specs.declared.config.faults.Key.TheVariants.{Secret, Bind, Workers, Route, Name, Mode, LatencyMs, Buffer, Sessions, Inbox, Outbox}
+use Rattle.srt_gateway.specs.Faults.{key_name}
+use Rattle.srt_gateway.specs.FirstFault.{Fault, UnknownKey, Missing, WrongKind, OutOfRange, BadName, RepeatedName, BadSecret, BadAddress}
+use Rattle.srt_gateway.specs.Address.{address_in}
+use Rattle.srt_gateway.specs.Keys.{least_unknown}
+use Rattle.srt_gateway.specs.Routes.{route_keys, terms_at, are_tables, count}
+use Rattle.srt_gateway.specs.Config.{top_keys, settings_at}
+
+-- the faults that something has
+abbrev pub Faulty : Type 1
+Faulty = Fault → Type 0
+
+abbrev pub HasNone : Faulty → Type 0
+HasNone faulty = (fault : Fault) → faulty fault → ⊥
+
+infixr 10 ◌⊳◌
+-- the first has this fault; or it has none, and what comes later has this one
+abbrev pub ◌⊳◌ : Faulty → Faulty → Faulty
+(first ⊳ later) fault = first fault ⊎ (HasNone first × later fault)
+
+-- the least key of a table, in the order of bytes, that is none of these
+abbrev pub Unknown : List Key → Members → Faulty
+Unknown keys table fault = (text : List ℕ) × (least_unknown keys table ≡ Some text) × (fault ≡ UnknownKey text)
+
+-- what is wrong with one key: it is missing, its value is of another kind, or the value has a fault of its own
+abbrev pub AtKey : {A : Type 0} → (key : Key) (kind : Data → Option A) (Own : A → Faulty) → Members → Faulty
+AtKey {A} key kind Own table fault =
+    ((get_member (key_name key) table ≡ None) × (fault ≡ Missing key)) ⊎
+    ((value : Data) × (get_member (key_name key) table ≡ Some value) ×
+    (((kind value ≡ None) × (fault ≡ WrongKind key)) ⊎ ((x : A) × (kind value ≡ Some x) × Own x fault)))
+
+-- no 64 hexadecimal digits
+abbrev pub NoSecret : List ℕ → Faulty
+NoSecret text fault = (fault ≡ BadSecret) × ((bytes : List ℕ) → decode_sized text 32 ≡ Ok bytes → ⊥)
+
+-- no address and port
+abbrev pub NoAddress : List ℕ → Faulty
+NoAddress text fault = (fault ≡ BadAddress) × (address_in text ≡ None)
+
+-- a number below or above its limits
+abbrev pub Outside : Key → (low high : ℕ) → ℤ → Faulty
+Outside key low high n fault = (fault ≡ OutOfRange key) × ((k : ℕ) → n ≡ pos k → is_between low high k ≡ true → ⊥)
+
+-- a name of another form; or of the right form, and a route before has it
+abbrev pub NoName : (before : List Terms) → List ℕ → Faulty
+NoName before text fault = ((fault ≡ BadName) × (is_name text ≡ false)) ⊎ ((fault ≡ RepeatedName) × (is_name text ≡ true) × (is_taken text before ≡ true))
+
+-- neither `live` nor `buffer`
+abbrev pub NoMode : List ℕ → Faulty
+NoMode text fault = (fault ≡ OutOfRange Mode) × (bytes_eq text (codes "live") ≡ false) × (bytes_eq text (codes "buffer") ≡ false)
+
+-- the keys of one route, in their order, where these routes stand before it
+abbrev pub InRoute : (before : List Terms) → Members → Faulty
+InRoute before table =
+    Unknown route_keys table ⊳
+    AtKey Name as_str (NoName before) table ⊳
+    AtKey Mode as_str NoMode table ⊳
+    AtKey LatencyMs as_integer (Outside LatencyMs 20 8000) table ⊳
+    AtKey Buffer as_integer (Outside Buffer 32 8192) table ⊳
+    AtKey Sessions as_integer (Outside Sessions 1 17) table ⊳
+    AtKey Inbox as_integer (Outside Inbox 16 4096) table ⊳
+    AtKey Outbox as_integer (Outside Outbox 16 4096) table
+
+-- the routes one after the other: the first table has this fault, or it says a route, and the others have it
+abbrev pub InRoutes : (before : List Terms) → Items → Faulty
+InRoutes before no_items fault = ⊥
+InRoutes before (item value rest) fault =
+    (table : Members) × (as_table value ≡ Some table) ×
+    (InRoute before table fault ⊎ ((terms : Terms) × (terms_at before table ≡ Ok terms) × InRoutes (before ++ terms ∷ []) rest fault))
+
+-- items that aren't tables, or too few or too many
+abbrev pub NoRoutes : Items → Faulty
+NoRoutes items fault =
+    ((fault ≡ WrongKind Route) × (are_tables items ≡ false)) ⊎
+    ((fault ≡ OutOfRange Route) × (are_tables items ≡ true) × (is_between 1 511 (count items) ≡ false))
+
+abbrev pub NoRoutesOrIn : Items → Faulty
+NoRoutesOrIn items = NoRoutes items ⊳ InRoutes [] items
+
+-- the keys of the whole table, in their order
+abbrev pub InTable : Members → Faulty
+InTable table =
+    Unknown top_keys table ⊳
+    AtKey Secret as_str NoSecret table ⊳
+    AtKey Bind as_str NoAddress table ⊳
+    AtKey Workers as_integer (Outside Workers 1 16) table ⊳
+    AtKey Route as_array NoRoutesOrIn table
+
+-- what is told is the fault of the first key that has one
+abbrev pub TellsFirstFault : Type 0
+TellsFirstFault = (table : Members) (fault : Fault) → (settings_at table ≡ Err fault) ↔ InTable table fault
