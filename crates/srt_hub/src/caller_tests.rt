@@ -290,3 +290,24 @@ fn wrong_entries_open_nothing(rt: HostRuntime) -> Result<(), Fail> {
     );
     Ok(())
 }
+
+/// KEEPALIVEs with bytes behind them, which aren't looked at, of each length that a datagram may have.
+#[test]
+fn every_length_arrives(rt: HostRuntime) -> Result<(), Fail> {
+    let mut gateway = opened(rt.alloc())?;
+    let mut bytes = [0u8; 1472];
+    bytes[0] = 0x80;
+    bytes[1] = 1;
+    bytes[13] = 0x10;
+    for len in 16..1473 {
+        assert_eq!(rt;
+            gateway.arrive(rt.alloc(), near(5000), &bytes[..len], 1_000_000),
+            Ok(Arrived::Accepted(0))
+        );
+        if gateway.routes() == 0 {
+            return Err(Fail::from("no route"));
+        }
+        assert_eq!(rt; gateway.turn(0), Turned::Applied);
+    }
+    Ok(())
+}
