@@ -1,0 +1,215 @@
+-- One event, and one after the other.
+use Rattle.std.proofs.Common.{◌≡◌, ◌≢◌, ℕ, zero, suc, ◌+◌, ◌*◌, ◌<◌, ◌≤◌, ◌==◌, Bool, true, false, Option, None, Some, List, [], ◌∷◌, ◌++◌, length, map, slice_index_or, slice_set, refl, sym, ap, ◌∙◌, subst, append_assoc, append-nil, arith, add-mul}
+use Rattle.std.specs.Prelude.{if◌then◌else◌}
+use Rattle.std.proofs.lemmas.Grind.{flat_map-append, fold-append}
+use Rattle.std.proofs.lemmas.Bool.Decides.{nat_tests}
+use Rattle.std.proofs.lemmas.List.{map-append, length-append, length-set, get_or-set_same, get_or-set_other, set-get_or}
+use Rattle.srt_seq.specs.Items.{Datagram, Item, Received, told}
+use Rattle.srt_route.specs.Written.{written}
+use Rattle.srt_route.specs.declared.replies.Reply.{Reply}
+use Rattle.srt_mailbox.specs.Ends.{Producer, Drained, drained as drained_to}
+use Rattle.srt_poller.specs.declared.devices.Sent.{Sent}
+use Rattle.srt_poller.specs.declared.ends.Ends.{Ends}
+use Rattle.srt_poller.specs.declared.devices.Sent.TheVariants.{Taken, Later, Failed}
+use Rattle.srt_poller.specs.declared.ends.Offered.TheVariants.{Accepted}
+use Rattle.srt_poller.specs.Devices.{Arrival, handed_by_send, joined}
+use Rattle.srt_poller.specs.Pollers.{OfferedAs}
+use Rattle.srt_poller.specs.History.{Sorting, Event, Kept, Fits, Follow, kept_by, kept_after, given_by, given, Handed, handed_by, handed, datagrams, accepted_by, accepted, drained_by, drained, at_route, Accepts, Sends}
+use Rattle.srt_poller.specs.Reports.{counted_by, counted}
+use Rattle.srt_poller.specs.Rounds.{World, IsLater, AreLater, Happened, Went}
+
+pub joined_none : {A : Type 0} (o : Option (List A)) → joined o [] ≡ o
+joined_none None = refl
+joined_none (Some xs) = ap Some (append-nil xs)
+
+pub joined_twice : {A : Type 0} (o : Option (List A)) (xs ys : List A) → joined (joined o xs) ys ≡ joined o (xs ++ ys)
+joined_twice None xs ys = refl
+joined_twice (Some zs) xs ys = ap Some (append_assoc zs xs ys)
+
+-- ends
+pub later_none : (e : Ends) → IsLater [] [] e e
+later_none e = record { inbox = refl; inbox_capacity = refl; offered = sym (append-nil _); outbox = refl; outbox_capacity = refl; through = sym (append-nil _) }
+
+pub later_then : (us vs : List Item) (cs ds : List Datagram) (x y z : Ends) → IsLater us cs x y → IsLater vs ds y z → IsLater (us ++ vs) (cs ++ ds) x z
+later_then us vs cs ds x y z h k = record {
+  inbox = k.inbox ∙ h.inbox;
+  inbox_capacity = k.inbox_capacity ∙ h.inbox_capacity;
+  offered = k.offered ∙ ap (λ xs. xs ++ vs) h.offered ∙ append_assoc (map told x.ingress.offered) us vs;
+  outbox = k.outbox ∙ h.outbox;
+  outbox_capacity = k.outbox_capacity ∙ h.outbox_capacity;
+  through = k.through ∙ ap (λ xs. xs ++ ds) h.through ∙ append_assoc (map written x.drain.through) cs ds;
+}
+
+pub are_later_none : (events : List Event) (es : List Ends) → ((r : ℕ) → accepted r events ≡ []) → ((r : ℕ) → drained r events ≡ []) → AreLater events es es
+are_later_none events es a d = record {
+  as_many = refl;
+  each = λ r e below. rw (a r, d r) (later_none (slice_index_or es r e));
+}
+
+pub are_later_then : (us vs : List Event) (x y z : List Ends) → AreLater us x y → AreLater vs y z → AreLater (us ++ vs) x z
+are_later_then us vs x y z h k = record {
+  as_many = k.as_many ∙ h.as_many;
+  each = λ r e below.
+      let there : r < length y = omega (arith, h.as_many) in
+      rw (flat_map-append (accepted_by r) us vs, flat_map-append (drained_by r) us vs) (later_then (accepted r us) (accepted r vs) (drained r us) (drained r vs) _ _ _ (h.each r e below) (k.each r e there));
+}
+
+-- no event, one event, and events after others
+pub happened_then : (class : Sorting) (m n : ℕ) (us vs : List Event) (x y z : World) → Happened class m us x y → Happened class n vs y z → Happened class (m + n) (us ++ vs) x z
+happened_then class m n us vs x y z h k = record {
+  follow = follow_then x.kept us (subst (λ (o : Option Kept). Follow class o vs) h.kept k.follow) h.follow;
+  gave = k.gave ∙ ap (λ o. joined o (given vs)) h.gave ∙ joined_twice x.gave (given us) (given vs) ∙ ap (joined x.gave) (sym (flat_map-append given_by us vs));
+  handed = k.handed ∙ ap (λ o. joined o (datagrams (handed vs))) h.handed ∙ joined_twice x.handed (datagrams (handed us)) (datagrams (handed vs))
+      ∙ ap (joined x.handed) (sym (ap datagrams (flat_map-append handed_by us vs) ∙ map-append (λ (d : Handed). d.datagram) (handed us) (handed vs)));
+  ends = are_later_then us vs x.ends y.ends z.ends h.ends k.ends;
+  kept = k.kept ∙ ap (λ o. kept_after o vs) h.kept ∙ sym (fold-append kept_by x.kept us vs);
+  report = k.report ∙ ap (λ c. counted c vs) h.report ∙ sym (fold-append counted_by x.report us vs);
+  few = let a = h.few in let b = k.few in omega (arith, length-append us vs);
+}
+  where
+    follow_then : (o : Option Kept) (es : List Event) → Follow class (kept_after o es) vs → Follow class o es → Follow class o (es ++ vs)
+    follow_then o [] f g = f
+    follow_then o (e ∷ es) f g = (g.0, follow_then (kept_by o e) es f g.1)
+
+pub went_none : (class : Sorting) (most : ℕ) (x : World) → Went class most x x
+went_none class most x = (
+  [],
+  record {
+    follow = tt;
+    gave = sym (joined_none x.gave);
+    handed = sym (joined_none x.handed);
+    ends = are_later_none [] x.ends (λ r. refl) (λ r. refl);
+    kept = refl;
+    report = refl;
+    few = omega arith;
+  },
+)
+
+pub went_then : (class : Sorting) (m n : ℕ) (x y z : World) → Went class m x y → Went class n y z → Went class (m + n) x z
+went_then class m n x y z h k = (h.0 ++ k.0, happened_then class m n h.0 k.0 x y z h.1 k.1)
+
+pub went_more : (class : Sorting) (m n : ℕ) (x y : World) → m ≤ n → Went class m x y → Went class n x y
+went_more class m n x y le h = (
+  h.0,
+  record {
+    follow = h.1.follow;
+    gave = h.1.gave;
+    handed = h.1.handed;
+    ends = h.1.ends;
+    kept = h.1.kept;
+    report = h.1.report;
+    few = let a = h.1.few in omega arith;
+  },
+)
+
+pub went_one : (class : Sorting) (event : Event) (x y : World) → Fits class x.kept event → y.gave ≡ joined x.gave (given_by event) → y.handed ≡ joined x.handed (datagrams (handed_by event)) → AreLater (event ∷ []) x.ends y.ends → y.kept ≡ kept_by x.kept event → y.report ≡ counted_by x.report event → Went class 1 x y
+went_one class event x y fits gave handed ends kept report = (
+  event ∷ [],
+  record {
+    follow = (fits, tt);
+    gave = gave ∙ ap (joined x.gave) (sym (append-nil (given_by event)));
+    handed = handed ∙ ap (λ hs. joined x.handed (datagrams hs)) (sym (append-nil (handed_by event)));
+    ends = ends;
+    kept = kept;
+    report = report;
+    few = omega arith;
+  },
+)
+
+-- where one place of a list of ends changed
+pub one_changed : (event : Event) (k : ℕ) (es : List Ends) (d z : Ends) → k < length es →
+    ((r : ℕ) → r ≢ k → accepted r (event ∷ []) ≡ []) → ((r : ℕ) → r ≢ k → drained r (event ∷ []) ≡ []) →
+    IsLater (accepted k (event ∷ [])) (drained k (event ∷ [])) (slice_index_or es k d) z → AreLater (event ∷ []) es (slice_set es k z)
+one_changed event k es d z below a b h = record {
+  as_many = length-set es k z;
+  each = λ r e there. by_place r e there (r == k) refl;
+}
+  where
+    neq : (r : ℕ) → r ≡ k → (r == k) ≡ false → ⊥
+    neq r same is = grind (arith, nat_tests)
+
+    same_default : (xs : List Ends) (r : ℕ) (p q : Ends) → r < length xs → slice_index_or xs r p ≡ slice_index_or xs r q
+    same_default [] r p q lt = absurd (omega arith)
+    same_default (x ∷ xs) zero p q lt = refl
+    same_default (x ∷ xs) (suc r) p q lt = same_default xs r p q (omega arith)
+
+    by_place : (r : ℕ) (e : Ends) → r < length es → (b : Bool) → (r == k) ≡ b → IsLater (accepted r (event ∷ [])) (drained r (event ∷ [])) (slice_index_or es r e) (slice_index_or (slice_set es k z) r e)
+    by_place r e there true is =
+        let same : r ≡ k = grind (arith, nat_tests) in
+        let here : IsLater (accepted k (event ∷ [])) (drained k (event ∷ [])) (slice_index_or es k e) (slice_index_or (slice_set es k z) k e) = rw (get_or-set_same es k z e below, same_default es k e d below) h in
+        subst (λ (n : ℕ). IsLater (accepted n (event ∷ [])) (drained n (event ∷ [])) (slice_index_or es n e) (slice_index_or (slice_set es k z) n e)) (sym same) here
+    by_place r e there false is =
+        let other : r ≢ k = λ same. neq r same is in
+        rw (a r other, b r other, get_or-set_other es k r z e other) (later_none (slice_index_or es r e))
+
+at_own : {A : Type 0} (k : ℕ) (x : A) → at_route k k x ≡ x ∷ []
+at_own {A} k x = by_test (k == k) refl
+  where
+    by_test : (b : Bool) → (k == k) ≡ b → (if b then x ∷ [] else []) ≡ x ∷ []
+    by_test true is = refl
+    by_test false is = absurd (grind (arith, nat_tests))
+
+at_other : {A : Type 0} (k r : ℕ) (x : A) → r ≢ k → at_route k r x ≡ []
+at_other {A} k r x other = by_test (k == r) refl
+  where
+    by_test : (b : Bool) → (k == r) ≡ b → (if b then x ∷ [] else []) ≡ []
+    by_test true is = absurd (other (grind (arith, nat_tests)))
+    by_test false is = refl
+
+pub accepted_here : (a : Arrival) (k : ℕ) (es : List Ends) (d z : Ends) → k < length es →
+    IsLater (Received a.datagram a.moment ∷ []) [] (slice_index_or es k d) z → AreLater (Accepts a k ∷ []) es (slice_set es k z)
+accepted_here a k es d z below h =
+    let own : accepted k (Accepts a k ∷ []) ≡ Received a.datagram a.moment ∷ [] = append-nil _ ∙ at_own k _ in
+    one_changed (Accepts a k) k es d z below (λ r other. append-nil _ ∙ at_other k r _ other) (λ r other. refl) (rw own h)
+
+pub sent_here : (k : ℕ) (reply : Datagram) (sent : Sent) (es : List Ends) (d z : Ends) → k < length es →
+    IsLater [] (reply ∷ []) (slice_index_or es k d) z → AreLater (Sends k reply sent ∷ []) es (slice_set es k z)
+sent_here k reply sent es d z below h =
+    let own : drained k (Sends k reply sent ∷ []) ≡ reply ∷ [] = append-nil _ ∙ at_own k _ in
+    one_changed (Sends k reply sent) k es d z below (λ r other. refl) (λ r other. append-nil _ ∙ at_other k r _ other) (rw own h)
+
+pub nothing_here : (event : Event) (k : ℕ) (es : List Ends) (d z : Ends) → k < length es →
+    ((r : ℕ) → accepted r (event ∷ []) ≡ []) → ((r : ℕ) → drained r (event ∷ []) ≡ []) →
+    z.ingress ≡ (slice_index_or es k d).ingress → z.drain ≡ (slice_index_or es k d).drain → AreLater (event ∷ []) es (slice_set es k z)
+nothing_here event k es d z below a b ingress drain =
+    one_changed event k es d z below (λ r other. a r) (λ r other. b r) (rw (a k, b k) (record {
+      inbox = ap (λ (x : Producer). x.queue) ingress;
+      inbox_capacity = ap (λ (x : Producer). x.capacity) ingress;
+      offered = ap (λ (x : Producer). map told x.offered) ingress ∙ sym (append-nil _);
+      outbox = ap (λ (x : Drained). x.queue) drain;
+      outbox_capacity = ap (λ (x : Drained). x.capacity) drain;
+      through = ap (λ (x : Drained). map written x.through) drain ∙ sym (append-nil _);
+    }))
+
+pub accepted_now : (a : Arrival) (x y : Ends) → OfferedAs Accepted a x.ingress y.ingress → y.drain ≡ x.drain → IsLater (Received a.datagram a.moment ∷ []) [] x y
+accepted_now a x y h drain = record {
+  inbox = h.0;
+  inbox_capacity = h.1;
+  offered = h.2;
+  outbox = ap (λ (d : Drained). d.queue) drain;
+  outbox_capacity = ap (λ (d : Drained). d.capacity) drain;
+  through = ap (λ (d : Drained). map written d.through) drain ∙ sym (append-nil _);
+}
+
+-- what a send handed to the wire, as datagrams
+pub sent_as : (sent : Sent) (h : Handed) → handed_by_send sent h.datagram ≡ datagrams (handed_by_send sent h)
+sent_as Taken h = refl
+sent_as Later h = refl
+sent_as Failed h = refl
+
+pub drained_now : (reply : Datagram) (hand : Reply) (x : Ends) (z : Drained) → z ≡ drained_to x.drain.queue x.drain.capacity (x.drain.through ++ hand ∷ []) hand → written hand ≡ reply →
+    IsLater [] (reply ∷ []) x (record { ingress = x.ingress; drain = z })
+drained_now reply hand x z h is = record {
+  inbox = refl;
+  inbox_capacity = refl;
+  offered = sym (append-nil _);
+  outbox = ap (λ (d : Drained). d.queue) h;
+  outbox_capacity = ap (λ (d : Drained). d.capacity) h;
+  through = ap (λ (d : Drained). map written d.through) h ∙ map-append written x.drain.through (hand ∷ []) ∙ ap (λ d. map written x.drain.through ++ d ∷ []) is;
+}
+
+pub unchanged_here : (es : List Ends) (k : ℕ) (d : Ends) (z : Drained) → z ≡ (slice_index_or es k d).drain → slice_set es k (record { ingress = (slice_index_or es k d).ingress; drain = z }) ≡ es
+unchanged_here es k d z h = ap (λ (y : Drained). slice_set es k (record { ingress = (slice_index_or es k d).ingress; drain = y })) h ∙ set-get_or es k d
+
+pub rounds_more : (k a b : ℕ) → b ≡ a → k * (258 + 64 * a) + (258 + 64 * b) ≤ (k + 1) * (258 + 64 * a)
+rounds_more k a b e = rw (e, add-mul k 1 (258 + 64 * a)) (omega arith)

@@ -1,0 +1,182 @@
+-- What happened while a poller ran, the oldest first, and what follows from it alone.
+use Rattle.std.specs.Prelude.{◌≡◌, ℕ, ◌==◌, Bool, true, false, Option, None, Some, List, [], ◌∷◌, map, filter, if◌then◌else◌}
+use Rattle.std.specs.List.{flat_map, fold}
+use Rattle.srt_seq.specs.Items.{Datagram, Item, Received}
+use Rattle.srt_lobby.specs.declared.classes.Class.{Class}
+use Rattle.srt_lobby.specs.declared.classes.Class.TheVariants.{Answer, Route, Dropped}
+use Rattle.srt_lobby.specs.declared.classes.Cause.{Cause}
+use Rattle.srt_poller.specs.declared.devices.Sent.{Sent}
+use Rattle.srt_poller.specs.declared.devices.Sent.TheVariants.{Taken, Later, Failed}
+use Rattle.srt_poller.specs.Devices.{Arrival, handed_by_send}
+
+-- what a lobby makes of a datagram that comes at a moment
+abbrev pub Sorting : Type 0
+Sorting = Datagram → (moment : ℕ) → Class
+
+pub data Event : Type 0 where
+  -- a wait or a read of the source failed
+  Fails : Event
+  -- a datagram came, and this is the lobby's answer, which the wire was handed
+  Answers : (arrival : Arrival) (bytes : List ℕ) (sent : Sent) → Event
+  -- a datagram came, and its route's inbox accepted it
+  Accepts : (arrival : Arrival) (route : ℕ) → Event
+  -- a datagram came, and its route's inbox was full
+  Overflows : (arrival : Arrival) (route : ℕ) → Event
+  -- a datagram came for a route, and there was no memory for its copy
+  Refuses : (arrival : Arrival) (route : ℕ) → Event
+  -- a datagram came and was dropped
+  Drops : (arrival : Arrival) (cause : Cause) → Event
+  -- a reply was taken from a route's outbox, and the wire was handed it
+  Sends : (route : ℕ) (reply : Datagram) (sent : Sent) → Event
+  -- the wire was handed again the reply that was kept
+  Resends : (route : ℕ) (reply : Datagram) (sent : Sent) → Event
+
+-- a reply that the wire would take later
+pub record Kept : Type 0 where
+  pub route : ℕ
+  pub reply : Datagram
+
+abbrev pub kept : ℕ → Datagram → Kept
+kept route reply = record { route = route; reply = reply }
+
+abbrev pub kept_if : Sent → Kept → Option Kept
+kept_if Taken k = None
+kept_if Later k = Some k
+kept_if Failed k = None
+
+-- the reply that is kept after an event
+abbrev pub kept_by : Option Kept → Event → Option Kept
+kept_by k Fails = k
+kept_by k (Answers arrival bytes sent) = k
+kept_by k (Accepts arrival route) = k
+kept_by k (Overflows arrival route) = k
+kept_by k (Refuses arrival route) = k
+kept_by k (Drops arrival cause) = k
+kept_by k (Sends route reply sent) = kept_if sent (kept route reply)
+kept_by k (Resends route reply sent) = kept_if sent (kept route reply)
+
+abbrev pub kept_after : Option Kept → List Event → Option Kept
+kept_after k events = fold kept_by k events
+
+-- Each datagram meets what the lobby makes of it. A reply is taken only where none is kept, and only the one that is kept is handed
+-- again
+abbrev pub Fits : Sorting → Option Kept → Event → Type 0
+Fits class k Fails = Unit {0}
+Fits class k (Answers arrival bytes sent) = class arrival.datagram arrival.moment ≡ Answer bytes
+Fits class k (Accepts arrival route) = class arrival.datagram arrival.moment ≡ Route route
+Fits class k (Overflows arrival route) = class arrival.datagram arrival.moment ≡ Route route
+Fits class k (Refuses arrival route) = class arrival.datagram arrival.moment ≡ Route route
+Fits class k (Drops arrival cause) = class arrival.datagram arrival.moment ≡ Dropped cause
+Fits class k (Sends route reply sent) = k ≡ None
+Fits class k (Resends route reply sent) = k ≡ Some (kept route reply)
+
+-- each event fits what is kept when it happens; first this is kept
+abbrev pub Follow : Sorting → Option Kept → List Event → Type 0
+Follow class k [] = Unit {0}
+Follow class k (event ∷ events) = Fits class k event × Follow class (kept_by k event) events
+
+-- the datagrams that the source gave
+abbrev pub given_by : Event → List Arrival
+given_by Fails = []
+given_by (Answers arrival bytes sent) = arrival ∷ []
+given_by (Accepts arrival route) = arrival ∷ []
+given_by (Overflows arrival route) = arrival ∷ []
+given_by (Refuses arrival route) = arrival ∷ []
+given_by (Drops arrival cause) = arrival ∷ []
+given_by (Sends route reply sent) = []
+given_by (Resends route reply sent) = []
+
+abbrev pub given : List Event → List Arrival
+given events = flat_map given_by events
+
+-- the items that this route's inbox accepted
+abbrev pub at_route : {A : Type 0} → (route r : ℕ) → A → List A
+at_route route r x = if route == r then x ∷ [] else []
+
+abbrev pub accepted_by : (r : ℕ) → Event → List Item
+accepted_by r Fails = []
+accepted_by r (Answers arrival bytes sent) = []
+accepted_by r (Accepts arrival route) = at_route route r (Received arrival.datagram arrival.moment)
+accepted_by r (Overflows arrival route) = []
+accepted_by r (Refuses arrival route) = []
+accepted_by r (Drops arrival cause) = []
+accepted_by r (Sends route reply sent) = []
+accepted_by r (Resends route reply sent) = []
+
+abbrev pub accepted : (r : ℕ) → List Event → List Item
+accepted r events = flat_map (accepted_by r) events
+
+-- the replies that were taken from this route's outbox
+abbrev pub drained_by : (r : ℕ) → Event → List Datagram
+drained_by r Fails = []
+drained_by r (Answers arrival bytes sent) = []
+drained_by r (Accepts arrival route) = []
+drained_by r (Overflows arrival route) = []
+drained_by r (Refuses arrival route) = []
+drained_by r (Drops arrival cause) = []
+drained_by r (Sends route reply sent) = at_route route r reply
+drained_by r (Resends route reply sent) = []
+
+abbrev pub drained : (r : ℕ) → List Event → List Datagram
+drained r events = flat_map (drained_by r) events
+
+-- the lobby's answers that didn't meet Later
+abbrev pub answered_by : Event → List Datagram
+answered_by Fails = []
+answered_by (Answers arrival bytes sent) = handed_by_send sent (record { peer = arrival.datagram.peer; bytes = bytes })
+answered_by (Accepts arrival route) = []
+answered_by (Overflows arrival route) = []
+answered_by (Refuses arrival route) = []
+answered_by (Drops arrival cause) = []
+answered_by (Sends route reply sent) = []
+answered_by (Resends route reply sent) = []
+
+abbrev pub answered : List Event → List Datagram
+answered events = flat_map answered_by events
+
+-- where a datagram that the wire was handed comes from
+pub data Origin : Type 0 where
+  FromLobby : Origin
+  FromRoute : (route : ℕ) → Origin
+
+pub record Handed : Type 0 where
+  pub origin : Origin
+  pub datagram : Datagram
+
+abbrev pub from : Origin → Datagram → Handed
+from origin datagram = record { origin = origin; datagram = datagram }
+
+-- what the wire was handed and didn't put off
+abbrev pub handed_by : Event → List Handed
+handed_by Fails = []
+handed_by (Answers arrival bytes sent) = handed_by_send sent (from FromLobby (record { peer = arrival.datagram.peer; bytes = bytes }))
+handed_by (Accepts arrival route) = []
+handed_by (Overflows arrival route) = []
+handed_by (Refuses arrival route) = []
+handed_by (Drops arrival cause) = []
+handed_by (Sends route reply sent) = handed_by_send sent (from (FromRoute route) reply)
+handed_by (Resends route reply sent) = handed_by_send sent (from (FromRoute route) reply)
+
+abbrev pub handed : List Event → List Handed
+handed events = flat_map handed_by events
+
+abbrev pub datagrams : List Handed → List Datagram
+datagrams hs = map (λ h. h.datagram) hs
+
+-- of these, those of one origin
+abbrev pub is_lobby : Handed → Bool
+is_lobby h = elim h.origin [ FromLobby ↦ true | FromRoute route ↦ false ]
+
+abbrev pub is_route : (r : ℕ) → Handed → Bool
+is_route r h = elim h.origin [ FromLobby ↦ false | FromRoute route ↦ route == r ]
+
+abbrev pub of_lobby : List Handed → List Datagram
+of_lobby hs = datagrams (filter is_lobby hs)
+
+abbrev pub of_route : (r : ℕ) → List Handed → List Datagram
+of_route r hs = datagrams (filter (is_route r) hs)
+
+-- the kept reply, where it is this route's
+abbrev pub kept_of : (r : ℕ) → Option Kept → List Datagram
+kept_of r None = []
+kept_of r (Some k) = at_route k.route r k.reply

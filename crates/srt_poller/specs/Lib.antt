@@ -1,0 +1,6 @@
+pub mod Devices
+pub mod History
+pub mod Reports
+pub mod Rounds
+pub mod Pollers
+pub mod Pumped

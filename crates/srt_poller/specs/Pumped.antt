@@ -1,0 +1,49 @@
+-- What the rounds of a poller did.
+use Rattle.std.specs.Prelude.{◌≡◌, ℕ, ◌+◌, ◌*◌, ◌≤◌, Option, None, List, ◌++◌, length}
+use Rattle.srt_seq.specs.Items.{Datagram}
+use Rattle.srt_poller.specs.declared.ends.Ends.{Ends}
+use Rattle.srt_poller.specs.declared.report.Report.{Report}
+use Rattle.srt_poller.specs.Devices.{Arrival, joined}
+use Rattle.srt_poller.specs.History.{Sorting, Event, Follow, kept_after, kept_of, given, handed, datagrams, of_lobby, of_route, answered, drained}
+use Rattle.srt_poller.specs.Reports.{nothing, counted, with_kept}
+use Rattle.srt_poller.specs.Rounds.{AreLater}
+
+-- Of the datagrams that the wire was handed, the lobby's are its answers that didn't meet Later. A route's, and then the reply that is kept
+-- where it is the route's, are the replies that were taken from its outbox. All are in order
+pub record HaveOrigins (events : List Event) : Type 0 where
+  pub lobby : of_lobby (handed events) ≡ answered events
+  pub route : (r : ℕ) → of_route r (handed events) ++ kept_of r (kept_after None events) ≡ drained r events
+
+-- what the source tells that it gave, what the wire tells that it was handed, and the ends of all routes
+pub record Before : Type 0 where
+  pub gave : Option (List Arrival)
+  pub handed : Option (List Datagram)
+  pub ends : List Ends
+
+abbrev pub before : Option (List Arrival) → Option (List Datagram) → List Ends → Before
+before gave handed ends = record { gave = gave; handed = handed; ends = ends }
+
+-- and the report
+pub record After : Type 0 where
+  pub gave : Option (List Arrival)
+  pub handed : Option (List Datagram)
+  pub ends : List Ends
+  pub report : Report
+
+abbrev pub after : Option (List Arrival) → Option (List Datagram) → List Ends → Report → After
+after gave handed ends report = record { gave = gave; handed = handed; ends = ends; report = report }
+
+-- These events happened, the oldest first. The source gave the datagrams that they say, and each met what the lobby makes of it. The wire
+-- was handed the datagrams that they say. Each route's inbox accepted the items, and each outbox gave the replies, that they say. The
+-- report counts them
+pub record PumpedBy (class : Sorting) (rounds : ℕ) (before : Before) (after : After) (events : List Event) : Type 0 where
+  pub follow : Follow class None events
+  pub gave : after.gave ≡ joined before.gave (given events)
+  pub handed : after.handed ≡ joined before.handed (datagrams (handed events))
+  pub ends : AreLater events before.ends after.ends
+  pub origins : HaveOrigins events
+  pub report : after.report ≡ with_kept (counted nothing events) (kept_after None events)
+  pub few : length events ≤ rounds * (258 + 64 * length before.ends)
+
+abbrev pub Pumped : Sorting → (rounds : ℕ) → Before → After → Type 0
+Pumped class rounds before after = (events : List Event) × PumpedBy class rounds before after events

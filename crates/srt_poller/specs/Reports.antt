@@ -1,0 +1,59 @@
+-- What a report counts.
+use Rattle.std.specs.Prelude.{ℕ, ◌+◌, ◌-◌, ◌^◌, min, Option, None, Some, List}
+use Rattle.std.specs.List.{fold}
+use Rattle.srt_poller.specs.declared.devices.Sent.{Sent}
+use Rattle.srt_poller.specs.declared.devices.Sent.TheVariants.{Taken, Later, Failed}
+use Rattle.srt_poller.specs.declared.report.Report.{Report}
+use Rattle.srt_poller.specs.History.{Event, Fails, Answers, Accepts, Overflows, Refuses, Drops, Sends, Resends, Kept}
+
+-- one more, where a 64-bit number can say so
+abbrev pub one_more : ℕ → ℕ
+one_more n = min (n + 1) (2 ^ 64 - 1)
+
+abbrev pub nothing : Report
+nothing = record { read = 0; answered = 0; accepted = 0; full = 0; dropped = 0; memory = 0; sent = 0; lost = 0; faults = 0 }
+
+-- a failure of the source
+abbrev pub with_fault : Report → Report
+with_fault n = record n { faults = one_more n.faults }
+
+-- what the wire was handed: an answer that it would take later is lost, and a reply is kept
+abbrev pub with_answer : Report → Sent → Report
+with_answer n Taken = record n { read = one_more n.read; answered = one_more n.answered; sent = one_more n.sent }
+with_answer n Later = record n { read = one_more n.read; answered = one_more n.answered; lost = one_more n.lost }
+with_answer n Failed = record n { read = one_more n.read; answered = one_more n.answered; lost = one_more n.lost; faults = one_more n.faults }
+
+abbrev pub with_reply : Report → Sent → Report
+with_reply n Taken = record n { sent = one_more n.sent }
+with_reply n Later = n
+with_reply n Failed = record n { lost = one_more n.lost; faults = one_more n.faults }
+
+abbrev pub with_accepted : Report → Report
+with_accepted n = record n { read = one_more n.read; accepted = one_more n.accepted }
+
+abbrev pub with_full : Report → Report
+with_full n = record n { read = one_more n.read; full = one_more n.full }
+
+abbrev pub with_refused : Report → Report
+with_refused n = record n { read = one_more n.read; memory = one_more n.memory }
+
+abbrev pub with_dropped : Report → Report
+with_dropped n = record n { read = one_more n.read; dropped = one_more n.dropped }
+
+abbrev pub counted_by : Report → Event → Report
+counted_by n Fails = with_fault n
+counted_by n (Answers arrival bytes sent) = with_answer n sent
+counted_by n (Accepts arrival route) = with_accepted n
+counted_by n (Overflows arrival route) = with_full n
+counted_by n (Refuses arrival route) = with_refused n
+counted_by n (Drops arrival cause) = with_dropped n
+counted_by n (Sends route reply sent) = with_reply n sent
+counted_by n (Resends route reply sent) = with_reply n sent
+
+abbrev pub counted : Report → List Event → Report
+counted n events = fold counted_by n events
+
+-- a reply that is still kept at the end is lost
+abbrev pub with_kept : Report → Option Kept → Report
+with_kept n None = n
+with_kept n (Some k) = record n { lost = one_more n.lost }

@@ -1,0 +1,47 @@
+-- What some events made of everything that a poller touches.
+use Rattle.std.specs.Prelude.{◌≡◌, ℕ, ◌<◌, ◌≤◌, Option, List, ◌++◌, length, map, slice_index_or}
+use Rattle.srt_seq.specs.Items.{Datagram, Item, told}
+use Rattle.srt_route.specs.Written.{written}
+use Rattle.srt_poller.specs.declared.ends.Ends.{Ends}
+use Rattle.srt_poller.specs.declared.report.Report.{Report}
+use Rattle.srt_poller.specs.Devices.{Arrival, joined}
+use Rattle.srt_poller.specs.History.{Sorting, Event, Kept, Follow, kept_after, given, handed, datagrams, accepted, drained}
+use Rattle.srt_poller.specs.Reports.{counted}
+
+-- what the source tells that it gave and the wire that it was handed, the ends of all routes, the kept reply, and the report
+pub record World : Type 0 where
+  pub gave : Option (List Arrival)
+  pub handed : Option (List Datagram)
+  pub ends : List Ends
+  pub kept : Option Kept
+  pub report : Report
+
+abbrev pub world : Option (List Arrival) → Option (List Datagram) → List Ends → Option Kept → Report → World
+world gave handed ends kept report = record { gave = gave; handed = handed; ends = ends; kept = kept; report = report }
+
+-- the ends of a route stand on the same queues; the inbox accepted these items more, and the outbox gave these replies more
+pub record IsLater (accepted : List Item) (drained : List Datagram) (old new : Ends) : Type 0 where
+  pub inbox : new.ingress.queue ≡ old.ingress.queue
+  pub inbox_capacity : new.ingress.capacity ≡ old.ingress.capacity
+  pub offered : map told new.ingress.offered ≡ map told old.ingress.offered ++ accepted
+  pub outbox : new.drain.queue ≡ old.drain.queue
+  pub outbox_capacity : new.drain.capacity ≡ old.drain.capacity
+  pub through : map written new.drain.through ≡ map written old.drain.through ++ drained
+
+pub record AreLater (events : List Event) (old new : List Ends) : Type 0 where
+  pub as_many : length new ≡ length old
+  pub each : (r : ℕ) (e : Ends) → r < length old → IsLater (accepted r events) (drained r events) (slice_index_or old r e) (slice_index_or new r e)
+
+-- these events happened, at most so many, and made the one world of the other
+pub record Happened (class : Sorting) (most : ℕ) (events : List Event) (old new : World) : Type 0 where
+  pub follow : Follow class old.kept events
+  pub gave : new.gave ≡ joined old.gave (given events)
+  pub handed : new.handed ≡ joined old.handed (datagrams (handed events))
+  pub ends : AreLater events old.ends new.ends
+  pub kept : new.kept ≡ kept_after old.kept events
+  pub report : new.report ≡ counted old.report events
+  pub few : length events ≤ most
+
+-- some events happened
+abbrev pub Went : Sorting → (most : ℕ) → World → World → Type 0
+Went class most old new = (events : List Event) × Happened class most events old new

@@ -1,0 +1,16 @@
+//! The thread that reads datagrams, answers or offers each, and hands replies to the wire.
+#![tactic(auto)]
+
+mod devices;
+mod ends;
+mod poller;
+mod pumping;
+mod report;
+mod signals;
+
+pub use devices::{Clock, Polled, Read, Sent, Source, Wire};
+pub use ends::Ends;
+pub use pumping::{pump, pump_under};
+pub use report::Report;
+pub use signals::{Signals, Unsignalled};
+pub use srt_mailbox::Gate;

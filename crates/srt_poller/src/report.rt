@@ -1,0 +1,119 @@
+//! What a poller counts.
+
+ghost use Rattle.std.specs.Prelude.{◌≡◌};
+ghost use Rattle.srt_poller.specs.declared.devices.Sent.{Sent as TheSent};
+
+use crate::devices::Sent;
+
+/// How many datagrams met what. Each count stops at 2^64 - 1.
+#[derive(Clone, Copy, Debug, PartialEq, Eq)]
+pub struct Report {
+    /// Datagrams that came.
+    pub read: u64,
+    /// Of these, those that the lobby answered.
+    pub answered: u64,
+    /// Those that their route's inbox accepted.
+    pub accepted: u64,
+    /// Those that met a full inbox.
+    pub full: u64,
+    /// Those that were dropped.
+    pub dropped: u64,
+    /// Those for whose copy there was no memory.
+    pub memory: u64,
+    /// Answers and replies that the wire took.
+    pub sent: u64,
+    /// Answers and replies that are lost.
+    pub lost: u64,
+    /// Failures of the source and of the wire.
+    pub faults: u64,
+}
+
+impl Report {
+    ghost use Rattle.srt_poller.specs.Reports.{nothing, with_fault, with_answer, with_reply, with_accepted, with_full, with_refused, with_dropped};
+
+    /// Nothing happened.
+    pub(crate) fn new() -> Report
+        ensures { result ≡ nothing }
+    {
+        Report {
+            read: 0,
+            answered: 0,
+            accepted: 0,
+            full: 0,
+            dropped: 0,
+            memory: 0,
+            sent: 0,
+            lost: 0,
+            faults: 0,
+        }
+    }
+
+    /// The source failed.
+    pub(crate) fn count_fault(&mut self)
+        ensures { self.new ≡ with_fault self.old }
+    {
+        self.faults = self.faults.saturating_add(1);
+    }
+
+    /// A datagram came, and the wire was handed its answer.
+    pub(crate) fn count_answer(&mut self, sent: Sent)
+        ensures { self.new ≡ with_answer self.old sent }
+    {
+        self.read = self.read.saturating_add(1);
+        self.answered = self.answered.saturating_add(1);
+        match sent {
+            Sent::Taken => self.sent = self.sent.saturating_add(1),
+            Sent::Later => self.lost = self.lost.saturating_add(1),
+            Sent::Failed => {
+                self.lost = self.lost.saturating_add(1);
+                self.faults = self.faults.saturating_add(1);
+            }
+        }
+    }
+
+    /// The wire was handed a reply.
+    pub(crate) fn count_reply(&mut self, sent: Sent)
+        ensures { self.new ≡ with_reply self.old sent }
+    {
+        match sent {
+            Sent::Taken => self.sent = self.sent.saturating_add(1),
+            Sent::Later => {}
+            Sent::Failed => {
+                self.lost = self.lost.saturating_add(1);
+                self.faults = self.faults.saturating_add(1);
+            }
+        }
+    }
+
+    /// A datagram came, and its route's inbox accepted it.
+    pub(crate) fn count_accepted(&mut self)
+        ensures { self.new ≡ with_accepted self.old }
+    {
+        self.read = self.read.saturating_add(1);
+        self.accepted = self.accepted.saturating_add(1);
+    }
+
+    /// A datagram came, and its route's inbox was full.
+    pub(crate) fn count_full(&mut self)
+        ensures { self.new ≡ with_full self.old }
+    {
+        self.read = self.read.saturating_add(1);
+        self.full = self.full.saturating_add(1);
+    }
+
+    /// A datagram came, and there was no memory for its copy.
+    pub(crate) fn count_refused(&mut self)
+        ensures { self.new ≡ with_refused self.old }
+    {
+        self.read = self.read.saturating_add(1);
+        self.memory = self.memory.saturating_add(1);
+    }
+
+    /// A datagram came and was dropped.
+    pub(crate) fn count_dropped(&mut self)
+        ensures { self.new ≡ with_dropped self.old }
+    {
+        self.read = self.read.saturating_add(1);
+        self.dropped = self.dropped.saturating_add(1);
+    }
+}
