@@ -1,6 +1,7 @@
 -- What a source and a wire tell.
-use Rattle.std.specs.Prelude.{◌≡◌, ◌⊎◌, ℕ, ◌<◌, ◌≤◌, ◌-◌, ◌^◌, Option, List, [], ◌∷◌, ◌++◌, take, option_map}
+use Rattle.std.specs.Prelude.{ℕ, ◌<◌, ◌≤◌, ◌^◌, Option, List, [], ◌∷◌, ◌++◌, take, option_map}
 use Rattle.srt_seq.specs.Items.{Datagram as TheDatagram}
+use Rattle.srt_mailbox.specs.Counts.{Grew}
 use Rattle.srt_poller.specs.declared.devices.Read.{Read}
 use Rattle.srt_poller.specs.declared.devices.Read.TheVariants.{Datagram, Empty, Failed}
 use Rattle.srt_poller.specs.declared.devices.Sent.{Sent}
@@ -10,10 +11,6 @@ use Rattle.srt_poller.specs.declared.devices.Sent.TheVariants as sent
 pub record Arrival : Type 0 where
   pub datagram : TheDatagram
   pub moment : ℕ
-
--- a count of failures grew, or stands at its last value
-abbrev pub Grew : ℕ → ℕ → Type 0
-Grew a b = (a < b) ⊎ (b ≡ 2 ^ 64 - 1)
 
 -- a length within the buffer and a moment within the limit; a failure only where the count grew
 abbrev pub ReadsWell : Read → ℕ → ℕ → Type 0

@@ -4,3 +4,4 @@ pub mod Reports
 pub mod Rounds
 pub mod Pollers
 pub mod Pumped
+pub mod Scripts

@@ -1,5 +1,5 @@
 -- What a report counts.
-use Rattle.std.specs.Prelude.{ℕ, ◌+◌, ◌-◌, ◌^◌, min, Option, None, Some, List}
+use Rattle.std.specs.Prelude.{ℕ, ◌+◌, ◌-◌, ◌^◌, min, Option, None, Some, List, [], ◌∷◌}
 use Rattle.std.specs.List.{fold}
 use Rattle.srt_poller.specs.declared.devices.Sent.{Sent}
 use Rattle.srt_poller.specs.declared.devices.Sent.TheVariants.{Taken, Later, Failed}
@@ -57,3 +57,35 @@ counted n events = fold counted_by n events
 abbrev pub with_kept : Report → Option Kept → Report
 with_kept n None = n
 with_kept n (Some k) = record n { lost = one_more n.lost }
+
+-- the sums, with no limit
+
+abbrev pub plus : Report → Report → Report
+plus a b = record { read = a.read + b.read; answered = a.answered + b.answered; accepted = a.accepted + b.accepted; full = a.full + b.full; dropped = a.dropped + b.dropped; memory = a.memory + b.memory; sent = a.sent + b.sent; lost = a.lost + b.lost; faults = a.faults + b.faults }
+
+abbrev pub part_of_answer : Sent → Report
+part_of_answer Taken = record nothing { read = 1; answered = 1; sent = 1 }
+part_of_answer Later = record nothing { read = 1; answered = 1; lost = 1 }
+part_of_answer Failed = record nothing { read = 1; answered = 1; lost = 1; faults = 1 }
+
+abbrev pub part_of_reply : Sent → Report
+part_of_reply Taken = record nothing { sent = 1 }
+part_of_reply Later = nothing
+part_of_reply Failed = record nothing { lost = 1; faults = 1 }
+
+-- an event's part of the report
+abbrev pub part : Event → Report
+part Fails = record nothing { faults = 1 }
+part (Answers arrival bytes sent) = part_of_answer sent
+part (Accepts arrival route) = record nothing { read = 1; accepted = 1 }
+part (Overflows arrival route) = record nothing { read = 1; full = 1 }
+part (Refuses arrival route) = record nothing { read = 1; memory = 1 }
+part (Drops arrival cause) = record nothing { read = 1; dropped = 1 }
+part (Sends route reply sent) = part_of_reply sent
+part (Resends route reply sent) = part_of_reply sent
+
+-- the sum of all parts, and one more that is lost where a reply is kept at the end
+abbrev pub total : List Event → Option Kept → Report
+total [] None = nothing
+total [] (Some k) = record nothing { lost = 1 }
+total (event ∷ events) k = plus (part event) (total events k)

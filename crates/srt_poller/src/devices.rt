@@ -39,7 +39,8 @@ pub enum Sent {
 /// Where datagrams come from.
 pub trait Source {
     ghost use Rattle.std.specs.Prelude.{ℕ, Option, List};
-    ghost use Rattle.srt_poller.specs.Devices.{Arrival, Grew, ReadsWell, given_by_read, joined};
+    ghost use Rattle.srt_mailbox.specs.Counts.{Grew};
+    ghost use Rattle.srt_poller.specs.Devices.{Arrival, ReadsWell, given_by_read, joined};
     ghost use Rattle.srt_poller.specs.declared.devices.Polled.TheVariants.{Failed as PollFailed};
 
     /// How often it failed, up to 2^64 - 1.
@@ -67,7 +68,8 @@ pub trait Source {
 pub trait Wire {
     ghost use Rattle.std.specs.Prelude.{ℕ, Option, List};
     ghost use Rattle.srt_seq.specs.Items.{Datagram};
-    ghost use Rattle.srt_poller.specs.Devices.{Grew, handed_by_send, joined};
+    ghost use Rattle.srt_mailbox.specs.Counts.{Grew};
+    ghost use Rattle.srt_poller.specs.Devices.{handed_by_send, joined};
     ghost use Rattle.srt_poller.specs.declared.devices.Sent.TheVariants.{Failed as SendFailed};
 
     /// How often it failed, up to 2^64 - 1.

@@ -6,11 +6,15 @@ mod ends;
 mod poller;
 mod pumping;
 mod report;
+mod scripts;
 mod signals;
 
 pub use devices::{Clock, Polled, Read, Sent, Source, Wire};
 pub use ends::Ends;
 pub use pumping::{pump, pump_under};
 pub use report::Report;
+pub use scripts::{
+    ClockScript, ScriptDatagram, SentDatagram, SourceScript, SourceStep, WireScript,
+};
 pub use signals::{Signals, Unsignalled};
 pub use srt_mailbox::Gate;

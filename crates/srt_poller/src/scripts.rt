@@ -1,0 +1,273 @@
+//! Devices in memory, which do what their scripts say and tell their datagrams.
+
+ghost use Rattle.std.specs.Prelude.{◌≡◌, ◌⊎◌, ℕ, ◌<◌, ◌≤◌, ◌+◌, ◌-◌, ◌^◌, Some, true, false, [], ◌∷◌, ◌++◌, length, map, slice_get, take};
+
+use crate::devices::{Clock, Polled, Read, Sent, Source, Wire};
+use srt_seq::Peer;
+use std::alloc::Global;
+
+/// A datagram that a source in memory gives.
+#[derive(Debug, Drop)]
+pub struct ScriptDatagram {
+    /// From whom.
+    pub peer: Peer,
+    /// What it says; the first 2048 bytes are given.
+    pub bytes: Vec<u8>,
+    /// When it comes, in microseconds; from 2^62 on it is given as 2^62 - 1.
+    pub moment: u64,
+}
+
+/// What a source in memory does at one call.
+#[derive(Debug, Drop)]
+pub enum SourceStep {
+    /// A wait ends.
+    Wait,
+    /// A wait fails.
+    WaitFails,
+    /// A read gives this datagram.
+    Datagram(ScriptDatagram),
+    /// A read finds nothing.
+    Empty,
+    /// A read fails.
+    ReadFails,
+}
+
+/// A source in memory. A wait or a read does the next step if that is one of its own; if it isn't, or there is none,
+/// the wait ends, the read finds nothing, and the step stays.
+#[derive(Drop)]
+pub struct SourceScript {
+    steps: Vec<SourceStep>,
+    at: usize,
+    failures: u64,
+}
+
+impl SourceScript {
+    ghost use Rattle.srt_poller.specs.Scripts.{steps_of, steps_done};
+
+    /// A source that does these steps.
+    pub fn new(steps: Vec<SourceStep>) -> SourceScript
+        ensures steps { steps_of result ≡ steps.items }
+        ensures done { steps_done result ≡ 0 }
+        ensures tells { ⟦<SourceScript as Source>⟧.gave result ≡ Some [] }
+        ensures failures { ⟦<SourceScript as Source>⟧.failures result ≡ 0 }
+    {
+        SourceScript {
+            steps,
+            at: 0,
+            failures: 0,
+        }
+    }
+}
+
+impl Source for SourceScript {
+    ghost use Rattle.std.specs.Prelude.{Some, take};
+    ghost use Rattle.srt_mailbox.specs.Counts.{Grew};
+    ghost use Rattle.srt_poller.specs.Devices.{ReadsWell, given_by_read, joined};
+    ghost use Rattle.srt_poller.specs.declared.devices.Polled.TheVariants.{Failed as PollFailed};
+    ghost use Rattle.srt_poller.specs.Scripts.{given_in, wait_at, read_at, after_wait, after_read, steps_of, steps_done};
+
+    ghost failures = { λ s. s.failures };
+
+    ghost gave = { λ s. Some (given_in (take s.at s.steps.items)) };
+
+    fn wait(&mut self) -> Polled
+        ensures failed { result ≡ PollFailed → Grew self.old.failures self.new.failures }
+        ensures tells { ⟦<SourceScript as Source>⟧.gave self.new ≡ ⟦<SourceScript as Source>⟧.gave self.old }
+        ensures does { result ≡ wait_at (slice_get (steps_of self.old) (steps_done self.old)) }
+        ensures done { steps_done self.new ≡ after_wait (slice_get (steps_of self.old) (steps_done self.old)) (steps_done self.old) }
+        ensures steps { steps_of self.new ≡ steps_of self.old }
+    {
+        match self.steps.get(self.at) {
+            Some(SourceStep::WaitFails) => {
+                self.at += 1;
+                self.failures = self.failures.saturating_add(1);
+                Polled::Failed
+            }
+            Some(SourceStep::Wait) => {
+                self.at += 1;
+                Polled::Ready
+            }
+            _ => Polled::Ready,
+        }
+    }
+
+    fn next(&mut self, buffer: &mut [u8; 2048]) -> Read
+        ensures well { ReadsWell result self.old.failures self.new.failures }
+        ensures tells { ⟦<SourceScript as Source>⟧.gave self.new ≡ joined (⟦<SourceScript as Source>⟧.gave self.old) (given_by_read result buffer.new) }
+        ensures does { result ≡ read_at (slice_get (steps_of self.old) (steps_done self.old)) }
+        ensures done { steps_done self.new ≡ after_read (slice_get (steps_of self.old) (steps_done self.old)) (steps_done self.old) }
+        ensures steps { steps_of self.new ≡ steps_of self.old }
+    {
+        match self.steps.get(self.at) {
+            Some(SourceStep::Datagram(datagram)) => {
+                let len = datagram.bytes.len().min(2048);
+                buffer[..len].copy_from_slice(&datagram.bytes.as_slice()[..len]);
+                let moment = datagram.moment.min((1 << 62) - 1);
+                let peer = datagram.peer;
+                self.at += 1;
+                Read::Datagram(peer, len, moment)
+            }
+            Some(SourceStep::Empty) => {
+                self.at += 1;
+                Read::Empty
+            }
+            Some(SourceStep::ReadFails) => {
+                self.at += 1;
+                self.failures = self.failures.saturating_add(1);
+                Read::Failed
+            }
+            Some(SourceStep::Wait) | Some(SourceStep::WaitFails) | None => Read::Empty,
+        }
+    }
+
+    fn failures(&self) -> u64 {
+        self.failures
+    }
+}
+
+/// A datagram that a wire in memory was handed and didn't put off.
+#[derive(Debug, Drop)]
+pub struct SentDatagram {
+    /// To whom.
+    pub to: Peer,
+    /// What it says.
+    pub bytes: Vec<u8>,
+}
+
+/// A wire in memory. Its sends are answered in turn as its script says, and after that as taken. What it takes and
+/// what fails is copied; where there is no memory for the copy it answers Later.
+#[derive(Drop)]
+pub struct WireScript {
+    alloc: Global,
+    answers: Vec<Sent>,
+    at: usize,
+    handed: Vec<SentDatagram>,
+    failures: u64,
+}
+
+impl WireScript {
+    ghost use Rattle.srt_poller.specs.Scripts.{sent_as, answer_at, answers_of, answers_given};
+
+    /// A wire that answers so.
+    pub fn new(alloc: Global, answers: Vec<Sent>) -> WireScript
+        ensures answers { answers_of result ≡ answers.items }
+        ensures given { answers_given result ≡ 0 }
+        ensures tells { ⟦<WireScript as Wire>⟧.handed result ≡ Some [] }
+        ensures failures { ⟦<WireScript as Wire>⟧.failures result ≡ 0 }
+    {
+        WireScript {
+            alloc,
+            answers,
+            at: 0,
+            handed: Vec::new(alloc),
+            failures: 0,
+        }
+    }
+
+    /// What it was handed and didn't put off, the oldest first.
+    pub fn handed(&self) -> &[SentDatagram]
+        ensures { Some (map sent_as result.now) ≡ ⟦<WireScript as Wire>⟧.handed self.now }
+    {
+        self.handed.as_slice()
+    }
+
+    /// The next answer of the script.
+    fn answer(&mut self) -> Sent
+        ensures answer { result ≡ answer_at (slice_get self.old.answers.items self.old.at) }
+        ensures handed { self.new.handed ≡ self.old.handed }
+        ensures failures { self.new.failures ≡ self.old.failures }
+    {
+        match self.answers.get(self.at) {
+            Some(sent) => {
+                let sent = *sent;
+                self.at += 1;
+                sent
+            }
+            None => Sent::Taken,
+        }
+    }
+
+    /// Notes a datagram. False where there is no memory for its copy.
+    fn note(&mut self, to: Peer, bytes: &[u8]) -> bool
+        ensures noted { result ≡ true → map sent_as self.new.handed.items ≡ map sent_as self.old.handed.items ++ record { peer = to; bytes = bytes.now } ∷ [] }
+        ensures refused { result ≡ false → self.new.handed.items ≡ self.old.handed.items }
+        ensures failures { self.new.failures ≡ self.old.failures }
+    {
+        let Ok(bytes) = Vec::from_slice(self.alloc, bytes) else {
+            return false;
+        };
+        self.handed.push(SentDatagram { to, bytes }).is_ok()
+    }
+}
+
+impl Wire for WireScript {
+    ghost use Rattle.std.specs.Prelude.{Some, map};
+    ghost use Rattle.srt_mailbox.specs.Counts.{Grew};
+    ghost use Rattle.srt_poller.specs.Devices.{handed_by_send, joined};
+    ghost use Rattle.srt_poller.specs.declared.devices.Sent.TheVariants.{Later, Failed as SendFailed};
+    ghost use Rattle.srt_poller.specs.Scripts.{sent_as, answer_at, answers_of, answers_given};
+
+    ghost failures = { λ w. w.failures };
+
+    ghost handed = { λ w. Some (map sent_as w.handed.items) };
+
+    fn send(&mut self, to: Peer, bytes: &[u8]) -> Sent
+        ensures failed { result ≡ SendFailed → Grew self.old.failures self.new.failures }
+        ensures tells { ⟦<WireScript as Wire>⟧.handed self.new ≡ joined (⟦<WireScript as Wire>⟧.handed self.old) (handed_by_send result (record { peer = to; bytes = bytes.now })) }
+        ensures does { (result ≡ Later) ⊎ (result ≡ answer_at (slice_get (answers_of self.old) (answers_given self.old))) }
+    {
+        let sent = self.answer();
+        if sent == Sent::Later {
+            return Sent::Later;
+        }
+        if !self.note(to, bytes) {
+            return Sent::Later;
+        }
+        if sent == Sent::Failed {
+            self.failures = self.failures.saturating_add(1);
+        }
+        sent
+    }
+
+    fn failures(&self) -> u64 {
+        self.failures
+    }
+}
+
+/// A clock in memory. It gives its moments in turn, and then the last again; with none it gives 0.
+#[derive(Drop)]
+pub struct ClockScript {
+    moments: Vec<u64>,
+    at: usize,
+}
+
+impl ClockScript {
+    ghost use Rattle.srt_poller.specs.Scripts.{moments_of, moments_given};
+
+    /// A clock that gives these moments, in microseconds; from 2^62 on they are given as 2^62 - 1.
+    pub fn new(moments: Vec<u64>) -> ClockScript
+        ensures moments { moments_of result ≡ moments.items }
+        ensures given { moments_given result ≡ 0 }
+    {
+        ClockScript { moments, at: 0 }
+    }
+}
+
+impl Clock for ClockScript {
+    ghost use Rattle.srt_poller.specs.Scripts.{moment_at, moments_of, moments_given};
+
+    fn next(&mut self) -> u64
+        ensures limit { result < 2 ^ 62 }
+        ensures does { result ≡ moment_at (moments_of self.old) (moments_given self.old) }
+        ensures moments { moments_of self.new ≡ moments_of self.old }
+    {
+        let Some(moment) = self.moments.get(self.at) else {
+            return 0;
+        };
+        let moment = *moment;
+        if self.at + 1 < self.moments.len() {
+            self.at += 1;
+        }
+        moment.min((1 << 62) - 1)
+    }
+}
