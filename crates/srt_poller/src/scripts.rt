@@ -1,6 +1,6 @@
 //! Devices in memory, which do what their scripts say and tell their datagrams.
 
-ghost use Rattle.std.specs.Prelude.{◌≡◌, ◌⊎◌, ℕ, ◌<◌, ◌≤◌, ◌+◌, ◌-◌, ◌^◌, Some, true, false, [], ◌∷◌, ◌++◌, length, map, slice_get, take};
+ghost use Rattle.std.specs.Prelude.{◌≡◌, ◌⊎◌, ℕ, ◌<◌, ◌≤◌, ◌+◌, ◌-◌, ◌^◌, Some, option_copied, true, false, [], ◌∷◌, ◌++◌, length, map, min, slice_get, take};
 
 use crate::devices::{Clock, Polled, Read, Sent, Source, Wire};
 use srt_seq::Peer;
@@ -15,6 +15,19 @@ pub struct ScriptDatagram {
     pub bytes: Vec<u8>,
     /// When it comes, in microseconds; from 2^62 on it is given as 2^62 - 1.
     pub moment: u64,
+}
+
+impl ScriptDatagram {
+    /// Copies the first 2048 bytes to the front of the buffer, and returns how many they are.
+    fn copy_to(&self, buffer: &mut [u8; 2048]) -> usize
+        ensures len { result ≡ min (length self.now.bytes.items) 2048 }
+        ensures bytes { take result buffer.new ≡ take 2048 self.now.bytes.items }
+    {
+        let bytes = self.bytes.as_slice();
+        let len = bytes.len().min(2048);
+        buffer[..len].copy_from_slice(&bytes[..len]);
+        len
+    }
 }
 
 /// What a source in memory does at one call.
@@ -57,6 +70,13 @@ impl SourceScript {
             failures: 0,
         }
     }
+
+    /// The next step, if there is one.
+    fn step(&self) -> Option<&SourceStep>
+        ensures { option_copied result ≡ slice_get self.now.steps.items self.now.at }
+    {
+        self.steps.as_slice().get(self.at)
+    }
 }
 
 impl Source for SourceScript {
@@ -77,7 +97,7 @@ impl Source for SourceScript {
         ensures done { steps_done self.new ≡ after_wait (slice_get (steps_of self.old) (steps_done self.old)) (steps_done self.old) }
         ensures steps { steps_of self.new ≡ steps_of self.old }
     {
-        match self.steps.get(self.at) {
+        match self.step() {
             Some(SourceStep::WaitFails) => {
                 self.at += 1;
                 self.failures = self.failures.saturating_add(1);
@@ -98,10 +118,9 @@ impl Source for SourceScript {
         ensures done { steps_done self.new ≡ after_read (slice_get (steps_of self.old) (steps_done self.old)) (steps_done self.old) }
         ensures steps { steps_of self.new ≡ steps_of self.old }
     {
-        match self.steps.get(self.at) {
+        match self.step() {
             Some(SourceStep::Datagram(datagram)) => {
-                let len = datagram.bytes.len().min(2048);
-                buffer[..len].copy_from_slice(&datagram.bytes.as_slice()[..len]);
+                let len = datagram.copy_to(buffer);
                 let moment = datagram.moment.min((1 << 62) - 1);
                 let peer = datagram.peer;
                 self.at += 1;

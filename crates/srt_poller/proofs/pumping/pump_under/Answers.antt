@@ -20,16 +20,18 @@ returns g c =
     let events = c.loop-round.invariant.0 in
     let h = c.loop-round.invariant.1 in
     let report_is : c.report.result ≡ with_kept (counted nothing events) (kept_after None events) =
-      c.report.ensures ∙ ap (λ (n : Report). with_kept n (kept_in c.loop-round.poller)) h.report ∙ ap (λ (k : Option Kept). with_kept (counted nothing events) k) h.kept in
+    c.report.ensures ∙ ap (λ (n : Report). with_kept n (kept_in c.loop-round.poller)) h.report ∙ ap (λ (k : Option Kept). with_kept (counted nothing events) k) h.kept in
     let few : length events ≤ c.args.rounds * (258 + 64 * length c.args.ends.now) =
-      subst (λ (n : ℕ). length events ≤ n * (258 + 64 * length c.args.ends.now)) same h.few in
-    (events, record {
-      follow = h.follow;
-      gave = h.gave;
-      handed = h.handed;
-      ends = h.ends;
-      origins = have_origins _ _ h.follow;
-      report = report_is;
-      sums = λ routes. report_is ∙ all_summed _ _ c.args.rounds _ c.ranges.rounds.fits few routes;
-      few = few;
-    })
+    subst (λ (n : ℕ). length events ≤ n * (258 + 64 * length c.args.ends.now)) same h.few in (
+      events,
+      record {
+        follow = h.follow;
+        gave = h.gave;
+        handed = h.handed;
+        ends = h.ends;
+        origins = have_origins _ _ h.follow;
+        report = report_is;
+        sums = λ routes. report_is ∙ all_summed _ _ c.args.rounds _ c.ranges.rounds.fits few routes;
+        few = few;
+      },
+    )

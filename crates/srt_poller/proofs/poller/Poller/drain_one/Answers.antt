@@ -10,7 +10,7 @@ use Rattle.srt_poller.proofs.poller.Poller.drain_one.Goals as goal
 
 pub returns-then-not-take-clause-went : goal.returns-then-not-take-clause-went
 returns-then-not-take-clause-went g c class gave =
-    rw (unchanged_here c.args.ends.now c.args.route _ c.take.new.self (c.if-not-take.ensures.none refl)) (went_none class 1 _)
+    rw (unchanged_here c.args.ends.now c.args.route _ c.take.new.self (c.if-not-take.ensures.none refl).0) (went_none class 1 _)
 
 pub returns-in-Taken : goal.returns-in-Taken
 returns-in-Taken g c = record {

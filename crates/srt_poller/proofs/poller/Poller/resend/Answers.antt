@@ -3,7 +3,7 @@ use Rattle.std.specs.Prelude.{option_map}
 use Rattle.srt_poller.specs.declared.poller.KeptReply.{KeptReply}
 use Rattle.srt_poller.specs.Devices.{joined}
 use Rattle.srt_poller.specs.History.{Resends, FromRoute, from, kept, kept_if}
-use Rattle.srt_poller.proofs.Steps.{joined_none, sent_as, are_later_none, went_one}
+use Rattle.srt_poller.proofs.Steps.{joined_none, sent_as, are_later_none, went_none, went_one}
 use Rattle.srt_poller.proofs.poller.Poller.resend.Goals as goal
 
 pub returns-in-Taken : goal.returns-in-Taken
@@ -15,3 +15,15 @@ returns-in-Taken g c class gave ends =
     (sym (joined_none _))
     (c.send-sent.ensures.tells ∙ ap (joined (g.W.Wire.handed c.args.wire.now)) (sent_as c.send-sent.result (from (FromRoute k.route) k.reply)))
     (are_later_none _ _ (λ r. refl) (λ r. refl)) gone c.count_reply.ensures
+
+pub returns-in-Later : goal.returns-in-Later
+returns-in-Later g c class gave ends =
+    let k = kept c.in-Some.kept.route (record { peer = c.in-Some.kept.peer; bytes = take c.in-Some.kept.len c.args.self.now.text }) in
+    let here = ap (option_map (λ (x : KeptReply). kept x.route (record { peer = x.peer; bytes = take x.len c.args.self.now.text }))) c.in-Some.is in
+    went_one class (Resends k.route k.reply c.send-sent.result) _ _ here
+    (sym (joined_none _))
+    (c.send-sent.ensures.tells ∙ ap (joined (g.W.Wire.handed c.args.wire.now)) (sent_as c.send-sent.result (from (FromRoute k.route) k.reply)))
+    (are_later_none _ _ (λ r. refl) (λ r. refl)) (here ∙ rw c.in-Later.is refl) c.count_reply.ensures
+
+pub returns-in_default : goal.returns-in_default
+returns-in_default g c class gave ends = went_none class 1 _

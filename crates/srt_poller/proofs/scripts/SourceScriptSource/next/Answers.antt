@@ -1,7 +1,16 @@
+use Rattle.std.proofs.Common.{sym, ap, ◌∙◌, Some}
+use Rattle.srt_poller.specs.declared.scripts.SourceStep.TheVariants.{Datagram, Empty, ReadFails}
+use Rattle.srt_poller.proofs.Scripted.{given_more}
 use Rattle.srt_poller.proofs.scripts.SourceScriptSource.next.Goals as goal
 
-pub returns-in-Some-Empty-clause-does : goal.returns-in-Some-Empty-clause-does
-returns-in-Some-Empty-clause-does c = ?
+pub returns-in-Some-Empty-clause-tells : goal.returns-in-Some-Empty-clause-tells
+returns-in-Some-Empty-clause-tells c =
+    ap Some (given_more c.args.self.now.steps.items c.args.self.now.at Empty (sym c.in-Some-Empty.ensures ∙ ap Some c.in-Some-Empty.field-0-is))
+
+pub returns-in-Some-ReadFails-clause-tells : goal.returns-in-Some-ReadFails-clause-tells
+returns-in-Some-ReadFails-clause-tells c =
+    ap Some (given_more c.args.self.now.steps.items c.args.self.now.at ReadFails (sym c.in-Some-ReadFails.ensures ∙ ap Some c.in-Some-ReadFails.field-0-is))
 
 pub returns-in-Some-Datagram-clause-tells : goal.returns-in-Some-Datagram-clause-tells
-returns-in-Some-Datagram-clause-tells c = ?
+returns-in-Some-Datagram-clause-tells c =
+    rw (c.copy_to-len.ensures.bytes, c.min-moment.ensures) (ap Some (given_more c.args.self.now.steps.items c.args.self.now.at (Datagram c.in-Some-Datagram.datagram) (sym c.in-Some-Datagram.ensures ∙ ap Some c.in-Some-Datagram.field-0-is)))
