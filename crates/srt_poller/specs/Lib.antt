@@ -5,3 +5,4 @@ pub mod Rounds
 pub mod Pollers
 pub mod Pumped
 pub mod Scripts
+pub mod Sockets

@@ -3,11 +3,13 @@
 
 mod devices;
 mod ends;
+mod pace;
 mod poller;
 mod pumping;
 mod report;
 mod scripts;
 mod signals;
+mod sockets;
 
 pub use devices::{Clock, Polled, Read, Sent, Source, Wire};
 pub use ends::Ends;
@@ -17,4 +19,5 @@ pub use scripts::{
     ClockScript, ScriptDatagram, SentDatagram, SourceScript, SourceStep, WireScript,
 };
 pub use signals::{Signals, Unsignalled};
+pub use sockets::{BindFault, MioSource, MioWire};
 pub use srt_mailbox::Gate;

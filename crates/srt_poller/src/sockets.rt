@@ -1,0 +1,258 @@
+//! A source and a wire over one UDP socket.
+
+ghost use Rattle.std.specs.Prelude.{◌≡◌, ◌++◌, IfOk};
+ghost use Rattle.std.specs.Net.Addr.{ipv4_octets};
+ghost use Rattle.srt_poller.specs.Sockets.{mapped};
+
+use crate::devices::{Clock, Polled, Read, Sent, Source, Wire};
+use crate::pace::Pace;
+use libc::net;
+use mio::net::UdpSocket;
+use mio::{Events, Interest, Poll, Token};
+use srt_seq::Peer;
+use std::alloc::{AllocError, Global};
+use std::io::ErrorKind;
+use std::net::{IpAddr, Ipv4Addr, Net, SocketAddr, SocketAddrV4};
+use std::os::fd::AsRawFd;
+use std::sync::Arc;
+use std::sync::atomic::{AtomicBool, Ordering};
+use std::time::Duration;
+
+// Bytes of datagrams that the system is asked to hold until they are read.
+const RECEIVE_BUFFER: u32 = 4_194_304;
+
+/// Why no socket could be bound. Nothing is kept then.
+#[derive(Clone, Copy, Debug, PartialEq, Eq)]
+pub enum BindFault {
+    /// The system gave no socket at this address.
+    Socket,
+    /// The memory was refused.
+    OutOfMemory,
+}
+
+#[derive(Drop)]
+struct Shared {
+    socket: UdpSocket,
+    // A datagram was put off since the source last waited.
+    put_off: AtomicBool,
+}
+
+/// A source over a UDP socket. It tells no datagrams.
+#[derive(Drop)]
+pub struct MioSource<C: Clock> {
+    poll: Poll,
+    events: Events<Global>,
+    shared: Arc<Shared>,
+    clock: C,
+    pace: Pace,
+    failures: u64,
+}
+
+/// A wire over a UDP socket. It tells no datagrams.
+#[derive(Drop)]
+pub struct MioWire {
+    shared: Arc<Shared>,
+    failures: u64,
+}
+
+/// Asks for room for datagrams that wait to be read. The system may give less.
+fn ask_for_room(socket: &UdpSocket) {
+    let mut value = [0; 16];
+    value[..4].copy_from_slice(&RECEIVE_BUFFER.to_ne_bytes());
+    let _ = unsafe {
+        net::setsockopt(
+            socket.as_raw_fd(),
+            net::SOL_SOCKET,
+            net::SO_RCVBUF,
+            &value,
+            4,
+        )
+    };
+}
+
+/// A peer as the gateway knows it.
+fn peer_at(ip: Ipv4Addr, port: u16) -> Peer
+    ensures ip { result.ip ≡ mapped (ipv4_octets ip) }
+    ensures port { result.port ≡ port }
+{
+    let [a, b, c, d] = ip.octets();
+    Peer {
+        ip: [0, 0, 0, 0, 0, 0, 0, 0, 0, 0, 255, 255, a, b, c, d],
+        port,
+    }
+}
+
+/// Where a datagram came from.
+fn peer_of(from: SocketAddr) -> Peer {
+    match from.ip() {
+        IpAddr::V4(ip) => peer_at(ip, from.port()),
+        IpAddr::V6(ip) => Peer {
+            ip: ip.octets(),
+            port: from.port(),
+        },
+    }
+}
+
+/// Where a datagram to this peer goes, if it has an IPv4 address.
+fn address_of(peer: Peer) -> Option<SocketAddr> {
+    let [0, 0, 0, 0, 0, 0, 0, 0, 0, 0, 255, 255, a, b, c, d] = peer.ip else {
+        return None;
+    };
+    let ip = Ipv4Addr::new(a, b, c, d);
+    Some(SocketAddr::V4(SocketAddrV4::new(ip, peer.port)))
+}
+
+impl Shared {
+    fn share(alloc: Global, socket: UdpSocket) -> Result<(Arc<Shared>, Arc<Shared>), AllocError> {
+        let ours = Arc::new(
+            alloc,
+            Shared {
+                socket,
+                put_off: AtomicBool::new(false),
+            },
+        )?;
+        let theirs = Arc::try_clone(&ours)?;
+        Ok((ours, theirs))
+    }
+}
+
+impl<C: Clock> MioSource<C> {
+    /// A source and a wire over one socket at this address. The clock stamps the datagrams. It asks the system to hold
+    /// 4 MiB of datagrams; whether it does isn't looked at.
+    pub fn bind<N: Net>(
+        net: &N,
+        alloc: Global,
+        addr: SocketAddrV4,
+        clock: C,
+    ) -> Result<(MioSource<C>, MioWire), BindFault>
+    where
+        C: Drop,
+        ensures source { IfOk result (λ r. ⟦<MioSource<C> as Source>⟧.failures r.0 ≡ 0) }
+        ensures wire { IfOk result (λ r. ⟦<MioWire as Wire>⟧.failures r.1 ≡ 0) }
+    {
+        let Ok(mut socket) = UdpSocket::bind(net, SocketAddr::V4(addr)) else {
+            return Err(BindFault::Socket);
+        };
+        ask_for_room(&socket);
+        let Ok(poll) = Poll::new(net) else {
+            return Err(BindFault::Socket);
+        };
+        if poll
+            .registry()
+            .register(&mut socket, Token(0), Interest::READABLE)
+            .is_err()
+        {
+            return Err(BindFault::Socket);
+        }
+        let Ok(events) = Events::with_capacity(alloc, 4) else {
+            return Err(BindFault::OutOfMemory);
+        };
+        let Ok((ours, theirs)) = Shared::share(alloc, socket) else {
+            return Err(BindFault::OutOfMemory);
+        };
+        let source = MioSource {
+            poll,
+            events,
+            shared: ours,
+            clock,
+            pace: Pace::new(),
+            failures: 0,
+        };
+        let wire = MioWire {
+            shared: theirs,
+            failures: 0,
+        };
+        Ok((source, wire))
+    }
+
+    /// The address at which the socket is, if the system says it.
+    pub fn address(&self) -> Option<SocketAddr> {
+        self.shared.socket.local_addr().ok()
+    }
+}
+
+impl<C: Clock> Source for MioSource<C> {
+    ghost use Rattle.std.specs.Prelude.{None};
+
+    ghost failures = { λ s. s.failures };
+
+    ghost gave = { λ s. None };
+
+    /// Waits at most 10 ms.
+    fn wait(&mut self) -> Polled {
+        if self.shared.put_off.swap(false, Ordering::SeqCst) {
+            self.pace.put_off();
+        }
+        let most = Duration::from_millis(self.pace.wait());
+        match self.poll.poll(&mut self.events, Some(most)) {
+            Ok(()) => Polled::Ready,
+            Err(_) => {
+                self.failures = self.failures.saturating_add(1);
+                Polled::Failed
+            }
+        }
+    }
+
+    fn next(&mut self, buffer: &mut [u8; 2048]) -> Read {
+        match self.shared.socket.recv_from(buffer.as_mut_slice()) {
+            Ok((len, from)) => {
+                self.pace.came();
+                Read::Datagram(peer_of(from), len, self.clock.next())
+            }
+            Err(error) => {
+                self.pace.ended();
+                if error.kind() == ErrorKind::WouldBlock {
+                    return Read::Empty;
+                }
+                self.failures = self.failures.saturating_add(1);
+                Read::Failed
+            }
+        }
+    }
+
+    fn failures(&self) -> u64 {
+        self.failures
+    }
+}
+
+impl MioWire {
+    ghost use Rattle.srt_mailbox.specs.Counts.{Grew};
+    ghost use Rattle.srt_poller.specs.declared.devices.Sent.TheVariants.{Failed as SendFailed};
+
+    fn fail(&mut self) -> Sent
+        ensures sent { result ≡ SendFailed }
+        ensures grew { Grew self.old.failures self.new.failures }
+    {
+        self.failures = self.failures.saturating_add(1);
+        Sent::Failed
+    }
+}
+
+impl Wire for MioWire {
+    ghost use Rattle.std.specs.Prelude.{None};
+
+    ghost failures = { λ w. w.failures };
+
+    ghost handed = { λ w. None };
+
+    /// Fails too if the peer has no IPv4 address.
+    fn send(&mut self, to: Peer, bytes: &[u8]) -> Sent {
+        let Some(target) = address_of(to) else {
+            return self.fail();
+        };
+        match self.shared.socket.send_to(bytes, target) {
+            Ok(_) => Sent::Taken,
+            Err(error) => {
+                if error.kind() == ErrorKind::WouldBlock {
+                    self.shared.put_off.store(true, Ordering::SeqCst);
+                    return Sent::Later;
+                }
+                self.fail()
+            }
+        }
+    }
+
+    fn failures(&self) -> u64 {
+        self.failures
+    }
+}
