@@ -21,3 +21,6 @@ pub use scripts::{
 pub use signals::{Signals, Unsignalled};
 pub use sockets::{BindFault, MioSource, MioWire};
 pub use srt_mailbox::Gate;
+
+#[cfg(test)]
+mod tests;

@@ -1,0 +1,556 @@
+//! Rounds over devices in memory and over a socket. The cookie was computed by Python's hashlib; the other bytes are
+//! worked out from the rules by hand.
+
+ghost use Rattle.std.specs.Prelude.{◌≡◌, ◌<◌, ◌≤◌, ◌^◌, IfOk, length};
+ghost use Rattle.srt_lobby.specs.Names.{names_of};
+
+use crate::{
+    BindFault, ClockScript, Ends, MioSource, MioWire, Polled, Read, Report, ScriptDatagram, Sent,
+    Source, SourceScript, SourceStep, Wire, WireScript, pump,
+};
+use mio::net::UdpSocket;
+use srt_cookie::Secret;
+use srt_lobby::Names;
+use srt_mailbox::{Gate, RouteCell, Serve, Served, open_route};
+use srt_seq::{Entry, Mode, Peer, Turned};
+use std::alloc::Global;
+use std::net::{Ipv4Addr, Net, SocketAddr, SocketAddrV4};
+use std::process::Abort;
+use std::sync::Wait;
+use std::test::Fail;
+
+/// An INDUCTION with caller ID 12345678 and initial number 5.
+const INDUCTION: &str =
+    "80000000000000000000000000000000000000040000000200000005000005dc000020000000000100bc614e0000000000000000000000000000000000000000";
+
+/// Its answer to port 5000 in the first minute.
+const INDUCTION_ANSWER: &str =
+    "80000000000000000000000000bc614e0000000500004a1700000005000005dc000020000000000100000001ecc958a600000000000000000000000000000000";
+
+/// A CONCLUSION from port 5000 with caller ID 1 and initial number 5 that asks to publish on the first route.
+const CONCLUSION: &str =
+    "80000000000000000000000000000000000000050000000500000005000005dc00002000ffffffff00000001ecc958a6000000000000000000000000000000000001000300010500000000bf00780078000500063a3a212374733d726f696475703d6d2c696c627500006873";
+
+/// Its answer, also to the same conclusion again.
+const CONCLUSION_ANSWER: &str =
+    "80000000000000000000000000000001000000050000000100000005000005dc00000400ffffffff00100000000000000000000000000000000000000000000000020003000105000000003f00780078";
+
+/// A SHUTDOWN to a socket ID that is no route's.
+const STRAY: &str = "80050000000000000000000000400000";
+
+const NOTHING: Report = Report {
+    read: 0,
+    answered: 0,
+    accepted: 0,
+    full: 0,
+    dropped: 0,
+    memory: 0,
+    sent: 0,
+    lost: 0,
+    faults: 0,
+};
+
+fn peer(port: u16) -> Peer {
+    Peer {
+        ip: [0, 0, 0, 0, 0, 0, 0, 0, 0, 0, 0xff, 0xff, 127, 0, 0, 1],
+        port,
+    }
+}
+
+fn comes(alloc: Global, text: &str) -> Result<SourceStep, Fail> {
+    Ok(SourceStep::Datagram(ScriptDatagram {
+        peer: peer(5000),
+        bytes: hex::decode(alloc, text)?,
+        moment: 1_000_000,
+    }))
+}
+
+fn entry(alloc: Global, name: &str, mode: Mode, buffer: u32) -> Result<Entry, Fail> {
+    Ok(Entry {
+        name: String::from_str(alloc, name)?,
+        mode,
+        latency_ms: 120,
+        buffer,
+        sessions: 5,
+        inbox: 16,
+        outbox: 16,
+    })
+}
+
+/// The bytes 0 to 31.
+fn secret() -> Secret {
+    let mut bytes = [0u8; 32];
+    for i in 0..32 {
+        bytes[i] = i as u8;
+    }
+    Secret::new(bytes)
+}
+
+/// Two routes with their ends.
+#[derive(Drop)]
+struct Routes {
+    secret: Secret,
+    names: Names,
+    ends: Vec<Ends>,
+    cells: Vec<RouteCell>,
+    ghost paired: { length ends.items ≡ length (names_of names) },
+}
+
+/// The routes `studio` and `files`.
+fn open_routes<R: Wait>(rt: &R, alloc: Global) -> Result<Routes, Fail> {
+    let entries = vec![in alloc;
+        entry(alloc, "studio", Mode::Live, 1024)?,
+        entry(alloc, "files", Mode::Buffer, 32)?,
+    ]?;
+    let Ok(names) = Names::open(alloc, &entries) else {
+        return Err(Fail::from("the names open"));
+    };
+    let mut ends = Vec::new(alloc);
+    let mut cells = Vec::new(alloc);
+    let mut r = 0;
+    for entry in &entries {
+        let Ok((ingress, _, cell, drain)) = open_route(rt, alloc, entry, r) else {
+            return Err(Fail::from("the route opens"));
+        };
+        ends.push(Ends { ingress, drain })?;
+        cells.push(cell)?;
+        r += 1;
+    }
+    Ok(Routes {
+        secret: secret(),
+        names,
+        ends,
+        cells,
+    })
+}
+
+/// Passes always.
+#[derive(Drop)]
+struct Open;
+
+impl Gate for Open {
+    ghost held = { λ gate. 0 };
+
+    fn pass(&mut self, _route: usize) -> bool {
+        true
+    }
+
+    fn held(&self) -> u64 {
+        0
+    }
+}
+
+/// What this many rounds over these devices report.
+fn reported(
+    rt: &(impl AllocGlobal + Wait),
+    routes: &mut Routes,
+    steps: Vec<SourceStep>,
+    wire: &mut WireScript,
+    rounds: u32,
+) -> Report {
+    let mut source = SourceScript::new(steps);
+    pump(
+        rt,
+        rt.alloc(),
+        &routes.secret,
+        &routes.names,
+        &mut source,
+        wire,
+        routes.ends.as_mut_slice(),
+        rounds,
+    )
+}
+
+/// Serves the first route this many times.
+fn serve(rt: &impl Wait, routes: &Routes, times: u32) {
+    let mut gate = Open;
+    if let Some(cell) = routes.cells.first() {
+        for _ in 0..times {
+            let _ = cell.serve(rt, &mut gate);
+        }
+    }
+}
+
+/// Asserts that the wire was handed these and nothing else, all to port 5000.
+fn assert_handed(
+    rt: &(impl AllocGlobal + Abort),
+    wire: &WireScript,
+    wanted: &[&str],
+) -> Result<(), Fail> {
+    assert_eq!(rt; wire.handed().len(), wanted.len());
+    for (sent, text) in wire.handed().iter().zip(wanted) {
+        assert!(rt; sent.to == peer(5000));
+        assert_eq!(rt; sent.bytes, hex::decode(rt.alloc(), text)?);
+    }
+    Ok(())
+}
+
+#[test]
+fn two_rounds_with_an_induction_and_a_failed_read(rt: HostRuntime) -> Result<(), Fail> {
+    let alloc = rt.alloc();
+    let mut routes = open_routes(&rt, alloc)?;
+    let mut wire = WireScript::new(alloc, Vec::new(alloc));
+    let steps = vec![in alloc; comes(alloc, INDUCTION)?, SourceStep::ReadFails]?;
+    let report = reported(&rt, &mut routes, steps, &mut wire, 2);
+    assert_eq!(&rt;
+        report,
+        Report {
+            read: 1,
+            answered: 1,
+            sent: 1,
+            faults: 1,
+            ..NOTHING
+        }
+    );
+    assert_handed(&rt, &wire, &[INDUCTION_ANSWER])
+}
+
+/// What one round over an induction reports with a wire that answers so.
+fn induction_with(
+    rt: &(impl AllocGlobal + Wait),
+    wait: SourceStep,
+    sent: Sent,
+) -> Result<Report, Fail> {
+    let alloc = rt.alloc();
+    let mut routes = open_routes(rt, alloc)?;
+    let mut wire = WireScript::new(alloc, vec![in alloc; sent]?);
+    let steps = vec![in alloc; wait, comes(alloc, INDUCTION)?]?;
+    Ok(reported(rt, &mut routes, steps, &mut wire, 1))
+}
+
+#[test]
+fn one_call_of_a_device_fails(rt: HostRuntime) -> Result<(), Fail> {
+    let late = Report {
+        read: 1,
+        answered: 1,
+        lost: 1,
+        ..NOTHING
+    };
+    let failed = Report { faults: 1, ..late };
+    assert_eq!(&rt; induction_with(&rt, SourceStep::Wait, Sent::Later)?, late);
+    assert_eq!(&rt;
+        induction_with(&rt, SourceStep::Wait, Sent::Failed)?,
+        failed
+    );
+    assert_eq!(&rt;
+        induction_with(&rt, SourceStep::WaitFails, Sent::Taken)?,
+        Report {
+            faults: 1,
+            ..NOTHING
+        }
+    );
+    Ok(())
+}
+
+#[test]
+fn what_comes_is_answered_offered_or_dropped(rt: HostRuntime) -> Result<(), Fail> {
+    let alloc = rt.alloc();
+    let mut routes = open_routes(&rt, alloc)?;
+    let mut wire = WireScript::new(alloc, Vec::new(alloc));
+    let mut steps = vec![in alloc; comes(alloc, STRAY)?, comes(alloc, INDUCTION)?]?;
+    for _ in 0..17 {
+        steps.push(comes(alloc, CONCLUSION)?)?;
+    }
+    let report = reported(&rt, &mut routes, steps, &mut wire, 1);
+    assert_eq!(&rt;
+        report,
+        Report {
+            read: 19,
+            answered: 1,
+            accepted: 16,
+            full: 1,
+            dropped: 1,
+            sent: 1,
+            ..NOTHING
+        }
+    );
+    assert_handed(&rt, &wire, &[INDUCTION_ANSWER])
+}
+
+/// Routes of which the first has this many replies in its outbox.
+fn with_replies(rt: &(impl AllocGlobal + Wait), count: u32) -> Result<Routes, Fail> {
+    let alloc = rt.alloc();
+    let mut routes = open_routes(rt, alloc)?;
+    let mut wire = WireScript::new(alloc, Vec::new(alloc));
+    let mut steps = Vec::new(alloc);
+    for _ in 0..count {
+        steps.push(comes(alloc, CONCLUSION)?)?;
+    }
+    // No reply waits before the route is served.
+    let _ = reported(rt, &mut routes, steps, &mut wire, 1);
+    serve(rt, &routes, count.saturating_mul(2));
+    Ok(routes)
+}
+
+#[test]
+fn a_reply_that_is_put_off_goes_first_and_once(rt: HostRuntime) -> Result<(), Fail> {
+    let alloc = rt.alloc();
+    let mut routes = with_replies(&rt, 3)?;
+    let mut answers = Vec::new(alloc);
+    for _ in 0..10_000 {
+        answers.push(Sent::Later)?;
+    }
+    let mut wire = WireScript::new(alloc, answers);
+    let report = reported(&rt, &mut routes, Vec::new(alloc), &mut wire, 10_001);
+    assert_eq!(&rt; report, Report { sent: 3, ..NOTHING });
+    assert_handed(
+        &rt,
+        &wire,
+        &[CONCLUSION_ANSWER, CONCLUSION_ANSWER, CONCLUSION_ANSWER],
+    )
+}
+
+#[test]
+fn a_reply_that_is_kept_at_the_end_is_lost(rt: HostRuntime) -> Result<(), Fail> {
+    let alloc = rt.alloc();
+    let mut routes = with_replies(&rt, 2)?;
+    let mut wire = WireScript::new(alloc, vec![in alloc; Sent::Later, Sent::Later]?);
+    let report = reported(&rt, &mut routes, Vec::new(alloc), &mut wire, 2);
+    assert_eq!(&rt; report, Report { lost: 1, ..NOTHING });
+    assert_handed(&rt, &wire, &[])?;
+    // The other one was not taken.
+    let report = reported(&rt, &mut routes, Vec::new(alloc), &mut wire, 1);
+    assert_eq!(&rt; report, Report { sent: 1, ..NOTHING });
+    assert_handed(&rt, &wire, &[CONCLUSION_ANSWER])
+}
+
+#[test]
+fn a_reply_that_meets_a_failure_is_lost(rt: HostRuntime) -> Result<(), Fail> {
+    let alloc = rt.alloc();
+    let mut routes = with_replies(&rt, 2)?;
+    let mut wire = WireScript::new(alloc, vec![in alloc; Sent::Failed]?);
+    let report = reported(&rt, &mut routes, Vec::new(alloc), &mut wire, 1);
+    assert_eq!(&rt;
+        report,
+        Report {
+            sent: 1,
+            lost: 1,
+            faults: 1,
+            ..NOTHING
+        }
+    );
+    assert_eq!(&rt; wire.failures(), 1);
+    Ok(())
+}
+
+/// A source that serves a route whenever it waits, and gives one conclusion a round.
+#[derive(Drop)]
+struct Serving<'a, R: Wait> {
+    rt: &'a R,
+    cell: &'a RouteCell,
+    bytes: Vec<u8>,
+    left: u32,
+    given: bool,
+    blocked: u32,
+}
+
+impl<'a, R: Wait> Source for Serving<'a, R> {
+    ghost use Rattle.std.specs.Prelude.{None};
+
+    ghost failures = { λ s. 0 };
+
+    ghost gave = { λ s. None };
+
+    fn wait(&mut self) -> Polled {
+        let mut gate = Open;
+        self.given = false;
+        for _ in 0..64u32 {
+            match self.cell.serve(self.rt, &mut gate) {
+                Served::Turned(Turned::Applied) | Served::Turned(Turned::Moved) => {}
+                Served::Turned(Turned::Blocked) => {
+                    self.blocked = self.blocked.saturating_add(1);
+                    return Polled::Ready;
+                }
+                _ => return Polled::Ready,
+            }
+        }
+        Polled::Ready
+    }
+
+    fn next(&mut self, buffer: &mut [u8; 2048]) -> Read {
+        if self.given || self.left == 0 {
+            return Read::Empty;
+        }
+        self.given = true;
+        self.left -= 1;
+        let len = self.bytes.len().min(2048);
+        buffer[..len].copy_from_slice(&self.bytes.as_slice()[..len]);
+        Read::Datagram(peer(5000), len, 1_000_000)
+    }
+
+    fn failures(&self) -> u64 {
+        0
+    }
+}
+
+/// The first reply is kept and 16 stand in the outbox, so turns are blocked: the next reply waits, and 16 items more
+/// fill the inbox. Of 60 conclusions these 34 are answered once the wire takes.
+#[test]
+fn a_wire_that_puts_off_blocks_turns_and_fills_inboxes(rt: HostRuntime) -> Result<(), Fail> {
+    let alloc = rt.alloc();
+    let mut routes = open_routes(&rt, alloc)?;
+    let mut answers = Vec::new(alloc);
+    for _ in 0..10_000 {
+        answers.push(Sent::Later)?;
+    }
+    let mut wire = WireScript::new(alloc, answers);
+    let Some(cell) = routes.cells.first() else {
+        return Err(Fail::from("a first route"));
+    };
+    let mut source = Serving {
+        rt: &rt,
+        cell,
+        bytes: hex::decode(alloc, CONCLUSION)?,
+        left: 60,
+        given: false,
+        blocked: 0,
+    };
+    let report = pump(
+        &rt,
+        alloc,
+        &routes.secret,
+        &routes.names,
+        &mut source,
+        &mut wire,
+        routes.ends.as_mut_slice(),
+        10_100,
+    );
+    assert!(&rt; source.blocked > 9_000);
+    assert_eq!(&rt;
+        report,
+        Report {
+            read: 60,
+            accepted: 34,
+            full: 26,
+            sent: 34,
+            ..NOTHING
+        }
+    );
+    for sent in wire.handed() {
+        assert_eq!(&rt; sent.bytes, hex::decode(alloc, CONCLUSION_ANSWER)?);
+    }
+    Ok(())
+}
+
+fn local(port: u16) -> SocketAddrV4 {
+    SocketAddrV4::new(Ipv4Addr::new(127, 0, 0, 1), port)
+}
+
+type Socket = (MioSource<ClockScript>, MioWire);
+
+/// A source and a wire at this port, or at one that the system chooses.
+fn bound<N: Net>(net: &N, alloc: Global, port: u16) -> Result<Socket, Fail> {
+    let clock = ClockScript::new(vec![in alloc; 7]?);
+    match MioSource::bind(net, alloc, local(port), clock) {
+        Ok(ends) => Ok(ends),
+        Err(_) => Err(Fail::from("the socket is bound")),
+    }
+}
+
+fn address(source: &MioSource<ClockScript>) -> Result<SocketAddr, Fail> {
+    match source.address() {
+        Some(address) => Ok(address),
+        None => Err(Fail::from("the socket has an address")),
+    }
+}
+
+/// The next datagram within 100 waits: from whom, and how many bytes.
+fn received(source: &mut MioSource<ClockScript>, buffer: &mut [u8; 2048]) -> Option<(Peer, usize)> {
+    for _ in 0..100u32 {
+        if let Read::Datagram(from, len, _) = source.next(buffer) {
+            return Some((from, len));
+        }
+        let _ = source.wait();
+    }
+    None
+}
+
+#[test]
+fn a_socket_reads_datagrams_of_several_peers(rt: HostRuntime) -> Result<(), Fail> {
+    let alloc = rt.alloc();
+    let (mut source, _wire) = bound(&rt, alloc, 0)?;
+    let target = address(&source)?;
+    let bytes = [7u8; 3000];
+    let mut buffer = [0u8; 2048];
+    for _ in 0..2 {
+        let client = UdpSocket::bind(&rt, SocketAddr::V4(local(0)))?;
+        let port = client.local_addr()?.port();
+        for size in [0usize, 15, 16, 1472, 1473, 2048, 3000] {
+            client.send_to(&bytes[..size], target)?;
+            assert_eq!(&rt;
+                received(&mut source, &mut buffer),
+                Some((peer(port), size.min(2048)))
+            );
+        }
+    }
+    assert_eq!(&rt; source.next(&mut buffer), Read::Empty);
+    assert_eq!(&rt; source.failures(), 0);
+    Ok(())
+}
+
+#[test]
+fn a_socket_answers_an_induction(rt: HostRuntime) -> Result<(), Fail> {
+    let alloc = rt.alloc();
+    let mut routes = open_routes(&rt, alloc)?;
+    let (mut source, mut wire) = bound(&rt, alloc, 0)?;
+    let client = UdpSocket::bind(&rt, SocketAddr::V4(local(0)))?;
+    client.send_to(&hex::decode(alloc, INDUCTION)?, address(&source)?)?;
+    let report = pump(
+        &rt,
+        alloc,
+        &routes.secret,
+        &routes.names,
+        &mut source,
+        &mut wire,
+        routes.ends.as_mut_slice(),
+        10,
+    );
+    assert_eq!(&rt;
+        report,
+        Report {
+            read: 1,
+            answered: 1,
+            sent: 1,
+            ..NOTHING
+        }
+    );
+    let mut answer = [0u8; 100];
+    let (len, from) = client.recv_from(&mut answer)?;
+    assert_eq!(&rt; len, 64);
+    assert_eq!(&rt; from, address(&source)?);
+    Ok(())
+}
+
+#[test]
+fn a_wire_sends_to_ipv4_alone(rt: HostRuntime) -> Result<(), Fail> {
+    let (_source, mut wire) = bound(&rt, rt.alloc(), 0)?;
+    let client = UdpSocket::bind(&rt, SocketAddr::V4(local(0)))?;
+    assert_eq!(&rt;
+        wire.send(peer(client.local_addr()?.port()), &[1, 2, 3]),
+        Sent::Taken
+    );
+    let mut bytes = [0u8; 100];
+    assert_eq!(&rt; client.recv_from(&mut bytes)?.0, 3);
+    let elsewhere = Peer {
+        ip: [1; 16],
+        port: 5000,
+    };
+    assert_eq!(&rt; wire.send(elsewhere, &[1, 2, 3]), Sent::Failed);
+    assert_eq!(&rt; wire.failures(), 1);
+    Ok(())
+}
+
+#[test]
+fn a_port_that_is_taken_is_refused(rt: HostRuntime) -> Result<(), Fail> {
+    let alloc = rt.alloc();
+    let (source, _wire) = bound(&rt, alloc, 0)?;
+    let taken = local(address(&source)?.port());
+    let clock = ClockScript::new(Vec::new(alloc));
+    match MioSource::bind(&rt, alloc, taken, clock) {
+        Ok(_) => Err(Fail::from("a port is bound twice")),
+        Err(fault) => {
+            assert!(&rt; fault == BindFault::Socket);
+            Ok(())
+        }
+    }
+}
