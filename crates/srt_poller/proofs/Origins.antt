@@ -2,12 +2,15 @@
 use Rattle.std.proofs.Common.{◌≡◌, ℕ, ◌==◌, Bool, true, false, Option, None, Some, List, [], ◌∷◌, ◌++◌, refl, sym, ap, ◌∙◌, append_assoc, append-nil}
 use Rattle.srt_seq.specs.Items.{Datagram}
 use Rattle.srt_poller.specs.declared.devices.Sent.TheVariants.{Taken, Later, Failed}
-use Rattle.srt_poller.specs.History.{Sorting, Event, Fails, Answers, Accepts, Overflows, Refuses, Drops, Sends, Resends, Kept, kept, Follow, kept_after, kept_of, at_route, Handed, handed, of_lobby, of_route, answered, drained, from, FromRoute}
+use Rattle.srt_poller.specs.History.{Sorting, Event, Waits, WaitFails, ReadsNothing, ReadFails, Answers, Accepts, Overflows, Refuses, Drops, Sends, Resends, Kept, kept, Follow, kept_after, kept_of, at_route, Handed, handed, of_lobby, of_route, answered, drained, from, FromRoute}
 use Rattle.srt_poller.specs.Pumped.{HaveOrigins}
 
 pub lobby_origin : (events : List Event) → of_lobby (handed events) ≡ answered events
 lobby_origin [] = refl
-lobby_origin (Fails ∷ events) = lobby_origin events
+lobby_origin (Waits ∷ events) = lobby_origin events
+lobby_origin (WaitFails ∷ events) = lobby_origin events
+lobby_origin (ReadsNothing ∷ events) = lobby_origin events
+lobby_origin (ReadFails ∷ events) = lobby_origin events
 lobby_origin (Answers a bytes Taken ∷ events) = ap (λ ds. record { peer = a.datagram.peer; bytes = bytes } ∷ ds) (lobby_origin events)
 lobby_origin (Answers a bytes Later ∷ events) = lobby_origin events
 lobby_origin (Answers a bytes Failed ∷ events) = ap (λ ds. record { peer = a.datagram.peer; bytes = bytes } ∷ ds) (lobby_origin events)
@@ -40,7 +43,10 @@ gone class r s d o events h =
 pub route_origin : (class : Sorting) (r : ℕ) (k : Option Kept) (events : List Event) → Follow class k events →
     of_route r (handed events) ++ kept_of r (kept_after k events) ≡ kept_of r k ++ drained r events
 route_origin class r k [] h = sym (append-nil (kept_of r k))
-route_origin class r k (Fails ∷ events) h = route_origin class r k events h.1
+route_origin class r k (Waits ∷ events) h = route_origin class r k events h.1
+route_origin class r k (WaitFails ∷ events) h = route_origin class r k events h.1
+route_origin class r k (ReadsNothing ∷ events) h = route_origin class r k events h.1
+route_origin class r k (ReadFails ∷ events) h = route_origin class r k events h.1
 route_origin class r k (Answers a bytes Taken ∷ events) h = route_origin class r k events h.1
 route_origin class r k (Answers a bytes Later ∷ events) h = route_origin class r k events h.1
 route_origin class r k (Answers a bytes Failed ∷ events) h = route_origin class r k events h.1

@@ -2,6 +2,7 @@
 use Rattle.std.proofs.Common.{◌≡◌, ◌≢◌, ℕ, zero, suc, ◌+◌, ◌*◌, ◌<◌, ◌≤◌, ◌==◌, Bool, true, false, Option, None, Some, List, [], ◌∷◌, ◌++◌, length, map, slice_index_or, slice_set, refl, sym, ap, ◌∙◌, subst, append_assoc, append-nil, arith, add-mul}
 use Rattle.std.specs.Prelude.{if◌then◌else◌}
 use Rattle.std.proofs.lemmas.Grind.{flat_map-append, fold-append}
+use Rattle.std.proofs.lemmas.List.Sums.{sum_by-append}
 use Rattle.std.proofs.lemmas.Bool.Decides.{nat_tests}
 use Rattle.std.proofs.lemmas.List.{map-append, length-append, length-set, get_or-set_same, get_or-set_other, set-get_or}
 use Rattle.srt_seq.specs.Items.{Datagram, Item, Received, told}
@@ -14,7 +15,7 @@ use Rattle.srt_poller.specs.declared.devices.Sent.TheVariants.{Taken, Later, Fai
 use Rattle.srt_poller.specs.declared.ends.Offered.TheVariants.{Accepted}
 use Rattle.srt_poller.specs.Devices.{Arrival, handed_by_send, joined}
 use Rattle.srt_poller.specs.Pollers.{OfferedAs}
-use Rattle.srt_poller.specs.History.{Sorting, Event, Kept, Fits, Follow, kept_by, kept_after, given_by, given, Handed, handed_by, handed, datagrams, accepted_by, accepted, drained_by, drained, at_route, Accepts, Sends}
+use Rattle.srt_poller.specs.History.{Sorting, Event, Kept, Fits, Follow, kept_by, kept_after, given_by, given, Handed, handed_by, handed, datagrams, accepted_by, accepted, drained_by, drained, at_route, waits_by, ready_by, reads_by, Waits, WaitFails, ReadsNothing, ReadFails, Answers, Accepts, Overflows, Refuses, Drops, Sends, Resends}
 use Rattle.srt_poller.specs.Reports.{counted_by, counted}
 use Rattle.srt_poller.specs.Rounds.{World, IsLater, AreLater, Happened, Went}
 
@@ -55,8 +56,8 @@ are_later_then us vs x y z h k = record {
 }
 
 -- no event, one event, and events after others
-pub happened_then : (class : Sorting) (m n : ℕ) (us vs : List Event) (x y z : World) → Happened class m us x y → Happened class n vs y z → Happened class (m + n) (us ++ vs) x z
-happened_then class m n us vs x y z h k = record {
+pub happened_then : {class : Sorting} {m n w v r s : ℕ} (us vs : List Event) (x y z : World) → Happened class m w r us x y → Happened class n v s vs y z → Happened class (m + n) (w + v) (r + s) (us ++ vs) x z
+happened_then {class} {m} {n} {w} {v} {r} {s} us vs x y z h k = record {
   follow = follow_then x.kept us (subst (λ (o : Option Kept). Follow class o vs) h.kept k.follow) h.follow;
   gave = k.gave ∙ ap (λ o. joined o (given vs)) h.gave ∙ joined_twice x.gave (given us) (given vs) ∙ ap (joined x.gave) (sym (flat_map-append given_by us vs));
   handed = k.handed ∙ ap (λ o. joined o (datagrams (handed vs))) h.handed ∙ joined_twice x.handed (datagrams (handed us)) (datagrams (handed vs))
@@ -65,13 +66,15 @@ happened_then class m n us vs x y z h k = record {
   kept = k.kept ∙ ap (λ o. kept_after o vs) h.kept ∙ sym (fold-append kept_by x.kept us vs);
   report = k.report ∙ ap (λ c. counted c vs) h.report ∙ sym (fold-append counted_by x.report us vs);
   few = let a = h.few in let b = k.few in omega (arith, length-append us vs);
+  waited = let a = h.waited in let b = k.waited in omega (arith, sum_by-append waits_by us vs);
+  was_read = let a = h.was_read in let b = k.was_read in omega (arith, sum_by-append ready_by us vs, sum_by-append reads_by us vs);
 }
   where
     follow_then : (o : Option Kept) (es : List Event) → Follow class (kept_after o es) vs → Follow class o es → Follow class o (es ++ vs)
     follow_then o [] f g = f
     follow_then o (e ∷ es) f g = (g.0, follow_then (kept_by o e) es f g.1)
 
-pub went_none : (class : Sorting) (most : ℕ) (x : World) → Went class most x x
+pub went_none : (class : Sorting) (most : ℕ) (x : World) → Went class most 0 0 x x
 went_none class most x = (
   [],
   record {
@@ -82,14 +85,16 @@ went_none class most x = (
     kept = refl;
     report = refl;
     few = omega arith;
+    waited = refl;
+    was_read = omega arith;
   },
 )
 
-pub went_then : (class : Sorting) (m n : ℕ) (x y z : World) → Went class m x y → Went class n y z → Went class (m + n) x z
-went_then class m n x y z h k = (h.0 ++ k.0, happened_then class m n h.0 k.0 x y z h.1 k.1)
+pub went_then : {class : Sorting} {m n w v r s : ℕ} {x y z : World} → Went class m w r x y → Went class n v s y z → Went class (m + n) (w + v) (r + s) x z
+went_then {class} {m} {n} {w} {v} {r} {s} {x} {y} {z} h k = (h.0 ++ k.0, happened_then h.0 k.0 x y z h.1 k.1)
 
-pub went_more : (class : Sorting) (m n : ℕ) (x y : World) → m ≤ n → Went class m x y → Went class n x y
-went_more class m n x y le h = (
+pub went_more : {class : Sorting} {m n w r s : ℕ} {x y : World} → m ≤ n → s ≤ r → Went class m w r x y → Went class n w s x y
+went_more le less h = (
   h.0,
   record {
     follow = h.1.follow;
@@ -99,11 +104,14 @@ went_more class m n x y le h = (
     kept = h.1.kept;
     report = h.1.report;
     few = let a = h.1.few in omega arith;
+    waited = h.1.waited;
+    was_read = let a = h.1.was_read in omega arith;
   },
 )
 
-pub went_one : (class : Sorting) (event : Event) (x y : World) → Fits class x.kept event → y.gave ≡ joined x.gave (given_by event) → y.handed ≡ joined x.handed (datagrams (handed_by event)) → AreLater (event ∷ []) x.ends y.ends → y.kept ≡ kept_by x.kept event → y.report ≡ counted_by x.report event → Went class 1 x y
-went_one class event x y fits gave handed ends kept report = (
+pub went_once : (class : Sorting) (event : Event) (w r : ℕ) (x y : World) → waits_by event ≡ w → ready_by event + r ≤ reads_by event + w →
+    Fits class x.kept event → y.gave ≡ joined x.gave (given_by event) → y.handed ≡ joined x.handed (datagrams (handed_by event)) → AreLater (event ∷ []) x.ends y.ends → y.kept ≡ kept_by x.kept event → y.report ≡ counted_by x.report event → Went class 1 w r x y
+went_once class event w r x y waits reads fits gave handed ends kept report = (
   event ∷ [],
   record {
     follow = (fits, tt);
@@ -113,8 +121,26 @@ went_one class event x y fits gave handed ends kept report = (
     kept = kept;
     report = report;
     few = omega arith;
+    waited = omega (arith, waits);
+    was_read = omega (arith, reads);
   },
 )
+
+pub went_one : (class : Sorting) (event : Event) (x y : World) → Fits class x.kept event → y.gave ≡ joined x.gave (given_by event) → y.handed ≡ joined x.handed (datagrams (handed_by event)) → AreLater (event ∷ []) x.ends y.ends → y.kept ≡ kept_by x.kept event → y.report ≡ counted_by x.report event → Went class 1 (waits_by event) (reads_by event) x y
+went_one class event x y fits gave handed ends kept report = went_once class event (waits_by event) (reads_by event) x y refl (owed event) fits gave handed ends kept report
+  where
+    owed : (e : Event) → ready_by e + reads_by e ≤ reads_by e + waits_by e
+    owed Waits = omega arith
+    owed WaitFails = omega arith
+    owed ReadsNothing = omega arith
+    owed ReadFails = omega arith
+    owed (Answers a b s) = omega arith
+    owed (Accepts a r) = omega arith
+    owed (Overflows a r) = omega arith
+    owed (Refuses a r) = omega arith
+    owed (Drops a c) = omega arith
+    owed (Sends r d s) = omega arith
+    owed (Resends r d s) = omega arith
 
 -- where one place of a list of ends changed
 pub one_changed : (event : Event) (k : ℕ) (es : List Ends) (d z : Ends) → k < length es →

@@ -5,7 +5,7 @@ use Rattle.std.proofs.lemmas.Bool.Decides.{nat_tests}
 use Rattle.srt_poller.specs.declared.devices.Sent.{Sent}
 use Rattle.srt_poller.specs.declared.devices.Sent.TheVariants.{Taken, Later, Failed}
 use Rattle.srt_poller.specs.declared.report.Report.{Report}
-use Rattle.srt_poller.specs.History.{Event, Fails, Answers, Accepts, Overflows, Refuses, Drops, Sends, Resends, Kept}
+use Rattle.srt_poller.specs.History.{Event, Waits, WaitFails, ReadsNothing, ReadFails, Answers, Accepts, Overflows, Refuses, Drops, Sends, Resends, Kept}
 use Rattle.srt_poller.specs.Reports.{one_more, nothing, counted_by, counted, with_kept, plus, part, total}
 
 -- each count is below its limit by so much
@@ -42,7 +42,10 @@ less : (n room : ℕ) → n + suc room < 2 ^ 64 → n + room < 2 ^ 64
 less n room h = omega arith
 
 counted_part : (n : Report) (room : ℕ) (event : Event) → HasRoom n (suc room) → counted_by n event ≡ plus n (part event)
-counted_part n room Fails h = same _ _ (sym (add-zero n.read)) (sym (add-zero n.answered)) (sym (add-zero n.accepted)) (sym (add-zero n.full)) (sym (add-zero n.dropped)) (sym (add-zero n.memory)) (sym (add-zero n.sent)) (sym (add-zero n.lost)) (one n.faults room h.faults)
+counted_part n room WaitFails h = same _ _ (sym (add-zero n.read)) (sym (add-zero n.answered)) (sym (add-zero n.accepted)) (sym (add-zero n.full)) (sym (add-zero n.dropped)) (sym (add-zero n.memory)) (sym (add-zero n.sent)) (sym (add-zero n.lost)) (one n.faults room h.faults)
+counted_part n room ReadFails h = same _ _ (sym (add-zero n.read)) (sym (add-zero n.answered)) (sym (add-zero n.accepted)) (sym (add-zero n.full)) (sym (add-zero n.dropped)) (sym (add-zero n.memory)) (sym (add-zero n.sent)) (sym (add-zero n.lost)) (one n.faults room h.faults)
+counted_part n room Waits h = same _ _ (sym (add-zero n.read)) (sym (add-zero n.answered)) (sym (add-zero n.accepted)) (sym (add-zero n.full)) (sym (add-zero n.dropped)) (sym (add-zero n.memory)) (sym (add-zero n.sent)) (sym (add-zero n.lost)) (sym (add-zero n.faults))
+counted_part n room ReadsNothing h = same _ _ (sym (add-zero n.read)) (sym (add-zero n.answered)) (sym (add-zero n.accepted)) (sym (add-zero n.full)) (sym (add-zero n.dropped)) (sym (add-zero n.memory)) (sym (add-zero n.sent)) (sym (add-zero n.lost)) (sym (add-zero n.faults))
 counted_part n room (Answers a b Taken) h = same _ _ (one n.read room h.read) (one n.answered room h.answered) (sym (add-zero n.accepted)) (sym (add-zero n.full)) (sym (add-zero n.dropped)) (sym (add-zero n.memory)) (one n.sent room h.sent) (sym (add-zero n.lost)) (sym (add-zero n.faults))
 counted_part n room (Answers a b Later) h = same _ _ (one n.read room h.read) (one n.answered room h.answered) (sym (add-zero n.accepted)) (sym (add-zero n.full)) (sym (add-zero n.dropped)) (sym (add-zero n.memory)) (sym (add-zero n.sent)) (one n.lost room h.lost) (sym (add-zero n.faults))
 counted_part n room (Answers a b Failed) h = same _ _ (one n.read room h.read) (one n.answered room h.answered) (sym (add-zero n.accepted)) (sym (add-zero n.full)) (sym (add-zero n.dropped)) (sym (add-zero n.memory)) (sym (add-zero n.sent)) (one n.lost room h.lost) (one n.faults room h.faults)
@@ -58,7 +61,10 @@ counted_part n room (Resends r d Later) h = same _ _ (sym (add-zero n.read)) (sy
 counted_part n room (Resends r d Failed) h = same _ _ (sym (add-zero n.read)) (sym (add-zero n.answered)) (sym (add-zero n.accepted)) (sym (add-zero n.full)) (sym (add-zero n.dropped)) (sym (add-zero n.memory)) (sym (add-zero n.sent)) (one n.lost room h.lost) (one n.faults room h.faults)
 
 counted_room : (n : Report) (room : ℕ) (event : Event) → HasRoom n (suc room) → HasRoom (counted_by n event) room
-counted_room n room Fails h = record { read = less n.read room h.read; answered = less n.answered room h.answered; accepted = less n.accepted room h.accepted; full = less n.full room h.full; dropped = less n.dropped room h.dropped; memory = less n.memory room h.memory; sent = less n.sent room h.sent; lost = less n.lost room h.lost; faults = one_room n.faults room h.faults }
+counted_room n room WaitFails h = record { read = less n.read room h.read; answered = less n.answered room h.answered; accepted = less n.accepted room h.accepted; full = less n.full room h.full; dropped = less n.dropped room h.dropped; memory = less n.memory room h.memory; sent = less n.sent room h.sent; lost = less n.lost room h.lost; faults = one_room n.faults room h.faults }
+counted_room n room ReadFails h = record { read = less n.read room h.read; answered = less n.answered room h.answered; accepted = less n.accepted room h.accepted; full = less n.full room h.full; dropped = less n.dropped room h.dropped; memory = less n.memory room h.memory; sent = less n.sent room h.sent; lost = less n.lost room h.lost; faults = one_room n.faults room h.faults }
+counted_room n room Waits h = record { read = less n.read room h.read; answered = less n.answered room h.answered; accepted = less n.accepted room h.accepted; full = less n.full room h.full; dropped = less n.dropped room h.dropped; memory = less n.memory room h.memory; sent = less n.sent room h.sent; lost = less n.lost room h.lost; faults = less n.faults room h.faults }
+counted_room n room ReadsNothing h = record { read = less n.read room h.read; answered = less n.answered room h.answered; accepted = less n.accepted room h.accepted; full = less n.full room h.full; dropped = less n.dropped room h.dropped; memory = less n.memory room h.memory; sent = less n.sent room h.sent; lost = less n.lost room h.lost; faults = less n.faults room h.faults }
 counted_room n room (Answers a b Taken) h = record { read = one_room n.read room h.read; answered = one_room n.answered room h.answered; accepted = less n.accepted room h.accepted; full = less n.full room h.full; dropped = less n.dropped room h.dropped; memory = less n.memory room h.memory; sent = one_room n.sent room h.sent; lost = less n.lost room h.lost; faults = less n.faults room h.faults }
 counted_room n room (Answers a b Later) h = record { read = one_room n.read room h.read; answered = one_room n.answered room h.answered; accepted = less n.accepted room h.accepted; full = less n.full room h.full; dropped = less n.dropped room h.dropped; memory = less n.memory room h.memory; sent = less n.sent room h.sent; lost = one_room n.lost room h.lost; faults = less n.faults room h.faults }
 counted_room n room (Answers a b Failed) h = record { read = one_room n.read room h.read; answered = one_room n.answered room h.answered; accepted = less n.accepted room h.accepted; full = less n.full room h.full; dropped = less n.dropped room h.dropped; memory = less n.memory room h.memory; sent = less n.sent room h.sent; lost = one_room n.lost room h.lost; faults = one_room n.faults room h.faults }

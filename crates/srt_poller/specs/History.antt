@@ -1,6 +1,6 @@
 -- What happened while a poller ran, the oldest first, and what follows from it alone.
 use Rattle.std.specs.Prelude.{◌≡◌, ℕ, ◌==◌, Bool, true, false, Option, None, Some, List, [], ◌∷◌, map, filter, if◌then◌else◌}
-use Rattle.std.specs.List.{flat_map, fold}
+use Rattle.std.specs.List.{flat_map, fold, sum_by}
 use Rattle.srt_seq.specs.Items.{Datagram, Item, Received}
 use Rattle.srt_lobby.specs.declared.classes.Class.{Class}
 use Rattle.srt_lobby.specs.declared.classes.Class.TheVariants.{Answer, Route, Dropped}
@@ -14,8 +14,14 @@ abbrev pub Sorting : Type 0
 Sorting = Datagram → (moment : ℕ) → Class
 
 pub data Event : Type 0 where
-  -- a wait or a read of the source failed
-  Fails : Event
+  -- the source waited, and didn't fail
+  Waits : Event
+  -- a wait of the source failed
+  WaitFails : Event
+  -- the source was read, and gave nothing
+  ReadsNothing : Event
+  -- a read of the source failed
+  ReadFails : Event
   -- a datagram came, and this is the lobby's answer, which the wire was handed
   Answers : (arrival : Arrival) (bytes : List ℕ) (sent : Sent) → Event
   -- a datagram came, and its route's inbox accepted it
@@ -46,7 +52,10 @@ kept_if Failed k = None
 
 -- the reply that is kept after an event
 abbrev pub kept_by : Option Kept → Event → Option Kept
-kept_by k Fails = k
+kept_by k Waits = k
+kept_by k WaitFails = k
+kept_by k ReadsNothing = k
+kept_by k ReadFails = k
 kept_by k (Answers arrival bytes sent) = k
 kept_by k (Accepts arrival route) = k
 kept_by k (Overflows arrival route) = k
@@ -61,7 +70,10 @@ kept_after k events = fold kept_by k events
 -- Each datagram meets what the lobby makes of it. A reply is taken only where none is kept, and only the one that is kept is handed
 -- again
 abbrev pub Fits : Sorting → Option Kept → Event → Type 0
-Fits class k Fails = Unit {0}
+Fits class k Waits = Unit {0}
+Fits class k WaitFails = Unit {0}
+Fits class k ReadsNothing = Unit {0}
+Fits class k ReadFails = Unit {0}
 Fits class k (Answers arrival bytes sent) = class arrival.datagram arrival.moment ≡ Answer bytes
 Fits class k (Accepts arrival route) = class arrival.datagram arrival.moment ≡ Route route
 Fits class k (Overflows arrival route) = class arrival.datagram arrival.moment ≡ Route route
@@ -77,7 +89,10 @@ Follow class k (event ∷ events) = Fits class k event × Follow class (kept_by 
 
 -- the datagrams that the source gave
 abbrev pub given_by : Event → List Arrival
-given_by Fails = []
+given_by Waits = []
+given_by WaitFails = []
+given_by ReadsNothing = []
+given_by ReadFails = []
 given_by (Answers arrival bytes sent) = arrival ∷ []
 given_by (Accepts arrival route) = arrival ∷ []
 given_by (Overflows arrival route) = arrival ∷ []
@@ -94,7 +109,10 @@ abbrev pub at_route : {A : Type 0} → (route r : ℕ) → A → List A
 at_route route r x = if route == r then x ∷ [] else []
 
 abbrev pub accepted_by : (r : ℕ) → Event → List Item
-accepted_by r Fails = []
+accepted_by r Waits = []
+accepted_by r WaitFails = []
+accepted_by r ReadsNothing = []
+accepted_by r ReadFails = []
 accepted_by r (Answers arrival bytes sent) = []
 accepted_by r (Accepts arrival route) = at_route route r (Received arrival.datagram arrival.moment)
 accepted_by r (Overflows arrival route) = []
@@ -108,7 +126,10 @@ accepted r events = flat_map (accepted_by r) events
 
 -- the replies that were taken from this route's outbox
 abbrev pub drained_by : (r : ℕ) → Event → List Datagram
-drained_by r Fails = []
+drained_by r Waits = []
+drained_by r WaitFails = []
+drained_by r ReadsNothing = []
+drained_by r ReadFails = []
 drained_by r (Answers arrival bytes sent) = []
 drained_by r (Accepts arrival route) = []
 drained_by r (Overflows arrival route) = []
@@ -122,7 +143,10 @@ drained r events = flat_map (drained_by r) events
 
 -- the lobby's answers that didn't meet Later
 abbrev pub answered_by : Event → List Datagram
-answered_by Fails = []
+answered_by Waits = []
+answered_by WaitFails = []
+answered_by ReadsNothing = []
+answered_by ReadFails = []
 answered_by (Answers arrival bytes sent) = handed_by_send sent (record { peer = arrival.datagram.peer; bytes = bytes })
 answered_by (Accepts arrival route) = []
 answered_by (Overflows arrival route) = []
@@ -148,7 +172,10 @@ from origin datagram = record { origin = origin; datagram = datagram }
 
 -- what the wire was handed and didn't put off
 abbrev pub handed_by : Event → List Handed
-handed_by Fails = []
+handed_by Waits = []
+handed_by WaitFails = []
+handed_by ReadsNothing = []
+handed_by ReadFails = []
 handed_by (Answers arrival bytes sent) = handed_by_send sent (from FromLobby (record { peer = arrival.datagram.peer; bytes = bytes }))
 handed_by (Accepts arrival route) = []
 handed_by (Overflows arrival route) = []
@@ -180,3 +207,52 @@ of_route r hs = datagrams (filter (is_route r) hs)
 abbrev pub kept_of : (r : ℕ) → Option Kept → List Datagram
 kept_of r None = []
 kept_of r (Some k) = at_route k.route r k.reply
+
+-- how often the source waited, how often without a failure, and how often it was read
+abbrev pub waits_by : Event → ℕ
+waits_by Waits = 1
+waits_by WaitFails = 1
+waits_by ReadsNothing = 0
+waits_by ReadFails = 0
+waits_by (Answers arrival bytes sent) = 0
+waits_by (Accepts arrival route) = 0
+waits_by (Overflows arrival route) = 0
+waits_by (Refuses arrival route) = 0
+waits_by (Drops arrival cause) = 0
+waits_by (Sends route reply sent) = 0
+waits_by (Resends route reply sent) = 0
+
+abbrev pub waits_in : List Event → ℕ
+waits_in events = sum_by waits_by events
+
+abbrev pub ready_by : Event → ℕ
+ready_by Waits = 1
+ready_by WaitFails = 0
+ready_by ReadsNothing = 0
+ready_by ReadFails = 0
+ready_by (Answers arrival bytes sent) = 0
+ready_by (Accepts arrival route) = 0
+ready_by (Overflows arrival route) = 0
+ready_by (Refuses arrival route) = 0
+ready_by (Drops arrival cause) = 0
+ready_by (Sends route reply sent) = 0
+ready_by (Resends route reply sent) = 0
+
+abbrev pub ready_in : List Event → ℕ
+ready_in events = sum_by ready_by events
+
+abbrev pub reads_by : Event → ℕ
+reads_by Waits = 0
+reads_by WaitFails = 0
+reads_by ReadsNothing = 1
+reads_by ReadFails = 1
+reads_by (Answers arrival bytes sent) = 1
+reads_by (Accepts arrival route) = 1
+reads_by (Overflows arrival route) = 1
+reads_by (Refuses arrival route) = 1
+reads_by (Drops arrival cause) = 1
+reads_by (Sends route reply sent) = 0
+reads_by (Resends route reply sent) = 0
+
+abbrev pub reads_in : List Event → ℕ
+reads_in events = sum_by reads_by events

@@ -4,7 +4,7 @@ use Rattle.srt_seq.specs.Items.{Datagram}
 use Rattle.srt_poller.specs.declared.ends.Ends.{Ends}
 use Rattle.srt_poller.specs.declared.report.Report.{Report}
 use Rattle.srt_poller.specs.Devices.{Arrival, joined}
-use Rattle.srt_poller.specs.History.{Sorting, Event, Follow, kept_after, kept_of, given, handed, datagrams, of_lobby, of_route, answered, drained}
+use Rattle.srt_poller.specs.History.{Sorting, Event, Follow, kept_after, kept_of, given, handed, datagrams, of_lobby, of_route, answered, drained, waits_in, ready_in, reads_in}
 use Rattle.srt_poller.specs.Reports.{nothing, counted, with_kept, total}
 use Rattle.srt_poller.specs.Rounds.{AreLater}
 
@@ -35,7 +35,8 @@ after gave handed ends report = record { gave = gave; handed = handed; ends = en
 
 -- These events happened, the oldest first. The source gave the datagrams that they say, and each met what the lobby makes of it. The wire
 -- was handed the datagrams that they say. Each route's inbox accepted the items, and each outbox gave the replies, that they say. The
--- report counts them: with 511 routes at most no count comes to its limit
+-- report counts them: with 511 routes at most no count comes to its limit. The source waited once a
+-- round, and was read at least as often as it waited without a failure
 pub record PumpedBy (class : Sorting) (rounds : ℕ) (before : Before) (after : After) (events : List Event) : Type 0 where
   pub follow : Follow class None events
   pub gave : after.gave ≡ joined before.gave (given events)
@@ -44,6 +45,8 @@ pub record PumpedBy (class : Sorting) (rounds : ℕ) (before : Before) (after : 
   pub origins : HaveOrigins events
   pub report : after.report ≡ with_kept (counted nothing events) (kept_after None events)
   pub sums : length before.ends ≤ 511 → after.report ≡ total events (kept_after None events)
+  pub waits : waits_in events ≡ rounds
+  pub reads : ready_in events ≤ reads_in events
   pub few : length events ≤ rounds * (258 + 64 * length before.ends)
 
 abbrev pub Pumped : Sorting → (rounds : ℕ) → Before → After → Type 0

@@ -4,7 +4,7 @@ use Rattle.std.specs.List.{fold}
 use Rattle.srt_poller.specs.declared.devices.Sent.{Sent}
 use Rattle.srt_poller.specs.declared.devices.Sent.TheVariants.{Taken, Later, Failed}
 use Rattle.srt_poller.specs.declared.report.Report.{Report}
-use Rattle.srt_poller.specs.History.{Event, Fails, Answers, Accepts, Overflows, Refuses, Drops, Sends, Resends, Kept}
+use Rattle.srt_poller.specs.History.{Event, Waits, WaitFails, ReadsNothing, ReadFails, Answers, Accepts, Overflows, Refuses, Drops, Sends, Resends, Kept}
 
 -- one more, where a 64-bit number can say so
 abbrev pub one_more : ℕ → ℕ
@@ -41,7 +41,10 @@ abbrev pub with_dropped : Report → Report
 with_dropped n = record n { read = one_more n.read; dropped = one_more n.dropped }
 
 abbrev pub counted_by : Report → Event → Report
-counted_by n Fails = with_fault n
+counted_by n Waits = n
+counted_by n WaitFails = with_fault n
+counted_by n ReadsNothing = n
+counted_by n ReadFails = with_fault n
 counted_by n (Answers arrival bytes sent) = with_answer n sent
 counted_by n (Accepts arrival route) = with_accepted n
 counted_by n (Overflows arrival route) = with_full n
@@ -75,7 +78,10 @@ part_of_reply Failed = record nothing { lost = 1; faults = 1 }
 
 -- an event's part of the report
 abbrev pub part : Event → Report
-part Fails = record nothing { faults = 1 }
+part Waits = nothing
+part WaitFails = record nothing { faults = 1 }
+part ReadsNothing = nothing
+part ReadFails = record nothing { faults = 1 }
 part (Answers arrival bytes sent) = part_of_answer sent
 part (Accepts arrival route) = record nothing { read = 1; accepted = 1 }
 part (Overflows arrival route) = record nothing { read = 1; full = 1 }

@@ -1,11 +1,11 @@
 -- What some events made of everything that a poller touches.
-use Rattle.std.specs.Prelude.{◌≡◌, ℕ, ◌<◌, ◌≤◌, Option, List, ◌++◌, length, map, slice_index_or}
+use Rattle.std.specs.Prelude.{◌≡◌, ℕ, ◌+◌, ◌<◌, ◌≤◌, Option, List, ◌++◌, length, map, slice_index_or}
 use Rattle.srt_seq.specs.Items.{Datagram, Item, told}
 use Rattle.srt_route.specs.Written.{written}
 use Rattle.srt_poller.specs.declared.ends.Ends.{Ends}
 use Rattle.srt_poller.specs.declared.report.Report.{Report}
 use Rattle.srt_poller.specs.Devices.{Arrival, joined}
-use Rattle.srt_poller.specs.History.{Sorting, Event, Kept, Follow, kept_after, given, handed, datagrams, accepted, drained}
+use Rattle.srt_poller.specs.History.{Sorting, Event, Kept, Follow, kept_after, given, handed, datagrams, accepted, drained, waits_in, ready_in, reads_in}
 use Rattle.srt_poller.specs.Reports.{counted}
 
 -- what the source tells that it gave and the wire that it was handed, the ends of all routes, the kept reply, and the report
@@ -32,8 +32,9 @@ pub record AreLater (events : List Event) (old new : List Ends) : Type 0 where
   pub as_many : length new ≡ length old
   pub each : (r : ℕ) (e : Ends) → r < length old → IsLater (accepted r events) (drained r events) (slice_index_or old r e) (slice_index_or new r e)
 
--- these events happened, at most so many, and made the one world of the other
-pub record Happened (class : Sorting) (most : ℕ) (events : List Event) (old new : World) : Type 0 where
+-- These events happened, at most so many, and made the one world of the other. The source waited so often, and was read so much more
+-- often than after all waits but these
+pub record Happened (class : Sorting) (most waits reads : ℕ) (events : List Event) (old new : World) : Type 0 where
   pub follow : Follow class old.kept events
   pub gave : new.gave ≡ joined old.gave (given events)
   pub handed : new.handed ≡ joined old.handed (datagrams (handed events))
@@ -41,7 +42,9 @@ pub record Happened (class : Sorting) (most : ℕ) (events : List Event) (old ne
   pub kept : new.kept ≡ kept_after old.kept events
   pub report : new.report ≡ counted old.report events
   pub few : length events ≤ most
+  pub waited : waits_in events ≡ waits
+  pub was_read : ready_in events + reads ≤ reads_in events + waits
 
 -- some events happened
-abbrev pub Went : Sorting → (most : ℕ) → World → World → Type 0
-Went class most old new = (events : List Event) × Happened class most events old new
+abbrev pub Went : Sorting → (most waits reads : ℕ) → World → World → Type 0
+Went class most waits reads old new = (events : List Event) × Happened class most waits reads events old new

@@ -1,6 +1,6 @@
 //! One round of a poller.
 
-ghost use Rattle.std.specs.Prelude.{◌≡◌, ◌<◌, ◌≤◌, ◌+◌, ◌*◌, ◌^◌, true, None, Option, List, [], ◌∷◌, length};
+ghost use Rattle.std.specs.Prelude.{◌≡◌, ◌<◌, ◌≤◌, ◌+◌, ◌*◌, ◌^◌, true, false, None, Option, List, [], ◌∷◌, length};
 ghost use Rattle.srt_seq.specs.Items.{Datagram};
 ghost use Rattle.srt_lobby.specs.Names.{names_of};
 ghost use Rattle.srt_poller.specs.Devices.{Arrival, joined};
@@ -71,7 +71,7 @@ impl Poller {
 
     /// Hands the kept reply to the wire again, if there is one.
     fn resend<W: Wire>(&mut self, wire: &mut W)
-        ensures { (class : Sorting) (gave : Option (List Arrival)) (ends : List TheEnds) → Went class 1 (world_of gave (W.handed wire.old) ends self.old) (world_of gave (W.handed wire.new) ends self.new) }
+        ensures { (class : Sorting) (gave : Option (List Arrival)) (ends : List TheEnds) → Went class 1 0 0 (world_of gave (W.handed wire.old) ends self.old) (world_of gave (W.handed wire.new) ends self.new) }
     {
         let Some(kept) = self.kept else {
             return;
@@ -86,7 +86,8 @@ impl Poller {
 
     /// Waits for datagrams. False where the source failed.
     fn wait<S: Source>(&mut self, source: &mut S) -> bool
-        ensures { (class : Sorting) (handed : Option (List Datagram)) (ends : List TheEnds) → Went class 1 (world_of (S.gave source.old) handed ends self.old) (world_of (S.gave source.new) handed ends self.new) }
+        ensures ready { result ≡ true → (class : Sorting) (handed : Option (List Datagram)) (ends : List TheEnds) → Went class 1 1 0 (world_of (S.gave source.old) handed ends self.old) (world_of (S.gave source.new) handed ends self.new) }
+        ensures failed { result ≡ false → (class : Sorting) (handed : Option (List Datagram)) (ends : List TheEnds) → Went class 1 1 1 (world_of (S.gave source.old) handed ends self.old) (world_of (S.gave source.new) handed ends self.new) }
     {
         match source.wait() {
             Polled::Ready => true,
@@ -113,7 +114,7 @@ impl Poller {
         requires len { len ≤ 2048 }
         requires timely { moment < 2 ^ 62 }
         requires route { route < length ends.old }
-        ensures { (class : Sorting) (gave : Option (List Arrival)) (handed : Option (List Datagram)) → let arrival = came peer len moment self.old in class arrival.datagram moment ≡ Route route → Went class 1 (world_of gave handed ends.old self.old) (world_of (joined gave (arrival ∷ [])) handed ends.new self.new) }
+        ensures { (class : Sorting) (gave : Option (List Arrival)) (handed : Option (List Datagram)) → let arrival = came peer len moment self.old in class arrival.datagram moment ≡ Route route → Went class 1 0 1 (world_of gave handed ends.old self.old) (world_of (joined gave (arrival ∷ [])) handed ends.new self.new) }
     {
         let bytes = &self.datagram[..len];
         match ends[route].offer(rt, alloc, peer, bytes, moment) {
@@ -143,7 +144,7 @@ impl Poller {
         requires len { len ≤ 2048 }
         requires timely { moment < 2 ^ 62 }
         requires ends { length ends.old ≡ length (names_of names.now) }
-        ensures { (gave : Option (List Arrival)) → Went (sorting secret.now names.now) 1 (world_of gave (W.handed wire.old) ends.old self.old) (world_of (joined gave (came peer len moment self.old ∷ [])) (W.handed wire.new) ends.new self.new) }
+        ensures { (gave : Option (List Arrival)) → Went (sorting secret.now names.now) 1 0 1 (world_of gave (W.handed wire.old) ends.old self.old) (world_of (joined gave (came peer len moment self.old ∷ [])) (W.handed wire.new) ends.new self.new) }
     {
         let bytes = &self.datagram[..len];
         match classify(secret, names, peer, bytes, moment) {
@@ -171,7 +172,7 @@ impl Poller {
         signals: &G,
     ) -> bool
         requires { length ends.old ≡ length (names_of names.now) }
-        ensures { Went (sorting secret.now names.now) 1 (world_of (S.gave source.old) (W.handed wire.old) ends.old self.old) (world_of (S.gave source.new) (W.handed wire.new) ends.new self.new) }
+        ensures { Went (sorting secret.now names.now) 1 0 1 (world_of (S.gave source.old) (W.handed wire.old) ends.old self.old) (world_of (S.gave source.new) (W.handed wire.new) ends.new self.new) }
     {
         match source.next(&mut self.datagram) {
             Read::Datagram(peer, len, moment) => {
@@ -201,7 +202,7 @@ impl Poller {
         signals: &G,
     )
         requires { length ends.old ≡ length (names_of names.now) }
-        ensures { Went (sorting secret.now names.now) 256 (world_of (S.gave source.old) (W.handed wire.old) ends.old self.old) (world_of (S.gave source.new) (W.handed wire.new) ends.new self.new) }
+        ensures { Went (sorting secret.now names.now) 256 0 1 (world_of (S.gave source.old) (W.handed wire.old) ends.old self.old) (world_of (S.gave source.new) (W.handed wire.new) ends.new self.new) }
     {
         for came in 0..256u32 {
             if !self.read_one(rt, alloc, secret, names, source, wire, ends, signals) {
@@ -225,7 +226,7 @@ impl Poller {
         signals: &G,
     )
         requires { length ends.old ≡ length (names_of names.now) }
-        ensures { Went (sorting secret.now names.now) 257 (world_of (S.gave source.old) (W.handed wire.old) ends.old self.old) (world_of (S.gave source.new) (W.handed wire.new) ends.new self.new) }
+        ensures { Went (sorting secret.now names.now) 257 1 1 (world_of (S.gave source.old) (W.handed wire.old) ends.old self.old) (world_of (S.gave source.new) (W.handed wire.new) ends.new self.new) }
     {
         if !self.wait(source) {
             return;
@@ -243,7 +244,7 @@ impl Poller {
     ) -> Drained
         requires route { route < length ends.old }
         requires kept { self.old.kept ≡ None }
-        ensures went { (class : Sorting) (gave : Option (List Arrival)) → Went class 1 (world_of gave (W.handed wire.old) ends.old self.old) (world_of gave (W.handed wire.new) ends.new self.new) }
+        ensures went { (class : Sorting) (gave : Option (List Arrival)) → Went class 1 0 0 (world_of gave (W.handed wire.old) ends.old self.old) (world_of gave (W.handed wire.new) ends.new self.new) }
         ensures more { result ≡ Gone → self.new.kept ≡ None }
     {
         let end = &mut ends[route];
@@ -274,7 +275,7 @@ impl Poller {
     ) -> bool
         requires route { route < length ends.old }
         requires kept { self.old.kept ≡ None }
-        ensures { (class : Sorting) (gave : Option (List Arrival)) → Went class 64 (world_of gave (W.handed wire.old) ends.old self.old) (world_of gave (W.handed wire.new) ends.new self.new) }
+        ensures { (class : Sorting) (gave : Option (List Arrival)) → Went class 64 0 0 (world_of gave (W.handed wire.old) ends.old self.old) (world_of gave (W.handed wire.new) ends.new self.new) }
     {
         for _ in 0..64u32 {
             match self.drain_one(rt, wire, ends, route) {
@@ -298,7 +299,7 @@ impl Poller {
     )
         requires route { route < length ends.old }
         requires kept { self.old.kept ≡ None }
-        ensures { (class : Sorting) (gave : Option (List Arrival)) → Went class 64 (world_of gave (W.handed wire.old) ends.old self.old) (world_of gave (W.handed wire.new) ends.new self.new) }
+        ensures { (class : Sorting) (gave : Option (List Arrival)) → Went class 64 0 0 (world_of gave (W.handed wire.old) ends.old self.old) (world_of gave (W.handed wire.new) ends.new self.new) }
     {
         let told = signals.may_have(route);
         if !(told || all || self.was_left(route)) {
@@ -317,7 +318,7 @@ impl Poller {
         signals: &G,
         all: bool,
     )
-        ensures { (class : Sorting) (gave : Option (List Arrival)) → Went class (64 * length ends.old) (world_of gave (W.handed wire.old) ends.old self.old) (world_of gave (W.handed wire.new) ends.new self.new) }
+        ensures { (class : Sorting) (gave : Option (List Arrival)) → Went class (64 * length ends.old) 0 0 (world_of gave (W.handed wire.old) ends.old self.old) (world_of gave (W.handed wire.new) ends.new self.new) }
     {
         for route in 0..ends.len() {
             if self.kept.is_some() {
@@ -360,7 +361,7 @@ impl Poller {
         all: bool,
     )
         requires { length ends.old ≡ length (names_of names.now) }
-        ensures { Went (sorting secret.now names.now) (258 + 64 * length ends.old) (world_of (S.gave source.old) (W.handed wire.old) ends.old self.old) (world_of (S.gave source.new) (W.handed wire.new) ends.new self.new) }
+        ensures { Went (sorting secret.now names.now) (258 + 64 * length ends.old) 1 1 (world_of (S.gave source.old) (W.handed wire.old) ends.old self.old) (world_of (S.gave source.new) (W.handed wire.new) ends.new self.new) }
     {
         self.resend(wire);
         self.listen(rt, alloc, secret, names, source, wire, ends, signals);

@@ -388,13 +388,18 @@ impl<'a, R: Wait> Source for Serving<'a, R> {
 #[test]
 fn a_wire_that_puts_off_blocks_turns_and_fills_inboxes(rt: HostRuntime) -> Result<(), Fail> {
     let alloc = rt.alloc();
-    let mut routes = open_routes(&rt, alloc)?;
+    let Routes {
+        secret,
+        names,
+        mut ends,
+        cells,
+    } = open_routes(&rt, alloc)?;
     let mut answers = Vec::new(alloc);
     for _ in 0..10_000 {
         answers.push(Sent::Later)?;
     }
     let mut wire = WireScript::new(alloc, answers);
-    let Some(cell) = routes.cells.first() else {
+    let Some(cell) = cells.first() else {
         return Err(Fail::from("a first route"));
     };
     let mut source = Serving {
@@ -408,11 +413,11 @@ fn a_wire_that_puts_off_blocks_turns_and_fills_inboxes(rt: HostRuntime) -> Resul
     let report = pump(
         &rt,
         alloc,
-        &routes.secret,
-        &routes.names,
+        &secret,
+        &names,
         &mut source,
         &mut wire,
-        routes.ends.as_mut_slice(),
+        ends.as_mut_slice(),
         10_100,
     );
     assert!(&rt; source.blocked > 9_000);
@@ -491,18 +496,23 @@ fn a_socket_reads_datagrams_of_several_peers(rt: HostRuntime) -> Result<(), Fail
 #[test]
 fn a_socket_answers_an_induction(rt: HostRuntime) -> Result<(), Fail> {
     let alloc = rt.alloc();
-    let mut routes = open_routes(&rt, alloc)?;
+    let Routes {
+        secret,
+        names,
+        mut ends,
+        cells: _,
+    } = open_routes(&rt, alloc)?;
     let (mut source, mut wire) = bound(&rt, alloc, 0)?;
     let client = UdpSocket::bind(&rt, SocketAddr::V4(local(0)))?;
     client.send_to(&hex::decode(alloc, INDUCTION)?, address(&source)?)?;
     let report = pump(
         &rt,
         alloc,
-        &routes.secret,
-        &routes.names,
+        &secret,
+        &names,
         &mut source,
         &mut wire,
-        routes.ends.as_mut_slice(),
+        ends.as_mut_slice(),
         10,
     );
     assert_eq!(&rt;

@@ -12,7 +12,7 @@ pub loop-round-init : goal.loop-round-init
 loop-round-init g c = rw (c.new-poller.ensures.kept, c.new-poller.ensures.report) (went_none _ _ _)
 
 pub loop-round-preserved : goal.loop-round-preserved
-loop-round-preserved g c = went_more _ _ _ _ _ (rounds_more c.loop-round.round _ _ c.loop-round.auto.ends) (went_then _ _ _ _ _ _ c.loop-round.invariant c.round.ensures)
+loop-round-preserved g c = went_more (rounds_more c.loop-round.round _ _ c.loop-round.auto.ends) (omega arith) (went_then c.loop-round.invariant c.round.ensures)
 
 pub returns : goal.returns
 returns g c =
@@ -32,6 +32,8 @@ returns g c =
         origins = have_origins _ _ h.follow;
         report = report_is;
         sums = λ routes. report_is ∙ all_summed _ _ c.args.rounds _ c.ranges.rounds.fits few routes;
+        waits = h.waited ∙ same;
+        reads = let a = h.was_read in omega arith;
         few = few;
       },
     )

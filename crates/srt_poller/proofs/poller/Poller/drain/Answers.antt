@@ -6,10 +6,10 @@ pub loop-route-init : goal.loop-route-init
 loop-route-init g c class gave = went_none _ _ _
 
 pub returns-then-is_some : goal.returns-then-is_some
-returns-then-is_some g c class gave = went_more _ _ _ _ _ (omega arith) (c.loop-route.invariant class gave)
+returns-then-is_some g c class gave = went_more (omega arith) (omega arith) (c.loop-route.invariant class gave)
 
 pub loop-route-preserved : goal.loop-route-preserved
-loop-route-preserved g c class gave = went_more _ _ _ _ _ (omega arith) (went_then _ _ _ _ _ _ (c.loop-route.invariant class gave) (c.visit.ensures class gave))
+loop-route-preserved g c class gave = went_more (omega arith) (omega arith) (went_then (c.loop-route.invariant class gave) (c.visit.ensures class gave))
 
 pub returns : goal.returns
-returns g c class gave = went_more _ _ _ _ _ (omega arith) (c.loop-route.invariant class gave)
+returns g c class gave = went_more (omega arith) (omega arith) (c.loop-route.invariant class gave)

@@ -8,4 +8,4 @@ use Rattle.srt_poller.proofs.poller.Poller.drain.Given as goal
 abbrev pub invariant-loop-route : goal.invariant-loop-route
 invariant-loop-route g l =
     (class : Sorting) (gave : Option (List Arrival)) →
-    Went class (64 * l.route) (world_of gave (g.W.Wire.handed l.fn.wire) l.fn.ends l.fn.self) (world_of gave (g.W.Wire.handed l.wire) l.ends l.self)
+    Went class (64 * l.route) 0 0 (world_of gave (g.W.Wire.handed l.fn.wire) l.fn.ends l.fn.self) (world_of gave (g.W.Wire.handed l.wire) l.ends l.self)

@@ -6,13 +6,13 @@ pub loop-init : goal.loop-init
 loop-init g c = (c.requires.kept, λ class gave. went_none _ _ _)
 
 pub loop-preserved : goal.loop-preserved
-loop-preserved g c = (c.in-Gone.ensures.more refl, λ class gave. went_then _ _ _ _ _ _ (c.loop.invariant.1 class gave) (c.drain_one.ensures.went class gave))
+loop-preserved g c = (c.in-Gone.ensures.more refl, λ class gave. went_then (c.loop.invariant.1 class gave) (c.drain_one.ensures.went class gave))
 
 pub returns-in-Empty : goal.returns-in-Empty
-returns-in-Empty g c class gave = went_more _ _ 64 _ _ (omega arith) (went_then _ _ _ _ _ _ (c.loop.invariant.1 class gave) (c.drain_one.ensures.went class gave))
+returns-in-Empty g c class gave = went_more {n = 64} (omega arith) (omega arith) (went_then (c.loop.invariant.1 class gave) (c.drain_one.ensures.went class gave))
 
 pub returns-in-Kept : goal.returns-in-Kept
-returns-in-Kept g c class gave = went_more _ _ 64 _ _ (omega arith) (went_then _ _ _ _ _ _ (c.loop.invariant.1 class gave) (c.drain_one.ensures.went class gave))
+returns-in-Kept g c class gave = went_more {n = 64} (omega arith) (omega arith) (went_then (c.loop.invariant.1 class gave) (c.drain_one.ensures.went class gave))
 
 pub returns : goal.returns
-returns g c class gave = went_more _ _ 64 _ _ (omega arith) (c.loop.invariant.1 class gave)
+returns g c class gave = went_more {n = 64} (omega arith) (omega arith) (c.loop.invariant.1 class gave)

@@ -9,4 +9,4 @@ abbrev pub invariant-loop : goal.invariant-loop
 invariant-loop g l =
     (l.self.kept ≡ None) ×
     ((class : Sorting) (gave : Option (List Arrival)) →
-    Went class l.counter (world_of gave (g.W.Wire.handed l.fn.wire) l.fn.ends l.fn.self) (world_of gave (g.W.Wire.handed l.wire) l.ends l.self))
+    Went class l.counter 0 0 (world_of gave (g.W.Wire.handed l.fn.wire) l.fn.ends l.fn.self) (world_of gave (g.W.Wire.handed l.wire) l.ends l.self))
