@@ -35,8 +35,8 @@ after gave handed ends report = record { gave = gave; handed = handed; ends = en
 
 -- These events happened, the oldest first. The source gave the datagrams that they say, and each met what the lobby makes of it. The wire
 -- was handed the datagrams that they say. Each route's inbox accepted the items, and each outbox gave the replies, that they say. The
--- report counts them: with 511 routes at most no count comes to its limit. The source waited once a
--- round, and was read at least as often as it waited without a failure
+-- report counts them; with 511 routes at most no count comes to its limit. The source waited once a round, and was read at least as
+-- often as it waited without a failure
 pub record PumpedBy (class : Sorting) (rounds : ℕ) (before : Before) (after : After) (events : List Event) : Type 0 where
   pub follow : Follow class None events
   pub gave : after.gave ≡ joined before.gave (given events)

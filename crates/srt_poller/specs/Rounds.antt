@@ -32,8 +32,8 @@ pub record AreLater (events : List Event) (old new : List Ends) : Type 0 where
   pub as_many : length new ≡ length old
   pub each : (r : ℕ) (e : Ends) → r < length old → IsLater (accepted r events) (drained r events) (slice_index_or old r e) (slice_index_or new r e)
 
--- These events happened, at most so many, and made the one world of the other. The source waited so often, and was read so much more
--- often than after all waits but these
+-- These events happened and made the one world of the other. They are at most `most`, and `waits` of them are waits. To each wait that
+-- didn't fail there is a read, but for `waits` waits, and to that come `reads` reads
 pub record Happened (class : Sorting) (most waits reads : ℕ) (events : List Event) (old new : World) : Type 0 where
   pub follow : Follow class old.kept events
   pub gave : new.gave ≡ joined old.gave (given events)
