@@ -1,0 +1,7 @@
+pub mod Within
+pub mod Moments
+pub mod Told
+pub mod Openings
+pub mod Settlings
+pub mod Routes
+pub mod Ends

@@ -1,0 +1,5 @@
+pub mod Ticks
+pub mod Opened
+pub mod Polled
+pub mod Settled
+pub mod Ran

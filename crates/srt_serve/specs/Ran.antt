@@ -1,0 +1,62 @@
+-- What a run did.
+use Rattle.std.specs.Prelude.{◌≡◌, ℕ, ◌+◌, ◌*◌, ◌<◌, ◌≤◌, Option, None, List, [], ◌∷◌, ◌++◌, map, length, slice_index_or}
+use Rattle.srt_seq.specs.Items.{Datagram, told}
+use Rattle.srt_seq.specs.Terms.{Terms}
+use Rattle.srt_route.specs.declared.replies.Reply.{Reply}
+use Rattle.srt_route.specs.Route.{solo}
+use Rattle.srt_route.specs.Written.{written}
+use Rattle.srt_mailbox.specs.declared.inbox_rule.Marked.{Marked}
+use Rattle.srt_mailbox.specs.declared.accounts.Account.{Account}
+use Rattle.srt_mailbox.specs.Inbox.{polled_of, ticked_of, applied}
+use Rattle.srt_mailbox.specs.Counts.{counted}
+use Rattle.srt_poller.specs.declared.report.Report.{Report}
+use Rattle.srt_poller.specs.Devices.{Arrival, joined}
+use Rattle.srt_poller.specs.History.{Sorting, Event, Follow, kept_after, kept_of, given, handed, datagrams, of_lobby, of_route, answered, accepted, drained}
+use Rattle.srt_poller.specs.Reports.{total}
+use Rattle.srt_serve.specs.Ticks.{IsWithin, tick}
+
+-- Of one route, where these events happened at the poller and the ticker gave these moments. The items taken and then those left are, by
+-- their marks, the datagrams that the poller put into the inbox and ticks of some of the moments, each in order. The replies that the wire
+-- was handed, then the one that is kept, those queued and those that wait are all that the route, alone, replies to the items taken. The
+-- account has the numbers
+pub record RouteRan (terms : Terms) (index : ℕ) (events : List Event) (moments : List ℕ) (a : Account) : Type 0 where
+  pub taken : List Marked
+  pub left : List Marked
+  pub ticks : List ℕ
+  pub queued : List Reply
+  pub waiting : List Datagram
+  pub polled : map told (polled_of (taken ++ left)) ≡ accepted index events
+  pub ticked : ticked_of (taken ++ left) ≡ map tick ticks
+  pub within : IsWithin ticks moments
+  pub replied : of_route index (handed events) ++ (kept_of index (kept_after None events) ++ (map written queued ++ waiting)) ≡ solo terms index (applied taken)
+  pub taken_is : a.taken ≡ counted (length taken)
+  pub left_is : a.left ≡ length left
+  pub waiting_is : a.waiting ≡ length waiting
+  pub queued_is : a.queued ≡ length queued
+  pub drained_is : a.drained ≡ counted (length (drained index events))
+
+-- what the source tells that it gave, the wire that it was handed, and the ticker that it gave
+pub record Told : Type 0 where
+  pub gave : Option (List Arrival)
+  pub handed : Option (List Datagram)
+  pub moments : Option (List ℕ)
+
+abbrev pub told_by : Option (List Arrival) → Option (List Datagram) → Option (List ℕ) → Told
+told_by gave handed moments = record { gave = gave; handed = handed; moments = moments }
+
+-- These events happened at the poller, the oldest first, and the ticker gave these moments. The source gave the datagrams that the events
+-- say, and each met what the lobby makes of it; the wire was handed the datagrams that they say; the report counts them. There is an
+-- account for each route, in the order of their indexes
+pub record RanBy (class : Sorting) (entries : List Terms) (rounds : ℕ) (old new : Told) (report : Report) (accounts : List Account) (events : List Event) (moments : List ℕ) : Type 0 where
+  pub follow : Follow class None events
+  pub gave : new.gave ≡ joined old.gave (given events)
+  pub handed_are : new.handed ≡ joined old.handed (datagrams (handed events))
+  pub moments_are : new.moments ≡ joined old.moments moments
+  pub lobby : of_lobby (handed events) ≡ answered events
+  pub report_is : report ≡ total events (kept_after None events)
+  pub few : length events ≤ rounds * (258 + 64 * length entries)
+  pub as_many : length accounts ≡ length entries
+  pub each : (r : ℕ) (terms : Terms) (a : Account) → r < length entries → RouteRan (slice_index_or entries r terms) r events moments (slice_index_or accounts r a)
+
+abbrev pub Ran : Sorting → List Terms → (rounds : ℕ) → (old new : Told) → Report → List Account → Type 0
+Ran class entries rounds old new report accounts = (events : List Event) × (moments : List ℕ) × RanBy class entries rounds old new report accounts events moments

@@ -1,0 +1,50 @@
+//! All routes of a run, before any thread is started.
+
+ghost use Rattle.std.specs.Prelude.{◌≡◌, [], IfOk, map, length};
+ghost use Rattle.srt_seq.specs.Terms.{terms_of};
+ghost use Rattle.srt_serve.specs.Opened.{AreOpened};
+
+use srt_mailbox::{ClockEnd, RouteCell, open_route};
+use srt_poller::Ends;
+use srt_seq::Entry;
+use std::alloc::{AllocError, Global};
+use std::sync::Wait;
+
+/// The ends of all routes, each list in the order of their indexes.
+#[derive(Drop)]
+pub struct Opened {
+    pub ends: Vec<Ends>,
+    pub clocks: Vec<ClockEnd>,
+    pub cells: Vec<RouteCell>,
+}
+
+impl Opened {
+    fn empty(alloc: Global, routes: usize) -> Result<Opened, AllocError>
+        ensures { IfOk result (λ o. (o.ends.items ≡ []) × (o.clocks.items ≡ []) × (o.cells.items ≡ [])) }
+    {
+        Ok(Opened {
+            ends: Vec::with_capacity(alloc, routes)?,
+            clocks: Vec::with_capacity(alloc, routes)?,
+            cells: Vec::with_capacity(alloc, routes)?,
+        })
+    }
+}
+
+/// Opens the routes of these entries. It takes all memory that they will ever need. An error means that memory was
+/// refused.
+pub fn open_routes<R: Wait>(rt: &R, alloc: Global, entries: &[Entry]) -> Result<Opened, AllocError>
+    ensures { IfOk result (λ o. AreOpened (map terms_of entries.now) o.ends.items o.clocks.items o.cells.items) }
+{
+    let mut opened = Opened::empty(alloc, entries.len())?;
+    let mut index = 0;
+    for entry in entries {
+        let Ok((ingress, clock, cell, drain)) = open_route(rt, alloc, entry, index) else {
+            return Err(AllocError);
+        };
+        opened.ends.push(Ends { ingress, drain })?;
+        opened.clocks.push(clock)?;
+        opened.cells.push(cell)?;
+        index += 1;
+    }
+    Ok(opened)
+}

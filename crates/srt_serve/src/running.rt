@@ -1,0 +1,155 @@
+//! The running gateway.
+
+ghost use Rattle.std.specs.Prelude.{◌≡◌, ◌⊎◌, ◌≤◌, None, Err, [], IfOk, map, length};
+ghost use Rattle.std.specs.Vec.{vec_len, vec_capacity};
+ghost use Rattle.srt_seq.specs.Terms.{terms_of};
+ghost use Rattle.srt_cookie.specs.Cookie.{secret_bytes};
+ghost use Rattle.srt_lobby.specs.Lobby.{class_of};
+ghost use Rattle.srt_lobby.specs.Names.{name_of, names_of};
+ghost use Rattle.srt_lobby.specs.Opening.{fault_of};
+ghost use Rattle.srt_serve.specs.Opened.{AreOpened};
+ghost use Rattle.srt_serve.specs.Ran.{told_by, Ran as TheRan};
+
+use crate::hall::Hall;
+use crate::opening::{Opened, open_routes};
+use crate::serving::serve_routes;
+use crate::settling::settle_routes;
+use crate::ticking::{Clocks, Ticker};
+use srt_cookie::Secret;
+use srt_lobby::Names;
+use srt_mailbox::{Account, Gate};
+use srt_poller::{Report, Source, Wire};
+use srt_seq::Entry;
+use std::alloc::{AllocError, Global};
+use std::sync::Wait;
+use std::thread::Threads;
+
+/// Why a run came to nothing.
+#[derive(Clone, Copy, Debug, PartialEq, Eq)]
+pub enum RunFault {
+    /// Memory was refused. Nothing was read.
+    OutOfMemory,
+    /// A thread could not be started. Nothing was read, and the threads that were started have ended.
+    Thread,
+    /// A route could not be settled, since somebody else had it. What was sent stands.
+    Busy,
+}
+
+/// What a run gives back.
+#[derive(Drop)]
+pub struct Ran<K: Drop> {
+    /// What the poller counted.
+    pub report: Report,
+    /// An account for each route, in the order of their indexes.
+    pub accounts: Vec<Account>,
+    /// The ticker that was handed in.
+    pub ticker: K,
+}
+
+// Everything that a run takes memory for.
+#[derive(Drop)]
+struct Stage {
+    names: Names,
+    routes: Opened,
+    hall: Hall,
+    accounts: Vec<Account>,
+}
+
+fn open_stage<R: Wait>(
+    rt: &R,
+    alloc: Global,
+    entries: &[Entry],
+    workers: usize,
+) -> Result<Stage, AllocError>
+    ensures names { IfOk result (λ s. names_of s.names ≡ map name_of (map terms_of entries.now)) }
+    ensures routes { IfOk result (λ s. AreOpened (map terms_of entries.now) s.routes.ends.items s.routes.clocks.items s.routes.cells.items) }
+    ensures accounts { IfOk result (λ s. (s.accounts.items ≡ []) × (length entries.now ≤ vec_capacity s.accounts)) }
+{
+    let Ok(names) = Names::open(alloc, entries) else {
+        return Err(AllocError);
+    };
+    Ok(Stage {
+        names,
+        routes: open_routes(rt, alloc, entries)?,
+        hall: Hall::open(alloc, entries.len(), workers)?,
+        accounts: Vec::with_capacity(alloc, entries.len())?,
+    })
+}
+
+/// Runs the gateway of these entries for this many rounds of its poller, and returns what it counted and an account of
+/// each route.
+///
+/// First all routes are opened and all threads are started. Then the calling thread polls the source and the wire, one
+/// thread ticks all routes at each moment that the ticker gives, and a worker for each gate goes round the routes and
+/// serves them. After the rounds all threads end, and each route is settled.
+#[tactic(auto, unfolding(crate::specs::Polled::AreUntouched))]
+pub fn run<R, S, W, K, G>(
+    rt: &R,
+    alloc: Global,
+    secret: &Secret,
+    entries: &[Entry],
+    source: &mut S,
+    wire: &mut W,
+    ticker: K,
+    workers: Vec<G>,
+    rounds: u32,
+) -> Result<Ran<K>, RunFault>
+where
+    R: Threads + Wait + Sync,
+    S: Source,
+    W: Wire,
+    K: Ticker + Send + Drop,
+    G: Gate + Send + Drop,
+    requires entries { fault_of (map terms_of entries.now) ≡ None }
+    requires workers { (1 ≤ vec_len workers) × (vec_len workers ≤ 16) }
+    ensures ran { IfOk result (λ r. TheRan (class_of (secret_bytes secret.now) (map name_of (map terms_of entries.now))) (map terms_of entries.now) rounds (told_by (S.gave source.old) (W.handed wire.old) (K.gave ticker)) (told_by (S.gave source.new) (W.handed wire.new) (K.gave r.ticker)) r.report r.accounts.items) }
+    ensures unread { (result ≡ Err RunFault.OutOfMemory) ⊎ (result ≡ Err RunFault.Thread) → (source.new ≡ source.old) × (wire.new ≡ wire.old) }
+{
+    let Ok(stage) = open_stage(rt, alloc, entries, workers.len()) else {
+        return Err(RunFault::OutOfMemory);
+    };
+    let Stage {
+        names,
+        routes,
+        hall,
+        accounts,
+    } = stage;
+    let Opened {
+        mut ends,
+        clocks,
+        cells,
+    } = routes;
+    let mut clocks = Clocks {
+        ends: clocks,
+        ticker,
+    };
+    let mut workers = workers;
+    let Some(report) = serve_routes(
+        rt,
+        alloc,
+        secret,
+        &names,
+        source,
+        wire,
+        &mut ends,
+        &mut clocks,
+        cells.as_slice(),
+        &mut workers,
+        &hall,
+        rounds,
+    ) else {
+        return Err(RunFault::Thread);
+    };
+    let Clocks {
+        ends: clocks,
+        ticker,
+    } = clocks;
+    let Ok(accounts) = settle_routes(rt, ends, clocks, cells, accounts) else {
+        return Err(RunFault::Busy);
+    };
+    Ok(Ran {
+        report,
+        accounts,
+        ticker,
+    })
+}

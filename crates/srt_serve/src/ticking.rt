@@ -1,0 +1,66 @@
+//! The ticking thread: it tells all routes the time.
+
+ghost use Rattle.std.specs.Prelude.{◌≡◌, ◌⊎◌, ◌<◌, ◌^◌, [], ◌∷◌, ◌++◌};
+ghost use Rattle.srt_mailbox.specs.Ends.{producer};
+ghost use Rattle.srt_serve.specs.Ticks.{tick, WereTicked, Ticked};
+
+use crate::hall::Hall;
+use srt_mailbox::ClockEnd;
+use srt_seq::Item;
+use std::sync::Wait;
+use std::thread;
+
+/// What tells the ticking thread when to tick. It may wait before it does.
+pub trait Ticker {
+    ghost use Rattle.std.specs.Prelude.{◌<◌, ◌^◌, ℕ, Option, List, [], ◌∷◌};
+    ghost use Rattle.srt_poller.specs.Devices.{joined};
+
+    /// All moments that it gave, the oldest first, if it tells them.
+    ghost gave: { Self → Option (List ℕ) };
+
+    /// The next moment, in microseconds. It is below 2^62.
+    fn next(&mut self) -> u64
+        ensures timely { result < 2 ^ 62 }
+        ensures tells { gave self.new ≡ joined (gave self.old) (result ∷ []) };
+}
+
+/// The clock's ends of all routes, in the order of their indexes, and what they are ticked by.
+#[derive(Drop)]
+pub struct Clocks<K: Ticker + Drop> {
+    pub ends: Vec<ClockEnd>,
+    pub ticker: K,
+}
+
+// Offers a tick to one route. A tick that meets a full inbox is given up.
+fn tick_one<R: Wait>(rt: &R, end: &mut ClockEnd, moment: u64)
+    requires { moment < 2 ^ 62 }
+    ensures { (end.new ≡ end.old) ⊎ (end.new ≡ producer end.old.queue end.old.capacity (end.old.offered ++ tick moment ∷ [])) }
+{
+    let _ = end.offer(rt, Item::Tick { moment });
+}
+
+// Offers a tick to every route.
+fn tick_all<R: Wait>(rt: &R, ends: &mut [ClockEnd], moment: u64)
+    requires { moment < 2 ^ 62 }
+    ensures { WereTicked (moment ∷ []) ends.old ends.new }
+{
+    for end in ends.iter_mut() {
+        tick_one(rt, end, moment);
+    }
+}
+
+/// Ticks all routes at each moment that the ticker gives, until the run is over.
+pub fn tick<R: Wait, K: Ticker + Drop>(rt: &R, clocks: &mut Clocks<K>, hall: &Hall)
+    ensures { Ticked (K.gave clocks.old.ticker) (K.gave clocks.new.ticker) clocks.old.ends.items clocks.new.ends.items }
+{
+    hall.arrive();
+    for _ in rt.forever() {
+        if hall.is_done() {
+            return;
+        }
+        let moment = clocks.ticker.next();
+        tick_all(rt, &mut clocks.ends, moment);
+        hall.ticked();
+        thread::yield_now();
+    }
+}
