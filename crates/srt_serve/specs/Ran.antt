@@ -11,7 +11,7 @@ use Rattle.srt_mailbox.specs.Inbox.{polled_of, ticked_of, applied}
 use Rattle.srt_mailbox.specs.Counts.{counted}
 use Rattle.srt_poller.specs.declared.report.Report.{Report}
 use Rattle.srt_poller.specs.Devices.{Arrival, joined}
-use Rattle.srt_poller.specs.History.{Sorting, Event, Follow, kept_after, kept_of, given, handed, datagrams, of_lobby, of_route, answered, accepted, drained}
+use Rattle.srt_poller.specs.History.{Sorting, Event, Follow, kept_after, kept_of, given, handed, datagrams, of_lobby, of_route, answered, accepted, drained, waits_in, reads_in, ready_in}
 use Rattle.srt_poller.specs.Reports.{total}
 use Rattle.srt_serve.specs.Ticks.{IsWithin, tick}
 
@@ -45,8 +45,9 @@ abbrev pub told_by : Option (List Arrival) → Option (List Datagram) → Option
 told_by gave handed moments = record { gave = gave; handed = handed; moments = moments }
 
 -- These events happened at the poller, the oldest first, and the ticker gave these moments. The source gave the datagrams that the events
--- say, and each met what the lobby makes of it; the wire was handed the datagrams that they say; the report counts them. There is an
--- account for each route, in the order of their indexes
+-- say, and each met what the lobby makes of it; the wire was handed the datagrams that they say; the report counts them. The source waited
+-- once a round, and was read at least as often as it waited without a failure. There is an account for each route, in the order of their
+-- indexes
 pub record RanBy (class : Sorting) (entries : List Terms) (rounds : ℕ) (old new : Told) (report : Report) (accounts : List Account) (events : List Event) (moments : List ℕ) : Type 0 where
   pub follow : Follow class None events
   pub gave : new.gave ≡ joined old.gave (given events)
@@ -54,6 +55,8 @@ pub record RanBy (class : Sorting) (entries : List Terms) (rounds : ℕ) (old ne
   pub moments_are : new.moments ≡ joined old.moments moments
   pub lobby : of_lobby (handed events) ≡ answered events
   pub report_is : report ≡ total events (kept_after None events)
+  pub waits : waits_in events ≡ rounds
+  pub reads : ready_in events ≤ reads_in events
   pub few : length events ≤ rounds * (258 + 64 * length entries)
   pub as_many : length accounts ≡ length entries
   pub each : (r : ℕ) (terms : Terms) (a : Account) → r < length entries → RouteRan (slice_index_or entries r terms) r events moments (slice_index_or accounts r a)
