@@ -163,8 +163,8 @@ all_ran class entries rounds gave gave' to to' told_before told_after ends ends'
         lobby = p.origins.lobby;
         report_is = p.sums (omega (arith, few_routes entries sound, opened.as_many_ends));
         waits = p.waits;
-      reads = p.reads;
-      few = subst (λ (n : ℕ). length pumped.0 ≤ rounds * (258 + 64 * n)) opened.as_many_ends p.few;
+        reads = p.reads;
+        few = subst (λ (n : ℕ). length pumped.0 ≤ rounds * (258 + 64 * n)) opened.as_many_ends p.few;
         as_many = settled_length accounts ends' clocks' cells settled ∙ opened.as_many_cells;
         each = λ r terms a below.
             let e = some_of ends r (omega (arith, below, opened.as_many_ends)) in
