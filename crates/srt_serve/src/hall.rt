@@ -31,7 +31,10 @@ pub struct Hall {
     visited: Marks,
     // there may be something in the route's outbox
     told: Marks,
+    // wakes workers
     bell: Bell,
+    // wakes the calling thread while it waits for the others
+    door: Bell,
     workers: u64,
     resting: AtomicU64,
     // how many threads are here: the ticking thread and the workers
@@ -47,6 +50,7 @@ impl Hall {
             visited: Marks::open(alloc, routes)?,
             told: Marks::open(alloc, routes)?,
             bell: Bell::new(),
+            door: Bell::new(),
             workers: workers as u64,
             resting: AtomicU64::new(0),
             here: AtomicU64::new(0),
@@ -57,20 +61,20 @@ impl Hall {
     /// The calling thread is here.
     pub fn arrive(&self) {
         self.here.fetch_add(1, Ordering::SeqCst);
-        self.bell.call_all();
+        self.door.call_all();
     }
 
     /// Waits until all threads are here. False if one can't be started, or is not here after ten seconds.
     pub fn gather<R: Wait>(&self, rt: &R) -> bool {
         for _ in 0..PATIENCE {
-            let heard = self.bell.heard();
+            let heard = self.door.heard();
             if self.is_done() {
                 return false;
             }
             if self.here.load(Ordering::SeqCst) > self.workers {
                 return true;
             }
-            self.bell.rest(rt, heard, Duration::from_micros(SLEEP));
+            self.door.rest(rt, heard, Duration::from_micros(SLEEP));
         }
         false
     }
@@ -79,6 +83,7 @@ impl Hall {
     pub fn finish(&self) {
         self.done.store(true, Ordering::SeqCst);
         self.bell.call_all();
+        self.door.call_all();
     }
 
     pub fn is_done(&self) -> bool {
