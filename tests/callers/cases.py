@@ -1,0 +1,661 @@
+"""The cases. Each is a function of the gateway's address, with the routes that it needs to itself; it raises Wrong if
+something isn't as it should be."""
+import random
+import socket
+import struct
+import time
+
+import tools
+import wire
+from caller import Caller, Publisher, Refused, Silent, Subscriber, delays_of, indexes, now, payload, stream
+from gateway import Gateway, files, live, report
+from proxy import Proxy
+
+CASES = []
+
+
+class Wrong(Exception):
+    """A case failed."""
+
+
+def expect(test, text):
+    if not test:
+        raise Wrong(text)
+
+
+def case(name, *routes, needs=()):
+    """Adds a case to the list; `needs` are tools without which it is skipped."""
+    def adding(play):
+        CASES.append((name, routes, needs, play))
+        return play
+    return adding
+
+
+def request(name):
+    return f"#!::r={name},m=request"
+
+
+def publish(name):
+    return f"#!::r={name},m=publish"
+
+
+def refusal(call):
+    """The code with which a call is refused; 0 if it is accepted."""
+    try:
+        call()
+    except Refused as refused:
+        return refused.code
+    return 0
+
+
+def expect_refusal(code, caller, what):
+    found = refusal(caller.call)
+    expect(found == code, f"{what}: {found or 'accepted'}, and not {code}")
+
+
+def expect_run(got, first, count, who="the subscriber"):
+    """The payloads are those from `first` on, each once, in order, none left out."""
+    found = indexes(got)
+    if found != list(range(first, first + count)):
+        missing = sorted(set(range(first, first + count)) - set(found))
+        raise Wrong(f"{who} got {len(found)} of {count} payloads, {found[:1]} to {found[-1:]}, without {missing[:5]}")
+
+
+def expect_delays(got, least_ms, slack_ms=100):
+    """No payload came before its time, and half of them at most `slack_ms` after it."""
+    delays = sorted(delays_of(got))
+    expect(delays[0] >= 1000 * least_ms, f"a payload came after {delays[0]} us, before its {least_ms} ms")
+    middle = delays[len(delays) // 2]
+    expect(middle <= 1000 * (least_ms + slack_ms), f"half of the payloads took more than {middle} us")
+
+
+def relay(address, name, count=300, interval=5_000, subscribers=1, towards=None, least_ms=120):
+    """A publisher and subscribers of a route; each subscriber gets each payload once, in order and in time."""
+    publisher = Publisher(address, publish(name), stream(count), interval)
+    others = [Subscriber(towards or address, request(name)) for _ in range(subscribers)]
+    for one in [publisher, *others]:
+        one.call()
+    for one in [*others, publisher]:
+        one.start()
+    publisher.wait_delivered(count * interval / 1e6 + 10)
+    for index, one in enumerate(others):
+        one.wait(5, count)
+        one.close()
+        expect_run(one.got, 0, count, f"subscriber {index}")
+        expect_delays(one.got, least_ms)
+    publisher.close()
+    return publisher, others
+
+
+# Streams.
+
+
+@case("publish and subscribe on one route", live("one"))
+def one_route(address):
+    publisher, (subscriber,) = relay(address, "one")
+    expect(publisher.dropped == 0 and subscriber.dropped == 0, "packets were dropped")
+
+
+@case("three subscribers at once", live("three"))
+def three_subscribers(address):
+    relay(address, "three", subscribers=3)
+
+
+TEN = [f"ten/{index}" for index in range(10)]
+
+
+@case("ten routes at once", *map(live, TEN))
+def ten_routes(address):
+    count = 150
+    publishers = [Publisher(address, publish(name), stream(count, 1000 * at), 10_000) for at, name in enumerate(TEN)]
+    subscribers = [Subscriber(address, request(name)) for name in TEN]
+    for one in publishers + subscribers:
+        one.call()
+    for one in subscribers + publishers:
+        one.start()
+    for at, one in enumerate(subscribers):
+        one.wait(10, count)
+        one.close()
+        expect_run(one.got, 1000 * at, count, f"the subscriber of {TEN[at]}")
+    for one in publishers:
+        one.close()
+
+
+@case("the subscriber comes first", live("first"))
+def subscriber_first(address):
+    subscriber = Subscriber(address, request("first"))
+    subscriber.call()
+    subscriber.start()
+    time.sleep(1.2)
+    expect(subscriber.kept_alive >= 1, "no KEEPALIVE came within a second")
+    publisher = Publisher(address, publish("first"), stream(200), 5_000)
+    publisher.call()
+    publisher.start()
+    subscriber.wait(5, 200)
+    subscriber.close()
+    publisher.close()
+    expect_run(subscriber.got, 0, 200)
+    expect_delays(subscriber.got, 120)
+
+
+@case("a publisher comes back", live("back"))
+def publisher_comes_back(address):
+    subscriber = Subscriber(address, request("back"))
+    subscriber.call()
+    subscriber.start()
+    for first in (0, 100, 200):
+        publisher = Publisher(address, publish("back"), stream(100, first), 5_000)
+        publisher.call()
+        publisher.start()
+        expect(publisher.wait_delivered(5), "the publisher's window didn't become free")
+        publisher.close()
+    subscriber.wait(5, 300)
+    subscriber.close()
+    expect_run(subscriber.got, 0, 300)
+
+
+@case("a publisher's last payloads at its SHUTDOWN are given up", live("tail", latency_ms=1000))
+def tail(address):
+    subscriber = Subscriber(address, request("tail"))
+    publisher = Publisher(address, publish("tail"), stream(100), 5_000)
+    for one in (subscriber, publisher):
+        one.call()
+        one.start()
+    expect(publisher.wait_all(5), "packets weren't acknowledged")
+    publisher.close()
+    time.sleep(1.2)
+    subscriber.close()
+    expect(len(subscriber.got) < 100, "the payloads came although the publisher had ended before their time")
+
+
+@case("a session nobody hears of for five seconds ends", live("idle"))
+def idle_session(address):
+    silent = Publisher(address, publish("idle"), stream(10), 5_000)
+    silent.call()
+    silent.start()
+    silent.wait_all(2)
+    silent.stop()
+    began = silent.sent
+    later = Publisher(address, publish("idle"), stream(50), 5_000)
+    later.induce()
+    while now() - began < 4_500_000:
+        expect(refusal(lambda: later.conclude(1)) == 1002, "a second publisher was accepted beside an open one")
+        time.sleep(0.5)
+    time.sleep(max(0, (began + 5_500_000 - now()) / 1e6))
+    expect(refusal(lambda: later.conclude(2)) == 0, "the session was still open after five seconds and a half")
+    later.close()
+
+
+# Handshakes.
+
+
+@case("the delays of both sides", live("delays"))
+def delays(address):
+    for receiver, sender, answered in ((120, 0, (120, 120)), (20, 20, (120, 120)), (500, 300, (300, 500)), (0, 1000, (1000, 120))):
+        one = Subscriber(address, request("delays"), receiver_ms=receiver, sender_ms=sender)
+        one.call()
+        expect(one.delays() == answered, f"delays {receiver} and {sender}: answered {one.delays()}, and not {answered}")
+        one.close()
+
+
+@case("a publisher asks for a longer delay", live("slow"))
+def longer_delay(address):
+    publisher = Publisher(address, publish("slow"), stream(150), 5_000, sender_ms=400)
+    subscriber = Subscriber(address, "slow", receiver_ms=300)
+    for one in (publisher, subscriber):
+        one.call()
+        one.start()
+    expect(publisher.delays() == (400, 120) and subscriber.delays() == (120, 300), "the delays are answered otherwise")
+    subscriber.wait(5, 150)
+    subscriber.close()
+    publisher.close()
+    expect_run(subscriber.got, 0, 150)
+    expect_delays(subscriber.got, 400)
+
+
+@case("answers as the draft has them", live("answers"))
+def answers(address):
+    one = Subscriber(address, request("answers"), initial=0x7FFFFFFF, mtu=1400, congestion=b"live")
+    first = one.induce()
+    expect(first[:7] == (5, 0, 0x4A17, 0x7FFFFFFF, 1500, 8192, wire.INDUCTION), f"the induction is answered with {first}")
+    second = one.conclude()
+    expect(second[:7] == (5, 0, 5, 0x7FFFFFFF, 1400, 1024, wire.CONCLUSION), f"the conclusion is answered with {second}")
+    hsrsp = struct.pack("!2I2H", 0x00010500, 0x3F, 120, 120)
+    expect(second.blocks == {wire.HSRSP: hsrsp, wire.CONGESTION: wire.text_words(b"live")}, f"its blocks are {second.blocks}")
+    expect(one.conclude() == second, "the conclusion again is answered otherwise")
+    one.close()
+
+
+FORMS = ["forms", "#!::r=forms", "#!::r=forms,m=request", "#!::m=request,r=forms", "#!::u=anna,r=forms,h=host.example,t=stream", b"forms\0\0\0"]
+
+
+@case("forms of the Stream ID", live("forms", sessions=10))
+def stream_ids(address):
+    publisher = Publisher(address, "#!::u=anna,m=publish,t=stream,r=forms", stream(100), 5_000)
+    subscribers = [Subscriber(address, form) for form in FORMS]
+    for one in [*subscribers, publisher]:
+        one.call()
+    for one in [*subscribers, publisher]:
+        one.start()
+    for form, one in zip(FORMS, subscribers):
+        one.wait(5, 100)
+        one.close()
+        expect_run(one.got, 0, 100, f"the subscriber with {form!r}")
+    publisher.close()
+
+
+@case("refusals, each with its code", live("codes", sessions=3), files("codes.files"))
+def refusals(address):
+    unknown = ["nowhere", "#!::m=publish", "#!::r=", "#!::r=codes,m=bidirectional", "#!::r=codes,r=codes", "#!::r=nowhere,m=publish", b"\xff\xfe", b""]
+    for text in unknown:
+        expect_refusal(1002, Caller(address, text), f"Stream ID {text!r}")
+    expect_refusal(1002, Caller(address), "no Stream ID")
+    expect_refusal(1004, Caller(address, "codes", asks=False), "no HSREQ")
+    expect_refusal(1004, Caller(address, "codes", initial=0x80000000), "an initial number of 32 bits")
+    expect_refusal(1004, Caller(address, "codes", mtu=75), "an MTU of 75")
+    expect_refusal(1004, Caller(address, "codes", window=0), "a flow window of 0")
+    expect_refusal(1004, Caller(address, "codes.files", mode="buffer", mtu=1499), "a buffer-mode subscriber with an MTU of 1499")
+    expect_refusal(1008, Caller(address, "codes", version=4), "version 4")
+    expect_refusal(1011, Caller(address, "codes", more=wire.block(wire.KMREQ, bytes(56))), "key material")
+    expect_refusal(1014, Caller(address, "codes", more=wire.block(wire.FILTER, b"cef\0")), "a packet filter")
+    expect_refusal(1015, Caller(address, "codes", more=wire.block(wire.GROUP, bytes(8))), "a group")
+    expect_refusal(1012, Caller(address, "codes", mode="buffer"), "buffer mode on a live route")
+    expect_refusal(1012, Caller(address, "codes.files", mode="live"), "live mode on a route in buffer mode")
+    first = Publisher(address, publish("codes"), [])
+    first.call()
+    expect_refusal(1002, Publisher(address, publish("codes"), []), "a second publisher")
+    others = [Subscriber(address, request("codes")) for _ in range(2)]
+    for one in others:
+        one.call()
+    expect_refusal(1003, Subscriber(address, request("codes")), "a fourth session of three")
+    for one in [first, *others]:
+        one.close()
+
+
+@case("a wrong cookie isn't answered", live("cookie"))
+def wrong_cookie(address):
+    one = Subscriber(address, request("cookie"))
+    one.induce()
+    one.cookie ^= 1
+    try:
+        one.conclude(0.8)
+        raise Wrong("a conclusion with a wrong cookie was answered")
+    except Silent:
+        pass
+    one.cookie ^= 1
+    one.conclude()
+    one.close()
+
+
+# Lines that lose, double and reorder.
+
+
+def over_a_line(address, name, least_ms, counts, **chances):
+    """A stream whose publisher and subscriber each sit behind a line of their own, which is bad for the middle part."""
+    before, during = 200, 1000
+    there, back = Proxy(address, 1), Proxy(address, 2)
+    publisher = Publisher(there.address, publish(name), stream(before + during + 150), 4_000)
+    subscriber = Subscriber(back.address, request(name), receiver_ms=500)
+    for one in (publisher, subscriber):
+        one.call()
+        one.start()
+    subscriber.wait(10, before)
+    for line in (there, back):
+        for chance, value in chances.items():
+            setattr(line, chance, value)
+    subscriber.wait(20, before + during)
+    for line in (there, back):
+        line.loss = line.double = line.late = 0
+    subscriber.wait(5, before + during + 150)
+    subscriber.close()
+    publisher.close()
+    for line in (there, back):
+        line.stop()
+        found = getattr(line, counts)
+        expect(found >= 30, f"the line made only {found} packets {counts}")
+    expect_run(subscriber.got, 0, before + during + 150)
+    expect_delays(subscriber.got, least_ms)
+    late = [it for it in delays_of(subscriber.got) if it > 1000 * (least_ms + 500)]
+    expect(not late, f"{len(late)} payloads came too late to be played")
+    return publisher, subscriber
+
+
+@case("5 % lost both ways", live("lossy", latency_ms=500))
+def loss(address):
+    publisher, subscriber = over_a_line(address, "lossy", 500, "lost", loss=0.05)
+    expect(publisher.resent >= 20 and subscriber.asked_again >= 10, "next to nothing was sent again")
+    expect(publisher.dropped == 0 and subscriber.dropped == 0, "packets were dropped")
+
+
+@case("20 % doubled", live("doubled", latency_ms=500))
+def doubles(address):
+    _, subscriber = over_a_line(address, "doubled", 500, "doubled", double=0.2)
+    expect(subscriber.repeats >= 100, f"only {subscriber.repeats} packets came twice")
+
+
+@case("packets out of order", live("disorder", latency_ms=500))
+def disorder(address):
+    over_a_line(address, "disorder", 500, "delayed", late=0.2)
+
+
+@case("garbage beside a stream", live("calm"), live("pelted"))
+def garbage(address):
+    chance = random.Random(3)
+    thrower = socket.socket(socket.AF_INET, socket.SOCK_DGRAM)
+    publisher = Publisher(address, publish("calm"), stream(300), 5_000)
+    subscriber = Subscriber(address, request("calm"))
+    for one in (publisher, subscriber):
+        one.call()
+        one.start()
+    theirs = 0x00100000 | publisher.peer_id & 0x000FFFFF
+    while publisher.is_alive() and not publisher.exhausted:
+        for _ in range(8):
+            body = bytes(chance.getrandbits(8) for _ in range(chance.choice((0, 3, 15, 16, 20, 64, 96, 200))))
+            first, destination = chance.choice((0, 0x80000000, 0x80020000, 0x80030000, 0x80070000)), chance.choice((0, theirs, theirs + 1, publisher.peer_id, subscriber.peer_id))
+            thrower.sendto(body if chance.random() < 0.3 else struct.pack("!4I", first, 0, 0, destination) + body, address)
+        time.sleep(0.004)
+    subscriber.wait(5, 300)
+    subscriber.close()
+    publisher.close()
+    expect_run(subscriber.got, 0, 300)
+
+
+# Buffer mode.
+
+
+def pieces(contents, size=1456):
+    return [contents[at:at + size] for at in range(0, len(contents), size)]
+
+
+def hand_over(address, name, contents, towards=None, seconds=20):
+    """A file goes through a route in buffer mode, and comes out byte for byte."""
+    publisher = Publisher(towards or address, publish(name), pieces(contents), 0, mode="buffer", congestion=b"file")
+    subscriber = Subscriber(towards or address, request(name), mode="buffer", congestion=b"file")
+    for one in (subscriber, publisher):
+        one.call()
+        one.start()
+    expect(publisher.wait_delivered(seconds), f"after {seconds} s the file is not delivered: {len(subscriber.got)} pieces came")
+    publisher.close()
+    subscriber.wait(5, len(pieces(contents)))
+    subscriber.close()
+    came = b"".join(body for body, _ in subscriber.got)
+    expect(came == contents, f"{len(came)} bytes came of {len(contents)}, or others")
+
+
+@case("a file in buffer mode, byte for byte", files("file"))
+def a_file(address):
+    hand_over(address, "file", random.Random(4).randbytes(2_000_000))
+
+
+@case("a file in buffer mode over a line that loses 5 %", files("lossy.file"))
+def a_file_with_loss(address):
+    line = Proxy(address, 5, loss=0.05, late=0.1)
+    hand_over(address, "lossy.file", random.Random(6).randbytes(300_000), line.address, 30)
+    line.stop()
+    expect(line.lost >= 10, f"the line lost only {line.lost} packets")
+
+
+@case("a file waits for its subscriber", files("waiting", buffer=32))
+def a_file_waits(address):
+    publisher = Publisher(address, publish("waiting"), stream(200), 0, mode="buffer", congestion=b"file")
+    publisher.call()
+    publisher.start()
+    time.sleep(0.5)
+    expect(publisher.next - publisher.initial == 32, f"{publisher.next - publisher.initial} packets were sent into a window of 32")
+    subscriber = Subscriber(address, request("waiting"), mode="buffer", congestion=b"file")
+    subscriber.call()
+    subscriber.start()
+    subscriber.wait(10, 200)
+    subscriber.close()
+    publisher.close()
+    expect_run(subscriber.got, 0, 200)
+
+
+# The program.
+
+
+@case("serve ends in time, with its report")
+def ends_in_time(_):
+    rounds = 400
+    gateway = Gateway([live("short")], rounds)
+    expect(gateway.is_up(), "it doesn't come up")
+    publisher, subscriber = Publisher(gateway.address, publish("short"), stream(60), 2_000), Subscriber(gateway.address, "short")
+    for one in (subscriber, publisher):
+        one.call()
+        one.start()
+    ended = gateway.ended(rounds * 0.010 + 10)
+    for one in (subscriber, publisher):
+        one.stop()
+    expect(ended is not None, f"{rounds} rounds took over {rounds * 0.010 + 10} s")
+    status, output, errors = ended
+    expect(status == 0 and not errors and output.endswith("\n"), f"status {status}, {output!r}, {errors!r}")
+    counts = report(output[:-1])
+    expect(counts is not None, f"the report is {output!r}")
+    outcomes = sum(counts[it] for it in ("answered", "accepted", "full", "dropped", "memory"))
+    expect(counts["read"] == outcomes, f"the outcomes of arrivals aren't as many as were read: {output!r}")
+    expect(counts["answered"] >= 2 and counts["accepted"] >= 2 and counts["sent"] >= 4, f"it served nobody: {output!r}")
+    expect(counts["faults"] == 0 and counts["memory"] == 0, f"it had faults: {output!r}")
+
+
+@case("serve of no rounds reports zeros")
+def no_rounds(_):
+    ended = Gateway([live("none")], 0).ended(10)
+    zeros = "read 0 answered 0 accepted 0 full 0 dropped 0 memory 0 sent 0 lost 0 faults 0\n"
+    expect(ended == (0, zeros, ""), f"it ended with {ended}")
+
+
+@case("a port that is taken is a socket fault")
+def port_taken(_):
+    with socket.socket(socket.AF_INET, socket.SOCK_DGRAM) as taker:
+        taker.bind(("127.0.0.1", 0))
+        ended = Gateway([live("none")], 3, port=taker.getsockname()[1]).ended(10)
+    expect(ended == (1, "socket fault\n", ""), f"it ended with {ended}")
+
+
+@case("511 routes and 16 workers")
+def many_routes(_):
+    names = [f"r{index}" for index in range(511)]
+    gateway = Gateway([live(name, buffer=64, sessions=2, inbox=16, outbox=64) for name in names], workers=16)
+    try:
+        expect(gateway.is_up(20), "it doesn't come up")
+        for name in ("r0", "r255", "r510"):
+            relay(gateway.address, name, 100)
+        expect(gateway.runs(), "it ended")
+    finally:
+        gateway.kill()
+
+
+# Real callers.
+
+
+def settle(outlets, inlet, first=0):
+    """Feeds a tool until something has come out at each outlet; returns the number of the next payload."""
+    for index in range(first, first + 2000):
+        inlet.feed([payload(index)], 0.005)
+        if all(it.got for it in outlets):
+            return index + 1
+    raise Wrong("nothing came out within ten seconds")
+
+
+def expect_stream(outlet, end, who="the tool"):
+    """What came out is an unbroken run of payloads that ends with the last."""
+    found = indexes(list(outlet.got))
+    expect(found and found == list(range(found[0], end)), f"{who} got {len(found)} payloads, {found[:1]} to {found[-1:]}, with gaps or others")
+
+
+def tools_relay(source, sinks, least_ms, count=400, calm=None):
+    """srt-live-transmit publishes at `source`, and others play at each of `sinks`."""
+    inlet, outlets = tools.Inlet(), [tools.Outlet() for _ in sinks]
+    ran = [tools.transmit(inlet.address, source)]
+    ran += [tools.transmit(sink, outlet.address) for sink, outlet in zip(sinks, outlets)]
+    try:
+        first = settle(outlets, inlet)
+        if calm is not None:
+            inlet.feed(stream(200, first), 0.004)
+            first += 200
+            calm(True)
+        inlet.feed(stream(count, first), 0.004)
+        if calm is not None:
+            calm(False)
+            inlet.feed(stream(100, first + count), 0.004)
+            count += 100
+        wait = time.monotonic() + 5
+        while time.monotonic() < wait and any(indexes(it.got[-1:]) != [first + count - 1] for it in outlets):
+            time.sleep(0.02)
+        for at, outlet in enumerate(outlets):
+            expect_stream(outlet, first + count, f"player {at}")
+            expect_delays(list(outlet.got), least_ms)
+    finally:
+        for one in ran:
+            one.end()
+
+
+@case("srt-live-transmit to srt-live-transmit", live("slt"), needs=[tools.SRT])
+def transmit_to_transmit(address):
+    tools_relay(tools.srt(address, streamid=publish("slt")), [tools.srt(address, streamid="slt")], 240)
+
+
+@case("srt-live-transmit to three of them", live("slt3"), needs=[tools.SRT])
+def transmit_to_three(address):
+    sinks = [tools.srt(address, streamid=form) for form in ("slt3", "#!::r=slt3", request("slt3"))]
+    tools_relay(tools.srt(address, streamid=publish("slt3")), sinks, 240)
+
+
+@case("srt-live-transmit with delays of its own", live("slt.delays"), needs=[tools.SRT])
+def transmit_delays(address):
+    source = tools.srt(address, streamid=publish("slt.delays"), latency=300)
+    sink = tools.srt(address, streamid="slt.delays", rcvlatency=250)
+    tools_relay(source, [sink], 550)
+
+
+@case("srt-live-transmit over lines that lose 5 %", live("slt.lossy", latency_ms=500), needs=[tools.SRT])
+def transmit_loss(address):
+    there, back = Proxy(address, 7), Proxy(address, 8)
+
+    def bad(yes):
+        there.loss = back.loss = 0.05 if yes else 0
+
+    source = tools.srt(there.address, streamid=publish("slt.lossy"))
+    tools_relay(source, [tools.srt(back.address, streamid="slt.lossy", latency=500)], 1000, 1000, bad)
+    for line in (there, back):
+        line.stop()
+        expect(line.lost >= 20, f"the line lost only {line.lost} packets")
+
+
+@case("srt-live-transmit over lines that double and reorder", live("slt.mixed"), needs=[tools.SRT])
+def transmit_mixed(address):
+    there, back = Proxy(address, 9), Proxy(address, 10)
+
+    def bad(yes):
+        there.double = back.double = 0.2 if yes else 0
+        there.late = back.late = 0.1 if yes else 0
+
+    source = tools.srt(there.address, streamid=publish("slt.mixed"))
+    tools_relay(source, [tools.srt(back.address, streamid="slt.mixed")], 240, 400, bad)
+    for line in (there, back):
+        line.stop()
+        expect(line.doubled >= 30, f"the line doubled only {line.doubled} packets")
+
+
+@case("srt-live-transmit comes back as publisher", live("slt.back"), needs=[tools.SRT])
+def transmit_comes_back(address):
+    outlet = tools.Outlet()
+    with tools.transmit(tools.srt(address, streamid="slt.back"), outlet.address):
+        next_one = 0
+        for _ in range(2):
+            inlet, heard = tools.Inlet(), len(outlet.got)
+            with tools.transmit(inlet.address, tools.srt(address, streamid=publish("slt.back"))):
+                for next_one in range(next_one, next_one + 2000):
+                    inlet.feed([payload(next_one)], 0.005)
+                    if len(outlet.got) >= heard + 100:
+                        break
+                expect(len(outlet.got) >= heard + 100, "the stream doesn't come out")
+            next_one += 1
+    found = indexes(list(outlet.got))
+    expect(found == sorted(set(found)), "payloads came twice or out of order")
+
+
+REASONS = [
+    (dict(streamid="nowhere"), "Peer rejected connection"),
+    (dict(streamid="slt.codes", passphrase="a-passphrase"), "Password required or unexpected"),
+    (dict(streamid="slt.codes", transtype="file", messageapi=0), "MessageAPI/StreamAPI collision"),
+    (dict(streamid="slt.codes", packetfilter="fec,cols:10"), "Packet Filter settings error"),
+    (dict(streamid=publish("slt.codes")), "Peer rejected connection"),
+    (dict(streamid="slt.codes"), "Resource allocation failure"),
+]
+
+
+@case("srt-live-transmit reports each refusal", live("slt.codes", sessions=2), needs=[tools.SRT])
+def transmit_refusals(address):
+    held = [Publisher(address, publish("slt.codes"), []), Subscriber(address, "slt.codes")]
+    for one in held:
+        one.call()
+        one.start()
+    for options, reason in REASONS:
+        with tools.transmit(tools.srt(address, **options), "file://con") as tool:
+            expect(tool.wait_errors(f"REJECT reported from HS processing: {reason}", 5), f"{options} isn't refused with {reason!r}: {tool.errors()[-300:]!r}")
+    for one in held:
+        one.close()
+
+
+@case("a file by srt-live-transmit, byte for byte", files("slt.file"), needs=[tools.SRT])
+def transmit_file(address):
+    contents = random.Random(11).randbytes(200_000)
+    mode = dict(transtype="file", messageapi=0)
+    player = tools.transmit(tools.srt(address, streamid="slt.file", **mode), "file://con")
+    source = tools.transmit("file://con", tools.srt(address, streamid=publish("slt.file"), **mode), fed=True)
+    with player, source:
+        for one, text in ((source, "SRT target connected"),):
+            expect(one.wait_errors(text, 5), f"a session doesn't open: {one.errors()[-300:]!r}")
+        source.feed(contents)
+        until = time.monotonic() + 20
+        while len(player.output) < len(contents) and time.monotonic() < until:
+            source.feed(bytes(1316))  # It keeps back what it has read until more comes.
+            time.sleep(0.05)
+    came = bytes(player.output[:len(contents)])
+    expect(came == contents, f"{len(came)} bytes came of {len(contents)}, or others")
+
+
+def continuous(contents):
+    """How many packets a transport stream has, and how often its continuity counters break (ISO 13818-1, 2.4.3)."""
+    counters, breaks, packets = {}, 0, 0
+    for at in range(0, len(contents) - 187, 188):
+        if contents[at] != 0x47:
+            return packets, breaks + 1
+        packets += 1
+        pid = (contents[at + 1] & 0x1F) << 8 | contents[at + 2]
+        if pid == 0x1FFF or not contents[at + 3] & 0x10:
+            continue
+        counter = contents[at + 3] & 0x0F
+        breaks += pid in counters and counter != (counters[pid] + 1) % 16
+        counters[pid] = counter
+    return packets, breaks
+
+
+def encoder(sink, seconds):
+    source = f"testsrc=size=320x240:rate=25:duration={seconds}"
+    words = ["-hide_banner", "-loglevel", "error", "-re", "-f", "lavfi", "-i", source, "-c:v", "mpeg2video", "-b:v", "1M", "-f", "mpegts", sink]
+    return tools.Tool([tools.FFMPEG, *words])
+
+
+@case("ffmpeg publishes, a caller of our own takes its stream", live("ff.one"), needs=[tools.FFMPEG])
+def ffmpeg_publishes(address):
+    subscriber = Subscriber(address, request("ff.one"))
+    subscriber.call()
+    subscriber.start()
+    with encoder(tools.srt(address, streamid=publish("ff.one"), pkt_size=1316), 3):
+        subscriber.wait(6, 200)
+    subscriber.close()
+    packets, breaks = continuous(b"".join(body for body, _ in subscriber.got))
+    expect(packets >= 500 and breaks == 0, f"{packets} packets of a transport stream came, with {breaks} breaks")
+
+
+@case("ffmpeg to ffmpeg", live("ff.two"), needs=[tools.FFMPEG])
+def ffmpeg_to_ffmpeg(address):
+    words = ["-hide_banner", "-loglevel", "error", "-analyzeduration", "1000000", "-i", tools.srt(address, streamid="ff.two"), "-t", "2", "-c", "copy", "-f", "framecrc", "-"]
+    with tools.Tool([tools.FFMPEG, *words]) as player:
+        time.sleep(0.5)
+        with encoder(tools.srt(address, streamid=publish("ff.two"), pkt_size=1316), 6):
+            player.ended(10)
+    frames = [it for it in player.output.decode(errors="replace").splitlines() if not it.startswith("#")]
+    expect(len(frames) >= 40, f"{len(frames)} frames came of two seconds of stream: {player.errors()[-300:]!r}")

@@ -1,0 +1,84 @@
+"""`srtgw serve` as a process of its own, on a free port of this machine."""
+import os
+import subprocess
+import tempfile
+import time
+
+from caller import Caller, Silent
+from tools import free_port
+
+TOP = os.path.dirname(os.path.dirname(os.path.dirname(os.path.realpath(__file__))))
+PROGRAM = os.environ.get("SRTGW", f"{TOP}/crates/srtgw/out/srtgw")
+NAMES = ["read", "answered", "accepted", "full", "dropped", "memory", "sent", "lost", "faults"]
+SECRET = bytes(range(32)).hex()
+
+
+def live(name, latency_ms=120, buffer=1024, sessions=5, inbox=256, outbox=256):
+    """A live route's table."""
+    return route(name, "live", latency_ms, buffer, sessions, inbox, outbox)
+
+
+def files(name, buffer=1024, sessions=5, inbox=256, outbox=256):
+    """The table of a route in buffer mode."""
+    return route(name, "buffer", 120, buffer, sessions, inbox, outbox)
+
+
+def route(name, mode, latency_ms, buffer, sessions, inbox, outbox):
+    numbers = {"latency_ms": latency_ms, "buffer": buffer, "sessions": sessions, "inbox": inbox, "outbox": outbox}
+    lines = [f"{key} = {value}" for key, value in numbers.items()]
+    return "\n".join(["[[route]]", f'name = "{name}"', f'mode = "{mode}"', *lines, ""])
+
+
+def configuration(routes, port, workers=2):
+    return f'secret = "{SECRET}"\nbind = "127.0.0.1:{port}"\nworkers = {workers}\n' + "".join(routes)
+
+
+class Gateway:
+    """A gateway that serves routes for a number of rounds."""
+
+    def __init__(self, routes, rounds=1_000_000_000, workers=2, port=None):
+        self.address = ("127.0.0.1", free_port() if port is None else port)
+        with tempfile.NamedTemporaryFile("w", prefix="srtgw-", suffix=".toml", delete=False) as it:
+            it.write(configuration(routes, self.address[1], workers))
+        self.file, self.began = it.name, time.monotonic()
+        words = [PROGRAM, "serve", self.file, "--rounds", str(rounds)]
+        self.process = subprocess.Popen(words, stdin=subprocess.DEVNULL, stdout=subprocess.PIPE, stderr=subprocess.PIPE, text=True)
+
+    def is_up(self, seconds=10):
+        """Waits until an induction is answered, and returns whether one was."""
+        until = time.monotonic() + seconds
+        while time.monotonic() < until and self.process.poll() is None:
+            try:
+                Caller(self.address).induce(0.5)
+                return True
+            except Silent:
+                pass
+        return False
+
+    def runs(self):
+        return self.process.poll() is None
+
+    def ended(self, seconds):
+        """Waits for the end: the status, standard output and standard error; None if it doesn't come in time."""
+        try:
+            output, errors = self.process.communicate(timeout=seconds)
+            return self.process.returncode, output, errors
+        except subprocess.TimeoutExpired:
+            return None
+        finally:
+            self.kill()
+
+    def kill(self):
+        if self.runs():
+            self.process.kill()
+            self.process.communicate()
+        if os.path.exists(self.file):
+            os.unlink(self.file)
+
+
+def report(line):
+    """The counts of a report's line; None if it has another form."""
+    words = line.split(" ")
+    if words[::2] != NAMES or len(words) != 2 * len(NAMES) or not all(it.isdigit() for it in words[1::2]):
+        return None
+    return {name: int(count) for name, count in zip(words[::2], words[1::2])}

@@ -1,0 +1,77 @@
+"""A line between callers and the gateway that loses, doubles and reorders datagrams by a seeded generator."""
+import heapq
+import random
+import select
+import socket
+import threading
+import time
+
+
+class Proxy(threading.Thread):
+    """Hands each datagram on, in both directions. `loss`, `double` and `late` are chances from 0 to 1 and may be set
+    while it runs; a late datagram is held for up to `hold` seconds, so that others overtake it."""
+
+    def __init__(self, target, seed, loss=0.0, double=0.0, late=0.0, hold=0.02):
+        super().__init__(daemon=True)
+        self.target, self.chance = target, random.Random(seed)
+        self.loss, self.double, self.late, self.hold = loss, double, late, hold
+        self.front = socket.socket(socket.AF_INET, socket.SOCK_DGRAM)
+        self.front.bind(("127.0.0.1", 0))
+        self.address = self.front.getsockname()
+        self.backs, self.peers, self.held, self.count = {}, {}, [], 0
+        self.lost = self.doubled = self.delayed = self.passed = 0
+        self.stops = threading.Event()
+        self.start()
+
+    def back(self, peer):
+        """The socket that stands for a caller towards the gateway."""
+        if peer not in self.backs:
+            back = socket.socket(socket.AF_INET, socket.SOCK_DGRAM)
+            back.connect(self.target)
+            self.backs[peer], self.peers[back] = back, peer
+        return self.backs[peer]
+
+    def hand(self, out, peer, datagram):
+        try:
+            out.sendto(datagram, peer) if peer else out.send(datagram)
+        except OSError:
+            pass
+
+    def take(self, out, peer, datagram):
+        if self.chance.random() < self.loss:
+            self.lost += 1
+            return
+        copies = 1
+        if self.chance.random() < self.double:
+            self.doubled, copies = self.doubled + 1, 2
+        for _ in range(copies):
+            self.passed += 1
+            if self.chance.random() < self.late:
+                self.delayed, self.count = self.delayed + 1, self.count + 1
+                moment = time.monotonic() + self.hold * self.chance.random()
+                heapq.heappush(self.held, (moment, self.count, out, peer, datagram))
+            else:
+                self.hand(out, peer, datagram)
+
+    def run(self):
+        while not self.stops.is_set():
+            wait = 0.05
+            while self.held and self.held[0][0] <= time.monotonic():
+                self.hand(*heapq.heappop(self.held)[2:])
+            if self.held:
+                wait = min(wait, max(0, self.held[0][0] - time.monotonic()))
+            for ready in select.select([self.front, *self.peers], [], [], wait)[0]:
+                try:
+                    if ready is self.front:
+                        datagram, peer = ready.recvfrom(2048)
+                        self.take(self.back(peer), None, datagram)
+                    else:
+                        self.take(self.front, self.peers[ready], ready.recv(2048))
+                except OSError:
+                    pass
+
+    def stop(self):
+        self.stops.set()
+        self.join(5)
+        for one in [self.front, *self.peers]:
+            one.close()

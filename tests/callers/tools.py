@@ -1,0 +1,146 @@
+"""Real callers: srt-live-transmit and ffmpeg, where they are installed."""
+import shutil
+import socket
+import subprocess
+import threading
+import time
+
+SRT = "srt-live-transmit"
+FFMPEG = "ffmpeg"
+
+
+def has(tool):
+    return shutil.which(tool) is not None
+
+
+def free_port():
+    with socket.socket(socket.AF_INET, socket.SOCK_DGRAM) as probe:
+        probe.bind(("127.0.0.1", 0))
+        return probe.getsockname()[1]
+
+
+class Tool:
+    """A process whose standard output is kept, and whose standard error is kept as text."""
+
+    def __init__(self, words, fed=False):
+        self.process = subprocess.Popen(words, stdin=subprocess.PIPE if fed else subprocess.DEVNULL, stdout=subprocess.PIPE, stderr=subprocess.PIPE)
+        self.output, self.text = bytearray(), bytearray()
+        self.readers = [self.reader(self.process.stdout, self.output), self.reader(self.process.stderr, self.text)]
+
+    def reader(self, pipe, kept):
+        thread = threading.Thread(target=self.drain, args=(pipe, kept), daemon=True)
+        thread.start()
+        return thread
+
+    def drain(self, pipe, kept):
+        while True:
+            piece = pipe.read1(65536)
+            if not piece:
+                break
+            kept.extend(piece)
+
+    def feed(self, contents):
+        """Writes to the standard input; it stays open."""
+        self.process.stdin.write(contents)
+        self.process.stdin.flush()
+
+    def errors(self):
+        return self.text.decode(errors="replace")
+
+    def wait_output(self, length, seconds):
+        """Waits until so many bytes came out, and returns whether they did."""
+        until = time.monotonic() + seconds
+        while time.monotonic() < until and len(self.output) < length and self.process.poll() is None:
+            time.sleep(0.01)
+        return len(self.output) >= length
+
+    def wait_errors(self, text, seconds):
+        """Waits until standard error has a text, and returns whether it came."""
+        until = time.monotonic() + seconds
+        while time.monotonic() < until and text not in self.errors():
+            time.sleep(0.01)
+        return text in self.errors()
+
+    def ended(self, seconds):
+        """Waits for the process's own end, and returns whether it came in time."""
+        try:
+            self.process.wait(seconds)
+            return True
+        except subprocess.TimeoutExpired:
+            return False
+
+    def end(self, seconds=5):
+        """Ends the process if it hasn't ended, and returns its status."""
+        if self.process.stdin is not None:
+            try:
+                self.process.stdin.close()
+            except OSError:
+                pass
+        if self.process.poll() is None:
+            self.process.terminate()
+        try:
+            status = self.process.wait(seconds)
+        except subprocess.TimeoutExpired:
+            self.process.kill()
+            status = self.process.wait()
+        for reader in self.readers:
+            reader.join(2)
+        return status
+
+    def __enter__(self):
+        return self
+
+    def __exit__(self, *why):
+        self.end()
+
+
+class Inlet:
+    """A UDP port from which a tool takes its payloads, one a datagram."""
+
+    def __init__(self):
+        self.port = free_port()
+        self.address = f"udp://127.0.0.1:{self.port}"
+        self.socket = socket.socket(socket.AF_INET, socket.SOCK_DGRAM)
+
+    def feed(self, payloads, interval):
+        """Sends payloads, one each `interval` seconds."""
+        due = time.monotonic()
+        for one in payloads:
+            self.socket.sendto(one, ("127.0.0.1", self.port))
+            due += interval
+            time.sleep(max(0, due - time.monotonic()))
+
+
+class Outlet(threading.Thread):
+    """A UDP port to which a tool hands its payloads; `got` has each with the moment when it came, in microseconds."""
+
+    def __init__(self):
+        super().__init__(daemon=True)
+        self.socket = socket.socket(socket.AF_INET, socket.SOCK_DGRAM)
+        self.socket.setsockopt(socket.SOL_SOCKET, socket.SO_RCVBUF, 1 << 22)
+        self.socket.bind(("127.0.0.1", 0))
+        self.address = f"udp://127.0.0.1:{self.socket.getsockname()[1]}"
+        self.got = []
+        self.start()
+
+    def run(self):
+        while True:
+            self.got.append((self.socket.recv(2048), time.monotonic_ns() // 1000))
+
+    def wait(self, seconds, count):
+        """Waits until so many payloads came, and returns whether they did."""
+        until = time.monotonic() + seconds
+        while time.monotonic() < until and len(self.got) < count:
+            time.sleep(0.005)
+        return len(self.got) >= count
+
+
+def transmit(source, sink, fed=False):
+    """srt-live-transmit from one address to another."""
+    return Tool([SRT, "-chunk:1316", source, sink], fed)
+
+
+def srt(address, **options):
+    """The address of the gateway as srt-live-transmit and ffmpeg have it."""
+    host, port = address
+    return f"srt://{host}:{port}?" + "&".join(f"{key}={value}" for key, value in options.items())

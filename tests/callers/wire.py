@@ -1,0 +1,101 @@
+"""Packets, handshakes and loss lists in the form of draft-sharabayko-srt-01, sections 3, 3.2.1 and appendix A."""
+import struct
+from collections import namedtuple
+
+HANDSHAKE, KEEPALIVE, ACK, NAK, SHUTDOWN, ACKACK, DROPREQ = 0, 1, 2, 3, 5, 6, 7
+INDUCTION, CONCLUSION = 1, 0xFFFFFFFF
+HSREQ, HSRSP, KMREQ, STREAM_ID, CONGESTION, FILTER, GROUP = 1, 2, 3, 5, 6, 7, 8
+FLAGS = {"live": 0xBF, "buffer": 0xE4}
+SRT_VERSION = 0x00010501
+NUMBERS = 1 << 31
+MESSAGES = (1 << 26) - 1
+WORDS = 1 << 32
+
+Data = namedtuple("Data", "number word stamp destination payload")
+Control = namedtuple("Control", "kind info stamp destination body")
+Handshake = namedtuple("Handshake", "version encryption extension initial mtu window kind socket_id cookie blocks")
+
+
+def data(number, message, stamp, destination, payload, again=False):
+    """A data packet that is a message of its own (PP 11), unencrypted, with R set if it is sent again."""
+    word = 0xC0000000 | (0x04000000 if again else 0) | message
+    return struct.pack("!4I", number, word, stamp, destination) + payload
+
+
+def control(kind, info, stamp, destination, body=b""):
+    return struct.pack("!4I", 0x80000000 | kind << 16, info, stamp, destination) + body
+
+
+def read(datagram):
+    """The packet of a datagram, or None if it is too short for one."""
+    if len(datagram) < 16:
+        return None
+    first, second, stamp, destination = struct.unpack_from("!4I", datagram)
+    if first < 0x80000000:
+        return Data(first, second, stamp, destination, datagram[16:])
+    return Control(first >> 16 & 0x7FFF, second, stamp, destination, datagram[16:])
+
+
+def words_of(body):
+    """The whole words of a body."""
+    return struct.unpack_from(f"!{len(body) // 4}I", body)
+
+
+def block(kind, contents):
+    """An extension block, whose contents are whole words."""
+    return struct.pack("!2H", kind, len(contents) // 4) + contents
+
+
+def text_words(text):
+    """A text as Stream IDs are stored: padded with zeros, each group of four bytes reversed (section 3.2.1.3)."""
+    padded = text + bytes(-len(text) % 4)
+    return b"".join(padded[at:at + 4][::-1] for at in range(0, len(padded), 4))
+
+
+def hsreq(flags, receiver_ms, sender_ms):
+    return block(HSREQ, struct.pack("!2I2H", SRT_VERSION, flags, receiver_ms, sender_ms))
+
+
+def handshake(version, extension, initial, mtu, window, kind, socket_id, cookie, blocks=b""):
+    fields = (version, 0, extension, initial, mtu, window, kind, socket_id, cookie)
+    return struct.pack("!IHH6I", *fields) + bytes([1, 0, 0, 127]) + bytes(12) + blocks
+
+
+def read_handshake(body):
+    """The handshake of a body, its blocks as a dictionary from types to contents; None if it is too short."""
+    if len(body) < 48:
+        return None
+    fields = struct.unpack_from("!IHH6I", body)
+    blocks, rest = {}, body[48:]
+    while len(rest) >= 4:
+        kind, length = struct.unpack_from("!2H", rest)
+        blocks[kind] = rest[4:4 + 4 * length]
+        rest = rest[4 + 4 * length:]
+    return Handshake(*fields, blocks)
+
+
+def loss_list(runs):
+    """The loss list that names runs of numbers, each a pair of its first and last."""
+    body = b""
+    for first, last in runs:
+        body += struct.pack("!I", first) if first == last else struct.pack("!2I", 0x80000000 | first, last)
+    return body
+
+
+def runs_of(body):
+    """The runs that a loss list names."""
+    runs, first = [], None
+    for word in words_of(body):
+        if first is not None:
+            runs.append((first, word))
+            first = None
+        elif word & 0x80000000:
+            first = word & 0x7FFFFFFF
+        else:
+            runs.append((word, word))
+    return runs
+
+
+def near(word, expected, size=NUMBERS):
+    """The whole number that is `word` modulo `size` and lies nearest to the expected one."""
+    return expected + (word - expected + size // 2) % size - size // 2
