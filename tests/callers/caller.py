@@ -8,6 +8,7 @@ import socket
 import struct
 import threading
 import time
+import traceback
 
 import wire
 
@@ -140,6 +141,7 @@ class Caller(threading.Thread):
                     self.on_packet(packet)
                     packet = self.receive(0)
         except Exception as error:  # It is raised again at the session's end, in the thread that asks for it.
+            traceback.print_exc()
             self.error = error
 
     def rest(self):
