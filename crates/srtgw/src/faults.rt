@@ -14,6 +14,12 @@ pub enum Fault {
     Tape(u32),
     /// Memory was refused.
     Memory,
+    /// No socket could be bound.
+    Socket,
+    /// A thread couldn't be started.
+    Thread,
+    /// A route could not be settled, since a thread still had it.
+    Busy,
     /// The output can't be written.
     Output,
 }
@@ -43,6 +49,9 @@ impl Fault {
             Fault::Config(fault) => println!(rt; "config fault {} {}", fault.number(), fault.key()),
             Fault::Tape(line) => println!(rt; "tape fault {line}"),
             Fault::Memory => println!(rt; "memory"),
+            Fault::Socket => println!(rt; "socket fault"),
+            Fault::Thread => println!(rt; "thread fault"),
+            Fault::Busy => println!(rt; "busy"),
             Fault::Output => Ok(()),
         }
     }

@@ -3,14 +3,19 @@
 
 mod faults;
 mod files;
+mod serving;
 mod words;
 
 use faults::Fault;
 use files::{CONFIG_MAX, TAPE_MAX, read_file};
+use serving::{print_report, serve};
 use srt_gateway::{Config, ConfigFault, CountedReader, read_config, replay};
 use std::io::{self, BufWriter, ErrorKind};
+use std::net::Net;
 use std::process::ExitCode;
-use std::rt::{Env, Files};
+use std::rt::{Clock, Env, Files};
+use std::sync::Wait;
+use std::thread::Threads;
 use std::{env, str};
 use words::{Task, command, task_of};
 
@@ -48,10 +53,27 @@ fn check_file(rt: &(impl Print + Files + AllocGlobal), config: &str) -> Result<(
     }
 }
 
-fn run(rt: &(impl Print + Files + AllocGlobal), task: Task<'_>) -> Result<(), Fault> {
+/// `srtgw serve CONFIG --rounds N`: serves callers, and prints the report of what it did.
+fn serve_file<R>(rt: &R, config: &str, rounds: u32) -> Result<(), Fault>
+where
+    R: Print + Files + AllocGlobal + Net + Clock + Threads + Wait + Sync,
+{
+    let config = config_at(rt, config)?;
+    let report = serve(rt, &config, rounds)?;
+    match print_report(rt, &report) {
+        Ok(()) => Ok(()),
+        Err(_) => Err(Fault::Output),
+    }
+}
+
+fn run<R>(rt: &R, task: Task<'_>) -> Result<(), Fault>
+where
+    R: Print + Files + AllocGlobal + Net + Clock + Threads + Wait + Sync,
+{
     match task {
         Task::Check { config } => check_file(rt, config),
         Task::Replay { config, tape } => replay_file(rt, config, tape),
+        Task::Serve { config, rounds } => serve_file(rt, config, rounds),
     }
 }
 
@@ -67,10 +89,10 @@ fn status_of(rt: &impl Print, ended: Result<(), Fault>) -> ExitCode {
 }
 
 /// Does what the words of the command line ask for.
-fn obey(
-    rt: &(impl Print + Eprint + Files + AllocGlobal),
-    words: &[String],
-) -> Result<ExitCode, Fault> {
+fn obey<R>(rt: &R, words: &[String]) -> Result<ExitCode, Fault>
+where
+    R: Print + Eprint + Files + AllocGlobal + Net + Clock + Threads + Wait + Sync,
+{
     let Ok(command) = command(rt.alloc()) else {
         return Err(Fault::Memory);
     };
@@ -104,7 +126,10 @@ fn words_given(rt: &(impl Env + AllocGlobal)) -> Result<Option<Vec<String>>, Fau
 }
 
 /// Does what the command line asks for. Words that aren't UTF-8 are refused as a wrong command line is.
-fn obey_words(rt: &(impl Env + Print + Eprint + Files + AllocGlobal)) -> Result<ExitCode, Fault> {
+fn obey_words<R>(rt: &R) -> Result<ExitCode, Fault>
+where
+    R: Env + Print + Eprint + Files + AllocGlobal + Net + Clock + Threads + Wait + Sync,
+{
     match words_given(rt)? {
         Some(words) => obey(rt, words.as_slice()),
         None => {

@@ -1,7 +1,11 @@
 //! The command line.
 
+use clap::builder::ValueParser;
 use clap::{Arg, ArgAction, ArgMatches, Command};
 use std::alloc::{AllocError, Global};
+
+/// The most rounds of a run.
+const ROUNDS_MAX: u64 = 1_000_000_000;
 
 /// What the program is asked to do. Files go by their paths.
 #[derive(Clone, Copy)]
@@ -18,10 +22,26 @@ pub enum Task<'a> {
         /// The tape's file.
         tape: &'a str,
     },
+    /// Serve the routes of a configuration.
+    Serve {
+        /// The configuration's file.
+        config: &'a str,
+        /// How many rounds the socket is polled.
+        rounds: u32,
+    },
 }
 
 fn path<'a>(alloc: Global, name: &'a str) -> Arg<'a> {
     Arg::new(alloc, name).required(true).action(ArgAction::Set)
+}
+
+fn rounds<'a>(alloc: Global) -> Arg<'a> {
+    Arg::new(alloc, "rounds")
+        .long("rounds")
+        .value_name("N")
+        .required(true)
+        .action(ArgAction::Set)
+        .value_parser(ValueParser::Unsigned(0, ROUNDS_MAX))
 }
 
 /// The commands that the program knows.
@@ -33,11 +53,16 @@ pub fn command<'a>(alloc: Global) -> Result<Command<'a>, AllocError> {
         .about("Prints the answers to a tape of events")
         .arg(path(alloc, "CONFIG"))?
         .arg(path(alloc, "TAPE"))?;
+    let serve = Command::new(alloc, "serve")
+        .about("Serves callers at the configuration's address")
+        .arg(path(alloc, "CONFIG"))?
+        .arg(rounds(alloc))?;
     Command::new(alloc, "srtgw")
         .about("A gateway for SRT live streams")
         .subcommand_required(true)
         .subcommand(check)?
-        .subcommand(replay)
+        .subcommand(replay)?
+        .subcommand(serve)
 }
 
 /// The task that a right command line names.
@@ -46,6 +71,10 @@ pub fn task_of<'a>(matches: &ArgMatches<'a>) -> Option<Task<'a>> {
     let config = inner.get_str("CONFIG")?;
     match name {
         "check" => Some(Task::Check { config }),
+        "serve" => Some(Task::Serve {
+            config,
+            rounds: inner.get_one("rounds")?,
+        }),
         _ => Some(Task::Replay {
             config,
             tape: inner.get_str("TAPE")?,

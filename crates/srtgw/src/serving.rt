@@ -1,0 +1,150 @@
+//! `srtgw serve`: the gateway at a UDP socket.
+
+ghost use Rattle.std.specs.Prelude.{◌≡◌, ◌<◌, ◌^◌, IfOk};
+ghost use Rattle.std.specs.Vec.{vec_len};
+
+use crate::faults::Fault;
+use srt_gateway::Config;
+use srt_poller::{BindFault, Gate, MioSource, Report};
+use srt_serve::{RunFault, Ticker, run};
+use std::alloc::{AllocError, Global};
+use std::io;
+use std::net::{Ipv4Addr, Net, SocketAddrV4};
+use std::sync::Wait;
+use std::thread::{self, Threads};
+use std::time::{Clock, Duration, Instant};
+
+/// Moments are below it, in microseconds.
+const MOMENTS: u128 = 1 << 62;
+
+/// How long the ticking thread sleeps before each moment, in milliseconds.
+const TICK: u64 = 10;
+
+/// A clock of the microseconds since the gateway's start.
+#[derive(Drop)]
+struct Since<'a, R> {
+    rt: &'a R,
+    start: Option<Instant>,
+}
+
+impl<R: Clock> Since<'_, R> {
+    /// The moment now, and 0 if the system doesn't tell the time.
+    fn moment(&self) -> u64
+        ensures { result < 2 ^ 62 }
+    {
+        let Some(start) = self.start else {
+            return 0;
+        };
+        match start.elapsed(self.rt) {
+            Ok(passed) if passed.as_micros() < MOMENTS => passed.as_micros() as u64,
+            _ => 0,
+        }
+    }
+}
+
+impl<R: Clock> srt_poller::Clock for Since<'_, R> {
+    fn next(&mut self) -> u64 {
+        self.moment()
+    }
+}
+
+/// The same clock, which sleeps before each moment. It tells no moments.
+#[derive(Drop)]
+struct Ticks<'a, R> {
+    since: Since<'a, R>,
+}
+
+impl<R: Clock> Ticker for Ticks<'_, R> {
+    ghost use Rattle.std.specs.Prelude.{None};
+
+    ghost gave = { λ s. None };
+
+    fn next(&mut self) -> u64 {
+        thread::sleep(self.since.rt, Duration::from_millis(TICK));
+        self.since.moment()
+    }
+}
+
+/// A gate that always passes.
+#[derive(Clone, Copy)]
+struct Open;
+
+impl Gate for Open {
+    ghost held = { λ g. 0 };
+
+    fn pass(&mut self, _route: usize) -> bool {
+        true
+    }
+
+    fn held(&self) -> u64 {
+        0
+    }
+}
+
+fn gates(alloc: Global, count: u32) -> Result<Vec<Open>, AllocError>
+    ensures { IfOk result (λ gates. vec_len gates ≡ count) }
+{
+    vec![in alloc; Open; count as usize]
+}
+
+/// Serves the routes of a configuration for this many rounds.
+pub fn serve<R: AllocGlobal + Net + Clock + Threads + Wait + Sync>(
+    rt: &R,
+    config: &Config,
+    rounds: u32,
+) -> Result<Report, Fault> {
+    let start = Instant::now(rt).ok();
+    let [a, b, c, d] = config.bind.ip;
+    let address = SocketAddrV4::new(Ipv4Addr::new(a, b, c, d), config.bind.port);
+    let (mut source, mut wire) = match MioSource::bind(
+        rt,
+        rt.alloc(),
+        address,
+        Since { rt, start },
+    ) {
+        Ok(bound) => bound,
+        Err(BindFault::Socket) => return Err(Fault::Socket),
+        Err(BindFault::OutOfMemory) => return Err(Fault::Memory),
+    };
+    let Ok(gates) = gates(rt.alloc(), config.workers) else {
+        return Err(Fault::Memory);
+    };
+    let clock = Ticks {
+        since: Since { rt, start },
+    };
+    match run(
+        rt,
+        rt.alloc(),
+        &config.secret,
+        config.entries.as_slice(),
+        &mut source,
+        &mut wire,
+        clock,
+        gates,
+        rounds,
+    ) {
+        Ok(ran) => Ok(ran.report),
+        Err(RunFault::OutOfMemory) => Err(Fault::Memory),
+        Err(RunFault::Thread) => Err(Fault::Thread),
+        Err(RunFault::Busy) => Err(Fault::Busy),
+    }
+}
+
+/// Prints the line of a report: its counts, each after its name.
+pub fn print_report(rt: &impl Print, report: &Report) -> io::Result<()> {
+    let Report {
+        read,
+        answered,
+        accepted,
+        full,
+        dropped,
+        memory,
+        sent,
+        lost,
+        faults,
+    } = *report;
+    print!(rt;
+        "read {read} answered {answered} accepted {accepted} full {full} dropped {dropped} "
+    )?;
+    println!(rt; "memory {memory} sent {sent} lost {lost} faults {faults}")
+}
