@@ -600,7 +600,7 @@ def transmit_refusals(address):
 
 @case("a file by srt-live-transmit, byte for byte", files("slt.file"), needs=[tools.SRT])
 def transmit_file(address):
-    contents = random.Random(11).randbytes(200_000)
+    contents = random.Random(11).randbytes(100_000)
     mode = dict(transtype="file", messageapi=0)
     player = tools.transmit(tools.srt(address, streamid="slt.file", **mode), "file://con")
     source = tools.transmit("file://con", tools.srt(address, streamid=publish("slt.file"), **mode), fed=True)
@@ -608,7 +608,7 @@ def transmit_file(address):
         for one, text in ((source, "SRT target connected"),):
             expect(one.wait_errors(text, 5), f"a session doesn't open: {one.errors()[-300:]!r}")
         source.feed(contents)
-        until = time.monotonic() + 20
+        until = time.monotonic() + 40
         while len(player.output) < len(contents) and time.monotonic() < until:
             source.feed(bytes(1316))  # It keeps back what it has read until more comes.
             time.sleep(0.05)
