@@ -13,3 +13,6 @@ mod working;
 
 pub use running::{Ran, RunFault, run};
 pub use ticking::Ticker;
+
+#[cfg(test)]
+mod tests;

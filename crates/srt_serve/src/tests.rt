@@ -1,0 +1,416 @@
+//! Runs of the gateway over devices in memory. The cookie in the conclusions was computed by Python's hashlib; the other
+//! bytes are worked out from the rules by hand.
+
+ghost use Rattle.std.specs.Prelude.{◌≡◌, ◌<◌, ◌≤◌, ◌^◌, None, map};
+ghost use Rattle.std.specs.Vec.{vec_len};
+ghost use Rattle.srt_seq.specs.Terms.{terms_of};
+ghost use Rattle.srt_lobby.specs.Opening.{fault_of};
+
+use crate::{Ran, RunFault, Ticker, run};
+use srt_cookie::Secret;
+use srt_lobby::Names;
+use srt_mailbox::{Account, Gate};
+use srt_poller::{Polled, Read, Report, Sent, Source, Wire};
+use srt_seq::{Entry, Mode, Peer};
+use std::alloc::Global;
+use std::process::Abort;
+use std::sync::atomic::{AtomicBool, AtomicU64, Ordering};
+use std::sync::{Arc, Wait};
+use std::test::Fail;
+use std::thread;
+use std::thread::Threads;
+
+/// A CONCLUSION from port 5000 with caller ID 1 that asks to publish on the route `studio`.
+const STUDIO: &str =
+    "80000000000000000000000000000000000000050000000500000005000005dc00002000ffffffff00000001ecc958a6000000000000000000000000000000000001000300010500000000bf00780078000500063a3a212374733d726f696475703d6d2c696c627500006873";
+
+/// The same with caller ID 2, on the route `studia`.
+const STUDIA: &str =
+    "80000000000000000000000000000000000000050000000500000005000005dc00002000ffffffff00000002ecc958a6000000000000000000000000000000000001000300010500000000bf00780078000500063a3a212374733d7261696475703d6d2c696c627500006873";
+
+/// When all datagrams and ticks come, in microseconds.
+const MOMENT: u64 = 1_000_000;
+
+/// The most rounds of a run, and the most turns that a gate waits.
+const LIMIT: u32 = 1_000_000;
+
+/// After so many waits without an answer a conclusion comes again.
+const PAUSE: u64 = 1_000;
+
+/// The most answers that are asked for.
+const ANSWERS: u64 = 100;
+
+const NOTHING: Report = Report {
+    read: 0,
+    answered: 0,
+    accepted: 0,
+    full: 0,
+    dropped: 0,
+    memory: 0,
+    sent: 0,
+    lost: 0,
+    faults: 0,
+};
+
+/// What the threads of a test tell each other.
+#[derive(Drop)]
+struct Meeting {
+    /// The source's second wait has begun.
+    waited: AtomicBool,
+    /// A gate was asked about the first route.
+    entered: AtomicBool,
+    /// The wire took a reply for the second caller.
+    answered: AtomicBool,
+    /// Somebody waited too long.
+    is_late: AtomicBool,
+    /// How many replies the wire took.
+    taken: AtomicU64,
+}
+
+impl Meeting {
+    fn open(alloc: Global) -> Result<Arc<Meeting>, Fail> {
+        Ok(Arc::new(
+            alloc,
+            Meeting {
+                waited: AtomicBool::new(false),
+                entered: AtomicBool::new(false),
+                answered: AtomicBool::new(false),
+                is_late: AtomicBool::new(false),
+                taken: AtomicU64::new(0),
+            },
+        )?)
+    }
+
+    /// Waits until all of these are set, for a limited number of turns.
+    fn await_all(&self, flags: &[&AtomicBool]) {
+        for _ in 0..LIMIT {
+            let mut is_set = true;
+            for flag in flags {
+                if !flag.load(Ordering::SeqCst) {
+                    is_set = false;
+                }
+            }
+            if is_set {
+                return;
+            }
+            thread::yield_now();
+        }
+        self.is_late.store(true, Ordering::SeqCst);
+    }
+}
+
+/// A source whose waits yield. Its first round gives one datagram of each of these texts; then the first comes again
+/// for each answer that the wire took, and after a pause, until the wire took enough.
+#[derive(Drop)]
+struct Callers {
+    meeting: Arc<Meeting>,
+    texts: Vec<Vec<u8>>,
+    waits: u64,
+    given: usize,
+    seen: u64,
+    quiet: u64,
+    repeats: bool,
+}
+
+impl Callers {
+    fn new(meeting: Arc<Meeting>, texts: Vec<Vec<u8>>, repeats: bool) -> Callers {
+        Callers {
+            meeting,
+            texts,
+            waits: 0,
+            given: 0,
+            seen: 0,
+            quiet: 0,
+            repeats,
+        }
+    }
+
+    /// Whether the first datagram comes again now.
+    fn is_time(&mut self) -> bool {
+        let taken = self.meeting.taken.load(Ordering::SeqCst);
+        if !self.repeats || taken >= ANSWERS {
+            return false;
+        }
+        self.quiet = self.quiet.saturating_add(1);
+        let again = taken > self.seen || self.quiet >= PAUSE;
+        if again {
+            self.seen = taken;
+            self.quiet = 0;
+        }
+        again
+    }
+}
+
+impl Source for Callers {
+    ghost failures = { λ source. 0 };
+
+    ghost gave = { λ source. None };
+
+    fn wait(&mut self) -> Polled {
+        self.waits = self.waits.saturating_add(1);
+        if self.waits >= 2 {
+            self.meeting.waited.store(true, Ordering::SeqCst);
+            if self.is_time() {
+                self.given = 0;
+            }
+        }
+        thread::yield_now();
+        Polled::Ready
+    }
+
+    fn next(&mut self, buffer: &mut [u8; 2048]) -> Read {
+        let Some(text) = self.texts.get(self.given) else {
+            return Read::Empty;
+        };
+        let len = text.len().min(2048);
+        buffer[..len].copy_from_slice(&text.as_slice()[..len]);
+        self.given = self.given.saturating_add(1);
+        Read::Datagram(peer(), len, MOMENT)
+    }
+
+    fn failures(&self) -> u64 {
+        0
+    }
+}
+
+/// A wire that takes everything.
+#[derive(Drop)]
+struct Taking {
+    meeting: Arc<Meeting>,
+}
+
+impl Wire for Taking {
+    ghost failures = { λ wire. 0 };
+
+    ghost handed = { λ wire. None };
+
+    fn send(&mut self, _to: Peer, bytes: &[u8]) -> Sent {
+        self.meeting.taken.fetch_add(1, Ordering::SeqCst);
+        if bytes.len() >= 16 && bytes[15] == 2 {
+            self.meeting.answered.store(true, Ordering::SeqCst);
+        }
+        Sent::Taken
+    }
+
+    fn failures(&self) -> u64 {
+        0
+    }
+}
+
+/// A ticker that always gives one moment, first when the source waits for the second time.
+#[derive(Drop)]
+struct Standing {
+    meeting: Arc<Meeting>,
+}
+
+impl Ticker for Standing {
+    ghost gave = { λ ticker. None };
+
+    fn next(&mut self) -> u64 {
+        for _ in 0..LIMIT {
+            if self.meeting.waited.load(Ordering::SeqCst) {
+                break;
+            }
+            thread::yield_now();
+        }
+        thread::yield_now();
+        MOMENT
+    }
+}
+
+/// A gate that always passes.
+#[derive(Drop)]
+struct Open;
+
+impl Gate for Open {
+    ghost held = { λ gate. 0 };
+
+    fn pass(&mut self, _route: usize) -> bool {
+        true
+    }
+
+    fn held(&self) -> u64 {
+        0
+    }
+}
+
+/// A gate that passes on the first route once the second caller was answered, and on the second route once a gate was
+/// asked about the first.
+#[derive(Drop)]
+struct Meets {
+    meeting: Arc<Meeting>,
+}
+
+impl Gate for Meets {
+    ghost held = { λ gate. 0 };
+
+    fn pass(&mut self, route: usize) -> bool {
+        let meeting = &self.meeting;
+        if route == 0 {
+            meeting.entered.store(true, Ordering::SeqCst);
+            meeting.await_all(&[&meeting.answered]);
+        } else {
+            meeting.await_all(&[&meeting.entered, &meeting.waited]);
+        }
+        true
+    }
+
+    fn held(&self) -> u64 {
+        0
+    }
+}
+
+fn peer() -> Peer {
+    Peer {
+        ip: [0, 0, 0, 0, 0, 0, 0, 0, 0, 0, 0xff, 0xff, 127, 0, 0, 1],
+        port: 5000,
+    }
+}
+
+/// The bytes 0 to 31.
+fn secret() -> Secret {
+    let mut bytes = [0u8; 32];
+    for i in 0..32 {
+        bytes[i] = i as u8;
+    }
+    Secret::new(bytes)
+}
+
+fn entry(alloc: Global, name: &str) -> Result<Entry, Fail> {
+    Ok(Entry {
+        name: String::from_str(alloc, name)?,
+        mode: Mode::Live,
+        latency_ms: 120,
+        buffer: 32,
+        sessions: 1,
+        inbox: 16,
+        outbox: 16,
+    })
+}
+
+/// A run of these entries, which must be right.
+fn run_of<R, G>(
+    rt: &R,
+    alloc: Global,
+    entries: &[Entry],
+    meeting: &Arc<Meeting>,
+    source: &mut Callers,
+    workers: Vec<G>,
+    rounds: u32,
+) -> Result<Ran<Standing>, Fail>
+where
+    R: Threads + Wait + Sync,
+    G: Gate + Send + Drop,
+    requires { (1 ≤ vec_len workers) × (vec_len workers ≤ 16) }
+{
+    let Ok(_names) = Names::open(alloc, entries) else {
+        return Err(Fail::from("the entries are right"));
+    };
+    let mut wire = Taking {
+        meeting: Arc::try_clone(meeting)?,
+    };
+    let ticker = Standing {
+        meeting: Arc::try_clone(meeting)?,
+    };
+    match run(
+        rt,
+        alloc,
+        &secret(),
+        entries,
+        source,
+        &mut wire,
+        ticker,
+        workers,
+        rounds,
+    ) {
+        Ok(ran) => Ok(ran),
+        Err(RunFault::OutOfMemory) => Err(Fail::from("memory")),
+        Err(RunFault::Thread) => Err(Fail::from("a thread")),
+        Err(RunFault::Busy) => Err(Fail::from("nobody has a route")),
+    }
+}
+
+#[test]
+fn with_nobody_calling_nothing_is_counted(rt: HostRuntime) -> Result<(), Fail> {
+    let alloc = rt.alloc();
+    let entries = vec![in alloc; entry(alloc, "studio")?, entry(alloc, "studia")?]?;
+    let meeting = Meeting::open(alloc)?;
+    let mut source = Callers::new(Arc::try_clone(&meeting)?, Vec::new(alloc), false);
+    let ran = run_of(
+        &rt,
+        alloc,
+        &entries,
+        &meeting,
+        &mut source,
+        vec![in alloc; Open]?,
+        3,
+    )?;
+    assert_eq!(rt; ran.report, NOTHING);
+    assert_eq!(rt; ran.accounts.len(), 2);
+    assert_eq!(rt; source.waits, 3);
+    for account in &ran.accounts {
+        assert!(rt; account.waiting == 0 && account.queued == 0 && account.drained == 0);
+    }
+    Ok(())
+}
+
+/// The gate of the first route waits for the second route's answer, so two workers must be at two routes at once.
+#[test]
+fn two_routes_are_served_at_once(rt: HostRuntime) -> Result<(), Fail> {
+    let alloc = rt.alloc();
+    let entries = vec![in alloc; entry(alloc, "studio")?, entry(alloc, "studia")?]?;
+    let meeting = Meeting::open(alloc)?;
+    let texts = vec![in alloc; hex::decode(alloc, STUDIO)?, hex::decode(alloc, STUDIA)?]?;
+    let mut source = Callers::new(Arc::try_clone(&meeting)?, texts, false);
+    let workers = vec![in alloc;
+        Meets {
+            meeting: Arc::try_clone(&meeting)?
+        },
+        Meets {
+            meeting: Arc::try_clone(&meeting)?
+        },
+    ]?;
+    let ran = run_of(&rt, alloc, &entries, &meeting, &mut source, workers, LIMIT)?;
+    assert!(rt; !meeting.is_late.load(Ordering::SeqCst));
+    assert_eq!(rt;
+        ran.report,
+        Report {
+            read: 2,
+            accepted: 2,
+            sent: 2,
+            ..NOTHING
+        }
+    );
+    for account in &ran.accounts {
+        assert!(rt; account.taken >= 1 && account.drained == 1);
+        assert!(rt; account.waiting == 0 && account.queued == 0);
+    }
+    Ok(())
+}
+
+/// A hundred answers go out while the source yields a million times.
+#[test]
+fn a_hundred_answers_are_sent(rt: HostRuntime) -> Result<(), Fail> {
+    let alloc = rt.alloc();
+    let entries = vec![in alloc; entry(alloc, "studio")?, entry(alloc, "studia")?]?;
+    let meeting = Meeting::open(alloc)?;
+    let texts = vec![in alloc; hex::decode(alloc, STUDIO)?]?;
+    let mut source = Callers::new(Arc::try_clone(&meeting)?, texts, true);
+    let ran = run_of(
+        &rt,
+        alloc,
+        &entries,
+        &meeting,
+        &mut source,
+        vec![in alloc; Open, Open]?,
+        LIMIT,
+    )?;
+    assert!(rt; ran.report.sent >= ANSWERS);
+    assert_eq!(rt; ran.report.faults, 0);
+    let (Some(studio), Some(studia)) = (ran.accounts.get(0), ran.accounts.get(1)) else {
+        return Err(Fail::from("two accounts"));
+    };
+    assert!(rt; studio.drained >= ANSWERS);
+    assert_eq!(rt; studia.drained, 0);
+    Ok(())
+}
