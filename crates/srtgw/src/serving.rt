@@ -20,25 +20,34 @@ const MOMENTS: u128 = 1 << 62;
 /// How long the ticking thread sleeps before each moment, in milliseconds.
 const TICK: u64 = 10;
 
-/// A clock of the microseconds since the gateway's start.
+/// A clock of the microseconds since the gateway's start. If the system doesn't tell the time it gives its last moment
+/// again.
 #[derive(Drop)]
 struct Since<'a, R> {
     rt: &'a R,
     start: Option<Instant>,
+    last: u64,
+    ghost early: { last < 2 ^ 62 },
 }
 
-impl<R: Clock> Since<'_, R> {
-    /// The moment now, and 0 if the system doesn't tell the time.
-    fn moment(&self) -> u64
+impl<'a, R: Clock> Since<'a, R> {
+    fn new(rt: &'a R, start: Option<Instant>) -> Since<'a, R> {
+        Since { rt, start, last: 0 }
+    }
+
+    /// The moment now.
+    fn moment(&mut self) -> u64
         ensures { result < 2 ^ 62 }
     {
-        let Some(start) = self.start else {
-            return 0;
-        };
-        match start.elapsed(self.rt) {
-            Ok(passed) if passed.as_micros() < MOMENTS => passed.as_micros() as u64,
-            _ => 0,
+        if let Some(start) = self.start {
+            match start.elapsed(self.rt) {
+                Ok(passed) if passed.as_micros() < MOMENTS => {
+                    self.last = passed.as_micros() as u64;
+                }
+                _ => {}
+            }
         }
+        self.last
     }
 }
 
@@ -100,7 +109,7 @@ pub fn serve<R: AllocGlobal + Net + Clock + Threads + Wait + Sync>(
         rt,
         rt.alloc(),
         address,
-        Since { rt, start },
+        Since::new(rt, start),
     ) {
         Ok(bound) => bound,
         Err(BindFault::Socket) => return Err(Fault::Socket),
@@ -110,7 +119,7 @@ pub fn serve<R: AllocGlobal + Net + Clock + Threads + Wait + Sync>(
         return Err(Fault::Memory);
     };
     let clock = Ticks {
-        since: Since { rt, start },
+        since: Since::new(rt, start),
     };
     match run(
         rt,
