@@ -13,6 +13,7 @@ use Rattle.srt_hs.specs.declared.writing.AnswerKind.TheVariants.{Induction, Refu
 use Rattle.srt_hs.specs.Grammar.{Blocks, no_blocks, kind_of}
 use Rattle.srt_hs.specs.Reading.{blocks_in, with_first, with_block, extension_in, handshake_in}
 use Rattle.srt_hs.specs.Text.{code_of, flags_of, fields_text, hsrsp_text, congestion_text, kind_text, blocks_text, answer_text}
+use Rattle.srt_hs.specs.View.{text_words}
 use Rattle.srt_hs.specs.RoundTrip.{AreWords, AreFewWords, KindFits, answered_blocks, answered_kind, fields, WhatIsWrittenReadsBack, HsrspReadsBack}
 use Rattle.srt_hs.proofs.Steps.{built, read_ok}
 
@@ -36,14 +37,13 @@ blocks_back : (mode : Mode) (recv_ms send_ms : ℕ) → blocks_in (hsrsp_text mo
 unfolding blocks_in with_first with_block
 blocks_back mode recv_ms send_ms = refl
 
-few_back : (mode : Mode) (recv_ms send_ms : ℕ) (words : List ℕ) → AreFewWords words → blocks_in (hsrsp_text mode recv_ms send_ms ++ congestion_text (Some words)) ≡ Ok (answered_blocks (Some words))
+few_back : (mode : Mode) (recv_ms send_ms : ℕ) (first : ℕ) (others : List ℕ) → AreFewWords (first ∷ others) → blocks_in (hsrsp_text mode recv_ms send_ms ++ congestion_text (Some (first ∷ others))) ≡ Ok (answered_blocks (Some (first ∷ others)))
 unfolding blocks_in with_first with_block
-few_back mode recv_ms send_ms [] h = absurd (omega (arith, h.some))
-few_back mode recv_ms send_ms (a ∷ []) h = ap (λ ws. Ok (answered_blocks (Some ws))) (words_back (a ∷ []) h.fit)
-few_back mode recv_ms send_ms (a ∷ b ∷ []) h = ap (λ ws. Ok (answered_blocks (Some ws))) (words_back (a ∷ b ∷ []) h.fit)
-few_back mode recv_ms send_ms (a ∷ b ∷ c ∷ []) h = ap (λ ws. Ok (answered_blocks (Some ws))) (words_back (a ∷ b ∷ c ∷ []) h.fit)
-few_back mode recv_ms send_ms (a ∷ b ∷ c ∷ d ∷ []) h = ap (λ ws. Ok (answered_blocks (Some ws))) (words_back (a ∷ b ∷ c ∷ d ∷ []) h.fit)
-few_back mode recv_ms send_ms (a ∷ b ∷ c ∷ d ∷ e ∷ more) h = absurd (omega (arith, h.few))
+few_back mode recv_ms send_ms a [] h = ap (λ ws. Ok (answered_blocks (Some ws))) (words_back (a ∷ []) h.fit)
+few_back mode recv_ms send_ms a (b ∷ []) h = ap (λ ws. Ok (answered_blocks (Some ws))) (words_back (a ∷ b ∷ []) h.fit)
+few_back mode recv_ms send_ms a (b ∷ c ∷ []) h = ap (λ ws. Ok (answered_blocks (Some ws))) (words_back (a ∷ b ∷ c ∷ []) h.fit)
+few_back mode recv_ms send_ms a (b ∷ c ∷ d ∷ []) h = ap (λ ws. Ok (answered_blocks (Some ws))) (words_back (a ∷ b ∷ c ∷ d ∷ []) h.fit)
+few_back mode recv_ms send_ms a (b ∷ c ∷ d ∷ e ∷ more) h = absurd (omega (arith, h.few))
 
 code_fits : (code : RefusalCode) → code_of code < 2 ^ 32
 code_fits codes.Peer = omega arith
@@ -73,8 +73,8 @@ kind_back initial (Refusal code) i h =
     ∙ ap (λ k. Ok (fields 0 initial 1500 8192 k 1 0 no_blocks)) (code_back code)
 kind_back initial (Conclusion mtu window id mode recv_ms send_ms None) i h =
     fields_back 1 initial mtu window 0xffff_ffff id 0 (hsrsp_text mode recv_ms send_ms) (answered_blocks None) (omega arith) i h.0 h.1 (omega arith) h.2 (omega arith) (sym (blocks_back mode recv_ms send_ms))
-kind_back initial (Conclusion mtu window id mode recv_ms send_ms (Some words)) i h =
-    fields_back 5 initial mtu window 0xffff_ffff id 0 (hsrsp_text mode recv_ms send_ms ++ congestion_text (Some words.items)) (answered_blocks (Some words.items)) (omega arith) i h.0 h.1 (omega arith) h.2 (omega arith) (sym (few_back mode recv_ms send_ms words.items h.3))
+kind_back initial (Conclusion mtu window id mode recv_ms send_ms (Some text)) i h =
+    fields_back 5 initial mtu window 0xffff_ffff id 0 (hsrsp_text mode recv_ms send_ms ++ congestion_text (Some (text_words text))) (answered_blocks (Some (text_words text))) (omega arith) i h.0 h.1 (omega arith) h.2 (omega arith) (sym (few_back mode recv_ms send_ms text.first text.others.items h.3))
 
 pub reads_back : WhatIsWrittenReadsBack
 unfolding answer_text

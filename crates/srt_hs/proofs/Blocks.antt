@@ -1,6 +1,6 @@
 -- What one block adds, and what is wrong with one, is what reading it says.
 use Rattle.std.proofs.Common.{◌≡◌, ◌≢◌, ℕ, ◌+◌, ◌<◌, ◌≤◌, ◌⊎◌, inl, inr, List, length, drop, Bool, true, false, cond, eqb, ltb, ◌||◌, Option, None, Some, is_some, IsSome, Result, Ok, Err, refl, sym, ap, subst, ◌∙◌, length-drop, arith}
-use Rattle.std.proofs.lemmas.Bool.{eqb-true, eqb-false, ltb-true, ltb-false, eq-eqb, ne_eqb, lt-ltb, le-ltb, cond-true, cond-false}
+use Rattle.std.proofs.lemmas.Bool.{false_from_ne_true, eqb-true, eqb-false, ltb-true, ltb-false, eq-eqb, ne_eqb, lt-ltb, le-ltb, cond-true, cond-false}
 use Rattle.std.proofs.lemmas.Bool.Decides.{nat_tests}
 use Rattle.srt_hs.specs.declared.handshake.HsFault.{HsFault}
 use Rattle.srt_hs.specs.declared.handshake.HsFault.TheVariants.{Short, TruncatedExtension, BadLength, Repeated}
@@ -243,11 +243,6 @@ bad_block before contents n (hsreq_length bad) = cond-false (eqb (length content
 bad_block before contents n (stream_id_length bad) = cond-true (ltb 512 (length contents)) _ _ (lt-ltb 512 (length contents) bad)
 bad_block before contents n (congestion_length bad) = cond-true (eqb (length contents) 0 || ltb 16 (length contents)) _ _ (far (length contents) bad)
 
--- where the length isn't bad, the test of it says so
-test_fits : (b : Bool) → (b ≡ true → ⊥) → b ≡ false
-test_fits true h = absurd (h refl)
-test_fits false h = refl
-
 second_block : (before : Blocks) (contents : List ℕ) (n : ℕ) → IsRepeated before n → (HasBadLength contents n → ⊥) → with_block before n contents ≡ Err Repeated
 unfolding with_block
 second_block before contents n (second_hsreq there) fits =
@@ -256,10 +251,10 @@ second_block before contents n (second_hsreq there) fits =
       | inr e ↦ absurd (fits (hsreq_length e))
     ]
 second_block before contents n (second_stream_id there) fits =
-    cond-false (ltb 512 (length contents)) _ _ (test_fits (ltb 512 (length contents)) (λ e. fits (stream_id_length (ltb-true 512 (length contents) e))))
+    cond-false (ltb 512 (length contents)) _ _ (false_from_ne_true (ltb 512 (length contents)) (λ e. fits (stream_id_length (ltb-true 512 (length contents) e))))
     ∙ cond-true (is_some before.stream_id) _ _ (some_is before.stream_id there)
 second_block before contents n (second_congestion there) fits =
-    cond-false (eqb (length contents) 0 || ltb 16 (length contents)) _ _ (test_fits (eqb (length contents) 0 || ltb 16 (length contents)) (λ e. fits (congestion_length (outside (length contents) e))))
+    cond-false (eqb (length contents) 0 || ltb 16 (length contents)) _ _ (false_from_ne_true (eqb (length contents) 0 || ltb 16 (length contents)) (λ e. fits (congestion_length (outside (length contents) e))))
     ∙ cond-true (is_some before.congestion) _ _ (some_is before.congestion there)
 
 cut_off : (a b : Bool) (r : Result Blocks HsFault) → (a ≡ true) ⊎ (b ≡ true) → cond a (Err TruncatedExtension) (cond b (Err TruncatedExtension) r) ≡ Err TruncatedExtension

@@ -19,6 +19,9 @@ words_step front (a ∷ b ∷ []) h = absurd (omega arith)
 words_step front (a ∷ b ∷ c ∷ []) h = absurd (omega arith)
 words_step front (a ∷ b ∷ c ∷ d ∷ rest) h = append_assoc front (word_at (a ∷ b ∷ c ∷ d ∷ []) 0 ∷ []) (words_in rest)
 
+pub first_word : (bytes : List ℕ) → 4 ≤ length bytes → word_at bytes 0 ∷ words_in (drop 4 bytes) ≡ words_in bytes
+first_word bytes h = words_step [] bytes h
+
 zero_at_end : (xs : List ℕ) → without_zeros (xs ++ 0 ∷ []) ≡ without_zeros xs
 zero_at_end [] = refl
 zero_at_end (x ∷ xs) = ap (before_zeros x) (zero_at_end xs)

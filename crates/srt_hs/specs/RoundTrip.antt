@@ -8,14 +8,14 @@ use Rattle.srt_hs.specs.declared.writing.AnswerKind.TheVariants.{Induction, Refu
 use Rattle.srt_hs.specs.declared.writing.HsAnswer.{HsAnswer}
 use Rattle.srt_hs.specs.Grammar.{Handshake, Blocks, HasBlock, no_blocks, hsreq_in, type_of, contents_of, after_block}
 use Rattle.srt_hs.specs.Reading.{handshake_in}
+use Rattle.srt_hs.specs.View.{text_words}
 use Rattle.srt_hs.specs.Text.{code_of, extension_of, flags_of, hsrsp_text, answer_text}
 
 abbrev pub AreWords : List ℕ → Type 0
 AreWords words = (at : ℕ) → slice_index words at < 2 ^ 32
 
--- one to four words
+-- at most four words
 pub record AreFewWords (words : List ℕ) : Type 0 where
-  pub some : 0 < length words
   pub few : length words ≤ 4
   pub fit : AreWords words
 
@@ -24,7 +24,7 @@ abbrev pub KindFits : AnswerKind → Type 0
 KindFits (Induction cookie) = cookie < 2 ^ 32
 KindFits (Refusal code) = Unit {0}
 KindFits (Conclusion mtu window id mode recv_ms send_ms congestion) =
-    (mtu < 2 ^ 32) × (window < 2 ^ 32) × (id < 2 ^ 32) × IfSome congestion (λ words. AreFewWords words.items)
+    (mtu < 2 ^ 32) × (window < 2 ^ 32) × (id < 2 ^ 32) × IfSome congestion (λ text. AreFewWords (text_words text))
 
 pub record CanBeWritten (a : HsAnswer) : Type 0 where
   pub initial : a.initial < 2 ^ 32
@@ -42,7 +42,7 @@ abbrev pub answered_kind : (initial : ℕ) → AnswerKind → Handshake
 answered_kind initial (Induction cookie) = fields 0x4a17 initial 1500 8192 kinds.Induction 1 cookie no_blocks
 answered_kind initial (Refusal code) = fields 0 initial 1500 8192 (kinds.Refusal (code_of code)) 1 0 no_blocks
 answered_kind initial (Conclusion mtu window id mode recv_ms send_ms congestion) =
-    let words = option_map (λ words. words.items) congestion in
+    let words = option_map text_words congestion in
     fields (extension_of words) initial mtu window kinds.Conclusion id 0 (answered_blocks words)
 
 -- what a reader sees of an answer

@@ -9,6 +9,7 @@ use Rattle.srt_hs.specs.declared.writing.RefusalCode.TheVariants as codes
 use Rattle.srt_hs.specs.declared.writing.AnswerKind.{AnswerKind}
 use Rattle.srt_hs.specs.declared.writing.AnswerKind.TheVariants.{Induction, Refusal, Conclusion}
 use Rattle.srt_hs.specs.declared.writing.HsAnswer.{HsAnswer}
+use Rattle.srt_hs.specs.View.{text_words}
 
 -- the two bytes of a half word
 abbrev pub half : ℕ → List ℕ
@@ -51,12 +52,12 @@ extension_of (Some words) = 5
 abbrev pub blocks_text : AnswerKind → List ℕ
 blocks_text (Induction cookie) = []
 blocks_text (Refusal code) = []
-blocks_text (Conclusion mtu window id mode recv_ms send_ms congestion) = hsrsp_text mode recv_ms send_ms ++ congestion_text (option_map (λ words. words.items) congestion)
+blocks_text (Conclusion mtu window id mode recv_ms send_ms congestion) = hsrsp_text mode recv_ms send_ms ++ congestion_text (option_map text_words congestion)
 
 abbrev pub kind_text : (initial : ℕ) → AnswerKind → List ℕ
 kind_text initial (Induction cookie) = fields_text 0x4a17 initial 1500 8192 1 1 cookie
 kind_text initial (Refusal code) = fields_text 0 initial 1500 8192 (code_of code) 1 0
-kind_text initial (Conclusion mtu window id mode recv_ms send_ms congestion) = fields_text (extension_of (option_map (λ words. words.items) congestion)) initial mtu window 0xffff_ffff id 0
+kind_text initial (Conclusion mtu window id mode recv_ms send_ms congestion) = fields_text (extension_of (option_map text_words congestion)) initial mtu window 0xffff_ffff id 0
 
 -- the bytes of an answer
 unfoldable pub answer_text : HsAnswer → List ℕ

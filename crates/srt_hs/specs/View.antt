@@ -1,10 +1,21 @@
 -- What the crate's handshakes mean.
-use Rattle.std.specs.Prelude.{option_map, Result, Ok, Err}
+use Rattle.std.specs.Prelude.{ℕ, List, [], ◌∷◌, Option, None, Some, option_map, Result, Ok, Err}
 use Rattle.srt_seq.specs.Words.{words_in}
 use Rattle.srt_hs.specs.Grammar.{Handshake, Blocks, stream_id_in}
 use Rattle.srt_hs.specs.declared.handshake.HsFault.{HsFault}
 use Rattle.srt_hs.specs.declared.handshake.HsRef.{HsRef}
 use Rattle.srt_hs.specs.declared.handshake.BlocksRef.{BlocksRef}
+use Rattle.srt_hs.specs.declared.handshake.CongestionText.{CongestionText}
+
+-- the words of a congestion text
+abbrev pub text_words : CongestionText → List ℕ
+text_words text = text.first ∷ text.others.items
+
+-- the congestion text that has these words; none has no words
+abbrev pub text_of : Option (List ℕ) → Option CongestionText
+text_of None = None
+text_of (Some []) = None
+text_of (Some (first ∷ others)) = Some (record { first = first; others = record { items = others } })
 
 -- the blocks, without where they lie in memory
 abbrev pub blocks_of : BlocksRef → Blocks

@@ -3,9 +3,9 @@
 ghost use Rattle.std.specs.Prelude.{◌≡◌, ℕ, ◌+◌, ◌%◌, ◌<◌, ◌≤◌, ◌++◌, length, take, drop, IfSome, IfNone, option_map};
 ghost use Rattle.srt_seq.specs.Words.{words_in};
 ghost use Rattle.srt_hs.specs.Grammar.{turned_words, without_zeros};
-ghost use Rattle.srt_hs.specs.View.{handshake_of};
+ghost use Rattle.srt_hs.specs.View.{handshake_of, text_of, text_words};
 
-use crate::HsRef;
+use crate::{CongestionText, HsRef};
 use arrayvec::ArrayVec;
 use srt_seq::{read_word, write_at};
 
@@ -60,9 +60,9 @@ pub fn stream_id(hs: &HsRef<'_>, out: &mut [u8; 512]) -> Option<usize>
 
 /// The words of these bytes.
 #[tactic(auto, using(crate::proofs::Groups::words_step))]
-fn words_of(contents: &[u8]) -> ArrayVec<u32, 4>
+fn words_of(contents: &[u8]) -> ArrayVec<u32, 3>
     requires words { length contents.now % 4 ≡ 0 }
-    requires room { length contents.now ≤ 16 }
+    requires room { length contents.now ≤ 12 }
     ensures { result.items ≡ words_in contents.now }
 {
     let mut words = ArrayVec::new();
@@ -75,11 +75,16 @@ fn words_of(contents: &[u8]) -> ArrayVec<u32, 4>
 }
 
 /// The words of the CONGESTION block as they came. None where there is no such block.
-pub fn congestion(hs: &HsRef<'_>) -> Option<ArrayVec<u32, 4>>
-    ensures value { option_map (λ words. words.items) result ≡ (handshake_of hs.now).blocks.congestion }
+#[tactic(auto, using(crate::proofs::Groups::first_word))]
+pub fn congestion(hs: &HsRef<'_>) -> Option<CongestionText>
+    ensures words { option_map text_words result ≡ (handshake_of hs.now).blocks.congestion }
+    ensures value { result ≡ text_of (handshake_of hs.now).blocks.congestion }
 {
     match hs.blocks.congestion {
         None => None,
-        Some(block) => Some(words_of(block.contents)),
+        Some(block) => Some(CongestionText {
+            first: read_word(block.contents, 0),
+            others: words_of(&block.contents[4..]),
+        }),
     }
 }

@@ -2,6 +2,8 @@
 
 ghost use Rattle.std.specs.Prelude.{◌≡◌, ◌%◌, ◌<◌, ◌≤◌, length};
 
+use arrayvec::ArrayVec;
+
 /// Why bytes are no handshake. Of several faults it is the first from the left.
 #[derive(Clone, Copy, Debug, PartialEq, Eq)]
 pub enum HsFault {
@@ -62,6 +64,15 @@ pub struct CongestionRef<'a> {
     pub ghost words: { length contents.now % 4 ≡ 0 },
     pub ghost some: { 0 < length contents.now },
     pub ghost most: { length contents.now ≤ 16 },
+}
+
+/// The words of a CONGESTION block, as [`congestion`](crate::congestion) copies them: one to four.
+#[derive(Debug, Drop)]
+pub struct CongestionText {
+    /// The first word.
+    pub first: u32,
+    /// The words after it: up to three.
+    pub others: ArrayVec<u32, 3>,
 }
 
 /// What the extension blocks of a conclusion say.

@@ -8,7 +8,9 @@ mod reading;
 mod writing;
 
 pub use contents::{congestion, stream_id};
-pub use handshake::{BlocksRef, CongestionRef, HsFault, HsKind, HsRef, HsReq, StreamIdRef};
+pub use handshake::{
+    BlocksRef, CongestionRef, CongestionText, HsFault, HsKind, HsRef, HsReq, StreamIdRef,
+};
 pub use reading::read;
 pub use writing::{AnswerKind, HsAnswer, RefusalCode, write};
 

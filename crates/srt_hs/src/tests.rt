@@ -1,7 +1,8 @@
 //! Rows of bytes: handshakes of callers as they were captured, answers, and each fault.
 
 use crate::{
-    AnswerKind, HsAnswer, HsFault, HsKind, HsReq, RefusalCode, congestion, read, stream_id, write,
+    AnswerKind, CongestionText, HsAnswer, HsFault, HsKind, HsReq, RefusalCode, congestion, read,
+    stream_id, write,
 };
 use arrayvec::ArrayVec;
 use srt_seq::Mode;
@@ -130,8 +131,9 @@ fn buffer_mode_is_read(rt: HostRuntime) -> Result<(), Fail> {
         ],
     )?;
     let hs = read(&bytes).ok().ok_or("a handshake")?;
-    let words = congestion(&hs).ok_or("a CONGESTION block")?;
-    assert_eq!(rt; words.as_slice(), [0x656c_6966].as_slice());
+    let text = congestion(&hs).ok_or("a CONGESTION block")?;
+    assert_eq!(rt; text.first, 0x656c_6966);
+    assert!(rt; text.others.is_empty());
     Ok(())
 }
 
@@ -304,8 +306,6 @@ fn answers_are_written(rt: HostRuntime) -> Result<(), Fail> {
         text_of(&answer, rt.alloc())?,
         bytes_of(rt.alloc(), &[wanted])?
     );
-    let mut words = ArrayVec::new();
-    words.push(0x656c_6966);
     let answer = HsAnswer {
         initial: 5,
         what: AnswerKind::Conclusion {
@@ -315,7 +315,10 @@ fn answers_are_written(rt: HostRuntime) -> Result<(), Fail> {
             mode: Mode::Buffer,
             recv_ms: 0,
             send_ms: 0,
-            congestion: Some(words),
+            congestion: Some(CongestionText {
+                first: 0x656c_6966,
+                others: ArrayVec::new(),
+            }),
         },
     };
     let wanted =
@@ -323,6 +326,39 @@ fn answers_are_written(rt: HostRuntime) -> Result<(), Fail> {
     assert_eq!(rt;
         text_of(&answer, rt.alloc())?,
         bytes_of(rt.alloc(), &[wanted])?
+    );
+    Ok(())
+}
+
+/// A CONGESTION block of four words is read, and goes back as it came.
+#[test]
+fn four_words_of_congestion(rt: HostRuntime) -> Result<(), Fail> {
+    let block = "00060004 34333231 38373635 63626139 66656463";
+    let bytes = bytes_of(rt.alloc(), &[CONCLUSION, HSREQ, STUDIO, block])?;
+    let hs = read(&bytes).ok().ok_or("a handshake")?;
+    let text = congestion(&hs).ok_or("a CONGESTION block")?;
+    assert_eq!(rt; text.first, 0x3433_3231);
+    assert_eq!(rt;
+        text.others.as_slice(),
+        [0x3837_3635, 0x6362_6139, 0x6665_6463].as_slice()
+    );
+    let answer = HsAnswer {
+        initial: 5,
+        what: AnswerKind::Conclusion {
+            mtu: 1500,
+            window: 32,
+            id: 0x0020_0000,
+            mode: Mode::Buffer,
+            recv_ms: 0,
+            send_ms: 0,
+            congestion: Some(text),
+        },
+    };
+    let wanted =
+        "00000005 00000005 00000005 000005dc 00000020 ffffffff 00200000 00000000 00000000 00000000 00000000 00000000 00020003 00010500 00000074 00000000";
+    assert_eq!(rt;
+        text_of(&answer, rt.alloc())?,
+        bytes_of(rt.alloc(), &[wanted, block])?
     );
     Ok(())
 }

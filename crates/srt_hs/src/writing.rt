@@ -1,9 +1,10 @@
 //! The listener's answers, written to a buffer.
 
 ghost use Rattle.std.specs.Prelude.{◌≡◌, ℕ, ◌+◌, ◌*◌, ◌≤◌, ◌++◌, length, take, drop, Some};
+ghost use Rattle.srt_hs.specs.View.{text_words};
 ghost use Rattle.srt_hs.specs.Text.{answer_text, code_of, fields_text, flags_of, hsrsp_text, congestion_text};
 
-use arrayvec::ArrayVec;
+use crate::CongestionText;
 use srt_seq::{Mode, write_at, write_words};
 
 /// Why a caller is refused (section 4.3).
@@ -49,7 +50,7 @@ pub enum AnswerKind {
         /// The delay to a subscriber, in milliseconds; 0 in buffer mode.
         send_ms: u16,
         /// The words of the caller's CONGESTION block as they came.
-        congestion: Option<ArrayVec<u32, 4>>,
+        congestion: Option<CongestionText>,
     },
 }
 
@@ -131,16 +132,18 @@ fn hsrsp(mode: Mode, recv_ms: u16, send_ms: u16) -> [u8; 16]
 
 /// Writes a CONGESTION block at a place.
 #[tactic(auto, using(srt_seq::proofs::WordBytes::length_of_words))]
-fn write_congestion(words: &[u32], out: &mut [u8], at: usize) -> usize
-    requires few { length words.now ≤ 4 }
+fn write_congestion(text: &CongestionText, out: &mut [u8], at: usize) -> usize
     requires room { at + 20 ≤ length out.old }
-    ensures end { result ≡ at + 4 + 4 * length words.now }
-    ensures written { take result out.new ≡ take at out.old ++ congestion_text (Some words.now) }
+    ensures within { result ≤ at + 20 }
+    ensures end { result ≡ at + 4 + 4 * length (text_words text.now) }
+    ensures written { take result out.new ≡ take at out.old ++ congestion_text (Some (text_words text.now)) }
     ensures kept { (k : ℕ) → result ≤ k → drop k out.new ≡ drop k out.old }
 {
     let end = write_at(out, at, &[0, 6]);
-    let end = write_at(out, end, &(words.len() as u16).to_be_bytes());
-    write_words(out, end, words)
+    let len = 1 + text.others.len();
+    let end = write_at(out, end, &(len as u16).to_be_bytes());
+    let end = write_at(out, end, &text.first.to_be_bytes());
+    write_words(out, end, text.others.as_slice())
 }
 
 /// Writes the answer's bytes after the packet's header to the front of the buffer, and answers how many they are.
@@ -187,7 +190,7 @@ pub fn write(answer: &HsAnswer, out: &mut [u8; 84]) -> usize
             let end = write_at(out, end, &hsrsp(*mode, *recv_ms, *send_ms));
             match congestion {
                 None => end,
-                Some(words) => write_congestion(words.as_slice(), out, end),
+                Some(text) => write_congestion(text, out, end),
             }
         }
     }
