@@ -7,7 +7,7 @@ use Rattle.srt_packet.specs.declared.reading.PacketFault.{PacketFault}
 use Rattle.srt_packet.specs.Grammar.{Body, Data, Handshake, KeepAlive, Ack, Nak, CongestionWarning, Shutdown, AckAck, DropRequest, PeerError, UserDefined, Packet}
 
 abbrev pub body_of : Kind → Body
-body_of (kinds.Data number encryption payload) = Data number encryption payload.now
+body_of (kinds.Data number encryption payload) = Data number encryption payload.bytes.now
 body_of (kinds.Handshake info) = Handshake info.now
 body_of kinds.KeepAlive = KeepAlive
 body_of (kinds.Ack number info) = Ack number info.now

@@ -5,7 +5,7 @@ ghost use Rattle.srt_packet.specs.Grammar.{Packet as ThePacket, Spells};
 ghost use Rattle.srt_packet.specs.Reading.{data_in, control_in, body_in, packet_after, packet_in, IsFirstFault};
 ghost use Rattle.srt_packet.specs.View.{body_read, packet_of, packet_read};
 
-use srt_seq::read_word;
+use srt_seq::{PayloadRef, read_word};
 
 /// Why bytes are no packet. Where several apply, the first of this list is answered.
 #[derive(Clone, Copy, Debug, PartialEq, Eq)]
@@ -31,8 +31,8 @@ pub enum Kind<'a> {
         number: u32,
         /// The field KK: 0 where the payload isn't encrypted.
         encryption: u8,
-        /// At least one byte.
-        payload: &'a [u8],
+        /// What it carries.
+        payload: PayloadRef<'a>,
     },
     /// Section 3.2.1.
     Handshake {
@@ -89,6 +89,7 @@ pub struct PacketRef<'a> {
 }
 
 fn data_of(number: u32, word1: u32, rest: &[u8]) -> Result<Kind<'_>, PacketFault>
+    requires most { length rest.now ≤ 1456 }
     ensures { body_read result ≡ data_in number word1 rest.now }
 {
     if rest.is_empty() {
@@ -97,7 +98,7 @@ fn data_of(number: u32, word1: u32, rest: &[u8]) -> Result<Kind<'_>, PacketFault
     Ok(Kind::Data {
         number,
         encryption: ((word1 >> 27) & 3) as u8,
-        payload: rest,
+        payload: PayloadRef { bytes: rest },
     })
 }
 
@@ -142,6 +143,7 @@ fn control_of(kind: u32, word1: u32, rest: &[u8]) -> Result<Kind<'_>, PacketFaul
 }
 
 fn kind_of(word0: u32, word1: u32, rest: &[u8]) -> Result<Kind<'_>, PacketFault>
+    requires most { length rest.now ≤ 1456 }
     ensures { body_read result ≡ body_in word0 word1 rest.now }
 {
     if word0 < 1 << 31 {
@@ -154,7 +156,8 @@ fn kind_of(word0: u32, word1: u32, rest: &[u8]) -> Result<Kind<'_>, PacketFault>
 /// The packet whose header is the first 16 bytes of `head`, whatever follows them there, with what follows
 /// the header.
 fn packet_of_parts<'a>(head: &[u8], rest: &'a [u8]) -> Result<PacketRef<'a>, PacketFault>
-    requires { 16 ≤ length head.now }
+    requires header { 16 ≤ length head.now }
+    requires most { length rest.now ≤ 1456 }
     ensures { packet_read result ≡ packet_after head.now rest.now }
 {
     let kind = kind_of(read_word(head, 0), read_word(head, 4), rest)?;

@@ -217,7 +217,7 @@ fn data_is_read(rt: HostRuntime) -> Result<(), Fail> {
                 payload,
             } => {
                 assert_eq!(rt; (number, encryption), (9, key));
-                assert_eq!(rt; payload, b"hi".as_slice());
+                assert_eq!(rt; payload.bytes, b"hi".as_slice());
             }
             _ => return Err(Fail::from("no data")),
         }
@@ -232,7 +232,7 @@ fn told(kind: Kind<'_>) -> (&'static str, [u32; 3], usize) {
             number,
             payload,
             ..
-        } => ("data", [number, 0, 0], payload.len()),
+        } => ("data", [number, 0, 0], payload.bytes.len()),
         Kind::Handshake { info } => ("handshake", [0; 3], info.len()),
         Kind::KeepAlive => ("keep-alive", [0; 3], 0),
         Kind::Ack { number, info } => ("ack", [number, 0, 0], info.len()),

@@ -1,6 +1,6 @@
 -- The bytes of what is sent.
 use Rattle.std.proofs.Common.{◌≡◌, ◌≢◌, ℕ, ◌%◌, ◌^◌, ◌<◌, Bool, true, false, cond, List, [], ◌∷◌, ◌++◌, length, map, refl, ap, ◌∙◌, arith}
-use Rattle.srt_seq.specs.Window.{word_of}
+use Rattle.srt_seq.specs.Window.{word_of, number_word}
 use Rattle.srt_seq.specs.Counts.{ack_number}
 use Rattle.srt_seq.specs.Runs.{Range, Run}
 use Rattle.srt_seq.specs.declared.numbers.Seq31.{Seq31}
@@ -8,7 +8,7 @@ use Rattle.srt_loss.specs.Text.{range_of, loss_words}
 use Rattle.srt_packet.specs.declared.writing.Body.TheVariants as out
 use Rattle.srt_seq.specs.Words.{words}
 use Rattle.arrayvec.specs.ArrayVec.{ArrayVec}
-use Rattle.srt_recvbuf.specs.Stands.{number_word, words_of, run_words}
+use Rattle.srt_recvbuf.specs.Stands.{words_of, run_words}
 use Rattle.srt_pub.specs.Publishing.{FullAck, LightAck, KeepAlive, nak_report, nak_with}
 use Rattle.srt_pub.specs.Says.{says, body_bytes, range_said, losses_said}
 

@@ -3,7 +3,7 @@ use Rattle.std.proofs.Common.{◌≡◌, inl, inr, ℕ, ◌+◌, ◌%◌, ◌^�
 use Rattle.std.specs.Prelude.{is_some, is_none, option_map}
 use Rattle.std.proofs.lemmas.Bool.{cases_lt}
 use Rattle.std.proofs.lemmas.Bool.Decides.{nat_tests}
-use Rattle.srt_seq.specs.Window.{in_window, counted_from}
+use Rattle.srt_seq.specs.Window.{in_window, counted_from, number_word}
 use Rattle.srt_recvbuf.specs.declared.buffer.RecvBuf.{RecvBuf}
 use Rattle.srt_recvbuf.specs.Receiving.{Receiving, is_waiting}
 use Rattle.srt_recvbuf.specs.OneByOne.{NothingBeyond}
@@ -19,7 +19,7 @@ pub no_number : (initial word position width : ℕ) → 2 ^ 31 ≤ word → in_w
 unfolding in_window
 no_number initial word position width le = grind (arith, nat_tests)
 
-pub same_some : (initial position width word front : ℕ) (o : Option ℕ) → front ≡ buffers.number_word initial position → ((a : ℕ) → a % 2 ^ 31 ≡ front → option_map (λ d. a + d) o ≡ in_window word a width) → is_some o ≡ is_some (in_window (counted_from initial word) position width)
+pub same_some : (initial position width word front : ℕ) (o : Option ℕ) → front ≡ number_word initial position → ((a : ℕ) → a % 2 ^ 31 ≡ front → option_map (λ d. a + d) o ≡ in_window word a width) → is_some o ≡ is_some (in_window (counted_from initial word) position width)
 same_some initial position width word front None f h = sym (ap is_some (own_none initial position width word front f h))
 same_some initial position width word front (Some d) f h = sym (ap is_some (own_some initial position width word front d f h))
 

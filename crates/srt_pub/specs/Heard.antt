@@ -1,7 +1,7 @@
 -- What a publisher's session hears of a packet, its numbers counted from the session's initial one.
 use Rattle.std.specs.Prelude.{ℕ, List}
 use Rattle.srt_seq.specs.Window.{counted_from}
-use Rattle.srt_seq.specs.Runs.{Range}
+use Rattle.srt_seq.specs.Runs.{Range, range_from}
 use Rattle.srt_packet.specs.Grammar as grammar
 
 pub data Heard : Type 0 where
@@ -11,12 +11,8 @@ pub data Heard : Type 0 where
   -- of the other kinds it takes nothing
   Other : Heard
 
--- the range of two words, counted from the initial number
-abbrev pub range_from : (initial first last : ℕ) → Range
-range_from initial first last = record { first = counted_from initial first; last = counted_from initial last }
-
 abbrev pub heard_from : (initial : ℕ) → grammar.Body → Heard
 heard_from initial (grammar.Data number encryption payload) = Data (counted_from initial number) encryption payload
 heard_from initial (grammar.AckAck number) = AckAck number
-heard_from initial (grammar.DropRequest message first last) = DropRequest (range_from initial first last)
+heard_from initial (grammar.DropRequest message first last) = DropRequest (range_from initial (record { first = first; last = last }))
 heard_from initial _ = Other

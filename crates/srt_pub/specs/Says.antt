@@ -6,7 +6,7 @@ use Rattle.srt_loss.specs.Text.{loss_words}
 use Rattle.srt_packet.specs.declared.writing.Body.{Body}
 use Rattle.srt_seq.specs.Words.{words}
 use Rattle.srt_packet.specs.Text.{text}
-use Rattle.srt_recvbuf.specs.Stands.{number_word}
+use Rattle.srt_seq.specs.Window.{number_word}
 use Rattle.srt_pub.specs.Publishing.{Report, FullAck, LightAck, NakOfAll, NakOfNew, KeepAlive}
 
 -- the words of a run's first and last number

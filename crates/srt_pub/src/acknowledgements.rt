@@ -2,9 +2,8 @@
 
 ghost use Rattle.std.specs.Prelude.{◌≡◌, ℕ, ◌+◌, ◌-◌, ◌≤◌, ◌==◌, List, [], ◌∷◌, map, length, nat_le, nat_lt, ◌||◌, ◌&&◌, not, true, false, Option, option_map, IfOk, IfSome};
 ghost use Rattle.srt_seq.specs.Given.{given};
-ghost use Rattle.srt_seq.specs.Window.{word_of};
+ghost use Rattle.srt_seq.specs.Window.{word_of, number_word};
 ghost use Rattle.srt_rtt.specs.RoundTrip as times;
-ghost use Rattle.srt_recvbuf.specs.Stands.{number_word};
 ghost use Rattle.srt_packet.specs.Text.{IsWritable};
 ghost use Rattle.srt_pub.specs.Publishing.{Note, Came, Full, samples, confirmed_by, confirmed_notes, sample_of, is_full_due, is_light_due, full_ack, acks_at, noted};
 ghost use Rattle.srt_pub.specs.Publishing.Report.{LightAck as TheLightAck};

@@ -2,9 +2,8 @@
 
 ghost use Rattle.std.specs.Prelude.{◌≡◌, ℕ, ◌+◌, ◌-◌, ◌≤◌, List, [], ◌∷◌, map, IfOk, true, false, nat_le, if◌then◌else◌};
 ghost use Rattle.srt_seq.specs.Given.{given};
-ghost use Rattle.srt_seq.specs.Window.{word_of};
+ghost use Rattle.srt_seq.specs.Window.{word_of, number_word};
 ghost use Rattle.srt_seq.specs.Runs.{Run};
-ghost use Rattle.srt_recvbuf.specs.Stands.{number_word};
 ghost use Rattle.srt_packet.specs.Text.{IsWritable};
 ghost use Rattle.srt_pub.specs.Publishing.{Note, Came, confirmed_by, confirmed_notes, acks_at, noted, is_nak_due, nak_report, last_sent};
 ghost use Rattle.srt_pub.specs.Publishing.Note.{Sent};

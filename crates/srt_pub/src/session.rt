@@ -2,13 +2,14 @@
 
 ghost use Rattle.std.specs.Prelude.{◌≡◌, ℕ, ◌+◌, ◌-◌, ◌*◌, ◌%◌, ◌^◌, ◌<◌, ◌≤◌, List, [], ◌∷◌, ◌++◌, map, length, true, false, Option, option_map, IfOk, nat_lt, if◌then◌else◌};
 ghost use Rattle.srt_seq.specs.Given.{given};
-ghost use Rattle.srt_seq.specs.Window.{word_of, counted_from};
+ghost use Rattle.srt_seq.specs.Window.{word_of, counted_from, number_word};
 ghost use Rattle.srt_seq.specs.Lift.{stamped_from};
 ghost use Rattle.srt_packet.specs.View.{body_of};
 ghost use Rattle.srt_packet.specs.Text.{text, IsWritable};
 ghost use Rattle.srt_recvbuf.specs.Receiving.{Receiving, Arrival, ack_point, end_of, requested, next_due};
-ghost use Rattle.srt_recvbuf.specs.Stands.{number_word, words_of, run_words};
-ghost use Rattle.srt_pub.specs.Heard.{heard_from, range_from};
+ghost use Rattle.srt_recvbuf.specs.Stands.{words_of, run_words};
+ghost use Rattle.srt_seq.specs.Runs.{range_from};
+ghost use Rattle.srt_pub.specs.Heard.{heard_from};
 ghost use Rattle.srt_pub.specs.Heard.Heard.{Data};
 ghost use Rattle.srt_pub.specs.Publishing.{Terms, Publishing, opened, took, with_data, with_request, confirmed_at, confirmed_by, acks, naks, gaps_told, runs_said, noted, reports, reported, loses_window, is_past_window};
 ghost use Rattle.srt_pub.specs.Says.{says, body_bytes};
@@ -22,7 +23,7 @@ use arrayvec::ArrayVec;
 use srt_loss::write;
 use srt_packet::{Body, Kind, Packet, PacketRef};
 use srt_recvbuf::RecvBuf;
-use srt_seq::{Mode, Payload, Seq31, Stamp32};
+use srt_seq::{Mode, Payload, PayloadRef, Seq31, Stamp32};
 use std::alloc::{AllocError, Global};
 
 /// A publisher's session.
@@ -67,7 +68,7 @@ impl Publisher {
         mode: Mode,
         delay: u32,
     )
-        ensures stands { width_of self.old ≤ 8192 → StandsFor (record { mode = mode; width = width_of self.old; delay = delay }) (word_of initial) now stamp.word caller self.new opened }
+        ensures stands { StandsFor (record { mode = mode; width = width_of self.old; delay = delay }) (word_of initial) now stamp.word caller self.new opened }
         ensures opening { opening_of self.new ≡ now }
     {
         self.agreed = Agreed {
@@ -81,12 +82,9 @@ impl Publisher {
         self.log.clear();
     }
 
-    /// A packet comes now, in microseconds. Answers how it ends the session, where it does. A data packet
-    /// has a payload of 1 to 1456 bytes.
+    /// A packet comes now, in microseconds. Answers how it ends the session, where it does.
     pub fn datagram(&mut self, packet: &PacketRef<'_>, now: u64) -> Option<PubEnd>
-        requires early { now < 2 ^ 62 }
-        requires some { 0 < payload_length (body_of packet.now.kind) }
-        requires fits { payload_length (body_of packet.now.kind) ≤ 1456 }
+        requires { now < 2 ^ 62 }
         ensures stands { (terms : Terms) (initial opening stamp caller time : ℕ) (m : Publishing) → now ≡ opening + time → StandsFor terms initial opening stamp caller self.old m → StandsFor terms initial opening stamp caller self.new (took terms time (stamped_from stamp packet.now.stamp) (heard_from initial (body_of packet.now.kind)) m) }
         ensures opening { opening_of self.new ≡ opening_of self.old }
         ensures end { (terms : Terms) (initial opening stamp caller : ℕ) (m : Publishing) → StandsFor terms initial opening stamp caller self.old m → result ≡ ended terms initial (body_of packet.now.kind) m }
@@ -119,16 +117,14 @@ impl Publisher {
         &mut self,
         word: u32,
         encryption: u8,
-        payload: &[u8],
+        payload: PayloadRef<'_>,
         stamp: u32,
         now: u64,
     ) -> Option<PubEnd>
-        requires early { now < 2 ^ 62 }
-        requires some { 0 < length payload.now }
-        requires fits { length payload.now ≤ 1456 }
-        ensures stands { (terms : Terms) (initial opening first caller time : ℕ) (m : Publishing) → now ≡ opening + time → StandsFor terms initial opening first caller self.old m → StandsFor terms initial opening first caller self.new (took terms time (stamped_from first stamp) (Data (counted_from initial word) encryption payload.now) m) }
+        requires { now < 2 ^ 62 }
+        ensures stands { (terms : Terms) (initial opening first caller time : ℕ) (m : Publishing) → now ≡ opening + time → StandsFor terms initial opening first caller self.old m → StandsFor terms initial opening first caller self.new (took terms time (stamped_from first stamp) (Data (counted_from initial word) encryption payload.entry.bytes.now) m) }
         ensures opening { opening_of self.new ≡ opening_of self.old }
-        ensures end { (terms : Terms) (initial opening first caller : ℕ) (m : Publishing) → StandsFor terms initial opening first caller self.old m → result ≡ lost_if (loses_window terms.mode terms (Data (counted_from initial word) encryption payload.now) m) }
+        ensures end { (terms : Terms) (initial opening first caller : ℕ) (m : Publishing) → StandsFor terms initial opening first caller self.old m → result ≡ lost_if (loses_window terms.mode terms (Data (counted_from initial word) encryption payload.entry.bytes.now) m) }
     {
         if encryption != 0 {
             return None;
@@ -163,11 +159,9 @@ impl Publisher {
     }
 
     /// An unencrypted data packet comes.
-    fn receive(&mut self, word: u32, payload: &[u8], stamp: u32, now: u64)
-        requires early { now < 2 ^ 62 }
-        requires some { 0 < length payload.now }
-        requires fits { length payload.now ≤ 1456 }
-        ensures stands { (terms : Terms) (initial opening first caller time : ℕ) (m : Publishing) → now ≡ opening + time → StandsFor terms initial opening first caller self.old m → StandsFor terms initial opening first caller self.new (with_data terms time (stamped_from first stamp) (counted_from initial word) payload.now m) }
+    fn receive(&mut self, word: u32, payload: PayloadRef<'_>, stamp: u32, now: u64)
+        requires { now < 2 ^ 62 }
+        ensures stands { (terms : Terms) (initial opening first caller time : ℕ) (m : Publishing) → now ≡ opening + time → StandsFor terms initial opening first caller self.old m → StandsFor terms initial opening first caller self.new (with_data terms time (stamped_from first stamp) (counted_from initial word) payload.entry.bytes.now m) }
         ensures opening { opening_of self.new ≡ opening_of self.old }
     {
         self.log.came();
@@ -202,7 +196,7 @@ impl Publisher {
 
     /// The publisher gives numbers up.
     fn drop_request(&mut self, first: u32, last: u32)
-        ensures stands { (terms : Terms) (initial opening stamp caller : ℕ) (m : Publishing) → StandsFor terms initial opening stamp caller self.old m → StandsFor terms initial opening stamp caller self.new (with_request terms.mode terms (range_from initial first last) m) }
+        ensures stands { (terms : Terms) (initial opening stamp caller : ℕ) (m : Publishing) → StandsFor terms initial opening stamp caller self.old m → StandsFor terms initial opening stamp caller self.new (with_request terms.mode terms (range_from initial (record { first = first; last = last })) m) }
         ensures opening { opening_of self.new ≡ opening_of self.old }
     {
         match self.agreed.mode {
@@ -213,7 +207,7 @@ impl Publisher {
 
     /// The numbers from one to another are given up, where both are numbers.
     fn give_up(&mut self, first: u32, last: u32)
-        ensures stands { (terms : Terms) (initial opening stamp caller : ℕ) (m : Publishing) → terms.mode ≡ Mode.Live → StandsFor terms initial opening stamp caller self.old m → StandsFor terms initial opening stamp caller self.new (record m { receiving = requested terms.width (range_from initial first last) m.receiving }) }
+        ensures stands { (terms : Terms) (initial opening stamp caller : ℕ) (m : Publishing) → terms.mode ≡ Mode.Live → StandsFor terms initial opening stamp caller self.old m → StandsFor terms initial opening stamp caller self.new (record m { receiving = requested terms.width (range_from initial (record { first = first; last = last })) m.receiving }) }
         ensures opening { opening_of self.new ≡ opening_of self.old }
     {
         let Some(first) = Seq31::new(first) else {

@@ -7,7 +7,7 @@ use Rattle.std.proofs.lemmas.Bool.Decides.{nat_tests}
 use Rattle.std.proofs.lemmas.Int.{ints}
 use Rattle.std.proofs.lemmas.Grind.{common_steps}
 use Rattle.std.proofs.lemmas.List.{get_or_past}
-use Rattle.srt_seq.specs.Window.{word_of, counted_from, in_window, offset_of}
+use Rattle.srt_seq.specs.Window.{word_of, counted_from, in_window, offset_of, number_word}
 use Rattle.srt_seq.specs.declared.numbers.Seq31.{Seq31}
 use Rattle.srt_seq.specs.Slots.{text_of_slot}
 use Rattle.srt_seq.specs.Texts.{text_at, turned}
@@ -18,7 +18,7 @@ use Rattle.srt_recvbuf.specs.declared.buffer.RecvBuf.{RecvBuf}
 use Rattle.srt_recvbuf.specs.declared.window.Place.TheVariants.{Missing}
 use Rattle.srt_recvbuf.specs.declared.window.Window.{Window}
 use Rattle.srt_recvbuf.specs.Cells.{cell_at, cell_of, Cell, Empty, GivenUp, Got, is_empty, is_got, is_given_up, given_up}
-use Rattle.srt_recvbuf.specs.Stands.{StandsFor, cell_for, IsWindowOf, number_word, own_range}
+use Rattle.srt_recvbuf.specs.Stands.{StandsFor, cell_for, IsWindowOf, own_range}
 use Rattle.srt_recvbuf.specs.OneByOne.{NothingBeyond, NothingDroppedBeyond}
 use Rattle.srt_recvbuf.proofs.OneByOne.{found, skipped, found_number, number_or}
 

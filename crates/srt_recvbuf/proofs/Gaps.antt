@@ -1,7 +1,7 @@
 -- Runs of numbers that pass a test.
 use Rattle.std.proofs.Common.{◌≡◌, ◌≢◌, ℕ, zero, suc, ◌+◌, ◌-◌, ◌<◌, ◌≤◌, Bool, true, false, if◌then◌else◌, not, List, [], ◌∷◌, ◌++◌, map, take, min, max, append_assoc, append-nil, refl, sym, ap, ◌∙◌, inl, inr, arith}
 use Rattle.std.specs.Prelude.{filter}
-use Rattle.std.proofs.lemmas.Bool.{cases_eq, cases_lt, eq-eqb, ne_eqb}
+use Rattle.std.proofs.lemmas.Bool.{not-true, cases_eq, cases_lt, eq-eqb, ne_eqb}
 use Rattle.srt_seq.specs.Runs.{Run, run_before, runs, numbers_from}
 
 -- numbers that don't pass may be left out
@@ -126,20 +126,12 @@ one_more words f n k r rs all e g = ap (λ x. words ++ map f (take x all)) e ∙
 pub none_more : (words : List (ℕ × ℕ)) (f : Run → ℕ × ℕ) (n : ℕ) (rs : List Run) → n ≡ 0 → words ++ map f (take n rs) ≡ words
 none_more words f n rs e = ap (λ x. words ++ map f (take x rs)) e ∙ append-nil words
 
-pub not_false : (b : Bool) → not b ≡ false → b ≡ true
-not_false true e = refl
-not_false false e = cc
-
-pub not_true : (b : Bool) → not b ≡ true → b ≡ false
-not_true true e = cc
-not_true false e = refl
-
 pub strictly : (empty : ℕ → Bool) (low high end : ℕ) → low ≤ high → low < end → empty low ≡ true → (high < end → not (empty high) ≡ true) → low < high
 strictly empty low high end le lt here stop = elim (cases_lt low high) [
   | inl less ↦ less
   | inr ge ↦
       let same : high ≡ low = omega (arith, le, ge) in
-      let no : empty high ≡ false = not_true (empty high) (stop (omega (arith, same, lt))) in
+      let no : empty high ≡ false = not-true (empty high) (stop (omega (arith, same, lt))) in
       let clash : true ≡ false = sym here ∙ ap empty (sym same) ∙ no in
       absurd (differ clash)
 ]

@@ -1,6 +1,6 @@
 -- The least number that passes a test.
 use Rattle.std.proofs.Common.{◌≡◌, ◌≢◌, ℕ, zero, suc, ◌+◌, ◌<◌, ◌≤◌, Bool, true, false, not, refl, sym, subst, ◌⊎◌, inl, inr, arith}
-use Rattle.std.proofs.lemmas.Bool.{cases_eq, cases_lt}
+use Rattle.std.proofs.lemmas.Bool.{not-false, not-true, cases_eq, cases_lt}
 use Rattle.srt_seq.specs.Runs.{least_from}
 use Rattle.srt_recvbuf.specs.Receiving.{is_missing, is_dropped}
 use Rattle.srt_recvbuf.specs.Points.{AckPoints, SettlesAtTheLeast}
@@ -31,14 +31,6 @@ least_of test from (suc places) = by (test from) refl (least_of test (from + 1) 
 pub ack_points : AckPoints
 ack_points width r = let h = least_of (is_missing width r) r.position width in record { low = h.low; high = h.high; before = h.before; here = h.here }
 
-is_true : (b : Bool) → not b ≡ false → b ≡ true
-is_true true e = refl
-is_true false e = absurd cc
-
-is_false : (b : Bool) → not b ≡ true → b ≡ false
-is_false true e = absurd cc
-is_false false e = refl
-
 pub settles : SettlesAtTheLeast
 settles width r beyond =
     let test : ℕ → Bool = λ n. not (is_dropped width r n) in
@@ -46,6 +38,6 @@ settles width r beyond =
     let point = least_from test r.position width in
     record {
       low = h.low;
-      before = λ n low high. is_true (is_dropped width r n) (h.before n low high);
-      here = elim (cases_lt point (r.position + width)) [ inl inside ↦ is_false (is_dropped width r point) (h.here inside) | inr past ↦ beyond point past ];
+      before = λ n low high. not-false (is_dropped width r n) (h.before n low high);
+      here = elim (cases_lt point (r.position + width)) [ inl inside ↦ not-true (is_dropped width r point) (h.here inside) | inr past ↦ beyond point past ];
     }

@@ -1,9 +1,9 @@
 -- Worked examples, by computation.
 use Rattle.std.proofs.Common.{◌≡◌, ℕ, ◌+◌, ◌^◌, pos, true, false, None, Some, [], ◌∷◌, length, refl}
-use Rattle.srt_seq.specs.Window.{counted_from, in_window}
+use Rattle.srt_seq.specs.Window.{counted_from, in_window, number_word}
 use Rattle.srt_recvbuf.specs.declared.buffer.Put.TheVariants.{New, Repeat, Outside}
 use Rattle.srt_recvbuf.specs.Receiving.{Receiving, nothing_yet, received, put_of, requested, is_dropped, deliverable, passed, gaps, ack_point, available}
-use Rattle.srt_recvbuf.specs.Stands.{number_word, said_runs}
+use Rattle.srt_recvbuf.specs.Stands.{said_runs}
 
 -- numbers 0 and 2 of a stream, due at 10 and 20
 abbrev two_received : Receiving

@@ -1,8 +1,8 @@
 -- What a buffer stands for. Its numbers are words; those of the record count from the initial one. Its times are moments; those of the
 -- record count from a moment of the user's choice, the origin: a packet's due moment is the origin and its due time.
 use Rattle.std.specs.Prelude.{◌≡◌, ℕ, ◌+◌, ◌-◌, ◌%◌, ◌^◌, ◌<◌, pos, ◌+ℤ◌, Bool, true, false, Option, None, Some, List, map, if◌then◌else◌}
-use Rattle.srt_seq.specs.Window.{word_of, counted_from, in_window}
-use Rattle.srt_seq.specs.Runs.{Range, Run}
+use Rattle.srt_seq.specs.Window.{word_of, counted_from, in_window, number_word}
+use Rattle.srt_seq.specs.Runs.{Range, Run, range_from}
 use Rattle.srt_seq.specs.declared.numbers.Seq31.{Seq31}
 use Rattle.srt_recvbuf.specs.Receiving.{Arrival, Receiving, arrival_of, is_requested, end_of, waiting, first_due, runs_from}
 use Rattle.srt_recvbuf.specs.Cells.{Cell, Empty, GivenUp, Got, is_empty, cell_at, width_of}
@@ -29,13 +29,9 @@ places_of b = width_of b.window
 abbrev pub StandsFor : (width initial origin : ℕ) → RecvBuf → Receiving → Type 0
 StandsFor width initial origin b r = (places_of b ≡ width) × IsWindowOf width initial origin (word_of b.front) (cell_at b.window) b.end b.point r
 
--- what the wire writes for a number that counts from the initial one
-abbrev pub number_word : (initial n : ℕ) → ℕ
-number_word initial n = (initial + n) % 2 ^ 31
-
 -- the range of two words, counted from the initial number
 abbrev pub own_range : (initial : ℕ) → (first last : Seq31) → Range
-own_range initial first last = record { first = counted_from initial (word_of first); last = counted_from initial (word_of last) }
+own_range initial first last = range_from initial (record { first = word_of first; last = word_of last })
 
 -- the place of the first packet that waits, where it is due
 abbrev pub IsFirstDue : (origin time : ℕ) → (cells : ℕ → Cell) → Receiving → Option ℕ → Type 0

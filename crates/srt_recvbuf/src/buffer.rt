@@ -2,13 +2,13 @@
 
 ghost use Rattle.std.specs.Prelude.{◌≡◌, ℕ, ◌+◌, ◌-◌, ◌%◌, ◌^◌, ◌<◌, ◌≤◌, ℤ, pos, ◌+ℤ◌, List, length, map, filter, take, Bool, Option, None, Some, option_map, IfOk, IfSome, true, false, nat_le, nat_lt, ◌&&◌};
 ghost use Rattle.srt_seq.specs.Given.{given};
-ghost use Rattle.srt_seq.specs.Window.{word_of, counted_from, in_window, offset_of};
+ghost use Rattle.srt_seq.specs.Window.{word_of, counted_from, in_window, offset_of, number_word};
 ghost use Rattle.srt_seq.specs.Runs.{runs, numbers_from};
 ghost use Rattle.srt_recvbuf.specs.Cells.{width_of, cell_at, is_empty, is_got};
 
 use crate::window::{Place, Seek, Window};
 use arrayvec::ArrayVec;
-use srt_seq::{Payload, Seq31};
+use srt_seq::{Payload, PayloadRef, Seq31};
 use std::alloc::{AllocError, Global};
 
 /// The most runs that are told.
@@ -45,7 +45,7 @@ pub struct RecvBuf {
 }
 
 impl RecvBuf {
-    ghost use Rattle.srt_recvbuf.specs.Stands.{IsFirstDue, StandsFor, run_words, said_runs, words_of, places_of, number_word, own_range};
+    ghost use Rattle.srt_recvbuf.specs.Stands.{IsFirstDue, StandsFor, run_words, said_runs, words_of, places_of, own_range};
     ghost use Rattle.srt_recvbuf.specs.Receiving.{Receiving, Arrival, nothing_yet, received, put_of, requested, settled, moved_to, top, ack_point, available, is_waiting, next_due, after_next};
 
     /// A buffer of so many places, 32 to 8192. The only call that takes memory.
@@ -65,7 +65,8 @@ impl RecvBuf {
 
     /// Forgets everything: a stream begins with this number.
     pub fn start(&mut self, initial: Seq31)
-        ensures { (origin : ℕ) → StandsFor (places_of self.old) (word_of initial) origin self.new nothing_yet }
+        ensures stands { (origin : ℕ) → StandsFor (places_of self.old) (word_of initial) origin self.new nothing_yet }
+        ensures narrow { places_of self.old ≤ 8192 }
     {
         self.front = initial;
         self.window.clear();
@@ -75,9 +76,8 @@ impl RecvBuf {
     }
 
     /// A packet comes, which is due at a moment in microseconds. Its bytes are copied once.
-    pub fn put(&mut self, number: Seq31, due: i64, bytes: &[u8]) -> Put
-        requires { length bytes.now ≤ 1456 }
-        ensures stands { (width initial origin : ℕ) (r : Receiving) (time : ℤ) → due ≡ pos origin +ℤ time → StandsFor width initial origin self.old r → StandsFor width initial origin self.new (received width (counted_from initial (word_of number)) bytes.now time r) }
+    pub fn put(&mut self, number: Seq31, due: i64, payload: PayloadRef<'_>) -> Put
+        ensures stands { (width initial origin : ℕ) (r : Receiving) (time : ℤ) → due ≡ pos origin +ℤ time → StandsFor width initial origin self.old r → StandsFor width initial origin self.new (received width (counted_from initial (word_of number)) payload.entry.bytes.now time r) }
         ensures answer { (width initial origin : ℕ) (r : Receiving) → StandsFor width initial origin self.old r → result ≡ put_of (in_window (counted_from initial (word_of number)) r.position width) r }
     {
         let Some(offset) = number.offset_in(self.front, self.window.width() as u32) else {
@@ -87,7 +87,7 @@ impl RecvBuf {
         if self.window.is(at, Seek::APacket) {
             return Put::Repeat;
         }
-        self.window.fill(at, due, bytes);
+        self.window.fill(at, due, payload);
         if 0 < at {
             self.next = self.next.min(at);
         }
@@ -121,7 +121,8 @@ impl RecvBuf {
     pub fn front(&self) -> Seq31
         ensures { (width initial origin : ℕ) (r : Receiving) → StandsFor width initial origin self.now r → word_of result ≡ number_word initial r.position }
     {
-        self.front
+        let front = self.front;
+        front
     }
 
     /// One more than the greatest number received; the front where that is greater.

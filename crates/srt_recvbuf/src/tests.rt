@@ -4,7 +4,7 @@ mod plain;
 mod random;
 
 use crate::{Put, RecvBuf};
-use srt_seq::{Payload, Seq31};
+use srt_seq::{Payload, PayloadRef, Seq31};
 use std::test::Fail;
 
 fn number(word: u32) -> Result<Seq31, Fail> {
@@ -33,10 +33,22 @@ fn gives_nothing(buffer: &mut RecvBuf, now: u32, room: u32) -> bool {
 #[test]
 fn a_window_takes_each_number_once(rt: HostRuntime) -> Result<(), Fail> {
     let mut buffer = buffer(&rt, 7)?;
-    assert_eq!(rt; buffer.put(number(38)?, 5, &[1]), Put::New);
-    assert_eq!(rt; buffer.put(number(39)?, 5, &[2]), Put::Outside);
-    assert_eq!(rt; buffer.put(number(6)?, 5, &[2]), Put::Outside);
-    assert_eq!(rt; buffer.put(number(38)?, 5, &[2]), Put::Repeat);
+    assert_eq!(rt;
+        buffer.put(number(38)?, 5, PayloadRef { bytes: &[1] }),
+        Put::New
+    );
+    assert_eq!(rt;
+        buffer.put(number(39)?, 5, PayloadRef { bytes: &[2] }),
+        Put::Outside
+    );
+    assert_eq!(rt;
+        buffer.put(number(6)?, 5, PayloadRef { bytes: &[2] }),
+        Put::Outside
+    );
+    assert_eq!(rt;
+        buffer.put(number(38)?, 5, PayloadRef { bytes: &[2] }),
+        Put::Repeat
+    );
     assert_eq!(rt; buffer.width(), 32);
     assert_eq!(rt; buffer.front().get(), 7);
     assert_eq!(rt; buffer.top().get(), 39);
@@ -52,10 +64,22 @@ fn a_window_takes_each_number_once(rt: HostRuntime) -> Result<(), Fail> {
 #[test]
 fn numbers_go_round(rt: HostRuntime) -> Result<(), Fail> {
     let mut buffer = buffer(&rt, 0x7fff_ffff)?;
-    assert_eq!(rt; buffer.put(number(0x1e)?, 9, &[3]), Put::New);
-    assert_eq!(rt; buffer.put(number(0x1f)?, 9, &[3]), Put::Outside);
-    assert_eq!(rt; buffer.put(number(0x7fff_ffff)?, 9, &[1]), Put::New);
-    assert_eq!(rt; buffer.put(number(0)?, 9, &[2]), Put::New);
+    assert_eq!(rt;
+        buffer.put(number(0x1e)?, 9, PayloadRef { bytes: &[3] }),
+        Put::New
+    );
+    assert_eq!(rt;
+        buffer.put(number(0x1f)?, 9, PayloadRef { bytes: &[3] }),
+        Put::Outside
+    );
+    assert_eq!(rt;
+        buffer.put(number(0x7fff_ffff)?, 9, PayloadRef { bytes: &[1] }),
+        Put::New
+    );
+    assert_eq!(rt;
+        buffer.put(number(0)?, 9, PayloadRef { bytes: &[2] }),
+        Put::New
+    );
     assert_eq!(rt; buffer.ack_point().get(), 1);
     assert_eq!(rt; buffer.available(), 30);
     let runs = buffer.runs(buffer.front());
@@ -70,8 +94,14 @@ fn numbers_go_round(rt: HostRuntime) -> Result<(), Fail> {
 #[test]
 fn a_packet_behind_a_gap_waits_for_its_moment(rt: HostRuntime) -> Result<(), Fail> {
     let mut buffer = buffer(&rt, 7)?;
-    assert_eq!(rt; buffer.put(number(9)?, 20, &[9, 9]), Put::New);
-    assert_eq!(rt; buffer.put(number(7)?, 10, &[7]), Put::New);
+    assert_eq!(rt;
+        buffer.put(number(9)?, 20, PayloadRef { bytes: &[9, 9] }),
+        Put::New
+    );
+    assert_eq!(rt;
+        buffer.put(number(7)?, 10, PayloadRef { bytes: &[7] }),
+        Put::New
+    );
     assert!(rt; gives_nothing(&mut buffer, 9, 64));
     assert!(rt; gives_nothing(&mut buffer, 20, 0));
     assert!(rt; is_given(&mut buffer, 10, &[7]));
@@ -92,10 +122,22 @@ fn a_packet_behind_a_gap_waits_for_its_moment(rt: HostRuntime) -> Result<(), Fai
 #[test]
 fn a_place_is_written_where_something_is_due(rt: HostRuntime) -> Result<(), Fail> {
     let mut buffer = buffer(&rt, 7)?;
-    assert_eq!(rt; buffer.put(number(7)?, 1, &[7, 7]), Put::New);
-    assert_eq!(rt; buffer.put(number(8)?, 1, &[8]), Put::New);
-    assert_eq!(rt; buffer.put(number(9)?, 1, &[9]), Put::New);
-    assert_eq!(rt; buffer.put(number(10)?, 2, &[10, 10]), Put::New);
+    assert_eq!(rt;
+        buffer.put(number(7)?, 1, PayloadRef { bytes: &[7, 7] }),
+        Put::New
+    );
+    assert_eq!(rt;
+        buffer.put(number(8)?, 1, PayloadRef { bytes: &[8] }),
+        Put::New
+    );
+    assert_eq!(rt;
+        buffer.put(number(9)?, 1, PayloadRef { bytes: &[9] }),
+        Put::New
+    );
+    assert_eq!(rt;
+        buffer.put(number(10)?, 2, PayloadRef { bytes: &[10, 10] }),
+        Put::New
+    );
     let mut payload = Payload::new();
     for wanted in [&[7, 7][..], &[8][..], &[9][..]] {
         assert!(rt; buffer.advance(1, 64, &mut payload));
@@ -110,10 +152,16 @@ fn a_place_is_written_where_something_is_due(rt: HostRuntime) -> Result<(), Fail
 #[test]
 fn what_is_dropped_may_still_come(rt: HostRuntime) -> Result<(), Fail> {
     let mut buffer = buffer(&rt, 7)?;
-    assert_eq!(rt; buffer.put(number(9)?, 1, &[9]), Put::New);
+    assert_eq!(rt;
+        buffer.put(number(9)?, 1, PayloadRef { bytes: &[9] }),
+        Put::New
+    );
     buffer.dropped(number(8)?, number(11)?);
     assert_eq!(rt; buffer.ack_point().get(), 7);
-    assert_eq!(rt; buffer.put(number(8)?, 1, &[8]), Put::New);
+    assert_eq!(rt;
+        buffer.put(number(8)?, 1, PayloadRef { bytes: &[8] }),
+        Put::New
+    );
     assert!(rt; is_given(&mut buffer, 1, &[8]));
     assert!(rt; is_given(&mut buffer, 1, &[9]));
     // 10 and 11 were dropped
@@ -135,7 +183,11 @@ fn at_most_32_runs(rt: HostRuntime) -> Result<(), Fail> {
     buffer.start(number(0x7fff_fff0)?);
     for k in 0..40 {
         assert_eq!(rt;
-            buffer.put(number(0x7fff_fff0)?.add(2 * k + 1), 1, &[0]),
+            buffer.put(
+                number(0x7fff_fff0)?.add(2 * k + 1),
+                1,
+                PayloadRef { bytes: &[0] }
+            ),
             Put::New
         );
     }

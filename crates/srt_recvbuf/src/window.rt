@@ -4,7 +4,7 @@ ghost use Rattle.std.specs.Prelude.{◌≡◌, ℕ, ◌+◌, ◌<◌, ◌≤◌,
 ghost use Rattle.srt_seq.specs.Slots.{slots_of, text_of_slot};
 
 use circular_buffer::HeapCircularBuffer;
-use srt_seq::{Payload, Text, TextOrder};
+use srt_seq::{Payload, PayloadRef, Text, TextOrder};
 use std::alloc::{AllocError, Global};
 
 /// What stands at a place.
@@ -164,15 +164,14 @@ impl Window {
     }
 
     /// A packet comes to a place.
-    pub fn fill(&mut self, at: usize, due: i64, bytes: &[u8])
+    pub fn fill(&mut self, at: usize, due: i64, payload: PayloadRef<'_>)
         requires inside { at < width_of self.old }
-        requires fits { length bytes.now ≤ 1456 }
         ensures width { width_of self.new ≡ width_of self.old }
-        ensures cells { (d : ℕ) → cell_at self.new d ≡ (if d == at then Got due bytes.now else cell_at self.old d) }
+        ensures cells { (d : ℕ) → cell_at self.new d ≡ (if d == at then Got due payload.entry.bytes.now else cell_at self.old d) }
     {
         self.warm_up(at);
         let index = self.text_index(at);
-        self.texts[index].set(bytes);
+        self.texts[index].set(payload.bytes);
         self.mark(at, Place::Received { due });
     }
 

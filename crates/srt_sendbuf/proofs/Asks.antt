@@ -1,8 +1,8 @@
 -- What lists of ranges ask for, taken in parts.
 use Rattle.std.proofs.Common.{◌≡◌, ℕ, ◌-◌, Bool, true, false, ◌||◌, List, [], ◌∷◌, ◌++◌, refl, sym, ap, ◌∙◌}
 use Rattle.std.specs.List.{list_any}
-use Rattle.srt_seq.specs.Runs.{Range, is_in, is_asked, numbers_from}
-use Rattle.srt_sendbuf.specs.Sending.{Sending, base, front, range_from, ranges_from, asks_for_gone}
+use Rattle.srt_seq.specs.Runs.{Range, is_in, is_asked, numbers_from, range_from, ranges_from}
+use Rattle.srt_sendbuf.specs.Sending.{Sending, base, front, asks_for_gone}
 use Rattle.srt_sendbuf.proofs.Ranges.{any_of_both}
 
 pub alone : (a : Bool) → (a || false) ≡ a

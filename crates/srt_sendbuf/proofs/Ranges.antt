@@ -1,31 +1,15 @@
--- Ranges counted from an initial number, and the part of a window that they have.
+-- The part of a window that ranges have.
 use Rattle.std.proofs.Common.{◌≡◌, ℕ, zero, suc, ◌+◌, ◌^◌, ◌<◌, ◌≤◌, Bool, true, false, ◌||◌, Option, None, Some, List, [], ◌∷◌, refl, sym, ap, ◌∙◌, arith}
-use Rattle.std.specs.Prelude.{nat_lt, nat_le}
 use Rattle.std.specs.List.{list_any}
-use Rattle.std.proofs.lemmas.Bool.{lt-ltb, or_right, true≢false}
+use Rattle.std.proofs.lemmas.Bool.{or_right, true≢false}
 use Rattle.std.proofs.lemmas.Bool.Decides.{nat_tests}
-use Rattle.srt_seq.specs.Window.{offset_of, counted_from}
-use Rattle.srt_seq.specs.Runs.{Range, is_in, is_asked, numbers_from}
+use Rattle.srt_seq.specs.Window.{counted_from}
+use Rattle.srt_seq.specs.Runs.{Range, is_in, is_asked, numbers_from, range_from}
 use Rattle.std.specs.Prelude.{option_map, unwrap_or}
 use Rattle.srt_seq.specs.Window.{in_window}
 use Rattle.srt_seq.proofs.Windows.{numbers_from_initial}
+use Rattle.srt_seq.proofs.Ranges.{ranges_from_initial}
 use Rattle.srt_loss.specs.Window.{is_in_part, IsPartOf}
-use Rattle.srt_sendbuf.specs.Sending.{range_from}
-
-counted : (initial word : ℕ) → word < 2 ^ 31 → counted_from initial word ≡ offset_of word initial
-counted initial word lt = let b : nat_lt word (2 ^ 31) ≡ true = lt-ltb _ _ lt in rw b refl
-
--- a number counted from the initial one is in a range counted so where the number itself is in the range
-pub is_in_from : (initial n : ℕ) (x : Range) → x.first < 2 ^ 31 → x.last < 2 ^ 31 → is_in (range_from initial x) n ≡ is_in x (initial + n)
-is_in_from initial n x f l =
-    let a = counted initial x.first f in
-    let b = counted initial x.last l in
-    let near : offset_of n (offset_of x.first initial) ≡ offset_of (initial + n) x.first = omega (arith, f) in
-    let wide : offset_of (offset_of x.last initial) (offset_of x.first initial) ≡ offset_of x.last x.first = omega (arith, f, l) in
-    ap (λ c. nat_le (offset_of n c) (offset_of (counted_from initial x.last) c)) a
-    ∙ ap (λ c. nat_le (offset_of n (offset_of x.first initial)) (offset_of c (offset_of x.first initial))) b
-    ∙ ap (λ o. nat_le o (offset_of (offset_of x.last initial) (offset_of x.first initial))) near
-    ∙ ap (λ o. nat_le (offset_of (initial + n) x.first) o) wide
 
 any_at : (test : ℕ → Bool) (from places d : ℕ) → d < places → test (from + d) ≡ true → list_any test (numbers_from from places) ≡ true
 any_at test from zero d lt here = absurd (omega (arith, lt))
@@ -50,7 +34,7 @@ none_at test from (suc places) off =
 pub asks_part : (initial from places first last : ℕ) (x : Range) → x.first < 2 ^ 31 → x.last < 2 ^ 31 → IsPartOf x (initial + from) places (Some (first, last)) → first ≤ last → last < places → list_any (is_in (range_from initial x)) (numbers_from from places) ≡ true
 asks_part initial from places first last x f l part le lt =
     any_at (is_in (range_from initial x)) from places first (omega (arith, le, lt))
-    (is_in_from initial (from + first) x f l ∙ ap (is_in x) (omega arith) ∙ part first (omega (arith, le, lt)) ∙ both)
+    (ranges_from_initial initial (from + first) x f l ∙ ap (is_in x) (omega arith) ∙ part first (omega (arith, le, lt)) ∙ both)
   where
     both : is_in_part (Some (first, last)) first ≡ true
     both = grind (arith, nat_tests, le)
@@ -58,7 +42,7 @@ asks_part initial from places first last x f l part le lt =
 pub asks_none : (initial from places : ℕ) (x : Range) → x.first < 2 ^ 31 → x.last < 2 ^ 31 → IsPartOf x (initial + from) places None → list_any (is_in (range_from initial x)) (numbers_from from places) ≡ false
 asks_none initial from places x f l part =
     none_at (is_in (range_from initial x)) from places
-    (λ d lt. is_in_from initial (from + d) x f l ∙ ap (is_in x) (omega arith) ∙ part d lt)
+    (λ d lt. ranges_from_initial initial (from + d) x f l ∙ ap (is_in x) (omega arith) ∙ part d lt)
 
 pub any_of_both : (p q : ℕ → Bool) (ns : List ℕ) → list_any (λ n. p n || q n) ns ≡ (list_any p ns || list_any q ns)
 any_of_both p q [] = refl

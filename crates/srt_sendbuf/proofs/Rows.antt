@@ -2,8 +2,8 @@
 use Rattle.std.proofs.Common.{◌≡◌, ℕ, pos, true, false, None, Some, List, [], ◌∷◌, refl}
 use Rattle.std.specs.Prelude.{option_map}
 use Rattle.srt_seq.specs.Window.{in_window, counted_from}
-use Rattle.srt_seq.specs.Runs.{Range}
-use Rattle.srt_sendbuf.specs.Sending.{Sending, nothing_yet, base, queued, lost, due, after_due, asked, ranges_from, acknowledged_by, expired_before}
+use Rattle.srt_seq.specs.Runs.{Range, ranges_from}
+use Rattle.srt_sendbuf.specs.Sending.{Sending, nothing_yet, base, queued, lost, due, after_due, asked, acknowledged_by, expired_before}
 use Rattle.srt_sendbuf.specs.Told.{Told, told, gone_for}
 
 -- one payload, queued at 1000000 and sent

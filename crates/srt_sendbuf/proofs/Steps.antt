@@ -1,16 +1,16 @@
 -- What each call does to what the fields stand for.
 use Rattle.std.proofs.Common.{◌≡◌, ◌≢◌, ℕ, zero, suc, ◌+◌, ◌-◌, ◌%◌, ◌^◌, ◌<◌, ◌≤◌, ◌==◌, min, max, Bool, true, false, ◌&&◌, ◌||◌, if◌then◌else◌, Option, None, Some, List, [], ◌∷◌, ◌++◌, length, inl, inr, ◌⊎◌, refl, sym, ap, subst, ◌∙◌, arith}
 use Rattle.std.specs.Prelude.{All, filter, is_some, slice_get, nat_lt, nat_le}
-use Rattle.std.proofs.lemmas.Bool.{cases_lt, cases_eq, eq-eqb, ne_eqb, lt-ltb, true≢false}
+use Rattle.std.proofs.lemmas.Bool.{false_from_ne_true, cases_lt, cases_eq, eq-eqb, ne_eqb, lt-ltb, true≢false}
 use Rattle.std.proofs.lemmas.Bool.Decides.{nat_tests}
 use Rattle.std.proofs.lemmas.List.Elements.{All-head, All-tail, All-nil, All-push}
 use Rattle.srt_seq.specs.Counts.{message_number}
-use Rattle.srt_seq.specs.Runs.{Range, is_in, is_asked, numbers_from}
-use Rattle.srt_sendbuf.specs.Sending.{Queued, Mark, Sent, Asked, Sending, nothing_yet, front, next, sent_end, in_flight, lost, is_between, is_marked, queued, range_from, asked, all_lost, sent, due_number, IsTimely}
+use Rattle.srt_seq.specs.Runs.{Range, is_in, is_asked, numbers_from, range_from}
+use Rattle.srt_sendbuf.specs.Sending.{Queued, Mark, Sent, Asked, Sending, nothing_yet, front, next, sent_end, in_flight, lost, is_between, is_marked, queued, asked, all_lost, sent, due_number, IsTimely}
 use Rattle.srt_sendbuf.specs.Places.{Kept}
 use Rattle.srt_sendbuf.specs.Stands.{IsInOrder, kept_as, IsKept, IsMoved}
 use Rattle.srt_loss.specs.Window.{IsPartOf}
-use Rattle.srt_sendbuf.proofs.Ranges.{is_in_from}
+use Rattle.srt_seq.proofs.Ranges.{ranges_from_initial}
 use Rattle.srt_sendbuf.proofs.Rings.{get_left, get_last, length_last}
 
 pub started : (initial base_message end_message : ℕ) (kept : ℕ → Option Kept) (lost : ℕ → Bool) → initial < 2 ^ 31 → base_message ≡ message_number 0 → end_message ≡ message_number 0 → IsKept initial initial 0 0 0 0 0 base_message end_message kept lost nothing_yet
@@ -214,15 +214,11 @@ none_of test from (suc places) none =
     let b : test from ≡ false = rw z at (none 0 (omega arith)) in
     rw b (none_of test (from + 1) places (λ k l. let m : (from + 1) + k ≡ from + suc k = omega arith in rw m (none (suc k) (omega (arith, l)))))
 
-not_lost : (b : Bool) → (b ≡ true → ⊥) → b ≡ false
-not_lost true h = absurd (h refl)
-not_lost false h = refl
-
 pub first_lost : (initial word behind count flying low high base_message end_message : ℕ) (kept : ℕ → Option Kept) (lost_ones : ℕ → Bool) (r : Sending) → IsKept initial word behind count flying low high base_message end_message kept lost_ones r → low < high → high ≤ flying → (ns : List ℕ) × (lost r ≡ (front r + low) ∷ ns)
 first_lost initial word behind count flying low high base_message end_message kept lost_ones r h lt hi =
     let n = h.flying_is in
     let places : in_flight r ≡ flying = omega (arith, n) in
-    let f = first_of (is_marked r.marks) (front r) flying low (omega (arith, lt, hi)) (λ k l. sym (h.lost_is k (omega (arith, l, lt, hi))) ∙ not_lost (lost_ones k) (λ b. omega (arith, l, (h.within k (omega (arith, l, lt, hi)) b).0))) (sym (h.lost_is low (omega (arith, lt, hi))) ∙ h.lowest lt) in
+    let f = first_of (is_marked r.marks) (front r) flying low (omega (arith, lt, hi)) (λ k l. sym (h.lost_is k (omega (arith, l, lt, hi))) ∙ false_from_ne_true (lost_ones k) (λ b. omega (arith, l, (h.within k (omega (arith, l, lt, hi)) b).0))) (sym (h.lost_is low (omega (arith, lt, hi))) ∙ h.lowest lt) in
     (f.0, ap (λ p. filter (is_marked r.marks) (numbers_from (front r) p)) places ∙ f.1)
 
 pub none_lost : (initial word behind count flying low high base_message end_message : ℕ) (kept : ℕ → Option Kept) (lost_ones : ℕ → Bool) (r : Sending) → IsKept initial word behind count flying low high base_message end_message kept lost_ones r → high ≤ low → lost r ≡ []
@@ -230,7 +226,7 @@ none_lost initial word behind count flying low high base_message end_message kep
     let n = h.flying_is in
     let places : in_flight r ≡ flying = omega (arith, n) in
     ap (λ p. filter (is_marked r.marks) (numbers_from (front r) p)) places
-    ∙ none_of (is_marked r.marks) (front r) flying (λ k l. sym (h.lost_is k l) ∙ not_lost (lost_ones k) (λ b. let i = h.within k l b in omega (arith, le, i.0, i.1)))
+    ∙ none_of (is_marked r.marks) (front r) flying (λ k l. sym (h.lost_is k l) ∙ false_from_ne_true (lost_ones k) (λ b. let i = h.within k l b in omega (arith, le, i.0, i.1)))
 
 -- which number is due
 pub due_again : (window low : ℕ) (r : Sending) → ((ns : List ℕ) × (lost r ≡ (front r + low) ∷ ns)) → due_number window (lost r) r ≡ Some (front r + low, true)
@@ -299,7 +295,7 @@ asked_alike initial word behind count flying low high base_message end_message k
 pub asked_part : (initial word behind count flying low high base_message end_message first last low2 high2 : ℕ) (x : Range) (taken : List Range) (kept kept2 : ℕ → Option Kept) (lost lost2 : ℕ → Bool) (r : Sending) → IsKept initial word behind count flying low high base_message end_message kept lost (asked taken r) → x.first < 2 ^ 31 → x.last < 2 ^ 31 → IsPartOf x (initial + front r) flying (Some (first, last)) → first ≤ last → last < flying → high ≤ flying → ((d : ℕ) → kept2 d ≡ kept d) → ((d : ℕ) → lost2 d ≡ (if nat_le first d && nat_lt d (last + 1) then true else lost d)) → (low < high → (low2 ≡ min low first) × (high2 ≡ max high (last + 1))) → (high ≤ low → (low2 ≡ first) × (high2 ≡ last + 1)) → IsKept initial word behind count flying low2 high2 base_message end_message kept2 lost2 (asked (range_from initial x ∷ taken) r)
 asked_part initial word behind count flying low high base_message end_message first last low2 high2 x taken kept kept2 lost lost2 r h xf xl part le lt hi ks ls some none =
     asked_more initial word behind count flying low high base_message end_message low2 high2 (range_from initial x) taken kept kept2 lost lost2 r h ks
-    (λ d k. ls d ∙ either (nat_le first d) (nat_lt d (last + 1)) (nat_le d last) (lost d) (upto d) ∙ ap (λ b. b || lost d) (sym (is_in_from initial (front r + d) x xf xl ∙ ap (is_in x) (omega arith) ∙ part d k)))
+    (λ d k. ls d ∙ either (nat_le first d) (nat_lt d (last + 1)) (nat_le d last) (lost d) (upto d) ∙ ap (λ b. b || lost d) (sym (ranges_from_initial initial (front r + d) x xf xl ∙ ap (is_in x) (omega arith) ∙ part d k)))
     (λ d k b. inside d k (cases_lt d first) (cases_lt last d) (cases_lt low high) b)
     (λ c. lowest (cases_lt low high) (cases_lt low first))
   where
@@ -340,7 +336,7 @@ asked_part initial word behind count flying low high base_message end_message fi
 pub asked_outside : (initial word behind count flying low high base_message end_message : ℕ) (x : Range) (taken : List Range) (kept : ℕ → Option Kept) (lost : ℕ → Bool) (r : Sending) → IsKept initial word behind count flying low high base_message end_message kept lost (asked taken r) → x.first < 2 ^ 31 → x.last < 2 ^ 31 → IsPartOf x (initial + front r) flying None → IsKept initial word behind count flying low high base_message end_message kept lost (asked (range_from initial x ∷ taken) r)
 asked_outside initial word behind count flying low high base_message end_message x taken kept lost r h xf xl part =
     asked_more initial word behind count flying low high base_message end_message low high (range_from initial x) taken kept kept lost lost r h (λ d. refl)
-    (λ d k. ap (λ b. b || lost d) (sym (is_in_from initial (front r + d) x xf xl ∙ ap (is_in x) (omega arith) ∙ part d k)))
+    (λ d k. ap (λ b. b || lost d) (sym (ranges_from_initial initial (front r + d) x xf xl ∙ ap (is_in x) (omega arith) ∙ part d k)))
     h.within h.lowest
 
 pub same_count : (initial word behind count count2 flying low high base_message end_message : ℕ) (kept : ℕ → Option Kept) (lost : ℕ → Bool) (r : Sending) → count2 ≡ count → IsKept initial word behind count flying low high base_message end_message kept lost r → IsKept initial word behind count2 flying low high base_message end_message kept lost r

@@ -1,7 +1,7 @@
 -- What a sender has of one stream. Numbers count from the initial one.
-use Rattle.std.specs.Prelude.{ℕ, ◌+◌, ◌-◌, ℤ, pos, int_lt, Bool, true, false, Option, None, Some, List, [], ◌∷◌, ◌++◌, All, filter, length, count_by, map, slice_get, max, nat_lt, nat_le, ◌==◌, ◌&&◌, ◌||◌, if◌then◌else◌, ◌≤◌}
+use Rattle.std.specs.Prelude.{ℕ, ◌+◌, ◌-◌, ℤ, pos, int_lt, Bool, true, false, Option, None, Some, List, [], ◌∷◌, ◌++◌, All, filter, length, count_by, slice_get, max, nat_lt, nat_le, ◌==◌, ◌&&◌, ◌||◌, if◌then◌else◌, ◌≤◌}
 use Rattle.std.specs.List.{list_any}
-use Rattle.srt_seq.specs.Window.{in_window, counted_from}
+use Rattle.srt_seq.specs.Window.{in_window}
 use Rattle.srt_seq.specs.Runs.{Range, is_asked, numbers_from}
 
 -- a payload and the time when it was queued
@@ -96,13 +96,6 @@ queued_before before queue = count_by (λ q. int_lt (pos q.origin) before) queue
 -- those queued before this time are gone
 abbrev pub expired_before : ℤ → Sending → Sending
 expired_before before s = record s { expired = queued_before before s.queue }
-
--- ranges of the wire's words, counted from an initial number
-abbrev pub range_from : (initial : ℕ) → Range → Range
-range_from initial r = record { first = counted_from initial r.first; last = counted_from initial r.last }
-
-abbrev pub ranges_from : (initial : ℕ) → List Range → List Range
-ranges_from initial ranges = map (range_from initial) ranges
 
 -- a loss list asks for numbers (section 3.2.5)
 abbrev pub asked : List Range → Sending → Sending

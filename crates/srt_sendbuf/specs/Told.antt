@@ -1,15 +1,11 @@
 -- Answers of the code as words of the wire (sections 3.1 and 3.2.9).
-use Rattle.std.specs.Prelude.{ℕ, ◌+◌, ◌-◌, ◌%◌, ◌^◌, Bool, Option, None, Some, List, if◌then◌else◌}
-use Rattle.srt_seq.specs.Window.{word_of}
+use Rattle.std.specs.Prelude.{ℕ, ◌-◌, Bool, Option, None, Some, List, if◌then◌else◌}
+use Rattle.srt_seq.specs.Window.{word_of, number_word}
 use Rattle.srt_seq.specs.Counts.{message_number, message_of}
 use Rattle.srt_seq.specs.Runs.{Range}
 use Rattle.srt_sendbuf.specs.Sending.{Sending, Due, base, front, asks_for_gone}
 use Rattle.srt_sendbuf.specs.declared.buffer.Out.{Out}
 use Rattle.srt_sendbuf.specs.declared.buffer.DropRun.{DropRun}
-
--- the wire's word for a number counted from the initial one
-abbrev pub number_word : (initial number : ℕ) → ℕ
-number_word initial number = (initial + number) % 2 ^ 31
 
 -- a packet that is to be sent, in words
 pub record Told : Type 0 where

@@ -4,7 +4,7 @@ ghost use Rattle.std.specs.Prelude.{◌≡◌, ℕ, ◌+◌, ◌-◌, ◌%◌, �
 ghost use Rattle.std.specs.List.{list_any};
 ghost use Rattle.srt_seq.specs.Window.{word_of, counted_from};
 ghost use Rattle.srt_seq.specs.Counts.{message_of, message_number};
-ghost use Rattle.srt_seq.specs.Runs.{Range, is_in, is_asked, span, numbers_from};
+ghost use Rattle.srt_seq.specs.Runs.{Range, is_in, is_asked, span, numbers_from, ranges_from, range_from};
 ghost use Rattle.srt_loss.specs.Text.{range_of};
 ghost use Rattle.srt_sendbuf.specs.Places.{length_of, lost_at};
 
@@ -88,7 +88,7 @@ pub struct SendBuf {
 }
 
 impl SendBuf {
-    ghost use Rattle.srt_sendbuf.specs.Sending.{Sending, nothing_yet, front, base, next, room, in_flight, lost, queued, acknowledged_by, after_ack, is_growth, expired_before, ranges_from, range_from, asked, asks_for_gone, all_lost, sent, due, due_number, due_of, after_due, IsTimely, IsLater};
+    ghost use Rattle.srt_sendbuf.specs.Sending.{Sending, nothing_yet, front, base, next, room, in_flight, lost, queued, acknowledged_by, after_ack, is_growth, expired_before, asked, asks_for_gone, all_lost, sent, due, due_number, due_of, after_due, IsTimely, IsLater};
     ghost use Rattle.srt_sendbuf.specs.Told.{told, told_by, gone, gone_for, gone_by};
     ghost use Rattle.srt_sendbuf.specs.Stands.{StandsFor, IsMoved};
 
@@ -144,7 +144,7 @@ impl SendBuf {
             return Err(Full);
         }
         let message = self.next_message;
-        self.ring.put(now, message, payload.as_slice());
+        self.ring.put(now, message, payload);
         self.next_message = message.next();
         Ok(())
     }

@@ -129,16 +129,15 @@ impl Ring {
     }
 
     /// A packet comes after the last.
-    pub fn put(&mut self, origin: u64, message: Msg26, bytes: &[u8])
+    pub fn put(&mut self, origin: u64, message: Msg26, payload: &Payload)
         requires room { length_of self.old < width_of self.old }
-        requires fits { length bytes.now ≤ 1456 }
         ensures width { width_of self.new ≡ width_of self.old }
         ensures length { length_of self.new ≡ length_of self.old + 1 }
-        ensures kept { (d : ℕ) → kept_at self.new d ≡ (if d == length_of self.old then Some (record { origin = origin; message = message_of message; payload = bytes.now }) else kept_at self.old d) }
+        ensures kept { (d : ℕ) → kept_at self.new d ≡ (if d == length_of self.old then Some (record { origin = origin; message = message_of message; payload = payload.now.items }) else kept_at self.old d) }
         ensures lost { (d : ℕ) → lost_at self.new d ≡ lost_at self.old d }
     {
         self.warm_up();
-        self.push(origin, message, bytes);
+        self.push(origin, message, payload);
     }
 
     /// The first free place gets the text of the first of the warm ones.
@@ -176,16 +175,15 @@ impl Ring {
     }
 
     /// A packet comes after the last, and takes the text of its place.
-    fn push(&mut self, origin: u64, message: Msg26, bytes: &[u8])
+    fn push(&mut self, origin: u64, message: Msg26, payload: &Payload)
         requires room { self.old.warm + length_of self.old < width_of self.old }
-        requires fits { length bytes.now ≤ 1456 }
         ensures width { width_of self.new ≡ width_of self.old }
         ensures length { length_of self.new ≡ length_of self.old + 1 }
-        ensures kept { (d : ℕ) → kept_at self.new d ≡ (if d == length_of self.old then Some (record { origin = origin; message = message_of message; payload = bytes.now }) else kept_at self.old d) }
+        ensures kept { (d : ℕ) → kept_at self.new d ≡ (if d == length_of self.old then Some (record { origin = origin; message = message_of message; payload = payload.now.items }) else kept_at self.old d) }
         ensures lost { (d : ℕ) → lost_at self.new d ≡ lost_at self.old d }
     {
         let index = self.text_index(self.places.len());
-        self.texts[index].set(bytes);
+        self.texts[index].set(payload.as_slice());
         self.places.push_back(Place {
             origin,
             message,

@@ -1,4 +1,5 @@
 pub mod Windows
+pub mod Ranges
 pub mod Lifts
 pub mod TextPlaces
 pub mod WordBytes

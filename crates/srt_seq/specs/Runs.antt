@@ -1,6 +1,6 @@
 -- Ranges of words, and runs of numbers (appendix A, packet sequence list coding).
-use Rattle.std.specs.Prelude.{ℕ, zero, suc, ◌+◌, Bool, true, false, List, [], ◌∷◌, nat_le, ◌==◌, ◌||◌, if◌then◌else◌}
-use Rattle.srt_seq.specs.Window.{offset_of}
+use Rattle.std.specs.Prelude.{◌≡◌, ℕ, zero, suc, ◌+◌, ◌^◌, ◌<◌, Bool, true, false, List, [], ◌∷◌, map, nat_le, ◌==◌, ◌||◌, if◌then◌else◌}
+use Rattle.srt_seq.specs.Window.{offset_of, counted_from}
 
 -- the words from first on to last, both in, round the circle
 pub record Range : Type 0 where
@@ -19,6 +19,17 @@ is_in r n = nat_le (offset_of n r.first) (span r)
 abbrev pub is_asked : List Range → ℕ → Bool
 is_asked [] n = false
 is_asked (r ∷ rs) n = is_in r n || is_asked rs n
+
+-- a range of the wire's words as one of numbers counted from an initial number
+abbrev pub range_from : (initial : ℕ) → Range → Range
+range_from initial r = record { first = counted_from initial r.first; last = counted_from initial r.last }
+
+abbrev pub ranges_from : (initial : ℕ) → List Range → List Range
+ranges_from initial ranges = map (range_from initial) ranges
+
+-- a number counted from the initial one is in a range counted so exactly where the number itself is in the range
+abbrev pub RangesFromInitial : Type 0
+RangesFromInitial = (initial n : ℕ) (r : Range) → r.first < 2 ^ 31 → r.last < 2 ^ 31 → is_in (range_from initial r) n ≡ is_in r (initial + n)
 
 -- the count numbers from this one on
 abbrev pub numbers_from : (from count : ℕ) → List ℕ

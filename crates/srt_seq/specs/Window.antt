@@ -29,6 +29,10 @@ in_window word front width = if nat_lt word (2 ^ 31) && nat_lt (offset_of word f
 abbrev pub counted_from : (initial word : ℕ) → ℕ
 counted_from initial word = if nat_lt word (2 ^ 31) then offset_of word initial else 2 ^ 31
 
+-- what the wire writes for a number counted from an initial number
+abbrev pub number_word : (initial n : ℕ) → ℕ
+number_word initial n = (initial + n) % 2 ^ 31
+
 -- the function gives the one number
 abbrev pub InWindowIsTheNumber : Type 0
 InWindowIsTheNumber = (word front width : ℕ) → width ≤ 2 ^ 31 → IsWindowNumber word front width (in_window word front width)

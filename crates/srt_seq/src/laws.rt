@@ -1,6 +1,7 @@
 //! Laws of the definitions: what counting from a session's own beginning means.
 
 ghost use Rattle.srt_seq.specs.Window.{InWindowIsTheNumber, NumbersFromInitial};
+ghost use Rattle.srt_seq.specs.Runs.{RangesFromInitial};
 ghost use Rattle.srt_seq.specs.Lift.{LiftIsTheTime, LiftMoves, TimesFromFirst};
 
 /// A word stands for one number of a window at most. A session may count from its initial number: the
@@ -8,6 +9,11 @@ ghost use Rattle.srt_seq.specs.Lift.{LiftIsTheTime, LiftMoves, TimesFromFirst};
 pub fn windows()
     ensures number { InWindowIsTheNumber }
     ensures from_initial { NumbersFromInitial }
+{}
+
+/// A range asks for the same numbers, whether they are counted from a session's initial number or from 0.
+pub fn ranges()
+    ensures from_initial { RangesFromInitial }
 {}
 
 /// A timestamp stands for one time near another. A shifted timestamp lifts to a shifted time, so a session

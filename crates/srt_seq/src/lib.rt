@@ -15,7 +15,9 @@ mod words;
 pub use entries::{is_between, is_name};
 pub use numbers::{Msg26, Seq31};
 pub use order::TextOrder;
-pub use shared::{Entry, Item, MOMENT_END, Mode, OpenFault, Payload, Peer, Role, Turned};
+pub use shared::{
+    Entry, Item, MOMENT_END, Mode, OpenFault, Payload, PayloadRef, Peer, Role, Turned,
+};
 pub use stamps::Stamp32;
 pub use texts::Text;
 pub use words::{read_word, write_at, write_words};

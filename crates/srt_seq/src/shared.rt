@@ -1,5 +1,7 @@
 //! The types that several crates share.
 
+ghost use Rattle.std.specs.Prelude.{◌<◌, ◌≤◌, length};
+
 use arrayvec::ArrayVec;
 
 /// Every moment, in microseconds, is below this: 2^62.
@@ -87,6 +89,15 @@ pub enum Item {
 
 /// The bytes that a data packet carries: 1 to 1456.
 pub type Payload = ArrayVec<u8, 1456>;
+
+/// The bytes that a data packet carries, where they lie.
+#[derive(Clone, Copy, Debug)]
+pub struct PayloadRef<'a> {
+    /// 1 to 1456 bytes.
+    pub bytes: &'a [u8],
+    pub ghost some: { 0 < length bytes.now },
+    pub ghost most: { length bytes.now ≤ 1456 },
+}
 
 /// Why something could not be opened. Nothing is kept then.
 #[derive(Clone, Copy, Debug, PartialEq, Eq)]

@@ -2,11 +2,10 @@
 use Rattle.std.specs.Prelude.{ℕ, Option, None, Some, Result, Ok, Err, List, [], ◌∷◌, length, nat_le, if◌then◌else◌}
 use Rattle.srt_seq.specs.Words.{word_at}
 use Rattle.srt_seq.specs.Window.{counted_from}
-use Rattle.srt_seq.specs.Runs.{Range}
+use Rattle.srt_seq.specs.Runs.{Range, ranges_from}
 use Rattle.srt_packet.specs.Grammar as grammar
 use Rattle.srt_loss.specs.Reading.{losses_in}
 use Rattle.srt_loss.specs.declared.reading.LossFault.{LossFault}
-use Rattle.srt_sendbuf.specs.Sending.{ranges_from}
 
 pub data Heard : Type 0 where
   -- an acknowledgement: its own number, the number that it brings, and what it tells beside

@@ -2,7 +2,7 @@
 use Rattle.std.specs.Prelude.{ℕ, ◌+◌, ◌%◌, ◌^◌, List, [], ◌∷◌, ◌++◌, if◌then◌else◌}
 use Rattle.srt_seq.specs.Words.{word, words}
 use Rattle.srt_seq.specs.Counts.{message_number}
-use Rattle.srt_sendbuf.specs.Told.{number_word}
+use Rattle.srt_seq.specs.Window.{number_word}
 use Rattle.srt_sub.specs.Subscribing.{Report, Acked, Dropped, Media, KeepAlive}
 
 -- a header and what follows it

@@ -7,7 +7,8 @@ use Rattle.srt_tsbpd.specs.Deadline.{too_late_at}
 use Rattle.srt_packet.specs.Text.{text}
 use Rattle.srt_packet.specs.declared.writing.Packet.{Packet}
 use Rattle.srt_sendbuf.specs.Sending.{Sending, IsTimely, IsLater}
-use Rattle.srt_sendbuf.specs.Told.{Gone, number_word, gone_by}
+use Rattle.srt_seq.specs.Window.{number_word}
+use Rattle.srt_sendbuf.specs.Told.{Gone, gone_by}
 use Rattle.srt_sendbuf.specs.Stands as places
 use Rattle.srt_sub.specs.Subscribing.{Terms, Note, Subscribing, last_sent, last_media, last_growth, round_trip, flow_window, untold}
 use Rattle.srt_sub.specs.declared.history.History.{History}

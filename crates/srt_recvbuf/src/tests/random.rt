@@ -4,7 +4,7 @@ ghost use Rattle.std.specs.Prelude.{◌≤◌};
 
 use crate::tests::plain::{Plain, wire};
 use crate::{Put, RecvBuf};
-use srt_seq::{Payload, Seq31};
+use srt_seq::{Payload, PayloadRef, Seq31};
 use std::alloc::{AllocError, Global};
 use std::test::Fail;
 
@@ -95,7 +95,7 @@ impl Both {
             Delivery::Buffer => -1,
         };
         let byte = (self.dice.below(256) & 0xff) as u8;
-        let ours = self.ours.put(number, due, &[byte]);
+        let ours = self.ours.put(number, due, PayloadRef { bytes: &[byte] });
         Ok(ours == self.plain.put(number, due, byte)?)
     }
 

@@ -17,7 +17,7 @@ returns-in_default-clause-stands c terms initial opening first caller time m n h
     let r = m.receiving in
     let due = due_in terms.mode terms time (stamped_from first c.args.stamp) in
     let none = no_number initial c.args.word r.position terms.width (no_top c.args.word c.in_default.ensures.some.1) in
-    let same : record { receiving = r; notes = Came ∷ m.notes; seen = m.seen } ≡ with_data terms time (stamped_from first c.args.stamp) (counted_from initial c.args.word) c.args.payload.now m = sym (ap (λ (o : Option ℕ). record { receiving = with_number o c.args.payload.now due r; notes = Came ∷ m.notes; seen = m.seen }) none) in
+    let same : record { receiving = r; notes = Came ∷ m.notes; seen = m.seen } ≡ with_data terms time (stamped_from first c.args.stamp) (counted_from initial c.args.word) c.args.payload.bytes.now m = sym (ap (λ (o : Option ℕ). record { receiving = with_number o c.args.payload.bytes.now due r; notes = Came ∷ m.notes; seen = m.seen }) none) in
     subst (λ (x : Publishing). StandsFor terms initial opening first caller (record c.args.self.now { log = c.came.new.self }) x) same (record {
       agreed = h.agreed;
       buffer = h.buffer;
@@ -37,15 +37,15 @@ returns-clause-stands c terms initial opening first caller time m n h =
     let word = word_of c.in-Some.number in
     let stamp = stamped_from first c.args.stamp in
     let due = due_in terms.mode terms time stamp in
-    let k = after_data terms.mode width (counted_from initial word) c.args.payload.now due r c.requires.some (in_buffer terms time stamp) h.orderly in
+    let k = after_data terms.mode width (counted_from initial word) c.args.payload.bytes.now due r c.args.payload.some (in_buffer terms time stamp) h.orderly in
     let a = h.agreed in
     let is : c.due-due.result ≡ pos opening +ℤ due = c.due-due.ensures terms time a.mode_is a.delay_is (omega (arith, n, a.opening_is)) ∙ ap (λ (x : ℕ). pos x +ℤ due_in terms.mode terms time (stamped_from c.args.self.now.agreed.first.word c.args.stamp)) a.opening_is ∙ ap (λ (x : ℕ). pos opening +ℤ due_in terms.mode terms time (stamped_from x c.args.stamp)) a.stamp_is in
     let fits : SFits w64 c.due-due.result = search rules in
     let put = rw to_z-of_z at (c.put.ensures.stands width initial opening r due) in
     let m1 : Publishing = record { receiving = r; notes = Came ∷ m.notes; seen = m.seen } in
-    let P : ℕ → Type 0 = λ x. StandsFor terms initial opening first caller c.follow.new.self (with_data terms time stamp (counted_from initial x) c.args.payload.now m) in
+    let P : ℕ → Type 0 = λ x. StandsFor terms initial opening first caller c.follow.new.self (with_data terms time stamp (counted_from initial x) c.args.payload.bytes.now m) in
     subst P c.in-Some.ensures.value
-    (c.follow.ensures.stands terms initial opening first caller m1 (received width (counted_from initial word) c.args.payload.now due r) (c.front-front.ensures width initial opening r h.buffer) (c.ack_point-point.ensures width initial opening r h.buffer) (record {
+    (c.follow.ensures.stands terms initial opening first caller m1 (received width (counted_from initial word) c.args.payload.bytes.now due r) (c.front-front.ensures width initial opening r h.buffer) (c.ack_point-point.ensures width initial opening r h.buffer) (record {
       agreed = h.agreed;
       buffer = put is h.buffer;
       log = c.came.ensures _ _ _ _ _ h.log;

@@ -5,13 +5,13 @@ use Rattle.srt_pub.specs.Stands.{width_of}
 use Rattle.srt_pub.proofs.Goings.{first_point, orderly_first}
 
 pub returns-clause-stands : goal.returns-clause-stands
-returns-clause-stands c narrow =
+returns-clause-stands c =
     let width = width_of c.args.self.now in
     record {
       agreed = record { mode_is = refl; delay_is = refl; opening_is = refl; stamp_is = refl; caller_is = refl };
-      buffer = c.start.ensures c.args.now;
+      buffer = c.start.ensures.stands c.args.now;
       log = subst (λ (x : ℕ). LogStandsFor width 0 x c.clear.new.self [] 0) (sym (first_point width)) (c.clear.ensures width);
       orderly = orderly_first c.args.mode width;
       seen = omega arith;
-      narrow = narrow;
+      narrow = c.start.ensures.narrow;
     }

@@ -14,7 +14,7 @@ returns-in_default-clause-stands c width initial origin r time t h =
     let o = own_none initial r.position c.width.result (word_of c.args.number) (word_of s.front) h.1.front_is c.in_default.ensures.value in
     let e = ap (λ x. in_window (counted_from initial (word_of c.args.number)) r.position x) (sym w) ∙ o in
     let P : Receiving → Type 0 = λ x. StandsFor width initial origin s x in
-    subst P (sym (ap (λ x. with_number x c.args.bytes.now time r) e)) h
+    subst P (sym (ap (λ x. with_number x c.args.payload.bytes.now time r) e)) h
 
 pub returns-in_default-clause-answer : goal.returns-in_default-clause-answer
 returns-in_default-clause-answer c width initial origin r h =
@@ -32,7 +32,7 @@ returns-then-is-clause-stands c width initial origin r time t h =
     let e = ap (λ x. in_window (counted_from initial (word_of c.args.number)) r.position x) (sym w) ∙ o in
     let got = cell_received width initial origin _ _ _ _ r h.1 c.in-Some.offset ∙ sym c.is.ensures ∙ c.if-is.true in
     let P : Receiving → Type 0 = λ x. StandsFor width initial origin s x in
-    subst P (sym (ap (λ x. with_number x c.args.bytes.now time r) e ∙ repeated r (r.position + c.in-Some.offset) c.args.bytes.now time got)) h
+    subst P (sym (ap (λ x. with_number x c.args.payload.bytes.now time r) e ∙ repeated r (r.position + c.in-Some.offset) c.args.payload.bytes.now time got)) h
 
 pub returns-then-is-clause-answer : goal.returns-then-is-clause-answer
 returns-then-is-clause-answer c width initial origin r h =
@@ -52,11 +52,11 @@ returns-clause-stands c width initial origin r time t h =
     let o = own_some initial r.position c.width.result (word_of c.args.number) (word_of s.front) d h.1.front_is c.in-Some.ensures.value in
     let e = ap (λ x. in_window (counted_from initial (word_of c.args.number)) r.position x) (sym w) ∙ o in
     let got = cell_received width initial origin _ _ _ _ r h.1 d ∙ sym c.is.ensures ∙ c.if-is.false in
-    let is = ap (λ x. with_number x c.args.bytes.now time r) e ∙ new_one r (r.position + d) c.args.bytes.now time got in
+    let is = ap (λ x. with_number x c.args.payload.bytes.now time r) e ∙ new_one r (r.position + d) c.args.payload.bytes.now time got in
     let wide = c.fill.ensures.width ∙ h.0 in
     let fits = c.ranges.due in
     let cells = rw to_z-of_z at c.fill.ensures.cells in
-    let all = with_packet width initial origin (word_of s.front) s.end s.point n.point d _ _ r c.args.bytes.now c.args.due time h.1 t cells c.find_point.ensures.low c.find_point.ensures.not_missing (λ lt. c.find_point.ensures.missing (omega (arith, lt, wide))) in
+    let all = with_packet width initial origin (word_of s.front) s.end s.point n.point d _ _ r c.args.payload.bytes.now c.args.due time h.1 t cells c.find_point.ensures.low c.find_point.ensures.not_missing (λ lt. c.find_point.ensures.missing (omega (arith, lt, wide))) in
     (ap width_of c.find_point.ensures.window ∙ wide, with_fields width initial origin _ _ _ _ n.point _ _ _ _ (ap word_of c.find_point.ensures.front) c.find_point.ensures.window (c.find_point.ensures.end ∙ c.max-self.ensures) is all)
 
 pub returns-clause-answer : goal.returns-clause-answer

@@ -1,11 +1,12 @@
 use Rattle.std.proofs.Common.{◌≡◌, ◌+◌, ◌-◌, ◌<◌, ap, sym, ◌∙◌, [], ◌∷◌, ◌++◌, map, take, length, length-append, arith}
 use Rattle.std.specs.Prelude.{filter}
 use Rattle.std.proofs.lemmas.List.{map-append}
-use Rattle.srt_seq.specs.Window.{word_of}
+use Rattle.srt_seq.specs.Window.{word_of, number_word}
 use Rattle.srt_seq.specs.Runs.{runs, numbers_from}
 use Rattle.srt_recvbuf.specs.Cells.{cell_at, is_empty}
-use Rattle.srt_recvbuf.specs.Stands.{number_word, run_words, words_of}
-use Rattle.srt_recvbuf.proofs.Gaps.{next_run, none_left, no_more, one_more, none_more, not_false, not_true, strictly, same_pair}
+use Rattle.srt_recvbuf.specs.Stands.{run_words, words_of}
+use Rattle.std.proofs.lemmas.Bool.{not-false, not-true}
+use Rattle.srt_recvbuf.proofs.Gaps.{next_run, none_left, no_more, one_more, none_more, strictly, same_pair}
 use Rattle.srt_recvbuf.proofs.buffer.RecvBuf.runs_at.Goals as goal
 
 pub returns-then-low-self : goal.returns-then-low-self
@@ -29,7 +30,7 @@ loop-preserved c =
           let a : word_of c.add.result ≡ number_word initial (position + low) = let k = c.add.ensures.number (initial + position) (sym f) in omega (arith, k) in
           let b : word_of c.add-in-loop.result ≡ number_word initial (position + (high - 1)) = let k = c.add-in-loop.ensures.number (initial + position) (sym f) in omega (arith, k) in
           let more = ap words_of c.push.ensures.items ∙ map-append _ c.loop.runs.items ((c.add.result, c.add-in-loop.result) ∷ []) ∙ ap (λ w. words_of c.loop.runs.items ++ w ∷ []) (same_pair _ _ _ _ a b) in
-          let next = next_run test position c.loop.at low high s.end c.find-low.ensures.low up c.find-at.ensures.high (λ d lo less. t d ∙ c.find-low.ensures.before d lo less) (λ d lo less. t d ∙ not_false _ (c.find-at.ensures.before d lo less)) (λ less. t high ∙ not_true _ (c.find-at.ensures.here less)) in
+          let next = next_run test position c.loop.at low high s.end c.find-low.ensures.low up c.find-at.ensures.high (λ d lo less. t d ∙ c.find-low.ensures.before d lo less) (λ d lo less. t d ∙ not-false _ (c.find-at.ensures.before d lo less)) (λ less. t high ∙ not-true _ (c.find-at.ensures.here less)) in
           ap (λ w. w ++ map (run_words initial) (take (32 - (c.loop.counter + 1)) (runs (filter test (numbers_from (position + high) (s.end - high)))))) more
           ∙ sym (one_more (words_of c.loop.runs.items) (run_words initial) (32 - c.loop.counter) (32 - (c.loop.counter + 1)) _ _ _ (omega (arith, c.loop-test.true)) next)
           ∙ c.loop.invariant.so_far initial position test f t;

@@ -1,9 +1,9 @@
 use Rattle.std.proofs.Common.{◌≡◌, ℕ, ◌+◌, ◌-◌, ◌≤◌, ◌++◌, Bool, length, take, map}
 use Rattle.std.specs.Prelude.{filter}
-use Rattle.srt_seq.specs.Window.{word_of}
+use Rattle.srt_seq.specs.Window.{word_of, number_word}
 use Rattle.srt_seq.specs.Runs.{runs, numbers_from}
 use Rattle.srt_recvbuf.specs.Cells.{cell_at, is_empty}
-use Rattle.srt_recvbuf.specs.Stands.{number_word, run_words, words_of}
+use Rattle.srt_recvbuf.specs.Stands.{run_words, words_of}
 use Rattle.srt_recvbuf.proofs.buffer.RecvBuf.runs_at.Given as goal
 
 abbrev pub invariant-loop : goal.invariant-loop

@@ -1,7 +1,7 @@
 use Rattle.std.proofs.Common.{◌-◌, ◌||◌, sym, ap, ◌∙◌}
-use Rattle.srt_seq.specs.Runs.{numbers_from}
+use Rattle.srt_seq.specs.Runs.{numbers_from, range_from, ranges_from}
 use Rattle.srt_loss.specs.Text.{range_of}
-use Rattle.srt_sendbuf.specs.Sending.{base, front, range_from, ranges_from, asks_for_gone}
+use Rattle.srt_sendbuf.specs.Sending.{base, front, asks_for_gone}
 use Rattle.srt_sendbuf.proofs.Asks.{asks_more}
 use Rattle.srt_sendbuf.proofs.Ranges.{none_asked}
 use Rattle.srt_sendbuf.proofs.buffer.SendBuf.asks_any_gone.Goals as goal

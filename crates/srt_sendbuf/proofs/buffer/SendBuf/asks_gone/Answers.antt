@@ -1,9 +1,9 @@
 use Rattle.std.proofs.Common.{◌≡◌, ◌+◌, ◌-◌, ◌%◌, ◌^◌, sym, ap, ◌∙◌, arith}
 use Rattle.std.specs.List.{list_any}
 use Rattle.srt_seq.specs.Window.{word_of}
-use Rattle.srt_seq.specs.Runs.{is_in, numbers_from}
+use Rattle.srt_seq.specs.Runs.{is_in, numbers_from, range_from}
 use Rattle.srt_loss.specs.Text.{range_of}
-use Rattle.srt_sendbuf.specs.Sending.{range_from, front, base}
+use Rattle.srt_sendbuf.specs.Sending.{front, base}
 use Rattle.srt_sendbuf.proofs.Ranges.{asks_part, asks_none}
 use Rattle.srt_sendbuf.proofs.buffer.SendBuf.asks_gone.Goals as goal
 

@@ -1,6 +1,6 @@
 use Rattle.std.proofs.Common.{◌≡◌, ℕ, ◌-◌, ◌<◌, true, ◌||◌, Some, List, [], sym, ap, ◌∙◌, arith}
-use Rattle.srt_seq.specs.Runs.{Range, is_asked}
-use Rattle.srt_sendbuf.specs.Sending.{front, base, ranges_from, asked, asks_for_gone}
+use Rattle.srt_seq.specs.Runs.{Range, is_asked, ranges_from}
+use Rattle.srt_sendbuf.specs.Sending.{front, base, asked, asks_for_gone}
 use Rattle.srt_sendbuf.proofs.Ranges.{some_asked}
 use Rattle.srt_sendbuf.proofs.Asks.{alone}
 use Rattle.srt_sendbuf.proofs.Steps.{asked_nothing, asked_alike}

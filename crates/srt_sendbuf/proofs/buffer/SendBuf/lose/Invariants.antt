@@ -1,6 +1,6 @@
 use Rattle.std.proofs.Common.{◌≡◌, ℕ, ◌||◌, List, length}
-use Rattle.srt_seq.specs.Runs.{Range, is_asked}
-use Rattle.srt_sendbuf.specs.Sending.{Sending, asked, ranges_from}
+use Rattle.srt_seq.specs.Runs.{Range, is_asked, ranges_from}
+use Rattle.srt_sendbuf.specs.Sending.{Sending, asked}
 use Rattle.srt_sendbuf.specs.Stands.{StandsFor}
 use Rattle.srt_sendbuf.proofs.buffer.SendBuf.lose.Given as goal
 

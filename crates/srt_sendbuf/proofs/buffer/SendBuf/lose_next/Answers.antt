@@ -1,7 +1,8 @@
 use Rattle.std.proofs.Common.{◌++◌, subst}
 use Rattle.std.specs.Prelude.{map}
 use Rattle.srt_loss.specs.Text.{range_of}
-use Rattle.srt_sendbuf.specs.Sending.{ranges_from, asked}
+use Rattle.srt_seq.specs.Runs.{ranges_from}
+use Rattle.srt_sendbuf.specs.Sending.{asked}
 use Rattle.srt_sendbuf.specs.Stands.{StandsFor}
 use Rattle.srt_sendbuf.proofs.Asks.{part_taken}
 use Rattle.srt_sendbuf.proofs.buffer.SendBuf.lose_next.Goals as goal

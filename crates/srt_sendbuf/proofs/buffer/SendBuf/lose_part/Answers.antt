@@ -1,9 +1,8 @@
 use Rattle.std.proofs.Common.{◌≡◌, ◌^◌, ◌<◌, ◌||◌, Bool, true, false, ◌∷◌, ◌++◌, refl, ap, subst, ◌∙◌, arith}
 use Rattle.std.specs.Prelude.{All, map}
 use Rattle.std.proofs.lemmas.List.Elements.{All-tail}
-use Rattle.srt_seq.specs.Runs.{is_in, is_asked, span}
+use Rattle.srt_seq.specs.Runs.{is_in, is_asked, span, range_from, ranges_from}
 use Rattle.srt_loss.specs.Text.{range_of}
-use Rattle.srt_sendbuf.specs.Sending.{range_from, ranges_from}
 use Rattle.srt_sendbuf.proofs.Asks.{alone, swap, asked_both}
 use Rattle.srt_sendbuf.proofs.Steps.{asked_alike}
 use Rattle.srt_sendbuf.proofs.buffer.SendBuf.lose_part.Goals as goal

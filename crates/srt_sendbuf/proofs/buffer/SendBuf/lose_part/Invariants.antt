@@ -1,9 +1,9 @@
 use Rattle.std.proofs.Common.{◌≡◌, ℕ, ◌^◌, ◌<◌, ◌≤◌, ◌||◌, ◌++◌, true, List, length}
 use Rattle.std.specs.Prelude.{All, map}
-use Rattle.srt_seq.specs.Runs.{Range, is_asked, span}
+use Rattle.srt_seq.specs.Runs.{Range, is_asked, span, ranges_from}
 use Rattle.srt_loss.specs.Text.{range_of}
 use Rattle.srt_sendbuf.specs.Places.{lost_at}
-use Rattle.srt_sendbuf.specs.Sending.{Sending, asked, ranges_from}
+use Rattle.srt_sendbuf.specs.Sending.{Sending, asked}
 use Rattle.srt_sendbuf.specs.Stands.{StandsFor}
 use Rattle.srt_sendbuf.proofs.buffer.SendBuf.lose_part.Given as goal
 

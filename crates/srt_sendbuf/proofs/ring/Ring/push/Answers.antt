@@ -25,7 +25,7 @@ returns-clause-kept c d =
     ap (λ (b : Buffer Place). kept_in b.items texts s.order b.capacity s.first d) c.push_back.ensures.items
     ∙ ap (λ xs. kept_in xs texts s.order s.places.capacity s.first d) (all_fit s.places.items place s.places.capacity room)
     ∙ put_kept s.order s.places.capacity s.first c.text_index-index.result d s.places.items s.texts.items place c.set.new.self s.slots (omega (arith, s.texts.ok.0, s.as_many)) room s.first_in (omega (arith, c.text_index-index.ensures.inside, s.texts.ok.0)) (c.text_index-index.ensures.value ∙ ap (λ k. text_of_slot s.order (turned s.places.capacity s.first k)) c.len.ensures.len)
-    ∙ ap (λ t. if d == length_of s then kept_of (Some place) t else kept_at s d) c.set.ensures
+    ∙ ap (λ t. if d == length_of s then kept_of (Some place) t else kept_at s d) (c.set.ensures ∙ c.as_slice.ensures.value)
 
 pub returns-clause-lost : goal.returns-clause-lost
 returns-clause-lost c d =

@@ -1,8 +1,8 @@
 use Rattle.std.proofs.Common.{List, ◌∷◌, refl, subst}
 use Rattle.std.specs.Prelude.{Result}
-use Rattle.srt_seq.specs.Runs.{Range}
+use Rattle.srt_seq.specs.Runs.{Range, ranges_from}
 use Rattle.srt_loss.specs.declared.reading.LossFault.{LossFault}
-use Rattle.srt_sendbuf.specs.Sending.{asked, ranges_from, asks_for_gone}
+use Rattle.srt_sendbuf.specs.Sending.{asked, asks_for_gone}
 use Rattle.srt_sendbuf.specs.Told.{gone_by, gone as gone_words}
 use Rattle.srt_sub.specs.Heard.{asked_from}
 use Rattle.srt_sub.specs.Subscribing.{with_nak, gone}
