@@ -15,7 +15,7 @@ use Rattle.srt_packet.specs.Sent.{CanBeSent}
 use Rattle.srt_packet.specs.Reading.{packet_in}
 use Rattle.srt_packet.proofs.Sent.{sent_is_read}
 use Rattle.srt_hs.specs.Text.{answer_text}
-use Rattle.srt_recvbuf.specs.Stands.{number_word}
+use Rattle.srt_seq.specs.Window.{number_word}
 use Rattle.srt_pub.specs.Publishing as publisher
 use Rattle.srt_pub.specs.Says.{losses_said, says}
 use Rattle.srt_sub.specs.Subscribing as subscriber

@@ -21,11 +21,12 @@ use Rattle.srt_hs.specs.Grammar as greetings
 use Rattle.srt_hs.specs.Grammar.{Handshake, Blocks, HasBlock, Adds, SpellsBlocks, SpellsExtension, no_blocks, kind_of, length_of, contents_of}
 use Rattle.srt_hs.specs.Reading.{with_first, with_block, blocks_in, extension_in, handshake_in}
 use Rattle.srt_hs.specs.Text.{hsrsp_text, congestion_text, kind_text, blocks_text, answer_text}
+use Rattle.srt_hs.specs.View.{text_of, text_words}
 use Rattle.srt_hs.specs.RoundTrip.{answered_blocks}
 use Rattle.srt_hs.proofs.Steps.{read_ok}
 use Rattle.srt_hs.proofs.Spelled.{reading_is_spelling}
 use Rattle.srt_sub.specs.Says.{packet_text}
-use Rattle.srt_route.specs.Conclusions.{with_blocks, is_conclusion, conclusion_of, conclusion_read, conclusion_in, role_asked, words_of}
+use Rattle.srt_route.specs.Conclusions.{with_blocks, is_conclusion, conclusion_of, conclusion_read, conclusion_in, role_asked}
 use Rattle.srt_route.specs.Shifted.{shifted, shifted_at, shifted_handshake, renumbered}
 use Rattle.srt_route.specs.ShiftLaws.{HasFewWords, ConclusionsHaveFewWords, IsReadable, AnswersSayOthers}
 use Rattle.srt_route.proofs.ShiftedOutput.{word_shifts, renumbered_is}
@@ -59,9 +60,9 @@ answer_reads initial (Induction cookie) h = (_, read_ok (kind_text initial (Indu
 answer_reads initial (Refusal code) h = (_, read_ok (kind_text initial (Refusal code)) no_blocks (omega arith) (code_read initial code))
 answer_reads initial (Conclusion mtu window id mode recv_ms send_ms None) h =
     (_, read_ok (kind_text initial (Conclusion mtu window id mode recv_ms send_ms None) ++ hsrsp_text mode recv_ms send_ms) (answered_blocks None) (omega arith) (none_read mode recv_ms send_ms))
-answer_reads initial (Conclusion mtu window id mode recv_ms send_ms (Some ws)) h =
-    let found = few_read mode recv_ms send_ms ws.items h.0 h.1 in
-    (_, read_ok (kind_text initial (Conclusion mtu window id mode recv_ms send_ms (Some ws)) ++ (hsrsp_text mode recv_ms send_ms ++ congestion_text (Some ws.items))) found.0 (omega arith) found.1)
+answer_reads initial (Conclusion mtu window id mode recv_ms send_ms (Some text)) h =
+    let found = few_read mode recv_ms send_ms (text_words text) (omega arith) (omega (arith, h)) in
+    (_, read_ok (kind_text initial (Conclusion mtu window id mode recv_ms send_ms (Some text)) ++ (hsrsp_text mode recv_ms send_ms ++ congestion_text (Some (text_words text)))) found.0 (omega arith) found.1)
 
 -- and its initial number stands in its third word
 initial_shifts : (by initial : ℕ) (what : AnswerKind) → shifted_at by 8 (kind_text initial what ++ blocks_text what) ≡ kind_text (shifted by initial) what ++ blocks_text what
@@ -86,7 +87,7 @@ pub what_fits : (initial : ℕ) (what : AnswerKind) → IsReadable what → leng
 what_fits initial (Induction cookie) h = omega arith
 what_fits initial (Refusal code) h = omega arith
 what_fits initial (Conclusion mtu window id mode recv_ms send_ms None) h = omega arith
-what_fits initial (Conclusion mtu window id mode recv_ms send_ms (Some ws)) h = omega (arith, h.1, length_of_words ws.items)
+what_fits initial (Conclusion mtu window id mode recv_ms send_ms (Some text)) h = omega (arith, h, length_of_words (text_words text))
 
 handshake_says : (by stamp dest : ℕ) (info : List ℕ) → length info ≤ 1456 → renumbered by (packet_text 0x8000_0000 0 stamp dest info) ≡ packet_text 0x8000_0000 0 stamp dest (shifted_handshake by info)
 handshake_says by stamp dest info h =
@@ -142,9 +143,10 @@ extension_few kinds.Agreement bytes blocks s = no_few blocks s
 extension_few kinds.Done bytes blocks s = no_few blocks s
 extension_few (kinds.Refusal code) bytes blocks s = no_few blocks s
 
-words_few : (congestion : Option (List ℕ)) → AreFew congestion → HasFewWords (words_of congestion)
+words_few : (congestion : Option (List ℕ)) → AreFew congestion → HasFewWords (text_of congestion)
 words_few None h = tt
-words_few (Some ws) h = h
+words_few (Some []) h = tt
+words_few (Some (w ∷ ws)) h = omega (arith, h)
 
 blocks_have_few : (hs : Handshake) (req : Option HsReq) (role : Option Role) → AreFew hs.blocks.congestion → IfSome (with_blocks hs req role) (λ c. HasFewWords c.congestion)
 blocks_have_few hs (Some req) (Some role) h = words_few hs.blocks.congestion h

@@ -6,7 +6,7 @@ use Rattle.srt_seq.specs.Runs.{Range}
 use Rattle.srt_packet.specs.Grammar.{Data, Handshake, KeepAlive, Ack, Nak, CongestionWarning, Shutdown, AckAck, DropRequest, PeerError, UserDefined}
 use Rattle.srt_loss.specs.declared.reading.LossFault.{LossFault}
 use Rattle.srt_loss.specs.Reading.{losses_in}
-use Rattle.srt_sendbuf.specs.Sending.{range_from, ranges_from}
+use Rattle.srt_seq.specs.Runs.{range_from, ranges_from}
 use Rattle.srt_pub.specs.Heard as to_publisher
 use Rattle.srt_sub.specs.Heard as to_subscriber
 use Rattle.srt_route.specs.Shifted.{shifted, shifted_first}

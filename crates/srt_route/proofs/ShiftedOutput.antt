@@ -12,7 +12,7 @@ use Rattle.srt_packet.specs.Reading.{packet_in}
 use Rattle.srt_packet.proofs.Agreement.{packet_only}
 use Rattle.srt_seq.proofs.WordBytes.{length_of_words}
 use Rattle.srt_loss.specs.Text.{range_words}
-use Rattle.srt_recvbuf.specs.Stands.{number_word}
+use Rattle.srt_seq.specs.Window.{number_word}
 use Rattle.srt_pub.specs.Publishing as publisher
 use Rattle.srt_pub.specs.Says.{range_said, losses_said, says}
 use Rattle.srt_sub.specs.Subscribing as subscriber

@@ -1,7 +1,6 @@
 -- What a route reads of a conclusion (sections 3.2.1 and 4.3.1.2). Its cookie, the route's name, and the blocks that
 -- a caller is refused for at once are not looked at again.
 use Rattle.std.specs.Prelude.{ℕ, ◌/◌, ◌%◌, ◌^◌, Bool, true, false, Option, None, Some, option_map, List, Result, Ok, Err, nat_lt, ◌==◌, ◌&&◌, if◌then◌else◌}
-use Rattle.arrayvec.specs.ArrayVec.{ArrayVec}
 use Rattle.srt_seq.specs.declared.shared.Role.{Role}
 use Rattle.srt_hs.specs.declared.handshake.HsKind.{HsKind}
 use Rattle.srt_hs.specs.declared.handshake.HsKind.TheVariants as kinds
@@ -9,6 +8,7 @@ use Rattle.srt_hs.specs.declared.handshake.HsReq.{HsReq}
 use Rattle.srt_hs.specs.declared.handshake.HsFault.{HsFault}
 use Rattle.srt_hs.specs.Grammar.{Handshake}
 use Rattle.srt_hs.specs.Reading.{handshake_in}
+use Rattle.srt_hs.specs.View.{text_of}
 use Rattle.srt_streamid.specs.declared.reading.Ask.{Ask}
 use Rattle.srt_streamid.specs.declared.reading.AskFault.{AskFault}
 use Rattle.srt_streamid.specs.Reading.{ask_in}
@@ -17,9 +17,6 @@ use Rattle.srt_route.specs.declared.conclusions.Conclusion.{Conclusion}
 -- the flag STREAM (section 3.2.1.1.1)
 abbrev pub wants_stream : (flags : ℕ) → Bool
 wants_stream flags = flags / 2 ^ 6 % 2 == 1
-
-abbrev pub words_of : Option (List ℕ) → Option (ArrayVec ℕ)
-words_of words = option_map (λ ws. record { items = ws }) words
 
 abbrev pub with_role : Handshake → HsReq → Role → Conclusion
 with_role hs req role =
@@ -32,7 +29,7 @@ with_role hs req role =
       receiver_ms = req.receiver_ms;
       sender_ms = req.sender_ms;
       role = role;
-      congestion = words_of hs.blocks.congestion;
+      congestion = text_of hs.blocks.congestion;
     }
 
 -- what a Stream ID asks for, where it reads (appendix B)

@@ -4,12 +4,12 @@ use Rattle.srt_seq.specs.Words.{word}
 use Rattle.srt_seq.specs.Window.{counted_from}
 use Rattle.srt_seq.specs.Lift.{stamped_from}
 use Rattle.srt_seq.specs.Runs.{Range, Run}
-use Rattle.arrayvec.specs.ArrayVec.{ArrayVec}
 use Rattle.srt_packet.specs.declared.reading.PacketFault.{PacketFault}
 use Rattle.srt_packet.specs.Grammar.{Packet, Body}
 use Rattle.srt_packet.specs.Reading.{packet_in}
 use Rattle.srt_loss.specs.declared.reading.LossFault.{LossFault}
 use Rattle.srt_loss.specs.Reading.{losses_in}
+use Rattle.srt_hs.specs.declared.handshake.CongestionText.{CongestionText}
 use Rattle.srt_hs.specs.declared.handshake.HsFault.{HsFault}
 use Rattle.srt_hs.specs.declared.writing.AnswerKind.{AnswerKind}
 use Rattle.srt_hs.specs.declared.writing.AnswerKind.TheVariants as answers
@@ -113,9 +113,9 @@ IsSubscribersReport _ = ⊤
 abbrev pub SubscribersSayOthers : Type 0
 SubscribersSayOthers = (by caller initial time : ℕ) (report : subscriber.Report) → IsSubscribersReport report → renumbered by (subscriber_text.says caller initial time report) ≡ subscriber_text.says caller (shifted by initial) time report
 
--- an answer that is sent reads. Its congestion text has one to four words, as that of a conclusion
-abbrev pub HasFewWords : Option (ArrayVec ℕ) → Type 0
-HasFewWords congestion = IfSome congestion (λ words. (0 < length words.items) × (length words.items ≤ 4))
+-- an answer that is sent reads. Its congestion text has at most four words, as that of a conclusion
+abbrev pub HasFewWords : Option CongestionText → Type 0
+HasFewWords congestion = IfSome congestion (λ text. length text.others.items ≤ 3)
 
 abbrev pub ConclusionsHaveFewWords : Type 0
 ConclusionsHaveFewWords = (info : List ℕ) → IfSome (conclusion_in info) (λ c. HasFewWords c.congestion)

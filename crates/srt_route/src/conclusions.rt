@@ -1,11 +1,10 @@
 //! Conclusions (draft-sharabayko-srt-01, sections 3.2.1 and 4.3.1.2).
 
 ghost use Rattle.std.specs.Prelude.{◌≡◌, ◌^◌, ◌<◌, IfSome};
-ghost use Rattle.srt_hs.specs.View.{handshake_of};
-ghost use Rattle.srt_route.specs.Conclusions.{conclusion_in, conclusion_of, is_conclusion, role_asked, words_of};
+ghost use Rattle.srt_hs.specs.View.{handshake_of, text_of};
+ghost use Rattle.srt_route.specs.Conclusions.{conclusion_in, conclusion_of, is_conclusion, role_asked};
 
-use arrayvec::ArrayVec;
-use srt_hs::{HsKind, HsRef, congestion, read, stream_id};
+use srt_hs::{CongestionText, HsKind, HsRef, congestion, read, stream_id};
 use srt_seq::Role;
 
 /// What a route reads of a conclusion.
@@ -28,7 +27,7 @@ pub struct Conclusion {
     /// What the caller wants of the route.
     pub role: Role,
     /// The words of the CONGESTION block as they came.
-    pub congestion: Option<ArrayVec<u32, 4>>,
+    pub congestion: Option<CongestionText>,
 }
 
 fn is_conclusion(kind: HsKind) -> bool
@@ -49,8 +48,8 @@ fn role_asked(hs: &HsRef<'_>) -> Option<Role>
     }
 }
 
-fn words_of(hs: &HsRef<'_>) -> Option<ArrayVec<u32, 4>>
-    ensures { result ≡ words_of (handshake_of hs.now).blocks.congestion }
+fn text_of(hs: &HsRef<'_>) -> Option<CongestionText>
+    ensures { result ≡ text_of (handshake_of hs.now).blocks.congestion }
 {
     congestion(hs)
 }
@@ -74,7 +73,7 @@ fn conclusion_of(hs: &HsRef<'_>) -> Option<Conclusion>
         receiver_ms: req.receiver_ms,
         sender_ms: req.sender_ms,
         role,
-        congestion: words_of(hs),
+        congestion: text_of(hs),
     })
 }
 
