@@ -84,9 +84,9 @@ true_and false b h = cc
 
 -- an entry whose name has the right form and isn't taken
 pub fresh : (e : Entry) (others : List Entry) (name : List ℕ) (good taken : Bool) → name ≡ (terms_of e).name → good ≡ is_name name → good ≡ true →
-    taken ≡ list_any (λ (f : Entry). bytes_eq (terms_of f).name name) others → not taken ≡ is_fresh (terms_of e) (map terms_of others)
+    taken ≡ is_taken name (map terms_of others) → not taken ≡ is_fresh (terms_of e) (map terms_of others)
 fresh e others name good taken p q h t =
-    ap not (t ∙ any_taken name others ∙ ap (λ n. is_taken n (map terms_of others)) p) ∙
+    ap not (t ∙ ap (λ n. is_taken n (map terms_of others)) p) ∙
     true_and (is_name (terms_of e).name) _ (sym (ap is_name p) ∙ sym q ∙ h)
 
 -- entries whose numbers are within their limits

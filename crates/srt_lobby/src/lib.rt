@@ -11,6 +11,7 @@ mod opening;
 pub use classes::{Cause, Class};
 pub use lobby::classify;
 pub use names::Names;
+pub use opening::is_taken;
 
 #[cfg(test)]
 mod tests;

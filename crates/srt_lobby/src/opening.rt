@@ -5,14 +5,21 @@ ghost use Rattle.std.specs.List.{list_any, list_all};
 ghost use Rattle.std.specs.Str.{bytes_eq};
 ghost use Rattle.srt_seq.specs.Terms.{terms_of};
 ghost use Rattle.srt_seq.specs.Entries.{in_limits};
-ghost use Rattle.srt_lobby.specs.Opening.{is_fresh, are_names, are_in_limits, fault_of};
+ghost use Rattle.srt_lobby.specs.Opening.{is_taken, is_fresh, are_names, are_in_limits, fault_of};
 
 use srt_seq::{Entry, OpenFault, is_between, is_name};
 
-fn is_taken(name: &[u8], entries: &[Entry]) -> bool
+fn has_any(name: &[u8], entries: &[Entry]) -> bool
     ensures { result ≡ list_any (λ e. bytes_eq (terms_of e).name name.now) entries.now }
 {
     entries.iter().any(|e| e.name.as_bytes() == name)
+}
+
+/// Whether one of these entries has this name.
+pub fn is_taken(name: &[u8], entries: &[Entry]) -> bool
+    ensures { result ≡ is_taken name.now (map terms_of entries.now) }
+{
+    has_any(name, entries)
 }
 
 fn is_fresh(entry: &Entry, others: &[Entry]) -> bool
