@@ -1,18 +1,15 @@
 -- A text split at the first byte of some value.
-use Rattle.std.proofs.Common.{◌≡◌, ℕ, zero, suc, ◌+◌, ◌-◌, ◌<◌, Bool, true, false, eqb, List, [], ◌∷◌, length, take, drop, slice_index, None, Some, option_map, refl, sym, ap, ◌∙◌, arith}
+use Rattle.std.proofs.Common.{◌≡◌, ℕ, zero, suc, ◌+◌, ◌-◌, ◌<◌, true, false, eqb, List, [], ◌∷◌, length, take, drop, slice_index, None, Some, option_map, refl, sym, ap, ◌∙◌, arith}
+use Rattle.std.proofs.lemmas.Bool.{false_from_ne_true}
 use Rattle.std.proofs.lemmas.List.{take_rest}
 use Rattle.memchr.specs.Find.{Nowhere, Passes, is_byte}
 use Rattle.srt_gateway.specs.Address.{parted, with_front}
-
-not_true : (b : Bool) → (b ≡ true → ⊥) → b ≡ false
-not_true true h = absurd (h refl)
-not_true false h = refl
 
 later : (at b : ℕ) (bs : List ℕ) (k : ℕ) → Nowhere (Passes (is_byte at) (b ∷ bs)) 0 (suc k) → Nowhere (Passes (is_byte at) bs) 0 k
 later at b bs k h j low high p = h (suc j) (omega arith) (omega arith) p
 
 other : (at b : ℕ) (bs : List ℕ) (k : ℕ) → Nowhere (Passes (is_byte at) (b ∷ bs)) 0 (suc k) → eqb b at ≡ false
-other at b bs k h = not_true (eqb b at) (λ p. h 0 (omega arith) (omega arith) p)
+other at b bs k h = false_from_ne_true (eqb b at) (λ p. h 0 (omega arith) (omega arith) p)
 
 found_at : (at : ℕ) (text : List ℕ) (k : ℕ) → k < length text → Nowhere (Passes (is_byte at) text) 0 k → eqb (slice_index text k) at ≡ true → parted at text ≡ Some (take k text, drop (suc k) text)
 found_at at [] k within none is = absurd (omega arith)

@@ -1,18 +1,15 @@
 -- A text split at its first space.
 use Rattle.std.proofs.Common.{◌≡◌, ℕ, zero, suc, ◌+◌, ◌-◌, ◌<◌, Bool, true, false, cond, eqb, List, [], ◌∷◌, length, take, drop, slice_index, refl, sym, ap, ◌∙◌, arith}
+use Rattle.std.proofs.lemmas.Bool.{false_from_ne_true}
 use Rattle.std.proofs.lemmas.List.{take_rest}
 use Rattle.memchr.specs.Find.{Nowhere, Passes, is_byte}
 use Rattle.srt_gateway.specs.Tape.{fields_of, onto}
-
-not_true : (b : Bool) → (b ≡ true → ⊥) → b ≡ false
-not_true true h = absurd (h refl)
-not_true false h = refl
 
 later : (b : ℕ) (bs : List ℕ) (k : ℕ) → Nowhere (Passes (is_byte 32) (b ∷ bs)) 0 (suc k) → Nowhere (Passes (is_byte 32) bs) 0 k
 later b bs k h j low high p = h (suc j) (omega arith) (omega arith) p
 
 other : (b : ℕ) (bs : List ℕ) (k : ℕ) → Nowhere (Passes (is_byte 32) (b ∷ bs)) 0 (suc k) → eqb b 32 ≡ false
-other b bs k h = not_true (eqb b 32) (λ p. h 0 (omega arith) (omega arith) p)
+other b bs k h = false_from_ne_true (eqb b 32) (λ p. h 0 (omega arith) (omega arith) p)
 
 split_at : (text : List ℕ) (k : ℕ) → k < length text → Nowhere (Passes (is_byte 32) text) 0 k → eqb (slice_index text k) 32 ≡ true → fields_of text ≡ take k text ∷ fields_of (drop (suc k) text)
 split_at [] k within none is = absurd (omega arith)

@@ -15,6 +15,7 @@ pub mod Parts
 pub mod Said
 pub mod Known
 pub mod Counted
+pub mod Tries
 pub mod Step
 pub mod Sent
 pub mod KeyFaults

@@ -10,14 +10,15 @@ ghost use Rattle.srt_hub.specs.Hubs.{names};
 ghost use Rattle.srt_gateway.specs.Said.{event_said, IsSound};
 ghost use Rattle.srt_gateway.specs.Replay.{Replays, WasRefused};
 ghost use Rattle.srt_gateway.specs.Counted.{source, reads_left, last_brought, TurnRead, ReplayRead};
+ghost use Rattle.srt_gateway.specs.Tries.{sink, HasWriteCause, ReplayWritten};
 ghost use Rattle.srt_gateway.specs.Step.{WasAnswered, EventAnswered, LineAnswered, Answered, IsReplaying};
 
 use crate::config::Config;
 use crate::events::{Said, read_event};
 use crate::lines::{LINE_MAX, Taken, next_line};
-use crate::output::{flush, write_bytes};
 use crate::reader::CountedReader;
 use crate::texts::{TEXT_MAX, write_arrived, write_none, write_sent, write_ticked, write_turned};
+use crate::writer::CountedWriter;
 use srt_hub::{Gateway, Hub, Lobby, OutOfMemory, RouteStep, SrtGateway};
 use srt_seq::{OpenFault, Peer};
 use std::alloc::Global;
@@ -25,9 +26,6 @@ use std::io::{BufRead, Write};
 
 /// The most lines of a tape.
 pub(crate) const LINES_MAX: u32 = 1_000_000;
-
-/// The most tries to write one line.
-pub(crate) const TRIES_MAX: u64 = 1 << 33;
 
 /// Why a replay ended early. What was written before stands.
 #[derive(Clone, Copy, Debug, PartialEq, Eq)]
@@ -38,7 +36,7 @@ pub enum ReplayFault {
     OutOfMemory,
     /// The reader failed, or its reads are spent and brought no end and no fault.
     Read,
-    /// The writer failed, or took nothing of what was handed to it.
+    /// The writer failed, took nothing of what was handed to it, or was interrupted too often.
     Write,
 }
 
@@ -172,13 +170,14 @@ fn answer_next<R: RouteStep, L: Lobby, B: BufRead, W: Write>(
     alloc: Global,
     hub: &mut Hub<R, L>,
     reader: &mut CountedReader<B>,
-    writer: &mut W,
+    writer: &mut CountedWriter<W>,
     buffers: &mut Buffers,
     number: u32,
 ) -> Result<bool, ReplayFault>
     ensures fewer { reads_left reader.new ≤ reads_left reader.old }
     ensures reads { TurnRead number (reads_left reader.new) (last_brought reader.new) result }
-    ensures answered { (secret : List ℕ) (entries : List Terms) (past : List Event) → ⟦<Hub<R, L> as Gateway>⟧.stands hub.old secret entries past → Answered (L.class secret (names entries)) R.reply entries past (⟦<Hub<R, L> as Gateway>⟧.stands hub.new secret entries) (B.remaining (source reader.old)) (B.remaining (source reader.new)) (W.contents writer.old) (W.contents writer.new) number result }
+    ensures writes { HasWriteCause writer.new result }
+    ensures answered { (secret : List ℕ) (entries : List Terms) (past : List Event) → ⟦<Hub<R, L> as Gateway>⟧.stands hub.old secret entries past → Answered (L.class secret (names entries)) R.reply entries past (⟦<Hub<R, L> as Gateway>⟧.stands hub.new secret entries) (B.remaining (source reader.old)) (B.remaining (source reader.new)) (W.contents (sink writer.old)) (W.contents (sink writer.new)) number result }
 {
     let len = match next_line(reader, &mut buffers.line) {
         Ok(Taken::Line(len)) => len,
@@ -201,7 +200,7 @@ fn answer_next<R: RouteStep, L: Lobby, B: BufRead, W: Write>(
         Ok(None) => return Err(ReplayFault::Tape(number)),
         Err(_) => return Err(ReplayFault::OutOfMemory),
     };
-    match write_bytes(writer, &buffers.text[..end]) {
+    match writer.write_bytes(&buffers.text[..end]) {
         Ok(()) => Ok(true),
         Err(_) => Err(ReplayFault::Write),
     }
@@ -212,11 +211,12 @@ fn answer_lines<R: RouteStep, L: Lobby, B: BufRead, W: Write>(
     alloc: Global,
     hub: &mut Hub<R, L>,
     reader: &mut CountedReader<B>,
-    writer: &mut W,
+    writer: &mut CountedWriter<W>,
 ) -> Result<(), ReplayFault>
     ensures fewer { reads_left reader.new ≤ reads_left reader.old }
     ensures reads { ReplayRead (reads_left reader.new) (last_brought reader.new) result }
-    ensures replays { (secret : List ℕ) (entries : List Terms) → ⟦<Hub<R, L> as Gateway>⟧.stands hub.old secret entries [] → Replays (L.class secret (names entries)) R.reply entries (B.remaining (source reader.old)) (W.contents writer.old) (W.contents writer.new) result }
+    ensures writes { HasWriteCause writer.new result }
+    ensures replays { (secret : List ℕ) (entries : List Terms) → ⟦<Hub<R, L> as Gateway>⟧.stands hub.old secret entries [] → Replays (L.class secret (names entries)) R.reply entries (B.remaining (source reader.old)) (W.contents (sink writer.old)) (W.contents (sink writer.new)) result }
 {
     let mut buffers = Buffers {
         line: [0; LINE_MAX],
@@ -243,17 +243,18 @@ pub fn replay_over<R: RouteStep, L: Lobby, B: BufRead, W: Write>(
     alloc: Global,
     hub: &mut Hub<R, L>,
     reader: &mut CountedReader<B>,
-    writer: &mut W,
+    writer: &mut CountedWriter<W>,
 ) -> Result<(), ReplayFault>
     ensures fewer { reads_left reader.new ≤ reads_left reader.old }
     ensures reads { ReplayRead (reads_left reader.new) (last_brought reader.new) result }
-    ensures replays { (secret : List ℕ) (entries : List Terms) → ⟦<Hub<R, L> as Gateway>⟧.stands hub.old secret entries [] → Replays (L.class secret (names entries)) R.reply entries (B.remaining (source reader.old)) (W.contents writer.old) (W.contents writer.new) result }
+    ensures writes { ReplayWritten writer.new result }
+    ensures replays { (secret : List ℕ) (entries : List Terms) → ⟦<Hub<R, L> as Gateway>⟧.stands hub.old secret entries [] → Replays (L.class secret (names entries)) R.reply entries (B.remaining (source reader.old)) (W.contents (sink writer.old)) (W.contents (sink writer.new)) result }
 {
     let answered = answer_lines(alloc, hub, reader, writer);
     if answered == Err(ReplayFault::Write) {
         return answered;
     }
-    match flush(writer) {
+    match writer.flush() {
         Ok(()) => answered,
         Err(_) => Err(ReplayFault::Write),
     }
@@ -265,11 +266,12 @@ pub fn replay<B: BufRead, W: Write>(
     alloc: Global,
     config: &Config,
     reader: &mut CountedReader<B>,
-    writer: &mut W,
+    writer: &mut CountedWriter<W>,
 ) -> Result<(), ReplayFault>
     ensures fewer { reads_left reader.new ≤ reads_left reader.old }
     ensures reads { WasRefused reader.old reader.new writer.old writer.new result ⊎ ReplayRead (reads_left reader.new) (last_brought reader.new) result }
-    ensures replays { WasRefused reader.old reader.new writer.old writer.new result ⊎ Replays (class_of (secret_bytes config.now.secret) (names (map terms_of config.now.entries.items))) reply (map terms_of config.now.entries.items) (B.remaining (source reader.old)) (W.contents writer.old) (W.contents writer.new) result }
+    ensures writes { WasRefused reader.old reader.new writer.old writer.new result ⊎ ReplayWritten writer.new result }
+    ensures replays { WasRefused reader.old reader.new writer.old writer.new result ⊎ Replays (class_of (secret_bytes config.now.secret) (names (map terms_of config.now.entries.items))) reply (map terms_of config.now.entries.items) (B.remaining (source reader.old)) (W.contents (sink writer.old)) (W.contents (sink writer.new)) result }
 {
     match SrtGateway::open(alloc, config.secret, config.entries.as_slice()) {
         Ok(mut hub) => replay_over(alloc, &mut hub, reader, writer),

@@ -5,7 +5,7 @@ mod devices;
 mod ends;
 mod events;
 
-use crate::{Config, CountedReader, ReplayFault, read_config, replay};
+use crate::{Config, CountedReader, CountedWriter, ReplayFault, read_config, replay};
 use std::process::Abort;
 use std::test::Fail;
 
@@ -50,11 +50,11 @@ fn assert_replayed(
     end: Result<(), ReplayFault>,
 ) {
     let mut reader = CountedReader::new(tape);
-    let mut writer = Vec::new(rt.alloc());
+    let mut writer = CountedWriter::new(Vec::new(rt.alloc()));
     match read_config(rt.alloc(), RIGHT) {
         Ok(config) => {
             let ended = replay(rt.alloc(), &config, &mut reader, &mut writer);
-            assert_eq!(rt; writer.as_slice(), text.as_bytes());
+            assert_eq!(rt; writer.get_ref().as_slice(), text.as_bytes());
             assert_eq!(rt; ended, end);
         }
         Err(_) => assert!(rt; false, "the configuration was refused"),

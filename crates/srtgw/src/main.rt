@@ -9,7 +9,7 @@ mod words;
 use faults::Fault;
 use files::{CONFIG_MAX, TAPE_MAX, read_file};
 use serving::{print_report, serve};
-use srt_gateway::{Config, ConfigFault, CountedReader, read_config, replay};
+use srt_gateway::{Config, ConfigFault, CountedReader, CountedWriter, read_config, replay};
 use std::io::{self, BufWriter, ErrorKind};
 use std::net::Net;
 use std::process::ExitCode;
@@ -35,8 +35,9 @@ fn replay_file(
     let config = config_at(rt, config)?;
     let bytes = read_file(rt, tape, TAPE_MAX)?;
     match BufWriter::new(rt.alloc(), io::writer(rt)) {
-        Ok(mut writer) => {
+        Ok(writer) => {
             let mut reader = CountedReader::new(bytes.as_slice());
+            let mut writer = CountedWriter::new(writer);
             Ok(replay(rt.alloc(), &config, &mut reader, &mut writer)?)
         }
         Err(_) => Err(Fault::Memory),

@@ -1,18 +1,17 @@
 //! The routes of a configuration.
 
 ghost use Rattle.std.specs.Prelude.{◌≡◌, [], map, None, Ok, IfOk};
-ghost use Rattle.std.specs.List.{list_all, list_any};
-ghost use Rattle.std.specs.Str.{bytes_eq};
 ghost use Rattle.toml.specs.View.{table_view, items_view};
 ghost use Rattle.srt_seq.specs.Terms.{terms_of};
 ghost use Rattle.srt_seq.specs.Entries.{is_between};
-ghost use Rattle.srt_lobby.specs.Opening.{is_taken, fault_of};
+ghost use Rattle.srt_lobby.specs.Opening.{fault_of};
 ghost use Rattle.srt_gateway.specs.FirstFault.{seen, Gives};
 ghost use Rattle.srt_gateway.specs.Routes.{name_in, name_at, mode_in, mode_at, numbers_at, terms_with, terms_at, are_tables, count, routes_from, routes_in, routes_at};
 ghost use Rattle.srt_gateway.specs.RouteParts.{numbers_of, entries_seen};
 
 use super::faults::{ConfigFault, Key};
 use super::keys::{number_at, only_known, text_at, value_at};
+use srt_lobby::is_taken;
 use srt_seq::{Entry, Mode, is_between, is_name};
 use std::alloc::Global;
 use toml::{Table, Value};
@@ -27,18 +26,6 @@ const ROUTE_KEYS: [Key; 7] = [
     Key::Inbox,
     Key::Outbox,
 ];
-
-fn stands_in(name: &[u8], entries: &[Entry]) -> bool
-    ensures { result ≡ list_any (λ e. bytes_eq (terms_of e).name name.now) entries.now }
-{
-    entries.iter().any(|e| e.name.as_bytes() == name)
-}
-
-fn is_taken(name: &[u8], entries: &[Entry]) -> bool
-    ensures { result ≡ is_taken name.now (map terms_of entries.now) }
-{
-    stands_in(name, entries)
-}
 
 /// A name of the right form that no route before has.
 #[tactic(auto, unfolding(crate::specs::Routes::name_in))]

@@ -2,7 +2,7 @@
 
 use super::devices::{Counting, Dripping, Narrow, Repeating, Stuck};
 use super::{RIGHT, config_of};
-use crate::{Brought, CountedReader, ReplayFault, replay, replay_over};
+use crate::{Brought, CountedReader, CountedWriter, ReplayFault, Tried, replay, replay_over};
 use srt_hub::SrtGateway;
 use std::alloc::Global;
 use std::io::{BufRead, BufReader};
@@ -32,15 +32,18 @@ fn a_reader_that_fails_in_a_line(rt: HostRuntime) -> Result<(), Fail> {
         fails: true,
     };
     let mut reader = CountedReader::new(BufReader::with_capacity(rt.alloc(), 7, reader)?);
-    let mut writer = narrow(rt.alloc(), 10);
+    let mut writer = CountedWriter::new(narrow(rt.alloc(), 10));
     // It is flushed, and not asked again.
     for flushes in 1..3 {
         assert_eq!(rt;
             replay(rt.alloc(), &config, &mut reader, &mut writer),
             Err(ReplayFault::Read)
         );
-        assert_eq!(rt; writer.taken.as_slice(), b"dropped 1\n".as_slice());
-        assert_eq!(rt; writer.flushes, flushes);
+        assert_eq!(rt;
+            writer.get_ref().taken.as_slice(),
+            b"dropped 1\n".as_slice()
+        );
+        assert_eq!(rt; writer.get_ref().flushes, flushes);
         assert_eq!(rt; reader.brought(), Brought::Failure);
         assert_eq!(rt; reader.left(), (1 << 33) - 122);
     }
@@ -60,10 +63,10 @@ fn assert_within<B: BufRead + Drop>(
     let Ok(mut hub) = SrtGateway::open(rt.alloc(), config.secret, config.entries.as_slice()) else {
         return Err(Fail::from("a gateway"));
     };
-    let mut writer = Vec::new(rt.alloc());
+    let mut writer = CountedWriter::new(Vec::new(rt.alloc()));
     let mut reader = CountedReader::within(reader, reads);
     let ended = replay_over(rt.alloc(), &mut hub, &mut reader, &mut writer);
-    assert_eq!(rt; writer.as_slice(), text.as_bytes());
+    assert_eq!(rt; writer.get_ref().as_slice(), text.as_bytes());
     assert_eq!(rt; ended, end);
     assert_eq!(rt; reader.brought(), brought);
     assert_eq!(rt; reader.left(), 0);
@@ -143,18 +146,20 @@ fn the_read_that_shows_the_end(rt: HostRuntime) -> Result<(), Fail> {
 fn an_interrupted_writer_is_written_on(rt: HostRuntime) -> Result<(), Fail> {
     let config = config_of(&rt, RIGHT)?;
     let mut reader = CountedReader::new(TWO_LINES);
-    let mut writer = narrow(rt.alloc(), 20);
-    writer.interruptions = 3;
+    let mut narrow = narrow(rt.alloc(), 20);
+    narrow.interruptions = 3;
+    let mut writer = CountedWriter::new(narrow);
     assert_eq!(rt;
         replay(rt.alloc(), &config, &mut reader, &mut writer),
         Ok(())
     );
-    assert_eq!(rt; writer.interruptions, 0);
+    assert_eq!(rt; writer.get_ref().interruptions, 0);
     assert_eq!(rt;
-        writer.taken.as_slice(),
+        writer.get_ref().taken.as_slice(),
         b"dropped 1\ndropped 3\n".as_slice()
     );
-    assert_eq!(rt; writer.flushes, 1);
+    assert_eq!(rt; writer.tried(), Tried::Flushed);
+    assert_eq!(rt; writer.get_ref().flushes, 1);
     Ok(())
 }
 
@@ -186,13 +191,13 @@ fn the_longest_line_is_written_byte_by_byte(rt: HostRuntime) -> Result<(), Fail>
     tape.extend_from_slice(b"\nU 0\nT 0 1121000\nU 0\nU 0\nU 0\nU 0\nS 0\nS 0\nS 0\n")?;
     line.extend_from_slice(b"\n")?;
     let mut reader = CountedReader::new(tape.as_slice());
-    let mut writer = narrow(rt.alloc(), 10_000);
+    let mut writer = CountedWriter::new(narrow(rt.alloc(), 10_000));
     assert_eq!(rt;
         replay(rt.alloc(), &config, &mut reader, &mut writer),
         Ok(())
     );
     assert!(rt;
-        writer.taken.as_slice().ends_with(line.as_slice()),
+        writer.get_ref().taken.as_slice().ends_with(line.as_slice()),
         "the longest line"
     );
     Ok(())
@@ -202,13 +207,17 @@ fn the_longest_line_is_written_byte_by_byte(rt: HostRuntime) -> Result<(), Fail>
 fn a_writer_that_fails_in_a_line(rt: HostRuntime) -> Result<(), Fail> {
     let config = config_of(&rt, RIGHT)?;
     let mut reader = CountedReader::new(TWO_LINES);
-    let mut writer = narrow(rt.alloc(), 15);
+    let mut writer = CountedWriter::new(narrow(rt.alloc(), 15));
     assert_eq!(rt;
         replay(rt.alloc(), &config, &mut reader, &mut writer),
         Err(ReplayFault::Write)
     );
-    assert_eq!(rt; writer.taken.as_slice(), b"dropped 1\ndropp".as_slice());
-    assert_eq!(rt; writer.flushes, 0);
+    assert_eq!(rt;
+        writer.get_ref().taken.as_slice(),
+        b"dropped 1\ndropp".as_slice()
+    );
+    assert_eq!(rt; writer.tried(), Tried::NoBytes);
+    assert_eq!(rt; writer.get_ref().flushes, 0);
     Ok(())
 }
 
@@ -216,16 +225,18 @@ fn a_writer_that_fails_in_a_line(rt: HostRuntime) -> Result<(), Fail> {
 fn a_writer_whose_flush_fails(rt: HostRuntime) -> Result<(), Fail> {
     let config = config_of(&rt, RIGHT)?;
     let mut reader = CountedReader::new(TWO_LINES);
-    let mut writer = narrow(rt.alloc(), 20);
-    writer.flush_fails = true;
+    let mut narrow = narrow(rt.alloc(), 20);
+    narrow.flush_fails = true;
+    let mut writer = CountedWriter::new(narrow);
     assert_eq!(rt;
         replay(rt.alloc(), &config, &mut reader, &mut writer),
         Err(ReplayFault::Write)
     );
     assert_eq!(rt;
-        writer.taken.as_slice(),
+        writer.get_ref().taken.as_slice(),
         b"dropped 1\ndropped 3\n".as_slice()
     );
+    assert_eq!(rt; writer.tried(), Tried::Failure);
     Ok(())
 }
 
@@ -234,13 +245,16 @@ fn a_fault_flushes(rt: HostRuntime) -> Result<(), Fail> {
     let config = config_of(&rt, RIGHT)?;
     let tape: &[u8] = b"A 0 00000000000000000000ffff7f000001 5000 \nA\n";
     let mut reader = CountedReader::new(tape);
-    let mut writer = narrow(rt.alloc(), 20);
+    let mut writer = CountedWriter::new(narrow(rt.alloc(), 20));
     assert_eq!(rt;
         replay(rt.alloc(), &config, &mut reader, &mut writer),
         Err(ReplayFault::Tape(2))
     );
-    assert_eq!(rt; writer.taken.as_slice(), b"dropped 1\n".as_slice());
-    assert_eq!(rt; writer.flushes, 1);
+    assert_eq!(rt;
+        writer.get_ref().taken.as_slice(),
+        b"dropped 1\n".as_slice()
+    );
+    assert_eq!(rt; writer.get_ref().flushes, 1);
     Ok(())
 }
 
@@ -257,9 +271,9 @@ fn a_million_lines(rt: HostRuntime) -> Result<(), Fail> {
             times,
         };
         let mut reader = CountedReader::new(BufReader::new(rt.alloc(), reader)?);
-        let mut writer = Counting { bytes: 0 };
+        let mut writer = CountedWriter::new(Counting { bytes: 0 });
         assert_eq!(rt; replay(rt.alloc(), &config, &mut reader, &mut writer), end);
-        assert_eq!(rt; writer.bytes, 10_000_000);
+        assert_eq!(rt; writer.get_ref().bytes, 10_000_000);
     }
     Ok(())
 }

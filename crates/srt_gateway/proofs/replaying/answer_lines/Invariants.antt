@@ -6,6 +6,7 @@ use Rattle.srt_hub.specs.Stands.{IsLane}
 use Rattle.srt_hub.specs.Hubs.{AreLanes, IsHub, names}
 use Rattle.srt_gateway.specs.Replay.{lines_max}
 use Rattle.srt_gateway.specs.Counted.{source, reads_left}
+use Rattle.srt_gateway.specs.Tries.{sink}
 use Rattle.srt_gateway.specs.Step.{IsReplaying}
 use Rattle.srt_gateway.proofs.replaying.answer_lines.Given as goal
 
@@ -18,5 +19,5 @@ invariant-loop-before g l = record {
       IsHub (g.L.Lobby.knows l.fn.hub.lobby secret (names entries)) (AreLanes (λ lane e r m. IsLane e (λ items. g.R.RouteStep.stands lane.route e r items) (g.R.RouteStep.waiting lane.route) (map item_in lane.inbox.items) (map reply_in lane.outbox.items) lane.inbox_room lane.outbox_room m) (g.L.Lobby.class secret (names entries)) g.R.RouteStep.reply entries l.fn.hub.lanes.items []) →
       IsReplaying (g.L.Lobby.class secret (names entries)) g.R.RouteStep.reply entries
       (λ (events : List Event). IsHub (g.L.Lobby.knows l.hub.lobby secret (names entries)) (AreLanes (λ lane e r m. IsLane e (λ items. g.R.RouteStep.stands lane.route e r items) (g.R.RouteStep.waiting lane.route) (map item_in lane.inbox.items) (map reply_in lane.outbox.items) lane.inbox_room lane.outbox_room m) (g.L.Lobby.class secret (names entries)) g.R.RouteStep.reply entries l.hub.lanes.items events))
-      (g.B.Read.remaining (source l.fn.reader)) (g.W.Write.contents l.fn.writer) (g.B.Read.remaining (source l.reader)) (g.W.Write.contents l.writer) (l.before + 1);
+      (g.B.Read.remaining (source l.fn.reader)) (g.W.Write.contents (sink l.fn.writer)) (g.B.Read.remaining (source l.reader)) (g.W.Write.contents (sink l.writer)) (l.before + 1);
 }

@@ -1,6 +1,7 @@
 use Rattle.std.proofs.Common.{ℕ, List, take, length, arith, subst, refl, ◌∙◌}
 use Rattle.srt_gateway.specs.Tape.{lines_of}
 use Rattle.srt_gateway.specs.Known.{Wrote}
+use Rattle.srt_gateway.specs.Tries.{sink}
 use Rattle.srt_gateway.proofs.Numbered.{long_at, at_event}
 use Rattle.srt_gateway.proofs.replaying.answer_next.Goals as goal
 
@@ -23,7 +24,7 @@ returns-in-Ok-clause-answered g c secret entries past h =
     let p = rw c.in-Ok-Some.field-0-is at (c.in-Ok-Some.ensures.answered secret entries past h) in (
       p.0,
       record { line = line; took = took.0; event_is = at_event (length entries) c.args.number line (omega arith) ∙ p.1 },
-      subst (Wrote (g.W.Write.contents c.args.writer.now) (g.W.Write.contents c.write_bytes.new.writer)) p.2.0 c.in-Ok.ensures.ok,
+      subst (Wrote (g.W.Write.contents (sink c.args.writer.now)) (g.W.Write.contents (sink c.write_bytes.new.self))) p.2.0 c.in-Ok.ensures.ok,
       p.2.1,
     )
 
@@ -35,7 +36,7 @@ returns-in-Err-write_bytes-clause-answered g c secret entries past h =
     let w = c.in-Err-write_bytes.ensures.err in (
       p.0,
       record { line = line; took = took.0; event_is = at_event (length entries) c.args.number line (omega arith) ∙ p.1 },
-      (w.0, subst (λ (bs : List ℕ). Wrote (g.W.Write.contents c.args.writer.now) (g.W.Write.contents c.write_bytes.new.writer) (take w.0 bs)) p.2.0 w.1),
+      (w.0, subst (λ (bs : List ℕ). Wrote (g.W.Write.contents (sink c.args.writer.now)) (g.W.Write.contents (sink c.write_bytes.new.self)) (take w.0 bs)) p.2.0 w.1),
     )
 
 pub returns-in-Err-answer_line-clause-answered : goal.returns-in-Err-answer_line-clause-answered

@@ -1,0 +1,66 @@
+-- A writer that counts its tries: how many the last text or the last flush took, and what came of the last one.
+use Rattle.std.specs.Prelude.{◌≡◌, ◌≢◌, ◌⊎◌, ℕ, ◌^◌, ◌<◌, Result, Ok, Err}
+use Rattle.std.specs.IoError.{error_kind}
+use Rattle.std.specs.declared.io.Error.{Error}
+use Rattle.std.specs.declared.io.ErrorKind.TheVariants.{Interrupted}
+use Rattle.srt_gateway.specs.declared.writer.Tried.{Tried}
+use Rattle.srt_gateway.specs.declared.writer.Tried.TheVariants.{Nothing, Bytes, NoBytes, Flushed, Failure}
+use Rattle.srt_gateway.specs.declared.writer.TryNote.{TryNote}
+use Rattle.srt_gateway.specs.declared.writer.CountedWriter.{CountedWriter}
+use Rattle.srt_gateway.specs.declared.replaying.ReplayFault.{ReplayFault}
+use Rattle.srt_gateway.specs.declared.replaying.ReplayFault.TheVariants.{Tape, OutOfMemory, Read, Write}
+
+abbrev pub made_in : TryNote → ℕ
+made_in note = note.made
+
+abbrev pub last_in : TryNote → Tried
+last_in note = note.last
+
+-- the writer whose tries are counted
+abbrev pub sink : {W : Type 0} → CountedWriter W → W
+sink writer = writer.writer
+
+-- how many tries its last text or its last flush took
+abbrev pub tries_made : {W : Type 0} → CountedWriter W → ℕ
+tries_made writer = made_in writer.note
+
+-- what came of the last one
+abbrev pub last_try : {W : Type 0} → CountedWriter W → Tried
+last_try writer = last_in writer.note
+
+-- what an error says that came of a try
+abbrev pub CameOfError : Error → Tried → Type 0
+CameOfError e tried = (error_kind e ≡ Interrupted → tried ≡ Nothing) × (error_kind e ≢ Interrupted → tried ≡ Failure)
+
+-- what a write's answer says that came of it
+abbrev pub CameOfWrite : Result ℕ Error → Tried → Type 0
+CameOfWrite (Ok n) tried = (n ≡ 0 → tried ≡ NoBytes) × (0 < n → tried ≡ Bytes)
+CameOfWrite (Err e) tried = CameOfError e tried
+
+-- and a flush's
+abbrev pub CameOfFlush : Result (Unit {0}) Error → Tried → Type 0
+CameOfFlush (Ok u) tried = tried ≡ Flushed
+CameOfFlush (Err e) tried = CameOfError e tried
+
+-- at the last try the writer failed or took nothing, or 2^33 tries were made
+abbrev pub WasGivenUp : TryNote → Type 0
+WasGivenUp note = (last_in note ≡ NoBytes) ⊎ (last_in note ≡ Failure) ⊎ (made_in note ≡ 2 ^ 33)
+
+abbrev pub IsUnwritten : {W : Type 0} → CountedWriter W → Type 0
+IsUnwritten writer = WasGivenUp writer.note
+
+-- what ends as unwritten has its cause in the writer
+abbrev pub HasWriteCause : {A W : Type 0} → CountedWriter W → Result A ReplayFault → Type 0
+HasWriteCause writer (Ok x) = Unit {0}
+HasWriteCause writer (Err (Tape line)) = Unit {0}
+HasWriteCause writer (Err OutOfMemory) = Unit {0}
+HasWriteCause writer (Err Read) = Unit {0}
+HasWriteCause writer (Err Write) = IsUnwritten writer
+
+-- and what ends otherwise was handed on at last
+abbrev pub ReplayWritten : {W : Type 0} → CountedWriter W → Result (Unit {0}) ReplayFault → Type 0
+ReplayWritten writer (Ok u) = last_try writer ≡ Flushed
+ReplayWritten writer (Err (Tape line)) = last_try writer ≡ Flushed
+ReplayWritten writer (Err OutOfMemory) = last_try writer ≡ Flushed
+ReplayWritten writer (Err Read) = last_try writer ≡ Flushed
+ReplayWritten writer (Err Write) = IsUnwritten writer
