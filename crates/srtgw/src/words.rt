@@ -31,8 +31,30 @@ pub enum Task<'a> {
     },
 }
 
-fn path<'a>(alloc: Global, name: &'a str) -> Arg<'a> {
-    Arg::new(alloc, name).required(true).action(ArgAction::Set)
+/// The version, as CHANGELOG.md has it.
+const VERSION: &str = "0.3";
+
+fn path<'a>(alloc: Global, name: &'a str, help: &'a str) -> Arg<'a> {
+    Arg::new(alloc, name)
+        .required(true)
+        .action(ArgAction::Set)
+        .help(help)
+}
+
+fn config<'a>(alloc: Global) -> Arg<'a> {
+    path(
+        alloc,
+        "CONFIG",
+        "The configuration, a TOML file (examples/gateway.toml is one to start from)",
+    )
+}
+
+fn tape<'a>(alloc: Global) -> Arg<'a> {
+    path(
+        alloc,
+        "TAPE",
+        "A text of events, one a line: datagrams that arrive, ticks of the clock, turns of a route, sends",
+    )
 }
 
 fn rounds<'a>(alloc: Global) -> Arg<'a> {
@@ -42,23 +64,39 @@ fn rounds<'a>(alloc: Global) -> Arg<'a> {
         .required(true)
         .action(ArgAction::Set)
         .value_parser(ValueParser::Unsigned(0, ROUNDS_MAX))
+        .help(
+            "How many times the socket is polled before the gateway ends, at most 1000000000; an idle round takes up to 10 milliseconds",
+        )
 }
 
 /// The commands that the program knows.
 pub fn command<'a>(alloc: Global) -> Result<Command<'a>, AllocError> {
     let check = Command::new(alloc, "check")
-        .about("Says whether a configuration is right")
-        .arg(path(alloc, "CONFIG"))?;
+        .about("Prints how many routes a configuration has, or its first fault")
+        .arg(config(alloc))?;
     let replay = Command::new(alloc, "replay")
-        .about("Prints the answers to a tape of events")
-        .arg(path(alloc, "CONFIG"))?
-        .arg(path(alloc, "TAPE"))?;
+        .about(
+            "Runs the gateway's core over a tape, a text of events, and prints what comes of each event",
+        )
+        .after_help(
+            "docs/PROTOCOL.md has the form of a tape; bin/explain prints one as a person reads it.",
+        )
+        .arg(config(alloc))?
+        .arg(tape(alloc))?;
     let serve = Command::new(alloc, "serve")
-        .about("Serves callers at the configuration's address")
-        .arg(path(alloc, "CONFIG"))?
+        .about(
+            "Serves SRT callers at the configuration's UDP address, and prints a report at the end",
+        )
+        .after_help(
+            "docs/OPERATING.md says how to call it, what the report means and how to keep it running.",
+        )
+        .arg(config(alloc))?
         .arg(rounds(alloc))?;
     Command::new(alloc, "srtgw")
-        .about("A gateway for SRT live streams")
+        .about(
+            "A gateway for SRT live streams: what a publisher sends on a route goes to each of the route's subscribers",
+        )
+        .version(VERSION)
         .subcommand_required(true)
         .subcommand(check)?
         .subcommand(replay)?
