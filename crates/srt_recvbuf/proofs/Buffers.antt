@@ -1,5 +1,5 @@
 -- A window of cells and the record that it stands for.
-use Rattle.std.proofs.Common.{◌≡◌, ◌≢◌, ℕ, zero, suc, ◌+◌, ◌-◌, ◌%◌, ◌^◌, ◌<◌, ◌≤◌, ◌==◌, ℤ, pos, ◌+ℤ◌, Bool, true, false, not, ◌||◌, ◌&&◌, if◌then◌else◌, Option, None, Some, List, [], ◌∷◌, length, refl, sym, ap, subst, ◌∙◌, inl, inr, ◌⊎◌, max, min, arith}
+use Rattle.std.proofs.Common.{◌≡◌, ◌≢◌, ℕ, zero, suc, ◌+◌, ◌-◌, ◌%◌, ◌^◌, ◌<◌, ◌≤◌, ◌==◌, ℤ, pos, ◌+ℤ◌, Bool, true, false, not, ◌||◌, ◌&&◌, if◌then◌else◌, Option, None, Some, List, [], ◌∷◌, refl, sym, ap, subst, ◌∙◌, inl, inr, ◌⊎◌, max, min, arith}
 use Rattle.std.specs.Prelude.{is_some, option_map, filter_map, int_le, nat_le, nat_lt}
 use Rattle.std.specs.List.{cons_option}
 use Rattle.std.proofs.lemmas.Bool.{cases_eq, cases_lt, eq-eqb, ne_eqb}
@@ -9,8 +9,7 @@ use Rattle.std.proofs.lemmas.Grind.{common_steps}
 use Rattle.std.proofs.lemmas.List.{get_or_past}
 use Rattle.srt_seq.specs.Window.{word_of, counted_from, in_window, offset_of, number_word}
 use Rattle.srt_seq.specs.declared.numbers.Seq31.{Seq31}
-use Rattle.srt_seq.specs.Slots.{text_of_slot}
-use Rattle.srt_seq.specs.Texts.{text_at, turned}
+use Rattle.srt_ring.specs.Ring.{payload_at}
 use Rattle.srt_seq.specs.Runs.{least_from, numbers_from, Range, span}
 use Rattle.srt_recvbuf.specs.Receiving.{Arrival, Receiving, arrival_of, is_received, is_requested, is_missing, is_dropped, end_of, ack_point, with_number, put_of, moved_to, settled, waiting, first_due, next_due, requested, names}
 use Rattle.srt_recvbuf.specs.declared.buffer.Put.TheVariants.{New, Repeat}
@@ -73,7 +72,7 @@ window_ends width initial origin b r h n le =
     let d = n - r.position in
     let e : r.position + d ≡ n = omega (arith, le) in
     let past = get_or_past w.places.items d Missing (omega (arith, le, h.0)) in
-    let none = ap (λ p. is_got (cell_of p (text_at w.texts.items (text_of_slot w.order (turned (length w.places.items) w.first d))))) past in
+    let none = ap (λ p. is_got (cell_of p (payload_at w.payloads d))) past in
     ap (is_received r) (sym e) ∙ cell_received width initial origin _ _ _ _ r h.1 d ∙ none
 
 pub drops_end : (width initial origin : ℕ) (b : RecvBuf) (r : Receiving) → StandsFor width initial origin b r → NothingDroppedBeyond width r
@@ -82,7 +81,7 @@ drops_end width initial origin b r h n le =
     let d = n - r.position in
     let e : r.position + d ≡ n = omega (arith, le) in
     let past = get_or_past w.places.items d Missing (omega (arith, le, h.0)) in
-    let none = ap (λ p. is_given_up (cell_of p (text_at w.texts.items (text_of_slot w.order (turned (length w.places.items) w.first d))))) past in
+    let none = ap (λ p. is_given_up (cell_of p (payload_at w.payloads d))) past in
     ap (is_dropped width r) (sym e) ∙ cell_dropped width initial origin _ _ _ _ r h.1 d ∙ none
 
 -- the number of a window that a word stands for

@@ -1,11 +1,9 @@
 -- The places of a window, and what stands at each.
 use Rattle.std.specs.Prelude.{ℕ, ℤ, Bool, true, false, Option, None, Some, List, [], length, slice_index_or, not}
-use Rattle.srt_seq.specs.declared.texts.Text.{Text}
-use Rattle.srt_seq.specs.Texts.{text_at, turned}
 use Rattle.srt_recvbuf.specs.declared.window.Place.{Place}
 use Rattle.srt_recvbuf.specs.declared.window.Place.TheVariants.{Missing, Dropped, Received}
-use Rattle.srt_seq.specs.Slots.{text_of_slot}
-use Rattle.srt_seq.specs.declared.order.TextOrder.{TextOrder}
+use Rattle.srt_ring.specs.declared.ring.PayloadRing.{PayloadRing}
+use Rattle.srt_ring.specs.Ring.{payload_at}
 use Rattle.srt_recvbuf.specs.declared.window.Seek.{Seek}
 use Rattle.srt_recvbuf.specs.declared.window.Seek.TheVariants.{NothingThere, SomethingThere, APacket, NotGivenUp}
 use Rattle.srt_recvbuf.specs.declared.window.Window.{Window}
@@ -17,16 +15,16 @@ pub data Cell : Type 0 where
   Got : (due : ℤ) (payload : List ℕ) → Cell
 
 abbrev pub cell_of : Place → List ℕ → Cell
-cell_of Missing text = Empty
-cell_of Dropped text = GivenUp
-cell_of (Received due) text = Got due text
+cell_of Missing payload = Empty
+cell_of Dropped payload = GivenUp
+cell_of (Received due) payload = Got due payload
 
-abbrev pub cell_in : (places : List Place) (texts : List Text) (order : TextOrder) (first at : ℕ) → Cell
-cell_in places texts order first at = cell_of (slice_index_or places at Missing) (text_at texts (text_of_slot order (turned (length places) first at)))
+abbrev pub cell_in : (places : List Place) (payloads : PayloadRing) (at : ℕ) → Cell
+cell_in places payloads at = cell_of (slice_index_or places at Missing) (payload_at payloads at)
 
 -- what stands so many places from the front; nothing beyond the last place
 abbrev pub cell_at : Window → ℕ → Cell
-cell_at w at = cell_in w.places.items w.texts.items w.order w.first at
+cell_at w at = cell_in w.places.items w.payloads at
 
 abbrev pub width_of : Window → ℕ
 width_of w = length w.places.items

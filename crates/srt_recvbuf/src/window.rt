@@ -1,10 +1,11 @@
 //! A window of places in a ring, which slides by one.
 
 ghost use Rattle.std.specs.Prelude.{◌≡◌, ℕ, ◌+◌, ◌<◌, ◌≤◌, List, length, IfOk, vec_len, slice_index_or, ◌==◌, true, false, nat_le, nat_lt, ◌&&◌, if◌then◌else◌};
-ghost use Rattle.srt_seq.specs.Slots.{slots_of, text_of_slot};
+ghost use Rattle.srt_ring.specs.Ring.{width_of as width_in};
 
 use circular_buffer::HeapCircularBuffer;
-use srt_seq::{Payload, PayloadRef, Text, TextOrder};
+use srt_ring::PayloadRing;
+use srt_seq::{Payload, PayloadRef};
 use std::alloc::{AllocError, Global};
 
 /// What stands at a place.
@@ -25,28 +26,17 @@ pub enum Seek {
     NotGivenUp,
 }
 
-/// Places from the front on, and as many texts. A text stays where it is, and is set in place. A place has a
-/// slot, which stays with it, and a slot has a text. Of the texts that are free those that were used last are
-/// taken first, so that a stream that runs goes over few of them.
+/// Places from the front on, and a payload for each.
 #[derive(Drop)]
 pub struct Window {
     places: HeapCircularBuffer<Place>,
-    texts: Vec<Text>,
-    order: TextOrder,
-    /// The slot of the front's place; the others follow it, round the end.
-    first: usize,
-    /// So many of the last places have texts that were used not long ago.
-    warm: usize,
+    payloads: PayloadRing,
     ghost full: { length places.items ≡ places.capacity },
-    ghost as_many: { vec_len texts ≡ places.capacity },
-    ghost slots: { slots_of order ≡ places.capacity },
-    ghost first_in: { first < places.capacity },
-    ghost narrow: { places.capacity ≤ 8192 },
-    ghost warm_in: { warm ≤ 8192 },
+    ghost as_many: { width_in payloads ≡ places.capacity },
 }
 
 impl Window {
-    ghost use Rattle.srt_seq.specs.Texts.{text_at, turned};
+    ghost use Rattle.srt_ring.specs.Ring.{payload_at};
     ghost use Rattle.srt_recvbuf.specs.Cells.{Cell, cell_at, cell_of, due_of, given_up, is_empty, is_got, is_sought, payload_of, width_of};
     ghost use Rattle.srt_recvbuf.specs.Cells.Cell.{Empty, GivenUp, Got};
     ghost use Rattle.srt_recvbuf.specs.declared.window.Place.TheVariants.{Missing};
@@ -58,17 +48,12 @@ impl Window {
         ensures { IfOk result (λ w. (width_of w ≡ width) × ((at : ℕ) → cell_at w at ≡ Empty)) }
     {
         let mut places = HeapCircularBuffer::with_capacity(alloc, width)?;
-        let mut texts = Vec::with_capacity(alloc, width)?;
         for _ in 0..width {
             let _ = places.try_push_back(Place::Missing);
-            texts.push(Text::new())?;
         }
         Ok(Window {
             places,
-            texts,
-            order: TextOrder::open(alloc, width)?,
-            first: 0,
-            warm: 0,
+            payloads: PayloadRing::open(alloc, width)?,
         })
     }
 
@@ -91,29 +76,6 @@ impl Window {
         }
     }
 
-    /// The slot of a place.
-    fn slot(&self, at: usize) -> usize
-        requires { at < width_of self.now }
-        ensures value { result ≡ turned (width_of self.now) self.now.first at }
-        ensures inside { result < slots_of self.now.order }
-    {
-        let at = self.first + at;
-        if at < self.places.len() {
-            at
-        } else {
-            at - self.places.len()
-        }
-    }
-
-    /// Where the text of a place stands.
-    fn text_index(&self, at: usize) -> usize
-        requires { at < width_of self.now }
-        ensures value { result ≡ text_of_slot self.now.order (turned (width_of self.now) self.now.first at) }
-        ensures inside { result < vec_len self.now.texts }
-    {
-        self.order.text(self.slot(at))
-    }
-
     /// When the packet that stands at a place is due. None where there is none.
     pub fn due(&self, at: usize) -> Option<i64>
         ensures { result ≡ due_of (cell_at self.now at) }
@@ -128,39 +90,22 @@ impl Window {
     pub fn copy_to(&self, at: usize, payload: &mut Payload)
         requires { at < width_of self.now }
         ensures packet { is_got (cell_at self.now at) ≡ true → payload.new.items ≡ payload_of (cell_at self.now at) }
-        ensures text { payload.new.items ≡ text_at self.now.texts.items (text_of_slot self.now.order (turned (width_of self.now) self.now.first at)) }
+        ensures bytes { payload.new.items ≡ payload_at self.now.payloads at }
     {
-        self.texts[self.text_index(at)].copy_to(payload);
+        self.payloads.copy_to(at, payload);
     }
 
-    /// A place gets the text of the first of the warm ones, where no packet stands at either.
+    /// A place gets the payload buffer of the first of the warm ones, if no packet stands at either.
     fn warm_up(&mut self, at: usize)
         requires inside { at < width_of self.old }
         ensures width { width_of self.new ≡ width_of self.old }
         ensures cells { (d : ℕ) → cell_at self.new d ≡ cell_at self.old d }
     {
-        let width = self.places.len();
-        if 0 < self.warm && self.warm < width {
-            let other = width - self.warm;
-            self.warm -= 1;
+        if let Some(other) = self.payloads.take_warm() {
             if !self.is(at, Seek::APacket) && !self.is(other, Seek::APacket) {
-                self.exchange(at, other);
+                self.payloads.exchange(at, other);
             }
         }
-    }
-
-    /// Two places without packets exchange their texts.
-    fn exchange(&mut self, one: usize, other: usize)
-        requires one { one < width_of self.old }
-        requires other { other < width_of self.old }
-        requires one_free { is_got (cell_at self.old one) ≡ false }
-        requires other_free { is_got (cell_at self.old other) ≡ false }
-        ensures width { width_of self.new ≡ width_of self.old }
-        ensures cells { (d : ℕ) → cell_at self.new d ≡ cell_at self.old d }
-    {
-        let one = self.slot(one);
-        let other = self.slot(other);
-        self.order.swap(one, other);
     }
 
     /// A packet comes to a place.
@@ -170,8 +115,7 @@ impl Window {
         ensures cells { (d : ℕ) → cell_at self.new d ≡ (if d == at then Got due payload.entry.bytes.now else cell_at self.old d) }
     {
         self.warm_up(at);
-        let index = self.text_index(at);
-        self.texts[index].set(payload.bytes);
+        self.payloads.set(at, payload.bytes);
         self.mark(at, Place::Received { due });
     }
 
@@ -180,9 +124,7 @@ impl Window {
         requires inside { at < width_of self.old }
         ensures width { width_of self.new ≡ width_of self.old }
         ensures places { (d : ℕ) → slice_index_or self.new.places.items d Missing ≡ (if d == at then place else slice_index_or self.old.places.items d Missing) }
-        ensures texts { self.new.texts ≡ self.old.texts }
-        ensures order { self.new.order ≡ self.old.order }
-        ensures first { self.new.first ≡ self.old.first }
+        ensures payloads { self.new.payloads ≡ self.old.payloads }
     {
         if let Some(there) = self.places.get_mut(at) {
             *there = place;
@@ -200,20 +142,13 @@ impl Window {
         }
     }
 
-    /// The first place goes, and an empty one with its slot comes.
+    /// The record of the first place goes, and an empty one comes behind the last.
     fn turn(&mut self)
         ensures width { width_of self.new ≡ width_of self.old }
         ensures places { (d : ℕ) → slice_index_or self.new.places.items d Missing ≡ slice_index_or self.old.places.items (d + 1) Missing }
-        ensures texts { self.new.texts ≡ self.old.texts }
-        ensures order { self.new.order ≡ self.old.order }
-        ensures first { self.new.first ≡ (if self.old.first + 1 == width_of self.old then 0 else self.old.first + 1) }
+        ensures payloads { self.new.payloads ≡ self.old.payloads }
     {
         self.places.push_back(Place::Missing);
-        self.first = if self.first + 1 == self.places.len() {
-            0
-        } else {
-            self.first + 1
-        };
     }
 
     /// The front moves by one: the first place goes, and an empty one comes.
@@ -222,7 +157,18 @@ impl Window {
         ensures cells { (d : ℕ) → cell_at self.new d ≡ cell_at self.old (d + 1) }
     {
         self.turn();
-        self.warm = (self.warm + 1).min(self.places.len());
+        let width = self.payloads.width();
+        self.payloads.advance(width);
+    }
+
+    /// The front moves on by `count` places.
+    pub fn slide_by(&mut self, count: usize)
+        ensures width { width_of self.new ≡ width_of self.old }
+        ensures cells { (d : ℕ) → cell_at self.new d ≡ cell_at self.old (d + count) }
+    {
+        for _ in 0..count {
+            self.slide();
+        }
     }
 
     /// Empties all places.
@@ -269,16 +215,6 @@ impl Window {
             }
         }
         end
-    }
-
-    /// The front moves on by so many places.
-    pub fn slide_by(&mut self, count: usize)
-        ensures width { width_of self.new ≡ width_of self.old }
-        ensures cells { (d : ℕ) → cell_at self.new d ≡ cell_at self.old (d + count) }
-    {
-        for _ in 0..count {
-            self.slide();
-        }
     }
 
     /// The sender gives the numbers of places up; what was received stays.

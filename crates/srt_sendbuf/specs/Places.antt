@@ -1,10 +1,8 @@
 -- The places of a ring, and what stands at each.
 use Rattle.std.specs.Prelude.{ℕ, ℤ, pos, int_lt, Bool, false, Option, None, Some, List, length, slice_get}
 use Rattle.srt_seq.specs.Counts.{message_of}
-use Rattle.srt_seq.specs.declared.texts.Text.{Text}
-use Rattle.srt_seq.specs.Texts.{text_at, turned}
-use Rattle.srt_seq.specs.declared.order.TextOrder.{TextOrder}
-use Rattle.srt_seq.specs.Slots.{text_of_slot}
+use Rattle.srt_ring.specs.declared.ring.PayloadRing.{PayloadRing}
+use Rattle.srt_ring.specs.Ring.{payload_at}
 use Rattle.srt_sendbuf.specs.declared.ring.Place.{Place}
 use Rattle.srt_sendbuf.specs.Marks.{is_lost}
 use Rattle.srt_sendbuf.specs.declared.ring.Ring.{Ring}
@@ -16,15 +14,15 @@ pub record Kept : Type 0 where
   pub payload : List ℕ
 
 abbrev pub kept_of : Option Place → List ℕ → Option Kept
-kept_of None text = None
-kept_of (Some p) text = Some (record { origin = p.origin; message = message_of p.message; payload = text })
+kept_of None payload = None
+kept_of (Some p) payload = Some (record { origin = p.origin; message = message_of p.message; payload = payload })
 
-abbrev pub kept_in : (places : List Place) (texts : List Text) (order : TextOrder) (width first at : ℕ) → Option Kept
-kept_in places texts order width first at = kept_of (slice_get places at) (text_at texts (text_of_slot order (turned width first at)))
+abbrev pub kept_in : (places : List Place) (payloads : PayloadRing) (at : ℕ) → Option Kept
+kept_in places payloads at = kept_of (slice_get places at) (payload_at payloads at)
 
 -- what stands so many places from the first; nothing beyond the last
 abbrev pub kept_at : Ring → ℕ → Option Kept
-kept_at r at = kept_in r.places.items r.texts.items r.order r.places.capacity r.first at
+kept_at r at = kept_in r.places.items r.payloads at
 
 abbrev pub lost_at : Ring → ℕ → Bool
 lost_at r at = is_lost (slice_get r.places.items at)

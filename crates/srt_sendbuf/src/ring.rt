@@ -1,15 +1,16 @@
-//! Places in a ring, as many as are taken, and their texts.
+//! Places in a ring, as many as are taken, and their payloads.
 
 ghost use Rattle.std.specs.Prelude.{◌≡◌, ℕ, ◌+◌, ◌-◌, ◌<◌, ◌≤◌, ◌/◌, length, IfOk, vec_len, slice_get, nat_le, nat_lt, ◌==◌, ◌&&◌, true, false, Some, None, if◌then◌else◌};
 ghost use Rattle.srt_seq.specs.Counts.{message_of};
-ghost use Rattle.srt_seq.specs.Slots.{slots_of, text_of_slot};
-ghost use Rattle.srt_seq.specs.Texts.{turned};
+ghost use Rattle.srt_ring.specs.Buffers.{slot_of};
+ghost use Rattle.srt_ring.specs.Ring.{width_of as width_in, first_of, warm_of};
 ghost use Rattle.srt_sendbuf.specs.Hints.{hint_at};
 ghost use Rattle.srt_sendbuf.specs.Marks.{is_lost};
 
 use crate::hints::{BLOCK, Hints};
 use circular_buffer::HeapCircularBuffer;
-use srt_seq::{Msg26, Payload, Text, TextOrder};
+use srt_ring::PayloadRing;
+use srt_seq::{Msg26, Payload};
 use std::alloc::{AllocError, Global};
 
 /// What is kept of a packet beside its bytes.
@@ -30,32 +31,21 @@ pub struct Marked {
     pub end: usize,
 }
 
-/// The places of the packets that are kept, and a text for each place that there may be. A text stays
-/// where it is, and is set in place. A place has a slot, which stays with it, and a slot has a text. Of
-/// the texts that are free those that were used last are taken first, so that a stream that runs goes
-/// over few of them.
+/// The places of the packets that are kept, and a payload for each place that there may be.
 #[derive(Drop)]
 pub struct Ring {
     places: HeapCircularBuffer<Place>,
-    texts: Vec<Text>,
-    order: TextOrder,
+    payloads: PayloadRing,
     /// Which blocks of slots the search for lost ones may pass over.
     hints: Hints,
-    /// The slot of the first place; the others follow it, round the end.
-    first: usize,
-    /// So many of the last places, which are free, have texts that were used not long ago.
-    warm: usize,
     ghost fits: { length places.items ≤ places.capacity },
-    ghost as_many: { vec_len texts ≡ places.capacity },
-    ghost first_in: { first < places.capacity },
-    ghost narrow: { places.capacity ≤ 8192 },
-    ghost slots: { slots_of order ≡ places.capacity },
-    ghost warm_free: { warm + length places.items ≤ places.capacity },
-    ghost hinted: { (d : ℕ) → hint_at hints (turned places.capacity first d) ≡ false → is_lost (slice_get places.items d) ≡ false },
+    ghost as_many: { width_in payloads ≡ places.capacity },
+    ghost warm_free: { warm_of payloads + length places.items ≤ places.capacity },
+    ghost hinted: { (d : ℕ) → hint_at hints (slot_of places.capacity (first_of payloads) d) ≡ false → is_lost (slice_get places.items d) ≡ false },
 }
 
 impl Ring {
-    ghost use Rattle.srt_seq.specs.Texts.{text_at};
+    ghost use Rattle.srt_ring.specs.Ring.{payload_at};
     ghost use Rattle.srt_sendbuf.specs.Places.{kept_at, kept_of, lost_at, length_of, width_of, is_old};
 
     /// No packets. The only call that takes memory.
@@ -64,18 +54,10 @@ impl Ring {
         requires narrow { width ≤ 8192 }
         ensures { IfOk result (λ r. (width_of r ≡ width) × (length_of r ≡ 0)) }
     {
-        let places = HeapCircularBuffer::with_capacity(alloc, width)?;
-        let mut texts = Vec::with_capacity(alloc, width)?;
-        for _ in 0..width {
-            texts.push(Text::new())?;
-        }
         Ok(Ring {
-            places,
-            texts,
-            order: TextOrder::open(alloc, width)?,
+            places: HeapCircularBuffer::with_capacity(alloc, width)?,
+            payloads: PayloadRing::open(alloc, width)?,
             hints: Hints::new(),
-            first: 0,
-            warm: 0,
         })
     }
 
@@ -97,35 +79,12 @@ impl Ring {
         self.places.capacity()
     }
 
-    /// The slot of a place.
-    fn slot(&self, at: usize) -> usize
-        requires { at < width_of self.now }
-        ensures value { result ≡ turned (width_of self.now) self.now.first at }
-        ensures inside { result < width_of self.now }
-    {
-        let at = self.first + at;
-        if at < self.places.capacity() {
-            at
-        } else {
-            at - self.places.capacity()
-        }
-    }
-
-    /// Where the text of a place stands.
-    fn text_index(&self, at: usize) -> usize
-        requires { at < width_of self.now }
-        ensures value { result ≡ text_of_slot self.now.order (turned (width_of self.now) self.now.first at) }
-        ensures inside { result < vec_len self.now.texts }
-    {
-        self.order.text(self.slot(at))
-    }
-
     /// Copies the bytes of a packet out, over what the payload held.
     pub fn copy_to(&self, at: usize, payload: &mut Payload)
         requires { at < width_of self.now }
-        ensures { payload.new.items ≡ text_at self.now.texts.items (text_of_slot self.now.order (turned (width_of self.now) self.now.first at)) }
+        ensures { payload.new.items ≡ payload_at self.now.payloads at }
     {
-        self.texts[self.text_index(at)].copy_to(payload);
+        self.payloads.copy_to(at, payload);
     }
 
     /// A packet comes after the last.
@@ -140,50 +99,31 @@ impl Ring {
         self.push(origin, message, payload);
     }
 
-    /// The first free place gets the text of the first of the warm ones.
+    /// The first free place gets the payload buffer of the first of the warm ones.
     fn warm_up(&mut self)
         requires room { length_of self.old < width_of self.old }
         ensures width { width_of self.new ≡ width_of self.old }
         ensures length { length_of self.new ≡ length_of self.old }
         ensures kept { (d : ℕ) → kept_at self.new d ≡ kept_at self.old d }
         ensures lost { (d : ℕ) → lost_at self.new d ≡ lost_at self.old d }
-        ensures free { self.new.warm + length_of self.new < width_of self.new }
+        ensures free { warm_of self.new.payloads + length_of self.new < width_of self.new }
     {
-        if 0 < self.warm {
-            let other = self.places.capacity() - self.warm;
-            self.warm -= 1;
-            let taken = self.places.len();
-            self.exchange(taken, other);
+        let taken = self.places.len();
+        match self.payloads.take_warm() {
+            Some(other) => self.payloads.exchange(taken, other),
+            None => {}
         }
     }
 
-    /// Two free places exchange their texts.
-    fn exchange(&mut self, one: usize, other: usize)
-        requires one_free { length_of self.old ≤ one }
-        requires other_free { length_of self.old ≤ other }
-        requires one_inside { one < width_of self.old }
-        requires other_inside { other < width_of self.old }
-        ensures width { width_of self.new ≡ width_of self.old }
-        ensures length { length_of self.new ≡ length_of self.old }
-        ensures kept { (d : ℕ) → kept_at self.new d ≡ kept_at self.old d }
-        ensures lost { (d : ℕ) → lost_at self.new d ≡ lost_at self.old d }
-        ensures warm { self.new.warm ≡ self.old.warm }
-    {
-        let one = self.slot(one);
-        let other = self.slot(other);
-        self.order.swap(one, other);
-    }
-
-    /// A packet comes after the last, and takes the text of its place.
+    /// A packet comes after the last, and fills the payload buffer of its place.
     fn push(&mut self, origin: u64, message: Msg26, payload: &Payload)
-        requires room { self.old.warm + length_of self.old < width_of self.old }
+        requires room { warm_of self.old.payloads + length_of self.old < width_of self.old }
         ensures width { width_of self.new ≡ width_of self.old }
         ensures length { length_of self.new ≡ length_of self.old + 1 }
         ensures kept { (d : ℕ) → kept_at self.new d ≡ (if d == length_of self.old then Some (record { origin = origin; message = message_of message; payload = payload.now.items }) else kept_at self.old d) }
         ensures lost { (d : ℕ) → lost_at self.new d ≡ lost_at self.old d }
     {
-        let index = self.text_index(self.places.len());
-        self.texts[index].set(payload.as_slice());
+        self.payloads.set(self.places.len(), payload.as_slice());
         self.places.push_back(Place {
             origin,
             message,
@@ -198,22 +138,9 @@ impl Ring {
         ensures kept { (d : ℕ) → kept_at self.new d ≡ kept_at self.old (d + 1) }
         ensures lost { (d : ℕ) → lost_at self.new d ≡ lost_at self.old (d + 1) }
     {
-        let next = self.second_slot();
         let _ = self.places.pop_front();
-        self.warm = (self.warm + 1).min(self.places.capacity() - self.places.len());
-        self.first = next;
-    }
-
-    /// The slot of the second place.
-    fn second_slot(&self) -> usize
-        ensures value { result ≡ (if self.now.first + 1 == width_of self.now then 0 else self.now.first + 1) }
-        ensures inside { result < width_of self.now }
-    {
-        if self.first + 1 == self.places.capacity() {
-            0
-        } else {
-            self.first + 1
-        }
+        self.payloads
+            .advance(self.places.capacity() - self.places.len());
     }
 
     /// The first places go, so many of them.
@@ -236,7 +163,7 @@ impl Ring {
         ensures kept { (d : ℕ) → kept_at self.new d ≡ kept_at self.old d }
         ensures lost { (d : ℕ) → lost_at self.new d ≡ (if d == at then lost else lost_at self.old d) }
     {
-        let slot = self.slot(at);
+        let slot = self.payloads.slot(at);
         if lost {
             self.hints.set(slot, true);
         }
@@ -276,7 +203,7 @@ impl Ring {
         requires { at < width_of self.now }
         ensures { at < result }
     {
-        let slot = self.slot(at);
+        let slot = self.payloads.slot(at);
         let left = BLOCK - slot % BLOCK;
         at + left.min(self.places.capacity() - slot)
     }
@@ -284,28 +211,16 @@ impl Ring {
     /// Whether no place of the block of a slot is lost.
     fn is_free(&self, slot: usize) -> bool
         requires { slot < width_of self.now }
-        ensures { result ≡ true → (d : ℕ) → d < width_of self.now → turned (width_of self.now) self.now.first d / 64 ≡ slot / 64 → lost_at self.now d ≡ false }
+        ensures { result ≡ true → (d : ℕ) → d < width_of self.now → slot_of (width_of self.now) (first_of self.now.payloads) d / 64 ≡ slot / 64 → lost_at self.now d ≡ false }
     {
         let start = slot / BLOCK * BLOCK;
         let end = (start + BLOCK).min(self.places.capacity());
         for slot in start..end {
-            if self.is_lost(self.at_slot(slot)) {
+            if self.is_lost(self.payloads.place_of_slot(slot)) {
                 return false;
             }
         }
         true
-    }
-
-    /// The place of a slot.
-    fn at_slot(&self, slot: usize) -> usize
-        requires { slot < width_of self.now }
-        ensures { (d : ℕ) → d < width_of self.now → turned (width_of self.now) self.now.first d ≡ slot → d ≡ result }
-    {
-        if slot < self.first {
-            self.places.capacity() - self.first + slot
-        } else {
-            slot - self.first
-        }
     }
 
     /// A place's block loses its hint where nothing of it is lost.
@@ -316,7 +231,7 @@ impl Ring {
         ensures kept { (d : ℕ) → kept_at self.new d ≡ kept_at self.old d }
         ensures lost { (d : ℕ) → lost_at self.new d ≡ lost_at self.old d }
     {
-        let slot = self.slot(at);
+        let slot = self.payloads.slot(at);
         if self.is_free(slot) {
             self.hints.set(slot, false);
         }
@@ -326,12 +241,12 @@ impl Ring {
     fn skip(&self, at: usize, end: usize) -> usize
         requires order { at < end }
         requires inside { end ≤ width_of self.now }
-        requires off { hint_at self.now.hints (turned (width_of self.now) self.now.first at) ≡ false }
+        requires off { hint_at self.now.hints (slot_of (width_of self.now) (first_of self.now.payloads) at) ≡ false }
         ensures low { at < result }
         ensures high { result ≤ end }
-        ensures off { (d : ℕ) → at ≤ d → d < result → hint_at self.now.hints (turned (width_of self.now) self.now.first d) ≡ false }
+        ensures off { (d : ℕ) → at ≤ d → d < result → hint_at self.now.hints (slot_of (width_of self.now) (first_of self.now.payloads) d) ≡ false }
     {
-        let slot = self.slot(at);
+        let slot = self.payloads.slot(at);
         let last = (slot + (end - at)).min(self.places.capacity());
         at + (self.hints.skip(slot, last) - slot)
     }
@@ -350,7 +265,7 @@ impl Ring {
         ensures high { result ≤ end }
         ensures before { (d : ℕ) → at ≤ d → d < result → lost_at self.old d ≡ false }
     {
-        if !self.hints.get(self.slot(at)) {
+        if !self.hints.get(self.payloads.slot(at)) {
             return self.skip(at, end);
         }
         let past = self.block_end(at).min(end);

@@ -1,5 +1,4 @@
 pub mod Windows
 pub mod Ranges
 pub mod Lifts
-pub mod TextPlaces
 pub mod WordBytes

@@ -6,6 +6,4 @@ pub mod Runs
 pub mod Terms
 pub mod Items
 pub mod Entries
-pub mod Texts
-pub mod Slots
 pub mod Given

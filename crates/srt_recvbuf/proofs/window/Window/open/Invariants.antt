@@ -4,5 +4,5 @@ use Rattle.srt_recvbuf.proofs.window.Window.open.Given as goal
 
 abbrev pub invariant-loop : goal.invariant-loop
 invariant-loop l =
-    (length l.places.items ≡ l.counter) × (l.places.capacity ≡ l.width) × (l.counter ≤ l.width) × (length l.texts.items ≡ l.counter)
+    (length l.places.items ≡ l.counter) × (l.places.capacity ≡ l.width) × (l.counter ≤ l.width)
     × ((k : ℕ) → get_or l.places.items k Missing ≡ Missing)

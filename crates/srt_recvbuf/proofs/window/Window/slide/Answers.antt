@@ -1,5 +1,5 @@
-use Rattle.std.proofs.Common.{length, refl, ap, ◌∙◌, arith}
-use Rattle.srt_recvbuf.specs.Cells.{cell_in}
+use Rattle.std.proofs.Common.{◌+◌, ap, ◌∙◌, arith}
+use Rattle.srt_ring.specs.Ring.{payload_at}
 use Rattle.srt_recvbuf.proofs.Places.{moved_on}
 use Rattle.srt_recvbuf.proofs.window.Window.slide.Goals as goal
 
@@ -7,4 +7,4 @@ pub returns-clause-cells : goal.returns-clause-cells
 returns-clause-cells c d =
     let s = c.args.self.now in
     let n = c.turn.new.self in
-    ap (λ v. cell_in n.places.items v.items n.order n.first d) c.turn.ensures.texts ∙ ap (λ o. cell_in n.places.items s.texts.items o n.first d) c.turn.ensures.order ∙ moved_on s.order (length s.places.items) s.first n.first d s.places.items n.places.items s.texts.items refl c.turn.ensures.width (omega (arith, s.first_in, s.full)) c.turn.ensures.first (c.turn.ensures.places d)
+    moved_on s.places.items n.places.items s.payloads c.advance.new.self d (c.turn.ensures.places d) (λ lt. c.advance.ensures.payloads d (omega (arith, lt, n.as_many, n.full, c.turn.ensures.width)) ∙ ap (λ ring. payload_at ring (d + 1)) c.turn.ensures.payloads)

@@ -1,0 +1,16 @@
+-- Payload buffers, and the slots of a ring.
+use Rattle.std.specs.Prelude.{ℕ, zero, suc, ◌+◌, ◌-◌, List, [], ◌∷◌, take, nat_lt, if◌then◌else◌}
+use Rattle.srt_ring.specs.declared.buffers.PayloadBuffer.{PayloadBuffer}
+
+-- the bytes of a buffer
+abbrev pub bytes_of : PayloadBuffer → List ℕ
+bytes_of t = take t.len t.block.xs
+
+abbrev pub bytes_at : List PayloadBuffer → ℕ → List ℕ
+bytes_at [] at = []
+bytes_at (t ∷ ts) zero = bytes_of t
+bytes_at (t ∷ ts) (suc at) = bytes_at ts at
+
+-- the slot of the place `at` of a ring, if `first` is that of place 0: slots go round at the end
+abbrev pub slot_of : (width first at : ℕ) → ℕ
+slot_of width first at = if nat_lt (first + at) width then first + at else first + at - width

@@ -1,0 +1,20 @@
+-- The payloads of a ring, by their distance from its front.
+use Rattle.std.specs.Prelude.{ℕ, List}
+use Rattle.srt_ring.specs.Buffers.{bytes_at, slot_of}
+use Rattle.srt_ring.specs.Slots.{buffer_of_slot, slots_of}
+use Rattle.srt_ring.specs.declared.ring.PayloadRing.{PayloadRing}
+
+abbrev pub width_of : PayloadRing → ℕ
+width_of r = slots_of r.order
+
+-- the slot of the front's place
+abbrev pub first_of : PayloadRing → ℕ
+first_of r = r.first
+
+-- how many of the last places have a buffer that was used not long ago
+abbrev pub warm_of : PayloadRing → ℕ
+warm_of r = r.warm
+
+-- the payload at a distance from the front
+abbrev pub payload_at : PayloadRing → ℕ → List ℕ
+payload_at r at = bytes_at r.buffers.items (buffer_of_slot r.order (slot_of (width_of r) r.first at))

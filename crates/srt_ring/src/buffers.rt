@@ -1,0 +1,67 @@
+//! The payload of one packet, filled in place.
+
+ghost use Rattle.std.specs.Prelude.{◌≡◌, ◌≤◌, [], length, take};
+
+use srt_seq::Payload;
+
+/// The most bytes of a payload.
+const LONGEST: usize = 1456;
+
+#[derive(Drop)]
+struct Block {
+    xs: [u8; 1456],
+}
+
+impl Block {
+    fn write(&mut self, bytes: &[u8])
+        requires { length bytes.now ≤ 1456 }
+        ensures { take (length bytes.now) self.new.xs ≡ bytes.now }
+    {
+        self.xs[..bytes.len()].copy_from_slice(bytes);
+    }
+}
+
+/// The payload of one packet, 0 to 1456 bytes: an array and a length, so that it is set by one copy and nothing else.
+#[derive(Drop)]
+pub struct PayloadBuffer {
+    len: usize,
+    block: Block,
+    pub ghost fits: { len ≤ 1456 },
+}
+
+impl PayloadBuffer {
+    ghost use Rattle.srt_ring.specs.Buffers.{bytes_of};
+
+    /// An empty buffer.
+    pub fn new() -> PayloadBuffer
+        ensures { bytes_of result ≡ [] }
+    {
+        PayloadBuffer {
+            len: 0,
+            block: Block { xs: [0; LONGEST] },
+        }
+    }
+
+    /// Copies the bytes in, over what was there.
+    pub fn set(&mut self, bytes: &[u8])
+        requires { length bytes.now ≤ 1456 }
+        ensures { bytes_of self.new ≡ bytes.now }
+    {
+        self.block.write(bytes);
+        self.len = bytes.len();
+    }
+
+    /// Copies the bytes out, over what the payload held.
+    pub fn copy_to(&self, payload: &mut Payload)
+        ensures { payload.new.items ≡ bytes_of self.now }
+    {
+        if payload.len() == self.len {
+            payload
+                .as_mut_slice()
+                .copy_from_slice(&self.block.xs[..self.len]);
+            return;
+        }
+        payload.clear();
+        let _ = payload.try_extend_from_slice(&self.block.xs[..self.len]);
+    }
+}

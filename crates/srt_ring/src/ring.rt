@@ -1,0 +1,158 @@
+//! The payloads of a ring of places.
+
+ghost use Rattle.std.specs.Prelude.{◌≡◌, ℕ, ◌+◌, ◌<◌, ◌≤◌, ◌==◌, [], length, None, IfOk, IfSome, vec_len, if◌then◌else◌};
+ghost use Rattle.srt_ring.specs.Slots.{slots_of};
+
+use crate::buffers::PayloadBuffer;
+use crate::order::BufferOrder;
+use srt_seq::Payload;
+use std::alloc::{AllocError, Global};
+
+/// A payload of 0 to 1456 bytes for each of 1 to 8192 places, which lie in a ring behind a front that moves on.
+///
+/// The buffers never move. A place has a slot, which stays with it as long as the front doesn't pass it, and a slot has a
+/// buffer. Of the buffers of free places those that were used last, the warm ones, are offered first, so that a steady
+/// stream goes over few of them whatever the width.
+#[derive(Drop)]
+pub struct PayloadRing {
+    buffers: Vec<PayloadBuffer>,
+    order: BufferOrder,
+    /// The slot of the first place; the others follow it, round the end.
+    first: usize,
+    /// How many of the last places have a warm buffer.
+    warm: usize,
+    pub ghost as_many: { vec_len buffers ≡ slots_of order },
+    pub ghost first_in: { first < slots_of order },
+    pub ghost narrow: { slots_of order ≤ 8192 },
+    pub ghost warm_in: { warm ≤ slots_of order },
+}
+
+impl PayloadRing {
+    ghost use Rattle.srt_ring.specs.Buffers.{slot_of};
+    ghost use Rattle.srt_ring.specs.Ring.{width_of, first_of, warm_of, payload_at};
+
+    /// Empty payloads. The only call that takes memory.
+    pub fn open(alloc: Global, width: usize) -> Result<PayloadRing, AllocError>
+        requires some { 0 < width }
+        requires narrow { width ≤ 8192 }
+        ensures { IfOk result (λ r. (width_of r ≡ width) × (first_of r ≡ 0) × (warm_of r ≡ 0)) }
+    {
+        let mut buffers = Vec::with_capacity(alloc, width)?;
+        for _ in 0..width {
+            buffers.push(PayloadBuffer::new())?;
+        }
+        Ok(PayloadRing {
+            buffers,
+            order: BufferOrder::open(alloc, width)?,
+            first: 0,
+            warm: 0,
+        })
+    }
+
+    /// How many places there are.
+    pub fn width(&self) -> usize
+        ensures value { result ≡ width_of self.now }
+        ensures some { 0 < result }
+        ensures narrow { result ≤ 8192 }
+    {
+        self.buffers.len()
+    }
+
+    /// The slot of a place.
+    pub fn slot(&self, at: usize) -> usize
+        requires { at < width_of self.now }
+        ensures value { result ≡ slot_of (width_of self.now) (first_of self.now) at }
+        ensures inside { result < width_of self.now }
+    {
+        let at = self.first + at;
+        if at < self.buffers.len() {
+            at
+        } else {
+            at - self.buffers.len()
+        }
+    }
+
+    /// The place of a slot.
+    pub fn place_of_slot(&self, slot: usize) -> usize
+        requires { slot < width_of self.now }
+        ensures { (d : ℕ) → d < width_of self.now → slot_of (width_of self.now) (first_of self.now) d ≡ slot → d ≡ result }
+    {
+        if slot < self.first {
+            slot + self.buffers.len() - self.first
+        } else {
+            slot - self.first
+        }
+    }
+
+    /// Copies the payload of a place out, over what `payload` held.
+    pub fn copy_to(&self, at: usize, payload: &mut Payload)
+        requires { at < width_of self.now }
+        ensures { payload.new.items ≡ payload_at self.now at }
+    {
+        let index = self.order.buffer(self.slot(at));
+        self.buffers[index].copy_to(payload);
+    }
+
+    /// Copies bytes to a place, over its payload. One copy.
+    pub fn set(&mut self, at: usize, bytes: &[u8])
+        requires inside { at < width_of self.old }
+        requires fits { length bytes.now ≤ 1456 }
+        ensures width { width_of self.new ≡ width_of self.old }
+        ensures first { first_of self.new ≡ first_of self.old }
+        ensures warm { warm_of self.new ≡ warm_of self.old }
+        ensures here { payload_at self.new at ≡ bytes.now }
+        ensures others { (d : ℕ) → d < width_of self.old → (d ≡ at → ⊥) → payload_at self.new d ≡ payload_at self.old d }
+    {
+        let index = self.order.buffer(self.slot(at));
+        self.buffers[index].set(bytes);
+    }
+
+    /// The first of the last places that have a warm buffer, which then doesn't count as one. None if there is none.
+    pub fn take_warm(&mut self) -> Option<usize>
+        ensures some { IfSome result (λ at. (at + warm_of self.old ≡ width_of self.old) × (warm_of self.old ≡ warm_of self.new + 1)) }
+        ensures none { result ≡ None → (warm_of self.old ≡ 0) × (self.new ≡ self.old) }
+        ensures width { width_of self.new ≡ width_of self.old }
+        ensures first { first_of self.new ≡ first_of self.old }
+        ensures payloads { (d : ℕ) → payload_at self.new d ≡ payload_at self.old d }
+    {
+        if self.warm == 0 {
+            return None;
+        }
+        let at = self.buffers.len() - self.warm;
+        self.warm -= 1;
+        Some(at)
+    }
+
+    /// Two places exchange their payloads. No byte moves.
+    pub fn exchange(&mut self, one: usize, other: usize)
+        requires one { one < width_of self.old }
+        requires other { other < width_of self.old }
+        ensures width { width_of self.new ≡ width_of self.old }
+        ensures first { first_of self.new ≡ first_of self.old }
+        ensures warm { warm_of self.new ≡ warm_of self.old }
+        ensures one { payload_at self.new one ≡ payload_at self.old other }
+        ensures other { payload_at self.new other ≡ payload_at self.old one }
+        ensures others { (d : ℕ) → d < width_of self.old → (d ≡ one → ⊥) → (d ≡ other → ⊥) → payload_at self.new d ≡ payload_at self.old d }
+    {
+        let one = self.slot(one);
+        let other = self.slot(other);
+        self.order.swap(one, other);
+    }
+
+    /// The front moves on by one place, whose slot and buffer are the last place's then. That buffer is warm; of the warm
+    /// ones as many count as there are free places.
+    pub fn advance(&mut self, free: usize)
+        requires { free ≤ width_of self.old }
+        ensures width { width_of self.new ≡ width_of self.old }
+        ensures first { first_of self.new ≡ (if first_of self.old + 1 == width_of self.old then 0 else first_of self.old + 1) }
+        ensures warm { warm_of self.new ≤ free }
+        ensures payloads { (d : ℕ) → d + 1 < width_of self.old → payload_at self.new d ≡ payload_at self.old (d + 1) }
+    {
+        self.warm = (self.warm + 1).min(free);
+        self.first = if self.first + 1 == self.buffers.len() {
+            0
+        } else {
+            self.first + 1
+        };
+    }
+}
