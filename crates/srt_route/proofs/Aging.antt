@@ -7,12 +7,12 @@ use Rattle.srt_pub.specs.Stands as publisher
 use Rattle.srt_pub.specs.declared.session.Publisher.{Publisher}
 use Rattle.srt_sub.specs.Stands as subscriber
 use Rattle.srt_sub.specs.declared.session.Subscriber.{Subscriber}
-use Rattle.srt_route.specs.declared.slots.Session.{Session as TheSession}
-use Rattle.srt_route.specs.declared.slots.Slot.{Slot}
-use Rattle.srt_route.specs.declared.state.Media.{Media}
-use Rattle.srt_route.specs.declared.state.Table.{Table}
+use Rattle.srt_route.specs.declared.slot.Session.{Session as TheSession}
+use Rattle.srt_route.specs.declared.slot.Slot.{Slot}
+use Rattle.srt_route.specs.declared.media.Media.{Media}
+use Rattle.srt_route.specs.declared.table.Table.{Table}
 use Rattle.srt_route.specs.Sessions.{Session, is_open_in, is_idle, publishes, time_in, aged, aged_at}
-use Rattle.srt_route.specs.Tables.{IsSession, IsStored, IsSlot, AreStored, is_stale, stored_aged, is_kept_subscriber, session_passes}
+use Rattle.srt_route.specs.Tables.{IsSession, IsStored, IsSlot, AreStored, peer_idle, stored_aged, is_kept_subscriber, session_passes}
 use Rattle.srt_route.specs.Media.{IsSeated, IsBody, ExpiresTo}
 use Rattle.srt_route.proofs.Found.{found_passes, open_parts, Keeps, alone_kept, changed, while_open}
 use Rattle.srt_route.proofs.Stored.{slot_changes}
@@ -46,7 +46,7 @@ ages e clock = record { slot = λ s. slot_of s (s.is_open && not (is_idle s cloc
     opens_of s false h = absurd (let bad : false ≡ true = h in cc)
 
 -- an idle session is a stale one of its slot
-stale_is : (e : Terms) (index clock : ℕ) (t : TheSession) (s : Session) → IsSession e index t s → is_idle s clock ≡ is_stale clock t
+stale_is : (e : Terms) (index clock : ℕ) (t : TheSession) (s : Session) → IsSession e index t s → is_idle s clock ≡ peer_idle clock t
 stale_is e index clock t s is = rw (is.heard_is) refl
 
 -- what is left of a stored session
@@ -54,17 +54,17 @@ aged_stored : (e : Terms) (index clock : ℕ) (o : Option TheSession) (g : Optio
 aged_stored e index clock None None opens is = tt
 aged_stored e index clock None (Some s) opens is = absurd is
 aged_stored e index clock (Some t) None opens is = absurd is
-aged_stored e index clock (Some t) (Some s) opens is = by (is_stale clock t) (is_idle s clock) (stale_is e index clock t s is)
+aged_stored e index clock (Some t) (Some s) opens is = by (peer_idle clock t) (is_idle s clock) (stale_is e index clock t s is)
   where
     o : s.is_open ≡ true
     o = opens s refl
 
     lives : IsStored e index (Some t) (while_open (aged_at e true (time_in s clock) s))
-    lives = rw (o) (record { peer_is = is.peer_is; caller_is = is.caller_is; id_is = is.id_is; role_is = is.role_is; stamp_is = is.stamp_is; opening_is = is.opening_is; heard_is = is.heard_is; answer_is = is.answer_is })
+    lives = rw (o) (record { peer_is = is.peer_is; caller_is = is.caller_is; id_is = is.id_is; role_is = is.role_is; heard_is = is.heard_is; answer_is = is.answer_is })
 
     by : (stale idle : Bool) → idle ≡ stale → IsStored e index (cond stale None (Some t)) (while_open (aged_at e (s.is_open && not idle) (time_in s clock) s))
     by true idle same = rw (same, o) tt
-    by false idle same = rw (same, o) (record { peer_is = is.peer_is; caller_is = is.caller_is; id_is = is.id_is; role_is = is.role_is; stamp_is = is.stamp_is; opening_is = is.opening_is; heard_is = is.heard_is; answer_is = is.answer_is })
+    by false idle same = rw (same, o) (record { peer_is = is.peer_is; caller_is = is.caller_is; id_is = is.id_is; role_is = is.role_is; heard_is = is.heard_is; answer_is = is.answer_is })
 
 -- each slot is as time left it
 abbrev pub AreAged : (clock : ℕ) (slots new : List Slot) → Type 0
@@ -91,7 +91,7 @@ pub kept_is : (e : Terms) (index clock : ℕ) (o : Option TheSession) (s : Sessi
 kept_is e index clock None s o is h role = absurd is
 kept_is e index clock (Some t) s o is h role = by (is_idle s clock) (stale_is e index clock t s is) h
   where
-    by : (idle : Bool) → idle ≡ is_stale clock t → (aged_at e (s.is_open && not idle) (time_in s clock) s).is_open ≡ true → (not (is_stale clock t) && not (publishes t.role)) ≡ true
+    by : (idle : Bool) → idle ≡ peer_idle clock t → (aged_at e (s.is_open && not idle) (time_in s clock) s).is_open ≡ true → (not (peer_idle clock t) && not (publishes t.role)) ≡ true
     by true same k = absurd (let closed : (aged_at e (s.is_open && not true) (time_in s clock) s).is_open ≡ false = rw (o) refl in cc)
     by false same k = rw (← same, is.role_is, role) refl
 
@@ -179,7 +179,7 @@ body_aged e index before clock places table new media after ss is later early pl
         kept_wide k x below expires None g there stored kept = absurd (let bad : false ≡ true = kept in cc)
         kept_wide k x below expires (Some t) None there stored kept = absurd stored
         kept_wide k x below expires (Some t) (Some s) there stored kept =
-            let role : publishes t.role ≡ false = not_true (publishes t.role) (and_parts (not (is_stale clock t)) (not (publishes t.role)) kept).1 in
+            let role : publishes t.role ≡ false = not_true (publishes t.role) (and_parts (not (peer_idle clock t)) (not (publishes t.role)) kept).1 in
             expired_wide e before clock media.publisher (get_or media.subscribers.items k x) (get_or after.subscribers.items k x) s later expires (ap publishes (sym stored.role_is) ∙ role) (is.media_is.seated k x s below there)
 
     seated : (k : ℕ) (x : Subscriber) (s : Session) → k < e.sessions → find (is_open_in k) ss ≡ Some s → (aged e clock s).is_open ≡ true → IsSeated e clock after.publisher (get_or after.subscribers.items k x) (aged e clock s)

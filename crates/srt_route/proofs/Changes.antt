@@ -2,8 +2,8 @@
 use Rattle.std.proofs.Common.{◌≡◌, ℕ, Bool, true, false, cond, Option, None, Some, List, map, find, refl, sym, ap, ◌∙◌}
 use Rattle.std.specs.Option.{option_map}
 use Rattle.srt_seq.specs.Terms.{Terms}
-use Rattle.srt_route.specs.declared.slots.Session.{Session as TheSession}
-use Rattle.srt_route.specs.declared.state.Table.{Table}
+use Rattle.srt_route.specs.declared.slot.Session.{Session as TheSession}
+use Rattle.srt_route.specs.declared.table.Table.{Table}
 use Rattle.srt_route.specs.Past.{Past}
 use Rattle.srt_route.specs.Sessions.{Session, is_open_in, is_publisher}
 use Rattle.srt_route.specs.Tables.{IsSession, IsStored, IsTable}
@@ -69,8 +69,6 @@ session_either e index t true p s is =
       caller_is = is.caller_is;
       id_is = is.id_is;
       role_is = is.role_is;
-      stamp_is = is.stamp_is;
-      opening_is = is.opening_is;
       heard_is = is.heard_is;
       answer_is = is.answer_is;
     }

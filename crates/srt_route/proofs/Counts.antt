@@ -16,7 +16,7 @@ use Rattle.srt_sendbuf.specs.Sending.{Queued, lost, next, front}
 use Rattle.srt_pub.specs.Publishing as publisher
 use Rattle.srt_sub.specs.Subscribing as subscriber
 use Rattle.srt_sub.specs.Heard as to_subscriber
-use Rattle.srt_route.specs.declared.conclusions.Conclusion.{Conclusion}
+use Rattle.srt_route.specs.declared.conclusion.Conclusion.{Conclusion}
 use Rattle.srt_route.specs.Past.{Past, Publishes, Subscribes, Agreed, ToPublisher, ToSubscriber, reports_of, answers_to}
 use Rattle.srt_route.specs.Sessions.{Session, free_slot, is_publisher, is_subscriber, is_open_in, by_slot, time_in, terms_of, aged, publishes}
 use Rattle.srt_route.specs.Route.{Taken, Reply, sent, refused, opens, considered, concluded, is_of, is_for, concludes, without_destination, arrived, answered_by, said_by, packet_taken, read_taken, taken, after, clock_after, taken_by, passed_by, replies_to, packets_at, packets_where, RepliesHavePlaces}

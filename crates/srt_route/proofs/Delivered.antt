@@ -18,10 +18,10 @@ use Rattle.srt_pub.specs.Laws.{DeliversOneByOne}
 use Rattle.srt_pub.proofs.Calling.{delivers}
 use Rattle.srt_pub.proofs.Windows.{beyond}
 use Rattle.srt_sub.specs.declared.session.Subscriber.{Subscriber}
-use Rattle.srt_route.specs.declared.slots.Session.{Session as TheSession}
-use Rattle.srt_route.specs.declared.slots.Slot.{Slot}
-use Rattle.srt_route.specs.declared.state.Media.{Media}
-use Rattle.srt_route.specs.declared.state.Table.{Table}
+use Rattle.srt_route.specs.declared.slot.Session.{Session as TheSession}
+use Rattle.srt_route.specs.declared.slot.Slot.{Slot}
+use Rattle.srt_route.specs.declared.media.Media.{Media}
+use Rattle.srt_route.specs.declared.table.Table.{Table}
 use Rattle.srt_route.specs.Past.{Past, Publishes, Subscribes, payload_of, passed_past, payloads_of}
 use Rattle.srt_route.specs.Sessions.{Session, is_open_in, is_publisher, by_slot, publishes, terms_of, time_in}
 use Rattle.srt_route.specs.Route.{least_room, delivery, delivery_of, delivered}

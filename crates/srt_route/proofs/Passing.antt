@@ -16,8 +16,8 @@ use Rattle.srt_pub.specs.Stands as publishers
 use Rattle.srt_pub.specs.declared.session.Publisher.{Publisher}
 use Rattle.srt_sub.specs.Subscribing as subscribing
 use Rattle.srt_sub.specs.declared.session.Subscriber.{Subscriber}
-use Rattle.srt_route.specs.declared.state.Media.{Media}
-use Rattle.srt_route.specs.declared.state.Table.{Table}
+use Rattle.srt_route.specs.declared.media.Media.{Media}
+use Rattle.srt_route.specs.declared.table.Table.{Table}
 use Rattle.srt_route.specs.Past.{Past, Publishes, Subscribes, Agreed}
 use Rattle.srt_route.specs.Sessions.{Session, is_open_in, is_publisher, publishes, terms_of, time_in}
 use Rattle.srt_route.specs.Tables.{AreAlone}

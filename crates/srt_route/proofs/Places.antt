@@ -9,9 +9,9 @@ use Rattle.srt_pub.specs.declared.session.Publisher.{Publisher}
 use Rattle.srt_pub.specs.Stands as publishers
 use Rattle.srt_sub.specs.Stands as subscribers
 use Rattle.srt_sub.specs.declared.session.Subscriber.{Subscriber}
-use Rattle.srt_route.specs.declared.slots.Slot.{Slot}
-use Rattle.srt_route.specs.declared.state.Media.{Media}
-use Rattle.srt_route.specs.declared.state.Table.{Table}
+use Rattle.srt_route.specs.declared.slot.Slot.{Slot}
+use Rattle.srt_route.specs.declared.media.Media.{Media}
+use Rattle.srt_route.specs.declared.table.Table.{Table}
 use Rattle.srt_route.specs.Past.{Past}
 use Rattle.srt_route.specs.Sessions.{Session, is_open_in}
 use Rattle.srt_route.specs.Tables.{IsStored, IsTable}

@@ -17,7 +17,7 @@ use Rattle.srt_pub.specs.Heard as to_publisher
 use Rattle.srt_pub.specs.Publishing as publisher
 use Rattle.srt_sub.specs.Heard as to_subscriber
 use Rattle.srt_sub.specs.Subscribing as subscriber
-use Rattle.srt_route.specs.declared.conclusions.Conclusion.{Conclusion}
+use Rattle.srt_route.specs.declared.conclusion.Conclusion.{Conclusion}
 use Rattle.srt_route.specs.Past.{Past, Publishes, Subscribes, Agreed, Report, ToSubscriber, took_past, is_shutdown, ends_with, answers_to, least_with, payloads_of}
 use Rattle.srt_route.specs.Sessions.{Session, is_publisher, is_subscriber, is_open_in, by_slot, is_free, free_slot, generation_of, time_in, stamp_in, is_idle, aged_at, aged, terms_of, took_at, took, answered_at_once, passed_at, passed, reports_at, reported_at, reported}
 use Rattle.srt_route.specs.Route.{Route, Taken, Output, Answers, Says, Reply, clock_after, session_opened, with_session, opens, considered, refused, is_of, heard_if, concluded, is_for, took_if, said_by, answered_by, arrived, concludes, without_destination, packet_taken, read_taken, taken, least_room, delivery_of, delivery, delivered, packets_at, packets_where, taken_by, passed_by, replies_to, told_more, after}

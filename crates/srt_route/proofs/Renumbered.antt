@@ -7,7 +7,7 @@ use Rattle.srt_seq.specs.Items.{Datagram, Item, Received, Tick}
 use Rattle.srt_packet.specs.declared.reading.PacketFault.{PacketFault}
 use Rattle.srt_packet.specs.Grammar.{Packet, Body, Data, Handshake, KeepAlive, Ack, Nak, CongestionWarning, Shutdown, AckAck, DropRequest, PeerError, UserDefined}
 use Rattle.srt_packet.specs.Reading.{packet_in}
-use Rattle.srt_route.specs.declared.conclusions.Conclusion.{Conclusion}
+use Rattle.srt_route.specs.declared.conclusion.Conclusion.{Conclusion}
 use Rattle.srt_route.specs.Past.{is_shutdown, ToPublisher, ToSubscriber}
 use Rattle.srt_route.specs.Route.{Output, Answers, Says, Reply, output_text, sent, concludes, after, replies_to, reply, solo}
 use Rattle.srt_route.specs.Shifted.{shifted, shifted_body, shifted_reading, renumbered, renumbered_datagram, renumbered_item, restamped_datagram, restamped_item, moved_item}

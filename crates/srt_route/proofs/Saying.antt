@@ -28,10 +28,10 @@ use Rattle.srt_sub.specs.Emission.{Emitting, IsNext}
 use Rattle.srt_sub.proofs.Sound.{begins}
 use Rattle.srt_sub.specs.declared.session.Subscriber.{Subscriber}
 use Rattle.srt_route.specs.declared.replies.Reply.{Reply}
-use Rattle.srt_route.specs.declared.slots.Session.{Session as TheSession}
-use Rattle.srt_route.specs.declared.slots.Slot.{Slot}
-use Rattle.srt_route.specs.declared.state.Media.{Media}
-use Rattle.srt_route.specs.declared.state.Table.{Table}
+use Rattle.srt_route.specs.declared.slot.Session.{Session as TheSession}
+use Rattle.srt_route.specs.declared.slot.Slot.{Slot}
+use Rattle.srt_route.specs.declared.media.Media.{Media}
+use Rattle.srt_route.specs.declared.table.Table.{Table}
 use Rattle.srt_route.specs.Written.{written}
 use Rattle.srt_route.specs.Past.{Past, Publishes, Subscribes, Agreed, ToPublisher, ToSubscriber, reports_of, reported_past}
 use Rattle.srt_route.specs.Sessions.{Session, is_open_in, is_publisher, is_subscriber, publishes, terms_of, time_in, reported}

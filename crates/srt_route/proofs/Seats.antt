@@ -11,7 +11,7 @@ use Rattle.srt_sub.specs.Heard.{Heard, Ack, Nak, Other}
 use Rattle.srt_sub.specs.Stands as subscriber
 use Rattle.srt_sub.specs.Subscribing as subscribing
 use Rattle.srt_sub.specs.declared.session.Subscriber.{Subscriber}
-use Rattle.srt_route.specs.declared.state.Media.{Media}
+use Rattle.srt_route.specs.declared.media.Media.{Media}
 use Rattle.srt_route.specs.Past.{Past, Publishes, Subscribes, expired_past}
 use Rattle.srt_route.specs.Sessions.{Session, is_open_in, is_publisher, publishes, terms_of, time_in, aged, aged_at, is_idle}
 use Rattle.srt_route.specs.Tables.{AreAlone}

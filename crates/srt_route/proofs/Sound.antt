@@ -24,7 +24,7 @@ use Rattle.srt_pub.specs.Heard as to_publisher
 use Rattle.srt_pub.specs.Publishing as publisher
 use Rattle.srt_sub.specs.Heard as to_subscriber
 use Rattle.srt_sub.specs.Subscribing as subscriber
-use Rattle.srt_route.specs.declared.conclusions.Conclusion.{Conclusion}
+use Rattle.srt_route.specs.declared.conclusion.Conclusion.{Conclusion}
 use Rattle.srt_route.specs.Past.{Past, Publishes, Subscribes, Agreed, Report, ToPublisher, ToSubscriber, past_of, expired_past, took_past, answers_to, payload_of, payloads_of, passed_past, reports_of, reported_past}
 use Rattle.srt_route.specs.Sessions.{Session, is_publisher, is_subscriber, is_open_in, by_slot, free_slot, time_in, stamp_in, is_idle, terms_of, aged_at, aged, passed_at, passed, reported_at, reported}
 use Rattle.srt_route.specs.Route.{Output, Answers, Says, Reply, Taken, refused, is_of, heard_if, opens, considered, concluded, is_for, took_if, said_by, answered_by, arrived, concludes, without_destination, packet_taken, read_taken, taken, least_room, delivery_of, delivery, delivered, packets_at, packets_where, clock_after, taken_by, passed_by, replies_to, after}

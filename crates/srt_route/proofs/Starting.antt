@@ -1,5 +1,5 @@
 -- The buffers of a session that opens.
-use Rattle.std.proofs.Common.{◌≡◌, ◌⊎◌, ℕ, ◌-◌, ◌*◌, min, ◌<◌, ◌≤◌, Bool, true, false, cond, None, Some, List, [], ◌∷◌, ◌++◌, length, find, get_or, set, refl, sym, ap, subst, ◌∙◌, ◌≢◌, inl, inr, arith}
+use Rattle.std.proofs.Common.{◌≡◌, ◌⊎◌, ℕ, ◌-◌, ◌*◌, ◌<◌, ◌≤◌, Bool, true, false, cond, None, Some, List, [], ◌∷◌, ◌++◌, length, find, get_or, set, refl, sym, ap, subst, ◌∙◌, ◌≢◌, inl, inr, arith}
 use Rattle.std.specs.List.{list_any}
 use Rattle.std.proofs.lemmas.Bool.{cases_Bool, cases_eq, cases_lt}
 use Rattle.std.proofs.lemmas.Bool.Decides.{nat_tests}
@@ -15,12 +15,14 @@ use Rattle.srt_pub.specs.declared.session.Publisher.{Publisher}
 use Rattle.srt_sub.specs.Stands as subscriber
 use Rattle.srt_sub.specs.Subscribing as subscribing
 use Rattle.srt_sub.specs.declared.session.Subscriber.{Subscriber}
-use Rattle.srt_route.specs.declared.conclusions.Conclusion.{Conclusion}
-use Rattle.srt_route.specs.declared.state.Media.{Media}
+use Rattle.srt_route.specs.declared.admission.Agreement.{Agreement}
+use Rattle.srt_route.specs.declared.conclusion.Conclusion.{Conclusion}
+use Rattle.srt_route.specs.declared.media.Media.{Media}
 use Rattle.srt_route.specs.Past.{past_of}
-use Rattle.srt_route.specs.Sessions.{Session, is_open_in, is_publisher, publishes, agreed_ms, sender_ms, agreed_mtu, agreed_terms}
+use Rattle.srt_route.specs.Sessions.{Session, is_open_in, is_publisher, publishes, agreed_terms}
 use Rattle.srt_seq.specs.Entries.{in_limits}
 use Rattle.srt_route.specs.Route.{session_opened}
+use Rattle.srt_route.specs.Admission.{agreement_of}
 use Rattle.srt_route.specs.Media.{IsPast, IsSeated, AreSeated, PublishesAlone, IsMedia}
 use Rattle.srt_route.proofs.Found.{found_passes, open_parts}
 use Rattle.srt_route.proofs.Stored.{any_from}
@@ -114,15 +116,26 @@ subscriber_starts e clock old new peer stamp c at generation initial y ss is rol
 abbrev pub made : Mode → (width delay mtu window : ℕ) → subscribing.Terms
 made mode width delay mtu window = record { mode = mode; width = width; delay = delay; mtu = mtu; window = window }
 
-same_made : (m n : Mode) (width d f t u window : ℕ) → m ≡ n → d ≡ f → t ≡ u → made m width d t window ≡ made n width f u window
-same_made m n width d f t u window a b g = rw (a, b, g) refl
-
-pub subscriber_terms : (e : Terms) (c : Conclusion) (mode : Mode) (latency ms delay mtu : ℕ) → mode ≡ e.mode → latency ≡ e.latency_ms → ms ≡ agreed_ms mode latency c.receiver_ms → delay ≡ ms * 1000 → mtu ≡ min c.mtu 1500 → made mode e.buffer delay mtu c.window ≡ (agreed_terms e c).subscriber
-subscriber_terms e c mode latency ms delay mtu same_mode same_latency ms_is delay_is mtu_is =
-    same_made mode e.mode e.buffer delay (1000 * sender_ms e c) mtu (agreed_mtu c) c.window same_mode (omega (arith, delay_is, ours)) (omega (arith, mtu_is))
+pub subscriber_terms : (e : Terms) (c : Conclusion) (a : Agreement) (delay : ℕ) → a ≡ agreement_of e c → delay ≡ a.sender_ms * 1000 → made a.mode e.buffer delay a.mtu c.window ≡ (agreed_terms e c).subscriber
+subscriber_terms e c a delay same delay_is =
+    ap (λ (n : ℕ). made a.mode e.buffer n a.mtu c.window) (delay_is ∙ turned a.sender_ms)
+    ∙ ap (λ (b : Agreement). made b.mode e.buffer (1000 * b.sender_ms) b.mtu c.window) same
   where
-    ours : ms ≡ sender_ms e c
-    ours = ms_is ∙ (ap (λ (m : Mode). agreed_ms m latency c.receiver_ms) same_mode ∙ ap (λ (n : ℕ). agreed_ms e.mode n c.receiver_ms) same_latency)
+    turned : (n : ℕ) → n * 1000 ≡ 1000 * n
+    turned n = omega arith
+
+-- and a publisher's
+abbrev pub published : Mode → (width delay : ℕ) → publishing.Terms
+published mode width delay = record { mode = mode; width = width; delay = delay }
+
+pub publisher_terms : (e : Terms) (c : Conclusion) (a : Agreement) (width delay : ℕ) → a ≡ agreement_of e c → width ≡ e.buffer → delay ≡ a.receiver_ms * 1000 → published a.mode width delay ≡ (agreed_terms e c).publisher
+publisher_terms e c a width delay same wide delay_is =
+    ap (λ (n : ℕ). published a.mode n delay) wide
+    ∙ (ap (λ (n : ℕ). published a.mode e.buffer n) (delay_is ∙ turned a.receiver_ms)
+    ∙ ap (λ (b : Agreement). published b.mode e.buffer (1000 * b.receiver_ms)) same)
+  where
+    turned : (n : ℕ) → n * 1000 ≡ 1000 * n
+    turned n = omega arith
 
 -- a route's buffers are no wider than they may be
 pub buffer_fits : (e : Terms) → in_limits e ≡ true → e.buffer ≤ 8192

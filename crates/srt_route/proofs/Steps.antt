@@ -1,5 +1,5 @@
 -- What a table answers to conclusions.
-use Rattle.std.proofs.Common.{◌≡◌, ℕ, ◌==◌, ◌&&◌, ◌||◌, Bool, true, false, not, cond, nat_lt, Option, None, Some, List, [], ◌∷◌, map, find, get_or, refl, sym, ap, ◌∙◌}
+use Rattle.std.proofs.Common.{◌≡◌, ℕ, ◌==◌, ◌&&◌, ◌||◌, Bool, true, false, not, cond, nat_lt, Option, None, Some, Ok, Err, List, [], ◌∷◌, map, find, get_or, refl, sym, ap, ◌∙◌}
 use Rattle.std.specs.List.{list_any, position}
 use Rattle.srt_seq.specs.declared.shared.Peer.{Peer}
 use Rattle.srt_seq.specs.declared.shared.Mode.{Mode}
@@ -8,16 +8,19 @@ use Rattle.srt_seq.specs.Items.{Datagram}
 use Rattle.srt_hs.specs.declared.writing.HsAnswer.{HsAnswer}
 use Rattle.srt_hs.specs.declared.writing.RefusalCode.{RefusalCode}
 use Rattle.srt_hs.specs.declared.writing.RefusalCode.TheVariants as codes
-use Rattle.srt_route.specs.declared.conclusions.Conclusion.{Conclusion}
-use Rattle.srt_route.specs.declared.slots.Session.{Session as TheSession}
-use Rattle.srt_route.specs.declared.slots.Slot.{Slot}
-use Rattle.srt_route.specs.declared.state.Media.{Media}
-use Rattle.srt_route.specs.declared.state.Table.{Table}
+use Rattle.srt_route.specs.declared.conclusion.Conclusion.{Conclusion}
+use Rattle.srt_route.specs.declared.slot.Session.{Session as TheSession}
+use Rattle.srt_route.specs.declared.slot.Slot.{Slot}
+use Rattle.srt_route.specs.declared.media.Media.{Media}
+use Rattle.srt_route.specs.declared.table.Table.{Table}
 use Rattle.srt_pub.specs.declared.session.Publisher.{Publisher}
 use Rattle.srt_sub.specs.declared.session.Subscriber.{Subscriber}
 use Rattle.srt_route.specs.Past.{Past, Publishes, Subscribes}
 use Rattle.srt_route.specs.Sessions.{Session, is_publisher, publishes, answer_of, free_slot, generation_of}
-use Rattle.srt_route.specs.Route.{Answers, sent, is_of, differ, is_buffer, refused, refusal, considered, opens, session_opened, concluded, heard_if}
+use Rattle.srt_route.specs.Admission.{agreement_of, admitted, admitted_by}
+use Rattle.srt_route.specs.declared.admission.Admission.{Admission}
+use Rattle.srt_route.specs.declared.admission.Agreement.{Agreement}
+use Rattle.srt_route.specs.Route.{Answers, Taken, answered, sent, is_of, differ, is_buffer, refused, refusal, considered, opens, session_opened, concluded, heard_if}
 use Rattle.srt_route.specs.Tables.{IsSession, AreStored, IsTable, IsTaken, holds, has_publisher, again_of}
 use Rattle.srt_route.specs.Media.{IsPast, IsSeated, IsMedia, IsBody, IsBodyTaken}
 use Rattle.srt_route.proofs.Found.{of_parts}
@@ -33,13 +36,28 @@ reason_is e index slots ss mode publisher c reason are mode_is among is =
     ap (λ (b : Bool). refused e.mode b c) (publisher_among e index slots ss are some_slot ∙ sym among)
     ∙ (ap (λ (m : Mode). refused m publisher c) (sym mode_is) ∙ sym is)
 
-pub refused_taken : (e : Terms) (index clock : ℕ) (peer : Peer) (stamp : ℕ) (c : Conclusion) (ss : List Session) (table : Table) (media : Media) (reply : Datagram) (reason : RefusalCode) (o : Option RefusalCode) (answer : HsAnswer) → IsBody e index clock table media ss → o ≡ Some reason → answer ≡ refusal c reason → reply ≡ sent (record { peer = peer; packet = Answers c.caller answer }) → IsBodyTaken e index clock table media (reply ∷ []) (considered e index clock peer stamp c ss o)
-refused_taken e index clock peer stamp c ss table media reply reason o answer h is answer_is reply_is =
-    rw (is, reply_is, answer_is) (record { body_is = h; replies_are = refl })
+-- a conclusion that isn't admitted is refused for the reason of the definition
+pub not_admitted : (e : Terms) (index clock : ℕ) (peer : Peer) (stamp : ℕ) (c : Conclusion) (ss : List Session) (table : Table) (media : Media) (reply : Datagram) (reason : RefusalCode) (answer : HsAnswer) → IsBody e index clock table media ss → admitted e ss c ≡ Err reason → answer ≡ refusal c reason → reply ≡ sent (record { peer = peer; packet = Answers c.caller answer }) → IsBodyTaken e index clock table media (reply ∷ []) (considered e index clock peer stamp c ss (refused e.mode (list_any is_publisher ss) c))
+not_admitted e index clock peer stamp c ss table media reply reason answer h is answer_is reply_is =
+    rw (reply_is, answer_is) (by (refused e.mode (list_any is_publisher ss) c) (free_slot e ss) is)
+  where
+    taken_with : Option ℕ → Option RefusalCode → Taken
+    taken_with f (Some other) = record { sessions = ss; answers = answered peer c.caller (refusal c other) }
+    taken_with f None = opens e index clock peer stamp c ss f
 
-pub full_taken : (e : Terms) (index clock : ℕ) (peer : Peer) (stamp : ℕ) (c : Conclusion) (ss : List Session) (table : Table) (media : Media) (reply : Datagram) (o : Option RefusalCode) (answer : HsAnswer) → IsBody e index clock table media ss → o ≡ None → free_slot e ss ≡ None → answer ≡ refusal c codes.Resource → reply ≡ sent (record { peer = peer; packet = Answers c.caller answer }) → IsBodyTaken e index clock table media (reply ∷ []) (considered e index clock peer stamp c ss o)
-full_taken e index clock peer stamp c ss table media reply o answer h is full answer_is reply_is =
-    rw (is, full, reply_is, answer_is) (record { body_is = h; replies_are = refl })
+    by : (o : Option RefusalCode) (f : Option ℕ) → admitted_by e c o f ≡ Err reason → IsBodyTaken e index clock table media (sent (record { peer = peer; packet = Answers c.caller (refusal c reason) }) ∷ []) (taken_with f o)
+    by (Some other) f k = let same : other ≡ reason = cc in rw (same) (record { body_is = h; replies_are = refl })
+    by None None k = let same : codes.Resource ≡ reason = cc in rw (← same) (record { body_is = h; replies_are = refl })
+    by None (Some at) k = absurd (let bad : Ok (record { at = at; agreement = agreement_of e c }) ≡ Err reason = k in cc)
+
+-- where it is, no reason applies, and the slot is the least free one
+pub is_admitted : (e : Terms) (c : Conclusion) (ss : List Session) (a : Admission) → admitted e ss c ≡ Ok a → (refused e.mode (list_any is_publisher ss) c ≡ None) × (free_slot e ss ≡ Some a.at) × (a.agreement ≡ agreement_of e c)
+is_admitted e c ss a is = by (refused e.mode (list_any is_publisher ss) c) (free_slot e ss) is
+  where
+    by : (o : Option RefusalCode) (f : Option ℕ) → admitted_by e c o f ≡ Ok a → (o ≡ None) × (f ≡ Some a.at) × (a.agreement ≡ agreement_of e c)
+    by (Some other) f k = absurd (let bad : Err other ≡ Ok a = k in cc)
+    by None None k = absurd (let bad : Err codes.Resource ≡ Ok a = k in cc)
+    by None (Some at) k = let same : record { at = at; agreement = agreement_of e c } ≡ a = cc in (refl, ap (λ (b : Admission). Some b.at) same, sym (ap (λ (b : Admission). b.agreement) same))
 
 pub opened_taken : (e : Terms) (index clock : ℕ) (peer : Peer) (stamp : ℕ) (c : Conclusion) (ss : List Session) (table new : Table) (media after : Media) (reply : Datagram) (o : Option RefusalCode) (at : ℕ) → IsBody e index clock table media ss → o ≡ None → free_slot e ss ≡ Some at → IsTaken e index new (reply ∷ []) (opens e index clock peer stamp c ss (Some at)) → IsMedia e clock after (session_opened clock peer stamp c at (generation_of ss at) ∷ ss) → IsBodyTaken e index clock new after (reply ∷ []) (considered e index clock peer stamp c ss o)
 opened_taken e index clock peer stamp c ss table new media after reply o at h is free taken seated =
@@ -92,3 +110,15 @@ again_taken e index clock peer stamp c ss table new media replies s o h is heard
 
 pub first_taken : (e : Terms) (index clock : ℕ) (peer : Peer) (stamp : ℕ) (c : Conclusion) (ss : List Session) (table : Table) (media : Media) (replies : List Datagram) (o : Option Session) → o ≡ None → IsBodyTaken e index clock table media replies (considered e index clock peer stamp c ss (refused e.mode (list_any is_publisher ss) c)) → IsBodyTaken e index clock table media replies (concluded e index clock peer stamp c ss o)
 first_taken e index clock peer stamp c ss table media replies o is h = rw (is) h
+
+-- what the definition says for each answer of the code
+pub is_refused : (e : Terms) (c : Conclusion) (ss : List Session) (reason : RefusalCode) → refused e.mode (list_any is_publisher ss) c ≡ Some reason → Err reason ≡ admitted e ss c
+is_refused e c ss reason is = ap (λ (o : Option RefusalCode). admitted_by e c o (free_slot e ss)) (sym is)
+
+pub is_full : (e : Terms) (c : Conclusion) (ss : List Session) → refused e.mode (list_any is_publisher ss) c ≡ None → free_slot e ss ≡ None → Err codes.Resource ≡ admitted e ss c
+is_full e c ss is full = ap (λ (f : Option ℕ). admitted_by e c None f) (sym full) ∙ ap (λ (o : Option RefusalCode). admitted_by e c o (free_slot e ss)) (sym is)
+
+pub is_free : (e : Terms) (c : Conclusion) (ss : List Session) (at : ℕ) (a : Agreement) → refused e.mode (list_any is_publisher ss) c ≡ None → free_slot e ss ≡ Some at → a ≡ agreement_of e c → Ok (record { at = at; agreement = a }) ≡ admitted e ss c
+is_free e c ss at a is free same =
+    ap (λ (b : Agreement). Ok (record { at = at; agreement = b })) same
+    ∙ (ap (λ (f : Option ℕ). admitted_by e c None f) (sym free) ∙ ap (λ (o : Option RefusalCode). admitted_by e c o (free_slot e ss)) (sym is))

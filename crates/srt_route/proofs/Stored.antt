@@ -11,8 +11,8 @@ use Rattle.srt_seq.specs.declared.shared.Peer.{Peer}
 use Rattle.srt_seq.specs.Runs.{numbers_from}
 use Rattle.srt_seq.specs.Terms.{Terms}
 use Rattle.srt_packet.specs.Grammar.{Packet}
-use Rattle.srt_route.specs.declared.slots.Session.{Session as TheSession}
-use Rattle.srt_route.specs.declared.slots.Slot.{Slot}
+use Rattle.srt_route.specs.declared.slot.Session.{Session as TheSession}
+use Rattle.srt_route.specs.declared.slot.Slot.{Slot}
 use Rattle.srt_route.specs.Past.{ends_with}
 use Rattle.srt_route.specs.Sessions.{Session, is_same_peer, is_open_in, is_publisher, publishes, is_free, free_slot, session_id, terms_of, took}
 use Rattle.srt_route.specs.Route.{is_of, is_for, heard_if, took_if}
@@ -160,6 +160,14 @@ free_at e index slots ss at d are first =
     nothing None h free = refl
     nothing (Some s) h free = absurd (let some : is_free ss at ≡ false = ap not (any_is (is_open_in at) ss) ∙ ap (λ (g : Option Session). not (is_some g)) h in cc)
 
+-- no session is open in the least free slot
+pub free_is_vacant : (e : Terms) (ss : List Session) (at : ℕ) → free_slot e ss ≡ Some at → find (is_open_in at) ss ≡ None
+free_is_vacant e ss at free = nothing (find (is_open_in at) ss) refl (found_passes (is_free ss) (numbers_from 0 e.sessions) at free)
+  where
+    nothing : (f : Option Session) → find (is_open_in at) ss ≡ f → is_free ss at ≡ true → f ≡ None
+    nothing None h passes = refl
+    nothing (Some s) h passes = absurd (let some : is_free ss at ≡ false = ap not (any_is (is_open_in at) ss) ∙ ap (λ (g : Option Session). not (is_some g)) h in cc)
+
 pub none_free : (e : Terms) (index : ℕ) (slots : List Slot) (ss : List Session) (d : Slot) → AreStored e index slots ss → position is_vacant slots ≡ None → free_slot e ss ≡ None
 none_free e index slots ss d are none =
     no_number (is_free ss) 0 e.sessions (λ k lt.
@@ -231,7 +239,7 @@ hears peer caller clock = record { slot = λ s. slot_of s (is_of peer caller s);
 
 heard_stored : (e : Terms) (index clock : ℕ) (t : TheSession) (s : Session) → IsSession e index t s → IsSession e index (heard_at clock t) (record s { heard = clock })
 heard_stored e index clock t s is =
-    record { peer_is = is.peer_is; caller_is = is.caller_is; id_is = is.id_is; role_is = is.role_is; stamp_is = is.stamp_is; opening_is = is.opening_is; heard_is = refl; answer_is = is.answer_is }
+    record { peer_is = is.peer_is; caller_is = is.caller_is; id_is = is.id_is; role_is = is.role_is; heard_is = refl; answer_is = is.answer_is }
 
 -- the slot that answers again
 hear_one : (e : Terms) (index : ℕ) (slots : List Slot) (ss : List Session) (peer : Peer) (caller clock at count : ℕ) (t : TheSession) (s : Session) → AreStored e index slots ss → at < length slots → IsSlot e index at (record { generation = count; session = Some t }) ss → find (is_open_in at) ss ≡ Some s → IsSession e index t s → is_of peer caller s ≡ true → find (is_of peer caller) ss ≡ Some s → AreStored e index (set slots at (record { generation = count; session = Some (heard_at clock t) })) (map (λ s. heard_if (is_of peer caller s) clock s) ss)
@@ -391,7 +399,7 @@ slot_took e index slots ss peer clock at packet ends slot new t s are there here
   where
     ended : (b : Bool) → ends_with (terms_of e s) s.conclusion.initial packet.body s.past ≡ b → IsStored e index (stored_after b clock (Some t)) (while_open (took e clock packet.stamp packet.body s))
     ended true h = rw (h) tt
-    ended false h = rw (h) (record { peer_is = here.session_is.peer_is; caller_is = here.session_is.caller_is; id_is = here.session_is.id_is; role_is = here.session_is.role_is; stamp_is = here.session_is.stamp_is; opening_is = here.session_is.opening_is; heard_is = refl; answer_is = here.session_is.answer_is })
+    ended false h = rw (h) (record { peer_is = here.session_is.peer_is; caller_is = here.session_is.caller_is; id_is = here.session_is.id_is; role_is = here.session_is.role_is; heard_is = refl; answer_is = here.session_is.answer_is })
 
 pub heard_again_at : (e : Terms) (index : ℕ) (slots : List Slot) (ss : List Session) (peer : Peer) (caller clock at : ℕ) (slot new : Slot) → AreStored e index slots ss → position (holds peer caller) slots ≡ Some at → slot ≡ get_or slots at slot → new ≡ record { generation = slot.generation; session = option_map (heard_at clock) slot.session } → AreStored e index (set slots at new) (map (λ s. heard_if (is_of peer caller s) clock s) ss)
 heard_again_at e index slots ss peer caller clock at slot new are first there new_is = rw (new_is) (heard_again e index slots ss peer caller clock at slot are first there)

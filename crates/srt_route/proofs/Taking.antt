@@ -19,10 +19,10 @@ use Rattle.srt_sub.specs.Says.{says}
 use Rattle.srt_sub.specs.Stands as subscriber
 use Rattle.srt_sub.specs.Subscribing as subscribing
 use Rattle.srt_sub.specs.declared.session.Subscriber.{Subscriber}
-use Rattle.srt_route.specs.declared.slots.Session.{Session as TheSession}
-use Rattle.srt_route.specs.declared.slots.Slot.{Slot}
-use Rattle.srt_route.specs.declared.state.Media.{Media}
-use Rattle.srt_route.specs.declared.state.Table.{Table}
+use Rattle.srt_route.specs.declared.slot.Session.{Session as TheSession}
+use Rattle.srt_route.specs.declared.slot.Slot.{Slot}
+use Rattle.srt_route.specs.declared.media.Media.{Media}
+use Rattle.srt_route.specs.declared.table.Table.{Table}
 use Rattle.srt_route.specs.Past.{Past, Publishes, Subscribes, Report, ToSubscriber, is_shutdown, ends_with, took_past, answers_to}
 use Rattle.srt_route.specs.Sessions.{Session, is_open_in, publishes, terms_of, time_in, stamp_in, took, answered_at_once}
 use Rattle.srt_route.specs.Route.{is_for, took_if, said_by, sent, answered_by, arrived}

@@ -14,8 +14,8 @@ use Rattle.srt_pub.specs.Publishing as publishing
 use Rattle.srt_pub.specs.Publishing.{Publishing, deliveries}
 use Rattle.srt_pub.specs.Calls.{next_delivery, after_delivery, room_after, gives, leaves}
 use Rattle.srt_sub.specs.Subscribing as subscribing
-use Rattle.srt_route.specs.declared.state.Media.{Media}
-use Rattle.srt_route.specs.declared.state.Table.{Table}
+use Rattle.srt_route.specs.declared.media.Media.{Media}
+use Rattle.srt_route.specs.declared.table.Table.{Table}
 use Rattle.srt_route.specs.Past.{Past, Publishes, Subscribes, payload_of, least, least_with}
 use Rattle.srt_route.specs.Sessions.{Session, is_open_in, terms_of, time_in}
 use Rattle.srt_route.specs.Route.{least_room}

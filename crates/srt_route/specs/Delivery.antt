@@ -9,8 +9,8 @@ use Rattle.srt_pub.specs.Stands as publishers
 use Rattle.srt_sub.specs.Subscribing as subscriber
 use Rattle.srt_sub.specs.Stands as subscribers
 use Rattle.srt_sub.specs.declared.session.Subscriber.{Subscriber}
-use Rattle.srt_route.specs.declared.slots.Slot.{Slot}
-use Rattle.srt_route.specs.declared.state.Media.{Media}
+use Rattle.srt_route.specs.declared.slot.Slot.{Slot}
+use Rattle.srt_route.specs.declared.media.Media.{Media}
 use Rattle.srt_route.specs.Past.{Past, Publishes, Subscribes, Agreed, least}
 use Rattle.srt_route.specs.Sessions.{Session, terms_of, publishes, is_publisher, is_open_in, time_in}
 use Rattle.srt_route.specs.Tables.{session_passes}

@@ -12,6 +12,7 @@ pub mod Written
 pub mod Waits
 pub mod Tables
 pub mod Media
+pub mod Admission
 pub mod Stands
 pub mod Delivery
 pub mod Reports

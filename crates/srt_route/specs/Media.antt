@@ -9,8 +9,8 @@ use Rattle.srt_pub.specs.declared.session.Publisher.{Publisher}
 use Rattle.srt_sub.specs.Stands as subscriber
 use Rattle.srt_sub.specs.Subscribing as subscribing
 use Rattle.srt_sub.specs.declared.session.Subscriber.{Subscriber}
-use Rattle.srt_route.specs.declared.state.Media.{Media}
-use Rattle.srt_route.specs.declared.state.Table.{Table}
+use Rattle.srt_route.specs.declared.media.Media.{Media}
+use Rattle.srt_route.specs.declared.table.Table.{Table}
 use Rattle.srt_route.specs.Past.{Past, Publishes, Subscribes}
 use Rattle.srt_route.specs.Sessions.{Session, terms_of, publishes, is_publisher, is_open_in, time_in}
 use Rattle.srt_route.specs.Route.{Taken, sent}

@@ -16,7 +16,7 @@ use Rattle.srt_hs.specs.declared.writing.AnswerKind.TheVariants as answers
 use Rattle.srt_hs.specs.declared.writing.RefusalCode.{RefusalCode}
 use Rattle.srt_hs.specs.declared.writing.RefusalCode.TheVariants as codes
 use Rattle.srt_hs.specs.Text.{answer_text}
-use Rattle.srt_route.specs.declared.conclusions.Conclusion.{Conclusion}
+use Rattle.srt_route.specs.declared.conclusion.Conclusion.{Conclusion}
 use Rattle.srt_route.specs.Conclusions.{conclusion_in}
 use Rattle.srt_route.specs.Past.{Report, report_text, past_of, least_with}
 use Rattle.srt_route.specs.Sessions.{Session, is_same_peer, session_id, answer_of, publishes, is_publisher, is_subscriber, by_slot, free_slot, generation_of, time_in, aged, took, answered_at_once, payloads, passed, reports_at, reported}

@@ -13,7 +13,7 @@ use Rattle.srt_seq.specs.Terms.{Terms}
 use Rattle.srt_packet.specs.Grammar.{Body}
 use Rattle.srt_hs.specs.declared.writing.HsAnswer.{HsAnswer}
 use Rattle.srt_hs.specs.declared.writing.AnswerKind.TheVariants as answers
-use Rattle.srt_route.specs.declared.conclusions.Conclusion.{Conclusion}
+use Rattle.srt_route.specs.declared.conclusion.Conclusion.{Conclusion}
 use Rattle.srt_route.specs.Past.{Past, Agreed, Report, expired_past, took_past, ends_with, answers_to, payloads_of, passed_past, reports_of, reported_past}
 
 pub record Session : Type 0 where

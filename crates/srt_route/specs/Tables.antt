@@ -5,9 +5,9 @@ use Rattle.srt_seq.specs.declared.shared.Peer.{Peer}
 use Rattle.srt_seq.specs.Terms.{Terms}
 use Rattle.srt_seq.specs.Items.{Datagram}
 use Rattle.srt_route.specs.declared.replies.Reply.{Reply as TheReply}
-use Rattle.srt_route.specs.declared.slots.Session.{Session as TheSession}
-use Rattle.srt_route.specs.declared.slots.Slot.{Slot}
-use Rattle.srt_route.specs.declared.state.Table.{Table}
+use Rattle.srt_route.specs.declared.slot.Session.{Session as TheSession}
+use Rattle.srt_route.specs.declared.slot.Slot.{Slot}
+use Rattle.srt_route.specs.declared.table.Table.{Table}
 use Rattle.srt_route.specs.Written.{written}
 use Rattle.srt_route.specs.Sessions.{Session, is_same_peer, session_id, answer_of, publishes, is_open_in, generation_of}
 use Rattle.srt_route.specs.Route.{Taken, Answers, is_of, sent}
@@ -18,8 +18,6 @@ pub record IsSession (e : Terms) (index : ℕ) (t : TheSession) (s : Session) : 
   pub caller_is : t.caller ≡ s.conclusion.caller
   pub id_is : t.id ≡ session_id index s
   pub role_is : t.role ≡ s.conclusion.role
-  pub stamp_is : t.stamp ≡ s.stamp
-  pub opening_is : t.opening ≡ s.opening
   pub heard_is : t.heard ≡ s.heard
   pub answer_is : t.answer ≡ answer_of e index s
 
@@ -110,14 +108,14 @@ stored_after ends clock None = None
 stored_after ends clock (Some t) = if ends then None else Some (heard_at clock t)
 
 -- of which nothing was heard for 5 s (this profile)
-abbrev pub is_stale : (clock : ℕ) → TheSession → Bool
-is_stale clock t = nat_le 5_000_000 (clock - t.heard)
+abbrev pub peer_idle : (clock : ℕ) → TheSession → Bool
+peer_idle clock t = nat_le 5_000_000 (clock - t.heard)
 
 -- what is left of it as time goes on
 abbrev pub stored_aged : (clock : ℕ) → Option TheSession → Option TheSession
 stored_aged clock None = None
-stored_aged clock (Some t) = if is_stale clock t then None else Some t
+stored_aged clock (Some t) = if peer_idle clock t then None else Some t
 
 -- whether it is a subscriber's that lives on
 abbrev pub is_kept_subscriber : (clock : ℕ) → TheSession → Bool
-is_kept_subscriber clock t = not (is_stale clock t) && not (publishes t.role)
+is_kept_subscriber clock t = not (peer_idle clock t) && not (publishes t.role)

@@ -1,5 +1,4 @@
-//! Delivery (draft-sharabayko-srt-01, sections 4.2, 4.5 and 4.6): the publisher's payloads go to every open
-//! subscriber.
+//! Step 4 of an event, delivery (sections 4.2, 4.5 and 4.6): the publisher's payloads go to every open subscriber.
 
 ghost use Rattle.std.specs.Prelude.{◌≡◌, ℕ, ◌-◌, ◌<◌, ◌≤◌, ◌^◌, true, false, Some, None, List, map, find, position, length, unwrap_or};
 ghost use Rattle.srt_seq.specs.Terms.{Terms};
@@ -15,22 +14,23 @@ ghost use Rattle.srt_route.specs.Tables.{has_publisher};
 ghost use Rattle.srt_route.specs.Media.{IsBody};
 ghost use Rattle.srt_route.specs.Delivery.{has_subscriber, lesser, changed, fed, turned, is_given, IsPublisherAt, HaveRoom};
 
-use crate::slots::Slot;
-use crate::state::{Media, Table};
+use crate::media::Media;
+use crate::slot::Slot;
+use crate::table::Table;
 use srt_seq::{Mode, Payload, Role};
 use srt_sub::Subscriber;
 
-/// How many payloads an event delivers at most (this profile).
-const MOST: u32 = 64;
+/// The most payloads that an event delivers (this profile).
+const PAYLOADS_MAX: u32 = 64;
 
-/// The first place with a publisher's session.
-pub fn publisher_place(slots: &[Slot]) -> Option<usize>
+/// The first slot with a publisher's session.
+pub fn publisher_slot(slots: &[Slot]) -> Option<usize>
     ensures { result ≡ position has_publisher slots.now }
 {
     slots.iter().position(|slot| slot.has_publisher())
 }
 
-/// Whether a subscriber has a place.
+/// Whether a subscriber's session is open in this slot.
 pub fn has_subscriber(slot: &Slot) -> bool
     ensures { result ≡ has_subscriber slot.now }
 {
@@ -40,7 +40,7 @@ pub fn has_subscriber(slot: &Slot) -> bool
     }
 }
 
-/// The room of a place's subscriber.
+/// How many payloads the subscriber of a slot has room for.
 fn room_of(slot: &Slot, subscriber: &Subscriber) -> Option<u32>
     ensures none { has_subscriber slot.now ≡ false → result ≡ None }
     ensures some { has_subscriber slot.now ≡ true → (terms : subscribing.Terms) (initial opening caller last : ℕ) (m : subscribing.Subscribing) → subscribers.StandsFor terms initial opening caller last subscriber.now m → result ≡ Some (room terms.width m.sending) }
@@ -64,7 +64,7 @@ fn lesser(found: Option<u32>, room: Option<u32>) -> Option<u32>
     }
 }
 
-/// The least room of the open subscribers; none where none is open.
+/// The least room of the open subscribers, or None if none is open.
 fn least_room(table: &Table, media: &Media) -> Option<u32>
     ensures { (e : Terms) (index clock : ℕ) (sessions : List Session) → IsBody e index clock table.now media.now sessions → result ≡ least_room e sessions }
 {
@@ -77,8 +77,8 @@ fn least_room(table: &Table, media: &Media) -> Option<u32>
     found
 }
 
-/// A place's subscriber is fed.
-fn feed_place(slot: &Slot, subscriber: &mut Subscriber, clock: u64, payload: &Payload)
+/// The subscriber of a slot is fed.
+fn feed_slot(slot: &Slot, subscriber: &mut Subscriber, clock: u64, payload: &Payload)
     requires { clock < 2 ^ 62 }
     ensures none { has_subscriber slot.now ≡ false → subscriber.new ≡ subscriber.old }
     ensures some { has_subscriber slot.now ≡ true → (terms : subscribing.Terms) (initial opening caller : ℕ) (m : subscribing.Subscribing) → subscribers.StandsFor terms initial opening caller clock subscriber.old m → 0 < length payload.now.items → (terms.mode ≡ Buffer → 0 < room terms.width m.sending) → subscribers.StandsFor terms initial opening caller clock subscriber.new (subscribing.fed terms (clock - opening) payload.now.items (subscribing.expired terms (clock - opening) m)) }
@@ -95,12 +95,12 @@ fn feed(table: &Table, media: &mut Media, clock: u64, payload: &Payload)
 {
     for at in 0..table.slots.len() {
         if let Some(subscriber) = media.subscribers.get_mut(at) {
-            feed_place(&table.slots[at], subscriber, clock, payload);
+            feed_slot(&table.slots[at], subscriber, clock, payload);
         }
     }
 }
 
-/// The room that a payload leaves.
+/// The room that is left after a payload.
 fn room_after(mode: Mode, room: u32) -> u32
     ensures { result ≡ room_after mode room }
 {
@@ -110,9 +110,14 @@ fn room_after(mode: Mode, room: u32) -> u32
     }
 }
 
-/// The publisher's next payload is written into the place that is lent, and goes to each open subscriber. False where
-/// there is none.
-fn pass_next(table: &Table, media: &mut Media, clock: u64, room: u32, payload: &mut Payload) -> bool
+/// Writes the publisher's next payload into `payload` and feeds it to each open subscriber. False if none is due.
+fn deliver_next(
+    table: &Table,
+    media: &mut Media,
+    clock: u64,
+    room: u32,
+    payload: &mut Payload,
+) -> bool
     requires { clock < 2 ^ 62 }
     ensures given { (e : Terms) (index : ℕ) (sessions : List Session) (at : ℕ) (s : Session) (q : Publishing) → IsBody e index clock table.now media.old sessions → IsPublisherAt sessions at s q → result ≡ is_given (next_delivery (terms_of e s).publisher (time_in s clock) room q) }
     ensures body { (e : Terms) (index : ℕ) (sessions : List Session) (at : ℕ) (s : Session) (q : Publishing) → IsBody e index clock table.now media.old sessions → IsPublisherAt sessions at s q → HaveRoom e room sessions → IsBody e index clock table.now media.new (turned e clock (next_delivery (terms_of e s).publisher (time_in s clock) room q) (after_delivery (terms_of e s).publisher (next_delivery (terms_of e s).publisher (time_in s clock) room q) q) sessions) }
@@ -124,29 +129,29 @@ fn pass_next(table: &Table, media: &mut Media, clock: u64, room: u32, payload: &
     true
 }
 
-/// The publisher's payloads go to each open subscriber, one by one.
-fn pass(table: &Table, media: &mut Media, clock: u64, room: u32, payload: &mut Payload)
+/// Feeds the publisher's payloads to each open subscriber, one by one: at most 64.
+fn deliver_each(table: &Table, media: &mut Media, clock: u64, room: u32, payload: &mut Payload)
     requires { clock < 2 ^ 62 }
     ensures { (e : Terms) (index : ℕ) (sessions : List Session) (at : ℕ) (s : Session) (q : Publishing) → IsBody e index clock table.now media.old sessions → IsPublisherAt sessions at s q → room ≡ unwrap_or (least_room e sessions) 0 → IsBody e index clock table.now media.new (delivered e clock sessions) }
 {
     let mut room = room;
-    for turn in 0..MOST {
-        if !pass_next(table, media, clock, room, payload) {
+    for turn in 0..PAYLOADS_MAX {
+        if !deliver_next(table, media, clock, room, payload) {
             return;
         }
         room = room_after(table.mode, room);
     }
 }
 
-/// Delivers what is due, up to 64 payloads, each by way of the place that is lent. In buffer mode each of them finds a
-/// place with every open subscriber, and without a subscriber nothing is delivered.
+/// Delivers the payloads that are due, at most 64, each by way of `payload`. In buffer mode there is room for each of
+/// them with every open subscriber, and without a subscriber nothing is delivered.
 pub fn deliver(table: &Table, media: &mut Media, clock: u64, payload: &mut Payload)
     requires early { clock < 2 ^ 62 }
     ensures { (e : Terms) (index : ℕ) (sessions : List Session) → IsBody e index clock table.now media.old sessions → IsBody e index clock table.now media.new (delivered e clock sessions) }
 {
-    if publisher_place(&table.slots).is_none() {
+    if publisher_slot(&table.slots).is_none() {
         return;
     }
     let room = least_room(table, media).unwrap_or(0);
-    pass(table, media, clock, room, payload);
+    deliver_each(table, media, clock, room, payload);
 }

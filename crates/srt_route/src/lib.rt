@@ -1,25 +1,38 @@
-//! Routes: sessions open and close, and media go from the publisher to the subscribers.
+//! A route: its sessions open and close, and payloads go from its publisher to its subscribers.
+//!
+//! It reads no clock and no socket: a datagram or a tick comes in as an item, replies wait to be taken. It chooses no
+//! route and checks no cookie (`srt_lobby` does), and what a session does by itself is in `srt_pub` and `srt_sub`.
+//!
+//! Types: `Route`; in it `Table`, the slots with their sessions, `Media`, their buffers, and `ReplyQueue`. A `Reply` is a
+//! packet and its peer; a `Conclusion` is what is read of a caller's handshake.
+//!
+//! Calls: `Route::open`; then `step` for each item, and `next_reply` until it returns false, before the next `step`.
+//!
+//! An event's six steps, as `step` in `route.rt` calls them: the clock; `idle.rt`, idle peers and what is too late;
+//! `dispatch.rt`, a packet for a session or a conclusion (`conclusion.rt` reads it, `admission.rt` has each refusal and
+//! what is agreed, `answer.rt` its answer); `delivery.rt`; `transmit.rt`, the publisher's packets and the subscribers'.
+//! Socket IDs are in `slot.rt`, waiting replies in `reply_queue.rt`, the definition of it all in `specs/Route.antt`.
 #![tactic(auto)]
 
-mod ages;
-mod agreements;
-mod answers;
-mod buffers;
-mod conclusions;
+mod admission;
+mod answer;
+mod arrival;
+mod conclusion;
 mod delivery;
-mod hearing;
-mod items;
+mod dispatch;
+mod idle;
 pub mod laws;
+mod media;
 mod opening;
 mod replies;
-mod reports;
-mod routes;
-mod slots;
+mod reply_queue;
+mod route;
+mod slot;
 mod state;
-mod tables;
-mod waiting;
+mod table;
+mod transmit;
 
-pub use conclusions::Conclusion;
+pub use conclusion::Conclusion;
 pub use replies::Reply;
 pub use state::Route;
 

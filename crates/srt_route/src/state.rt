@@ -1,55 +1,25 @@
-//! What a route keeps.
+//! What a route keeps. Its calls are in `route.rt`.
 
-ghost use Rattle.std.specs.Prelude.{◌<◌, ◌≤◌, ◌^◌, length};
+ghost use Rattle.std.specs.Prelude.{◌<◌, ◌^◌};
 
-use crate::replies::Reply;
-use crate::slots::Slot;
-use crate::waiting::Waiting;
-use srt_pub::Publisher;
-use srt_seq::{Mode, Payload};
-use srt_sub::Subscriber;
-
-/// The sessions of a route, each in its place, and what conclusions are answered with.
-#[derive(Drop)]
-pub struct Table {
-    pub index: u32,
-    pub mode: Mode,
-    pub latency_ms: u16,
-    pub buffer: u32,
-    pub slots: Vec<Slot>,
-    pub ghost index_below: { index < 511 },
-    pub ghost few: { length slots.items ≤ 17 },
-}
-
-/// The buffers of a route's sessions: those of the one that publishes, and a subscriber's for each place.
-#[derive(Drop)]
-pub struct Media {
-    pub publisher: Publisher,
-    pub subscribers: Vec<Subscriber>,
-}
-
-/// Boxes at hand, to be written. Where one is given, a spare one comes to hand.
-#[derive(Drop)]
-pub struct Hands {
-    /// For an answer, and for a subscriber's packets.
-    pub reply: Box<Reply>,
-    /// For a publisher's ACK.
-    pub ack: Box<Reply>,
-    /// For its NAK.
-    pub nak: Box<Reply>,
-    /// For its KEEPALIVE.
-    pub keep_alive: Box<Reply>,
-}
+use crate::media::Media;
+use crate::reply_queue::{ReplyQueue, ScratchBoxes};
+use crate::table::Table;
+use srt_seq::Payload;
 
 /// A route of the gateway.
 #[derive(Drop)]
 pub struct Route {
+    /// The greatest moment of any item so far, in microseconds.
     pub(crate) clock: u64,
+    /// The sessions.
     pub(crate) table: Table,
+    /// Their buffers.
     pub(crate) media: Media,
-    /// The payload that is delivered.
+    /// The payload that is being delivered.
     pub(crate) payload: Payload,
-    pub(crate) hands: Hands,
-    pub(crate) waiting: Waiting,
+    pub(crate) scratch: ScratchBoxes,
+    /// The replies that wait to be sent.
+    pub(crate) waiting: ReplyQueue,
     pub(crate) ghost early: { clock < 2 ^ 62 },
 }

@@ -15,7 +15,7 @@ loop-at-preserved c e index ss body some has =
     let below : c.loop-at.at < e.sessions = omega (arith, c.loop-at-test.true, c.len-at-end.ensures, body.table_is.stored.places_are) in
     elim c.match-get_mut.branch [
       | in-Some w ↦
-          feed_step e index c.args.clock c.args.table.now c.args.media.now c.loop-at.media c.match-get_mut.media ss c.loop-at.at w.index.result.now w.in-Some.subscriber.now w.feed_place.new.subscriber c.args.payload.now.items body below w.index.ensures w.in-Some.ensures.value some has w.feed_place.ensures.none w.feed_place.ensures.some w.media-is h
+          feed_step e index c.args.clock c.args.table.now c.args.media.now c.loop-at.media c.match-get_mut.media ss c.loop-at.at w.index.result.now w.in-Some.subscriber.now w.feed_slot.new.subscriber c.args.payload.now.items body below w.index.ensures w.in-Some.ensures.value some has w.feed_slot.ensures.none w.feed_slot.ensures.some w.media-is h
       | in_default w ↦
           let there : IsSome c.get_mut.result = c.get_mut.ensures.variant.1 (omega (arith, below, h.as_many, c.loop-at.media.subscribers.ok.0)) in
           absurd (not_there c.get_mut.result w.in_default.is there)

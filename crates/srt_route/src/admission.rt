@@ -1,0 +1,177 @@
+//! Step 3 of an event, a conclusion at its route (sections 3.2.1, 4.3.1.2 and 4.4): every refusal in its order, and
+//! what both sides agree on.
+
+ghost use Rattle.std.specs.Prelude.{◌≡◌, ℕ, ◌<◌, ◌^◌, ◌∷◌, [], None, Some, List, length, find, IfOk};
+ghost use Rattle.std.specs.List.{list_any};
+ghost use Rattle.srt_seq.specs.Given.{given};
+ghost use Rattle.srt_seq.specs.Terms.{Terms};
+ghost use Rattle.srt_route.specs.Sessions.{Session as TheSession, agreed_ms, is_open_in, is_publisher};
+ghost use Rattle.srt_route.specs.Route.{is_buffer, differ, is_of, refused, concluded, considered, opens};
+ghost use Rattle.srt_route.specs.Written.{written};
+ghost use Rattle.srt_route.specs.Tables.{IsTable, IsTaken, written_of};
+ghost use Rattle.srt_route.specs.Media.{IsBody, IsBodyTaken};
+ghost use Rattle.srt_route.specs.Admission.{agreement_of, admitted};
+
+use crate::answer::{accepted, answer_to, refusal};
+use crate::arrival::Arrival;
+use crate::conclusion::Conclusion;
+use crate::media::Media;
+use crate::replies::Reply;
+use crate::slot::{Session, free_slot, have_publisher, id_at, slot_of};
+use crate::table::Table;
+use srt_hs::RefusalCode;
+use srt_seq::{Mode, Role};
+
+/// What both sides of a session agree on.
+#[derive(Clone, Copy)]
+pub struct Agreement {
+    /// How payloads are handed on.
+    pub mode: Mode,
+    /// The delay of what the caller sends, in milliseconds.
+    pub receiver_ms: u16,
+    /// The delay of what the caller is sent, in milliseconds.
+    pub sender_ms: u16,
+    /// The greatest packet, in bytes, with the headers of IP and UDP.
+    pub mtu: u32,
+}
+
+/// The slot in which a session opens, and what was agreed.
+#[derive(Clone, Copy)]
+pub struct Admission {
+    /// The slot.
+    pub at: usize,
+    /// What holds in the session.
+    pub agreement: Agreement,
+}
+
+fn is_buffer(mode: Mode) -> bool
+    ensures { result ≡ is_buffer mode }
+{
+    matches!(mode, Mode::Buffer)
+}
+
+/// The delay of a session, in milliseconds, of what both sides ask for (section 4.4).
+fn agreed_ms(mode: Mode, ours: u16, theirs: u16) -> u16
+    ensures { result ≡ agreed_ms mode ours theirs }
+{
+    match mode {
+        Mode::Live => ours.max(theirs),
+        Mode::Buffer => 0,
+    }
+}
+
+/// What a session of this conclusion agrees on with its route: the greater of both delays, and the lesser MTU.
+fn agree(mode: Mode, latency_ms: u16, c: &Conclusion) -> Agreement
+    ensures { (e : Terms) → mode ≡ e.mode → latency_ms ≡ e.latency_ms → result ≡ agreement_of e c.now }
+{
+    Agreement {
+        mode,
+        receiver_ms: agreed_ms(mode, latency_ms, c.sender_ms),
+        sender_ms: agreed_ms(mode, latency_ms, c.receiver_ms),
+        mtu: c.mtu.min(1500),
+    }
+}
+
+/// Why a conclusion opens no session, of the first reason that applies: 1012, 1004, 1002. Only with a slot to open
+/// in is there one more, in `admit`.
+fn refused(mode: Mode, has_publisher: bool, c: &Conclusion) -> Option<RefusalCode>
+    ensures { result ≡ refused mode has_publisher c.now }
+{
+    if c.wants_stream != is_buffer(mode) {
+        return Some(RefusalCode::MessageApi);
+    }
+    let publishes = matches!(c.role, Role::Publish);
+    if c.mtu < 76 || c.window == 0 || (!publishes && is_buffer(mode) && c.mtu < 1500) {
+        return Some(RefusalCode::Rogue);
+    }
+    if publishes && has_publisher {
+        return Some(RefusalCode::Peer);
+    }
+    None
+}
+
+/// The least free slot and what is agreed, or the first reason that applies why no session opens: 1012, 1004, 1002,
+/// and 1003 if no slot is free.
+fn admit(table: &Table, c: &Conclusion) -> Result<Admission, RefusalCode>
+    ensures inside { IfOk result (λ a. a.at < length table.now.slots.items) }
+    ensures value { (e : Terms) (index : ℕ) (sessions : List TheSession) → IsTable e index table.now sessions → result ≡ admitted e sessions c.now }
+{
+    if let Some(reason) = refused(table.mode, have_publisher(&table.slots), c) {
+        return Err(reason);
+    }
+    match free_slot(&table.slots) {
+        Some(at) => Ok(Admission {
+            at,
+            agreement: agree(table.mode, table.latency_ms, c),
+        }),
+        None => Err(RefusalCode::Resource),
+    }
+}
+
+/// The session gets its slot, and its answer is written.
+fn open_session(
+    table: &mut Table,
+    admission: Admission,
+    arrival: Arrival,
+    c: Conclusion,
+    reply: &mut Reply,
+)
+    requires { admission.at < length table.old.slots.items }
+    ensures { (e : Terms) (index : ℕ) (sessions : List TheSession) → IsTable e index table.old sessions → admission.agreement ≡ agreement_of e c → find (is_of arrival.peer c.caller) sessions ≡ None → find (is_open_in admission.at) sessions ≡ None → IsTaken e index table.new (written reply.new ∷ []) (opens e index arrival.clock arrival.peer arrival.stamp c sessions (Some admission.at)) }
+{
+    let caller = c.caller;
+    let role = c.role;
+    let at = admission.at;
+    let id = id_at(table.index, table.slots[at].generation, at);
+    let answer = accepted(admission.agreement, table.buffer, id, c);
+    answer_to(reply, arrival.peer, caller, &answer);
+    table.slots[at].fill(Session {
+        peer: arrival.peer,
+        caller,
+        id,
+        role,
+        heard: arrival.clock,
+        answer,
+    });
+}
+
+/// A conclusion of a caller that has no session is answered.
+fn consider(
+    table: &mut Table,
+    media: &mut Media,
+    arrival: Arrival,
+    c: Conclusion,
+    reply: &mut Reply,
+)
+    requires { c.initial < 2 ^ 31 }
+    ensures { (e : Terms) (index : ℕ) (sessions : List TheSession) → IsBody e index arrival.clock table.old media.old sessions → find (is_of arrival.peer c.caller) sessions ≡ None → IsBodyTaken e index arrival.clock table.new media.new (written reply.new ∷ []) (considered e index arrival.clock arrival.peer arrival.stamp c sessions (refused e.mode (list_any is_publisher sessions) c)) }
+{
+    match admit(table, &c) {
+        Ok(admission) => {
+            media.start(admission, arrival, &c);
+            open_session(table, admission, arrival, c, reply);
+        }
+        Err(reason) => {
+            answer_to(reply, arrival.peer, c.caller, &refusal(c.initial, reason));
+        }
+    }
+}
+
+/// A conclusion comes. A caller that has a session gets its answer again; another is admitted or refused. True if it
+/// is answered.
+pub fn conclude(
+    table: &mut Table,
+    media: &mut Media,
+    arrival: Arrival,
+    c: Conclusion,
+    reply: &mut Reply,
+) -> bool
+    requires { c.initial < 2 ^ 31 }
+    ensures { (e : Terms) (index : ℕ) (sessions : List TheSession) → IsBody e index arrival.clock table.old media.old sessions → IsBodyTaken e index arrival.clock table.new media.new (written_of (given result reply.new)) (concluded e index arrival.clock arrival.peer arrival.stamp c sessions (find (is_of arrival.peer c.caller) sessions)) }
+{
+    if let Some(at) = slot_of(&table.slots, arrival.peer, c.caller) {
+        return table.slots[at].again(arrival.clock, arrival.peer, reply);
+    }
+    consider(table, media, arrival, c, reply);
+    true
+}

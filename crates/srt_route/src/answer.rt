@@ -1,0 +1,59 @@
+//! The answer to a handshake, and how it is written.
+
+ghost use Rattle.std.specs.Prelude.{◌≡◌};
+ghost use Rattle.srt_seq.specs.Terms.{Terms};
+ghost use Rattle.srt_route.specs.Written.{written};
+ghost use Rattle.srt_route.specs.Sessions.{agreed};
+ghost use Rattle.srt_route.specs.Route.{Answers, refusal, sent};
+ghost use Rattle.srt_route.specs.Admission.{agreement_of};
+ghost use Rattle.srt_route.specs.declared.conclusion.Conclusion.{Conclusion as TheConclusion};
+
+use crate::admission::Agreement;
+use crate::conclusion::Conclusion;
+use crate::replies::Reply;
+use arrayvec::ArrayVec;
+use srt_hs::{AnswerKind, HsAnswer, RefusalCode, write};
+use srt_packet::Body;
+use srt_seq::Peer;
+
+/// A conclusion is refused for this reason.
+pub fn refusal(initial: u32, reason: RefusalCode) -> HsAnswer
+    ensures { (c : TheConclusion) → c.initial ≡ initial → result ≡ refusal c reason }
+{
+    HsAnswer {
+        initial,
+        what: AnswerKind::Refusal(reason),
+    }
+}
+
+/// The answer to a conclusion that opens the session with this socket ID; the window is in packets.
+pub fn accepted(agreement: Agreement, window: u32, id: u32, c: Conclusion) -> HsAnswer
+    ensures { (e : Terms) → agreement ≡ agreement_of e c → window ≡ e.buffer → result ≡ agreed e id c }
+{
+    HsAnswer {
+        initial: c.initial,
+        what: AnswerKind::Conclusion {
+            mtu: agreement.mtu,
+            window,
+            id,
+            mode: agreement.mode,
+            recv_ms: agreement.receiver_ms,
+            send_ms: agreement.sender_ms,
+            congestion: c.congestion,
+        },
+    }
+}
+
+/// Writes an answer to the handshake of the caller's socket with this ID. Its timestamp is 0 (this profile).
+pub fn answer_to(reply: &mut Reply, peer: Peer, caller: u32, answer: &HsAnswer)
+    ensures { written reply.new ≡ sent (record { peer = peer; packet = Answers caller answer.now }) }
+{
+    let mut out = [0u8; 84];
+    let len = write(answer, &mut out);
+    let mut info = ArrayVec::new();
+    let _ = info.try_extend_from_slice(&out[..len]);
+    reply.peer = peer;
+    reply.packet.stamp = 0;
+    reply.packet.dest = caller;
+    reply.packet.body = Body::Handshake(info);
+}

@@ -1,0 +1,14 @@
+//! When and from whom a packet came.
+
+use srt_seq::Peer;
+
+/// The arrival of a packet at a route.
+#[derive(Clone, Copy)]
+pub struct Arrival {
+    /// The route's clock, in microseconds: below 2^62.
+    pub clock: u64,
+    /// Who sent the packet.
+    pub peer: Peer,
+    /// The packet's timestamp (section 3), in microseconds, modulo 2^32.
+    pub stamp: u32,
+}

@@ -1,0 +1,188 @@
+//! Step 3 of an event: a datagram is for an open session, or is a conclusion. What is neither changes nothing.
+
+ghost use Rattle.std.specs.Prelude.{◌≡◌, ℕ, ◌+◌, ◌-◌, ◌<◌, ◌≤◌, ◌^◌, List, map, is_some};
+ghost use Rattle.srt_seq.specs.Given.{given};
+ghost use Rattle.srt_seq.specs.Items.{told};
+ghost use Rattle.srt_seq.specs.Lift.{stamped_from};
+ghost use Rattle.srt_seq.specs.Terms.{Terms};
+ghost use Rattle.srt_packet.specs.View.{body_of, packet_of};
+ghost use Rattle.srt_pub.specs.Calls.{payload_length, ended};
+ghost use Rattle.srt_pub.specs.Heard as to_publisher;
+ghost use Rattle.srt_pub.specs.Publishing as publishing;
+ghost use Rattle.srt_pub.specs.Stands.{StandsFor as PublisherStandsFor};
+ghost use Rattle.srt_sub.specs.Endings.{is_ended, is_shutdown};
+ghost use Rattle.srt_sub.specs.Heard as to_subscriber;
+ghost use Rattle.srt_sub.specs.Says.{says};
+ghost use Rattle.srt_sub.specs.Stands.{StandsFor as SubscriberStandsFor, texts_of};
+ghost use Rattle.srt_sub.specs.Subscribing as subscribing;
+ghost use Rattle.srt_route.specs.Sessions.{Session as TheSession};
+ghost use Rattle.srt_route.specs.Route.{arrived, packet_taken, sent, taken};
+ghost use Rattle.srt_route.specs.Tables.{stored_after, written_of};
+ghost use Rattle.srt_route.specs.Media.{IsBody, IsBodyTaken, datagrams_to};
+
+use crate::admission::conclude;
+use crate::arrival::Arrival;
+use crate::conclusion::conclusion_in;
+use crate::media::Media;
+use crate::replies::Reply;
+use crate::slot::Slot;
+use crate::table::Table;
+use srt_packet::{Kind, PacketRef, decode_parts};
+use srt_pub::Publisher;
+use srt_seq::{Item, Peer};
+use srt_sub::{Subscriber, Took};
+
+/// A packet comes for the publisher that has this slot: the session is heard of, or ends.
+fn hear_publisher(slot: &mut Slot, publisher: &mut Publisher, clock: u64, packet: &PacketRef<'_>)
+    requires early { clock < 2 ^ 62 }
+    requires some { 0 < payload_length (body_of packet.now.kind) }
+    requires fits { payload_length (body_of packet.now.kind) ≤ 1456 }
+    ensures publisher { (terms : publishing.Terms) (initial opening stamp caller time : ℕ) (m : publishing.Publishing) → clock ≡ opening + time → PublisherStandsFor terms initial opening stamp caller publisher.old m → PublisherStandsFor terms initial opening stamp caller publisher.new (publishing.took terms time (stamped_from stamp packet.now.stamp) (to_publisher.heard_from initial (body_of packet.now.kind)) m) }
+    ensures slot { (terms : publishing.Terms) (initial opening stamp caller : ℕ) (m : publishing.Publishing) → PublisherStandsFor terms initial opening stamp caller publisher.old m → slot.new ≡ record { generation = slot.old.generation; session = stored_after (is_some (ended terms initial (body_of packet.now.kind) m)) clock slot.old.session } }
+{
+    let end = publisher.datagram(packet, clock);
+    slot.keep_or_end(clock, end.is_some());
+}
+
+fn is_ended(took: Took) -> bool
+    ensures { result ≡ is_ended took }
+{
+    matches!(took, Took::Ended)
+}
+
+/// A subscriber's answer goes to its peer. False if there is none.
+fn answer_of(peer: Peer, took: Took, reply: &mut Reply) -> bool
+    ensures { written_of (given result reply.new) ≡ datagrams_to peer (texts_of took reply.old.packet) }
+{
+    match took {
+        Took::Answer => {
+            reply.peer = peer;
+            true
+        }
+        Took::Nothing => false,
+        Took::Ended => false,
+    }
+}
+
+/// A packet comes for the subscriber that has this slot: the session is heard of, or ends. True if it is answered at
+/// once.
+fn hear_subscriber(
+    slot: &mut Slot,
+    subscriber: &mut Subscriber,
+    arrival: Arrival,
+    packet: &PacketRef<'_>,
+    reply: &mut Reply,
+) -> bool
+    requires early { arrival.clock < 2 ^ 62 }
+    ensures subscriber { (terms : subscribing.Terms) (initial opening caller last : ℕ) (m : subscribing.Subscribing) → SubscriberStandsFor terms initial opening caller last subscriber.old m → last ≤ arrival.clock → SubscriberStandsFor terms initial opening caller arrival.clock subscriber.new (subscribing.took (arrival.clock - opening) (to_subscriber.heard_from initial (body_of packet.now.kind)) (subscribing.expired terms (arrival.clock - opening) m)) }
+    ensures slot { slot.new ≡ record { generation = slot.old.generation; session = stored_after (is_shutdown (body_of packet.now.kind)) arrival.clock slot.old.session } }
+    ensures answer { (terms : subscribing.Terms) (initial opening caller last : ℕ) (m : subscribing.Subscribing) → SubscriberStandsFor terms initial opening caller last subscriber.old m → last ≤ arrival.clock → written_of (given result reply.new) ≡ datagrams_to arrival.peer (map (says caller initial (arrival.clock - opening)) (subscribing.answers (to_subscriber.heard_from initial (body_of packet.now.kind)))) }
+{
+    let took = subscriber.datagram(packet, arrival.clock, &mut reply.packet);
+    slot.keep_or_end(arrival.clock, is_ended(took));
+    answer_of(arrival.peer, took, reply)
+}
+
+/// A packet comes with a destination: the open session that has this ID takes it, if its peer is the sender. True if
+/// it is answered at once.
+fn to_session(
+    table: &mut Table,
+    media: &mut Media,
+    arrival: Arrival,
+    packet: &PacketRef<'_>,
+    reply: &mut Reply,
+) -> bool
+    requires early { arrival.clock < 2 ^ 62 }
+    requires some { 0 < payload_length (body_of packet.now.kind) }
+    requires fits { payload_length (body_of packet.now.kind) ≤ 1456 }
+    ensures { (e : Terms) (index : ℕ) (sessions : List TheSession) → IsBody e index arrival.clock table.old media.old sessions → IsBodyTaken e index arrival.clock table.new media.new (written_of (given result reply.new)) (arrived e index arrival.clock arrival.peer (packet_of packet.now) sessions) }
+{
+    // The least byte of a session's ID is its slot.
+    let at = (packet.dest % 256) as usize;
+    if at >= table.slots.len() {
+        return false;
+    }
+    if at >= media.subscribers.len() {
+        return false;
+    }
+    if !table.slots[at].is_for(arrival.peer, packet.dest) {
+        return false;
+    }
+    if table.slots[at].has_publisher() {
+        hear_publisher(
+            &mut table.slots[at],
+            &mut media.publisher,
+            arrival.clock,
+            packet,
+        );
+        return false;
+    }
+    hear_subscriber(
+        &mut table.slots[at],
+        &mut media.subscribers[at],
+        arrival,
+        packet,
+        reply,
+    )
+}
+
+/// A packet comes. Without a destination a conclusion alone is taken; with one it is for a session. True if it is
+/// answered at once. A data packet has a payload of 1 to 1456 bytes.
+fn to_destination(
+    table: &mut Table,
+    media: &mut Media,
+    arrival: Arrival,
+    packet: &PacketRef<'_>,
+    reply: &mut Reply,
+) -> bool
+    requires stamp { arrival.stamp ≡ packet.now.stamp }
+    requires early { arrival.clock < 2 ^ 62 }
+    requires some { 0 < payload_length (body_of packet.now.kind) }
+    requires fits { payload_length (body_of packet.now.kind) ≤ 1456 }
+    ensures body { (e : Terms) (index : ℕ) (sessions : List TheSession) → IsBody e index arrival.clock table.old media.old sessions → IsBody e index arrival.clock table.new media.new (packet_taken e index arrival.clock arrival.peer (packet_of packet.now) sessions).sessions }
+    ensures answer { (e : Terms) (index : ℕ) (sessions : List TheSession) → IsBody e index arrival.clock table.old media.old sessions → written_of (given result reply.new) ≡ map sent (packet_taken e index arrival.clock arrival.peer (packet_of packet.now) sessions).answers }
+{
+    if packet.dest != 0 {
+        return to_session(table, media, arrival, packet, reply);
+    }
+    let Kind::Handshake { info } = packet.kind else {
+        return false;
+    };
+    let Some(c) = conclusion_in(info) else {
+        return false;
+    };
+    conclude(table, media, arrival, c, reply)
+}
+
+/// An item's datagram is taken, at this clock in microseconds; a tick has none. True if it is answered at once, with
+/// `reply`. What doesn't read changes nothing.
+pub fn dispatch(
+    table: &mut Table,
+    media: &mut Media,
+    clock: u64,
+    item: &Item,
+    reply: &mut Reply,
+) -> bool
+    requires { clock < 2 ^ 62 }
+    ensures { (e : Terms) (index : ℕ) (sessions : List TheSession) → IsBody e index clock table.old media.old sessions → IsBodyTaken e index clock table.new media.new (written_of (given result reply.new)) (taken e index clock (told item.now) sessions) }
+{
+    match item {
+        Item::Tick { moment: _ } => false,
+        Item::Datagram {
+            peer,
+            moment: _,
+            head,
+            body,
+        } => match decode_parts(head, body) {
+            Ok(packet) => {
+                let arrival = Arrival {
+                    clock,
+                    peer: *peer,
+                    stamp: packet.stamp,
+                };
+                to_destination(table, media, arrival, &packet, reply)
+            }
+            Err(_) => false,
+        },
+    }
+}

@@ -1,0 +1,77 @@
+//! Step 2 of an event: sessions whose peer is idle end, and subscribers give up what is too late (sections 4.5 and 4.6).
+
+ghost use Rattle.std.specs.Prelude.{◌≡◌, ℕ, ◌<◌, ◌≤◌, ◌^◌, true, false, List, map};
+ghost use Rattle.srt_seq.specs.Terms.{Terms};
+ghost use Rattle.srt_route.specs.Sessions.{Session as TheSession, aged};
+ghost use Rattle.srt_route.specs.Tables.{session_passes, peer_idle, is_kept_subscriber, stored_aged};
+ghost use Rattle.srt_route.specs.Media.{IsBody, ExpiresTo};
+
+use crate::media::Media;
+use crate::slot::Slot;
+use crate::table::Table;
+use srt_seq::Role;
+use srt_sub::Subscriber;
+
+/// A session of which nothing was heard for this long ends: five seconds, in microseconds (this profile).
+const PEER_IDLE_TIMEOUT_US: u64 = 5_000_000;
+
+impl Slot {
+    /// Whether nothing was heard of the session for five seconds.
+    fn peer_idle(&self, clock: u64) -> bool
+        ensures { result ≡ session_passes (peer_idle clock) self.now.session }
+    {
+        match &self.session {
+            Some(session) => clock.saturating_sub(session.heard) >= PEER_IDLE_TIMEOUT_US,
+            None => false,
+        }
+    }
+
+    /// A session whose peer is idle ends, without a packet.
+    fn end_if_idle(&mut self, clock: u64)
+        ensures { self.new ≡ record { generation = self.old.generation; session = stored_aged clock self.old.session } }
+    {
+        if self.peer_idle(clock) {
+            self.session = None;
+        }
+    }
+
+    /// Whether a subscriber's session is open here that stays open.
+    fn is_kept_subscriber(&self, clock: u64) -> bool
+        ensures { result ≡ session_passes (is_kept_subscriber clock) self.now.session }
+    {
+        match &self.session {
+            Some(session) => {
+                clock.saturating_sub(session.heard) < PEER_IDLE_TIMEOUT_US
+                    && !matches!(session.role, Role::Publish)
+            }
+            None => false,
+        }
+    }
+}
+
+/// Time passes for one slot, and for the buffers of its subscriber.
+fn pass_time(slot: &mut Slot, subscriber: &mut Subscriber, clock: u64)
+    requires { clock < 2 ^ 62 }
+    ensures slot { slot.new ≡ record { generation = slot.old.generation; session = stored_aged clock slot.old.session } }
+    ensures expires { session_passes (is_kept_subscriber clock) slot.old.session ≡ true → ExpiresTo clock subscriber.old subscriber.new }
+    ensures stays { session_passes (is_kept_subscriber clock) slot.old.session ≡ false → subscriber.new ≡ subscriber.old }
+{
+    if slot.is_kept_subscriber(clock) {
+        subscriber.expire(clock);
+    }
+    slot.end_if_idle(clock);
+}
+
+/// Time passes, up to this clock in microseconds: sessions of which nothing was heard for five seconds end, and the other
+/// subscribers give up what is too late.
+pub fn end_idle(table: &mut Table, media: &mut Media, clock: u64)
+    requires early { clock < 2 ^ 62 }
+    ensures { (e : Terms) (index before : ℕ) (sessions : List TheSession) → IsBody e index before table.old media.old sessions → before ≤ clock → clock < 2 ^ 62 → IsBody e index clock table.new media.new (map (aged e clock) sessions) }
+{
+    let places = table.slots.len().min(media.subscribers.len());
+    let mut at = 0;
+    while at < places {
+        pass_time(&mut table.slots[at], &mut media.subscribers[at], clock);
+        at += 1;
+    }
+}

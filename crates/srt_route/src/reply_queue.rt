@@ -1,0 +1,130 @@
+//! Replies that wait to be sent, boxes for more, and the boxes that an event writes into.
+
+ghost use Rattle.std.specs.Prelude.{◌≡◌, ◌↔◌, ◌+◌, ◌<◌, ◌≤◌, ◌++◌, ◌∷◌, [], length, true, false, IfOk};
+ghost use Rattle.std.specs.Vec.{vec_capacity};
+ghost use Rattle.std.specs.VecDeque.{deque_capacity};
+
+use crate::replies::Reply;
+use srt_seq::Peer;
+use std::alloc::{AllocError, Global};
+use std::collections::VecDeque;
+use std::mem;
+
+/// Replies that wait, the oldest first, each in a box, and spare boxes. There are always as many boxes as at the
+/// opening: a box that is queued or taken is exchanged for another, so that no reply is moved.
+#[derive(Drop)]
+pub struct ReplyQueue {
+    replies: VecDeque<Box<Reply>>,
+    spare: Vec<Box<Reply>>,
+    ghost waits: { length replies.items + length spare.items ≤ deque_capacity replies },
+    ghost rests: { length replies.items + length spare.items ≤ vec_capacity spare },
+}
+
+/// Scratch boxes, which an event writes packets into. One that is queued is exchanged for a spare box.
+#[derive(Drop)]
+pub struct ScratchBoxes {
+    /// For an answer, and for a subscriber's packets.
+    pub reply: Box<Reply>,
+    /// For a publisher's ACK.
+    pub ack: Box<Reply>,
+    /// For a publisher's NAK.
+    pub nak: Box<Reply>,
+    /// For a publisher's KEEPALIVE.
+    pub keep_alive: Box<Reply>,
+}
+
+impl ScratchBoxes {
+    /// Four blank boxes. The only call that takes memory.
+    pub fn open(alloc: Global) -> Result<ScratchBoxes, AllocError> {
+        Ok(ScratchBoxes {
+            reply: Box::new(alloc, Reply::blank())?,
+            ack: Box::new(alloc, Reply::blank())?,
+            nak: Box::new(alloc, Reply::blank())?,
+            keep_alive: Box::new(alloc, Reply::blank())?,
+        })
+    }
+}
+
+impl ReplyQueue {
+    ghost use Rattle.srt_seq.specs.Given.{given};
+    ghost use Rattle.srt_packet.specs.Text.{text};
+    ghost use Rattle.srt_pub.specs.Calls.{texts, listed};
+    ghost use Rattle.srt_route.specs.Media.{datagrams_to};
+    ghost use Rattle.srt_route.specs.Reports.{AreSaid};
+    ghost use Rattle.srt_route.specs.Tables.{written_of};
+    ghost use Rattle.srt_route.specs.Waits.{replies_of, places_of};
+
+    /// A queue with room for this many replies, and none in it. The only call that takes memory.
+    pub fn open(alloc: Global, places: usize) -> Result<ReplyQueue, AllocError>
+        ensures empty { IfOk result (λ w. replies_of w ≡ []) }
+        ensures room { IfOk result (λ w. places_of w ≡ places) }
+    {
+        let replies = VecDeque::with_capacity(alloc, places)?;
+        let mut spare = Vec::with_capacity(alloc, places)?;
+        while spare.len() < places {
+            spare.push(Box::new(alloc, Reply::blank())?)?;
+        }
+        Ok(ReplyQueue { replies, spare })
+    }
+
+    /// Queues the reply in this box, behind those before, and replaces the box by a spare one. If there is none, nothing
+    /// changes.
+    pub fn put(&mut self, place: &mut Box<Reply>)
+        ensures places { places_of self.new ≡ places_of self.old }
+        ensures put { length (replies_of self.old) < places_of self.old → replies_of self.new ≡ replies_of self.old ++ (place.old.value ∷ []) }
+    {
+        if let Some(spare) = self.spare.pop() {
+            let reply = mem::replace(place, spare);
+            let _ = self.replies.push_back(reply);
+        }
+    }
+
+    /// Queues the reply in this box, if there is one.
+    pub fn put_if(&mut self, hand: &mut Box<Reply>, some: bool)
+        ensures { AreSaid (replies_of self.old) (replies_of self.new) (places_of self.old) (places_of self.new) (written_of (given some hand.old.value)) }
+    {
+        if some {
+            self.put(hand);
+        }
+    }
+
+    /// Queues the packet in this box as a reply to this peer.
+    pub fn put_to(&mut self, peer: Peer, hand: &mut Box<Reply>)
+        ensures { AreSaid (replies_of self.old) (replies_of self.new) (places_of self.old) (places_of self.new) (datagrams_to peer (text hand.old.value.packet ∷ [])) }
+    {
+        hand.peer = peer;
+        self.put(hand);
+    }
+
+    /// Queues the packet in this box as a reply to this peer, if there is one.
+    pub fn put_to_if(&mut self, peer: Peer, hand: &mut Box<Reply>, some: bool)
+        ensures { AreSaid (replies_of self.old) (replies_of self.new) (places_of self.old) (places_of self.new) (datagrams_to peer (texts (listed (given some hand.old.value.packet)))) }
+    {
+        if some {
+            self.put_to(peer, hand);
+        }
+    }
+
+    /// Exchanges this box for that of the oldest reply that waits, and keeps it as a spare one. False if none waits.
+    pub fn next(&mut self, place: &mut Box<Reply>) -> bool
+        ensures places { places_of self.new ≡ places_of self.old }
+        ensures first { result ≡ true → replies_of self.old ≡ place.new.value ∷ replies_of self.new }
+        ensures none { result ≡ false → (replies_of self.old ≡ []) × (self.new ≡ self.old) × (place.new ≡ place.old) }
+    {
+        if self.replies.is_empty() {
+            return false;
+        }
+        if let Some(reply) = self.replies.pop_front() {
+            let spare = mem::replace(place, reply);
+            let _ = self.spare.push(spare);
+        }
+        true
+    }
+
+    /// How many replies wait.
+    pub fn len(&self) -> usize
+        ensures { result ≡ length (replies_of self.now) }
+    {
+        self.replies.len()
+    }
+}

@@ -1,0 +1,143 @@
+//! An event of a route, in six steps; docs/PROTOCOL.md, "A route", has them in words.
+
+ghost use Rattle.std.specs.Prelude.{◌≡◌, ◌↔◌, ℕ, ◌+◌, ◌*◌, ◌<◌, ◌≤◌, ◌^◌, ◌++◌, ◌∷◌, [], List, length, None, Some, Err, IfOk, IfErr, map, max, true, false};
+ghost use Rattle.srt_seq.specs.declared.shared.OpenFault.{OpenFault as TheFault};
+ghost use Rattle.srt_seq.specs.Given.{given};
+ghost use Rattle.srt_seq.specs.Terms.{Terms, terms_of};
+ghost use Rattle.srt_seq.specs.Items.{Item as TheItem, told, moment_of};
+ghost use Rattle.srt_route.specs.Opening.{fault_of};
+ghost use Rattle.srt_route.specs.Written.{written};
+ghost use Rattle.srt_route.specs.Sessions.{Session as TheSession, is_publisher, is_subscriber, reported};
+ghost use Rattle.srt_route.specs.Route.{Route as TheRoute, sent, taken_by, delivered, packets_where, reply};
+ghost use Rattle.srt_route.specs.Tables.{written_of};
+ghost use Rattle.srt_route.specs.Waits.{replies_of, places_of};
+ghost use Rattle.srt_route.specs.Media.{IsBody};
+ghost use Rattle.srt_route.specs.Reports.{AreSaid};
+ghost use Rattle.srt_route.specs.Stands.{IsRoute, stands, waiting, places};
+
+use crate::delivery::deliver;
+use crate::dispatch::dispatch;
+use crate::idle::end_idle;
+use crate::media::Media;
+use crate::opening::check_entry;
+use crate::replies::Reply;
+use crate::reply_queue::{ReplyQueue, ScratchBoxes};
+use crate::state::Route;
+use crate::table::Table;
+use crate::transmit::{transmit_publisher, transmit_subscribers};
+use arrayvec::ArrayVec;
+use srt_seq::{Entry, Item, OpenFault};
+use std::alloc::Global;
+
+/// The later of two moments.
+fn later(clock: u64, moment: u64) -> u64
+    ensures { result ≡ max clock moment }
+{
+    clock.max(moment)
+}
+
+/// An item's moment, in microseconds.
+fn moment(item: &Item) -> u64
+    ensures { result ≡ moment_of (told item.now) }
+{
+    match item {
+        Item::Tick { moment } => *moment,
+        Item::Datagram {
+            peer: _,
+            moment,
+            head: _,
+            body: _,
+        } => *moment,
+    }
+}
+
+impl Route {
+    /// A route without sessions, at clock 0. It takes the memory of all its sessions, of 66 replies for each and 4 more,
+    /// and of 4 scratch boxes. The name is checked before the numbers.
+    pub fn open(alloc: Global, entry: &Entry, index: usize) -> Result<Route, OpenFault>
+        ensures stands { IfOk result (λ route. stands route (terms_of entry.now) index []) }
+        ensures none_waits { IfOk result (λ route. waiting route ≡ []) }
+        ensures room { IfOk result (λ route. places route ≡ 4 + 66 * entry.now.sessions) }
+        ensures sound { IfOk result (λ _. fault_of (terms_of entry.now) index ≡ None) }
+        ensures fault { (fault : TheFault) → fault_of (terms_of entry.now) index ≡ Some fault → result ≡ Err fault }
+        ensures memory { fault_of (terms_of entry.now) index ≡ None → IfErr result (λ fault. fault ≡ OpenFault.OutOfMemory) }
+    {
+        check_entry(entry, index)?;
+        let table = Table::open(alloc, entry, index)?;
+        let media = Media::open(alloc, entry)?;
+        let room = 4 + 66 * (entry.sessions as usize);
+        let Ok(waiting) = ReplyQueue::open(alloc, room) else {
+            return Err(OpenFault::OutOfMemory);
+        };
+        let Ok(scratch) = ScratchBoxes::open(alloc) else {
+            return Err(OpenFault::OutOfMemory);
+        };
+        Ok(Route {
+            clock: 0,
+            table,
+            media,
+            payload: ArrayVec::new(),
+            scratch,
+            waiting,
+        })
+    }
+
+    /// One event: the route takes an item. Returns how many replies wait then. Takes no memory.
+    pub fn step(&mut self, item: Item) -> usize
+        requires none_waits { waiting self.old ≡ [] }
+        requires timely { moment_of (told item) < 2 ^ 62 }
+        ensures count { result ≡ length (waiting self.new) }
+        ensures stands { (e : Terms) (index : ℕ) (items : List TheItem) → stands self.old e index items → stands self.new e index (told item ∷ items) }
+        ensures replies { (e : Terms) (index : ℕ) (items : List TheItem) → stands self.old e index items → waiting self.new ≡ reply e index (told item ∷ items) }
+    {
+        // 1: the clock never goes back.
+        self.clock = later(self.clock, moment(&item));
+        // 2: idle sessions end, and what is too late is dropped.
+        end_idle(&mut self.table, &mut self.media, self.clock);
+        // 3: a datagram is for a session, or is a conclusion.
+        let answered = dispatch(
+            &mut self.table,
+            &mut self.media,
+            self.clock,
+            &item,
+            &mut self.scratch.reply,
+        );
+        self.waiting.put_if(&mut self.scratch.reply, answered);
+        // 4: payloads go from the publisher to the subscribers.
+        deliver(&self.table, &mut self.media, self.clock, &mut self.payload);
+        // 5: the publisher's packets.
+        transmit_publisher(
+            &self.table,
+            &mut self.media,
+            self.clock,
+            &mut self.scratch,
+            &mut self.waiting,
+        );
+        // 6: the subscribers' packets.
+        transmit_subscribers(
+            &self.table,
+            &mut self.media,
+            self.clock,
+            &mut self.scratch.reply,
+            &mut self.waiting,
+        );
+        self.waiting.len()
+    }
+
+    /// Whether a reply waits.
+    pub fn waits(&self) -> bool
+        ensures { (result ≡ true) ↔ (0 < length (waiting self.now)) }
+    {
+        self.waiting.len() > 0
+    }
+
+    /// Exchanges the box in `place` for that of the oldest reply that waits, and keeps it for later replies. False if
+    /// none waits; then nothing changes. Takes no memory.
+    pub fn next_reply(&mut self, place: &mut Box<Reply>) -> bool
+        ensures first { result ≡ true → waiting self.old ≡ written place.new.value ∷ waiting self.new }
+        ensures none { result ≡ false → (waiting self.old ≡ []) × (self.new ≡ self.old) × (place.new ≡ place.old) }
+        ensures stands { (e : Terms) (index : ℕ) (items : List TheItem) → stands self.old e index items → stands self.new e index items }
+    {
+        self.waiting.next(place)
+    }
+}

@@ -1,0 +1,165 @@
+//! Slots for sessions, and the sessions' socket IDs.
+
+ghost use Rattle.std.specs.Prelude.{◌≡◌, ℕ, ◌+◌, ◌*◌, ◌%◌, ◌^◌, ◌<◌, true, false, None, Some, position, length, option_map};
+ghost use Rattle.std.specs.List.{list_any};
+ghost use Rattle.srt_seq.specs.Given.{given};
+ghost use Rattle.srt_route.specs.Sessions.{is_same_peer, id_of, publishes};
+ghost use Rattle.srt_route.specs.Tables.{is_session_of, session_passes, holds, has_publisher, is_vacant, heard_at, again_of, is_stored_for, stored_after, written_of};
+
+use crate::answer::answer_to;
+use crate::replies::Reply;
+use srt_hs::HsAnswer;
+use srt_seq::{Peer, Role};
+
+/// An open session.
+#[derive(Drop)]
+pub struct Session {
+    /// The caller's address.
+    pub peer: Peer,
+    /// The caller's socket ID.
+    pub caller: u32,
+    /// The session's socket ID.
+    pub id: u32,
+    /// What the caller does.
+    pub role: Role,
+    /// When it was last heard of, in microseconds.
+    pub heard: u64,
+    /// The answer to its conclusion.
+    pub answer: HsAnswer,
+}
+
+/// A slot for a session.
+#[derive(Drop)]
+pub struct Slot {
+    /// How many sessions the slot had, modulo 2^16.
+    pub generation: u16,
+    /// The open one.
+    pub session: Option<Session>,
+}
+
+fn publishes(role: Role) -> bool
+    ensures { result ≡ publishes role }
+{
+    matches!(role, Role::Publish)
+}
+
+/// Whether two addresses are one.
+pub fn is_same_peer(peer: Peer, other: Peer) -> bool
+    ensures { result ≡ is_same_peer peer other }
+{
+    peer.ip == other.ip && peer.port == other.port
+}
+
+impl Slot {
+    fn holds(&self, peer: Peer, caller: u32) -> bool
+        ensures { result ≡ holds peer caller self.now }
+    {
+        match &self.session {
+            Some(session) => is_same_peer(session.peer, peer) && session.caller == caller,
+            None => false,
+        }
+    }
+
+    /// Whether a publisher's session is open here.
+    pub fn has_publisher(&self) -> bool
+        ensures { result ≡ has_publisher self.now }
+    {
+        match &self.session {
+            Some(session) => publishes(session.role),
+            None => false,
+        }
+    }
+
+    fn is_vacant(&self) -> bool
+        ensures { result ≡ is_vacant self.now }
+    {
+        self.session.is_none()
+    }
+
+    /// A slot that had no session yet.
+    pub fn vacant() -> Slot
+        ensures { result ≡ record { generation = 0; session = None } }
+    {
+        Slot {
+            generation: 0,
+            session: None,
+        }
+    }
+
+    /// A session opens here.
+    pub fn fill(&mut self, session: Session)
+        ensures { self.new ≡ record { generation = (self.old.generation + 1) % 65536; session = Some session } }
+    {
+        self.generation = self.generation.wrapping_add(1);
+        self.session = Some(session);
+    }
+
+    /// The conclusion of the session comes again: it is heard of, and its answer is the first one. False if no session
+    /// is open here.
+    pub fn again(&mut self, clock: u64, peer: Peer, reply: &mut Reply) -> bool
+        ensures slot { self.new ≡ record { generation = self.old.generation; session = option_map (heard_at clock) self.old.session } }
+        ensures answer { written_of (given result reply.new) ≡ again_of peer self.old.session }
+    {
+        match &mut self.session {
+            Some(session) => {
+                session.heard = clock;
+                answer_to(reply, peer, session.caller, &session.answer);
+                true
+            }
+            None => false,
+        }
+    }
+
+    /// Whether a packet from this peer to this socket ID is for its session.
+    pub fn is_for(&self, peer: Peer, dest: u32) -> bool
+        ensures { result ≡ session_passes (is_stored_for peer dest) self.now.session }
+    {
+        match &self.session {
+            Some(session) => is_same_peer(session.peer, peer) && session.id == dest,
+            None => false,
+        }
+    }
+
+    /// A packet comes for the session: it is heard of, or ends.
+    pub fn keep_or_end(&mut self, clock: u64, ends: bool)
+        ensures { self.new ≡ record { generation = self.old.generation; session = stored_after ends clock self.old.session } }
+    {
+        if ends {
+            self.session = None;
+            return;
+        }
+        if let Some(session) = &mut self.session {
+            session.heard = clock;
+        }
+    }
+}
+
+/// The first slot with a session of this caller.
+pub fn slot_of(slots: &[Slot], peer: Peer, caller: u32) -> Option<usize>
+    ensures { result ≡ position (holds peer caller) slots.now }
+{
+    slots.iter().position(|slot| slot.holds(peer, caller))
+}
+
+/// Whether a publisher has a session.
+pub fn have_publisher(slots: &[Slot]) -> bool
+    ensures { result ≡ list_any has_publisher slots.now }
+{
+    slots.iter().any(|slot| slot.has_publisher())
+}
+
+/// The first slot without a session.
+pub fn free_slot(slots: &[Slot]) -> Option<usize>
+    ensures { result ≡ position is_vacant slots.now }
+{
+    slots.iter().position(|slot| slot.is_vacant())
+}
+
+/// The socket ID of a session (this profile): the route, the generation modulo 4096, and the slot.
+pub fn id_at(index: u32, generation: u16, at: usize) -> u32
+    requires index { index < 511 }
+    requires slot { at < 17 }
+    ensures { (count : ℕ) → generation ≡ count % 65536 → result ≡ id_of index count at }
+{
+    (index + 1) * (1 << 20) + u32::from(generation % 4096) * 256 + at as u32
+}
