@@ -28,37 +28,10 @@ use Rattle.srt_route.specs.Sessions.{Session, is_open_in, publishes, terms_of, t
 use Rattle.srt_route.specs.Route.{is_for, took_if, said_by, sent, answered_by, arrived}
 use Rattle.srt_route.specs.Tables.{AreStored, IsTable, has_publisher, session_passes, stored_after}
 use Rattle.srt_route.specs.Media.{IsPast, IsSeated, IsBody, IsBodyTaken, datagrams_to}
+use Rattle.srt_route.specs.OneSession.{PublisherTook, PublisherEnds, SubscriberTook, SubscriberAnswers}
 use Rattle.srt_route.proofs.Found.{found_passes, open_parts, same_peer_is}
 use Rattle.srt_route.proofs.Stored.{IsHere, IsForNone, takes, slot_took, none_took, none_found_for}
 use Rattle.srt_route.proofs.Seats.{seats_kept, other_publisher, took_kept}
-
--- a publisher's buffers that took a packet, as the call says it
-abbrev pub PublisherTook : (clock : ℕ) → Packet → (old new : Publisher) → Type 0
-PublisherTook clock packet old new =
-    (terms : publishing.Terms) (initial opening stamp caller time : ℕ) (m : publishing.Publishing) → clock ≡ opening + time
-    → publisher.StandsFor terms initial opening stamp caller old m
-    → publisher.StandsFor terms initial opening stamp caller new (publishing.took terms time (stamped_from stamp packet.stamp) (to_publisher.heard_from initial packet.body) m)
-
--- its slot
-abbrev pub PublisherEnds : (clock : ℕ) → Packet → Publisher → (slot new : Slot) → Type 0
-PublisherEnds clock packet old slot new =
-    (terms : publishing.Terms) (initial opening stamp caller : ℕ) (m : publishing.Publishing)
-    → publisher.StandsFor terms initial opening stamp caller old m
-    → new ≡ record { generation = slot.generation; session = stored_after (is_some (ended terms initial packet.body m)) clock slot.session }
-
--- a subscriber's
-abbrev pub SubscriberTook : (clock : ℕ) → Packet → (old new : Subscriber) → Type 0
-SubscriberTook clock packet old new =
-    (terms : subscribing.Terms) (initial opening caller last : ℕ) (m : subscribing.Subscribing)
-    → subscriber.StandsFor terms initial opening caller last old m → last ≤ clock
-    → subscriber.StandsFor terms initial opening caller clock new (subscribing.took (clock - opening) (to_subscriber.heard_from initial packet.body) (subscribing.expired terms (clock - opening) m))
-
--- and what it answers
-abbrev pub SubscriberAnswers : (clock : ℕ) → Peer → Packet → Subscriber → List Datagram → Type 0
-SubscriberAnswers clock peer packet old replies =
-    (terms : subscribing.Terms) (initial opening caller last : ℕ) (m : subscribing.Subscribing)
-    → subscriber.StandsFor terms initial opening caller last old m → last ≤ clock
-    → replies ≡ datagrams_to peer (map (says caller initial (clock - opening)) (subscribing.answers (to_subscriber.heard_from initial packet.body)))
 
 -- how a publisher's session ends
 lost_is : (b : Bool) → is_some (lost_if b) ≡ b

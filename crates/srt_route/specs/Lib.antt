@@ -16,3 +16,4 @@ pub mod Admission
 pub mod Stands
 pub mod Delivery
 pub mod Reports
+pub mod OneSession

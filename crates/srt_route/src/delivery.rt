@@ -2,7 +2,6 @@
 
 ghost use Rattle.std.specs.Prelude.{◌≡◌, ℕ, ◌-◌, ◌<◌, ◌≤◌, ◌^◌, true, false, Some, None, List, map, find, position, length, unwrap_or};
 ghost use Rattle.srt_seq.specs.Terms.{Terms};
-ghost use Rattle.srt_seq.specs.declared.shared.Mode.TheVariants.{Buffer};
 ghost use Rattle.srt_sendbuf.specs.Sending.{room};
 ghost use Rattle.srt_pub.specs.Publishing.{Publishing};
 ghost use Rattle.srt_pub.specs.Calls.{next_delivery, after_delivery, room_after};
@@ -12,6 +11,7 @@ ghost use Rattle.srt_route.specs.Sessions.{Session, terms_of, is_open_in, time_i
 ghost use Rattle.srt_route.specs.Route.{least_room, delivered};
 ghost use Rattle.srt_route.specs.Tables.{has_publisher};
 ghost use Rattle.srt_route.specs.Media.{IsBody};
+ghost use Rattle.srt_route.specs.OneSession.{SubscriberFed};
 ghost use Rattle.srt_route.specs.Delivery.{has_subscriber, lesser, changed, fed, turned, is_given, IsPublisherAt, HaveRoom};
 
 use crate::media::Media;
@@ -81,7 +81,7 @@ fn least_room(table: &Table, media: &Media) -> Option<u32>
 fn feed_slot(slot: &Slot, subscriber: &mut Subscriber, clock: u64, payload: &Payload)
     requires { clock < 2 ^ 62 }
     ensures none { has_subscriber slot.now ≡ false → subscriber.new ≡ subscriber.old }
-    ensures some { has_subscriber slot.now ≡ true → (terms : subscribing.Terms) (initial opening caller : ℕ) (m : subscribing.Subscribing) → subscribers.StandsFor terms initial opening caller clock subscriber.old m → 0 < length payload.now.items → (terms.mode ≡ Buffer → 0 < room terms.width m.sending) → subscribers.StandsFor terms initial opening caller clock subscriber.new (subscribing.fed terms (clock - opening) payload.now.items (subscribing.expired terms (clock - opening) m)) }
+    ensures some { has_subscriber slot.now ≡ true → SubscriberFed clock payload.now.items subscriber.old subscriber.new }
 {
     if has_subscriber(slot) {
         let _ = subscriber.feed(payload, clock);

@@ -3,22 +3,16 @@
 ghost use Rattle.std.specs.Prelude.{◌≡◌, ℕ, ◌+◌, ◌-◌, ◌<◌, ◌≤◌, ◌^◌, List, map, is_some};
 ghost use Rattle.srt_seq.specs.Given.{given};
 ghost use Rattle.srt_seq.specs.Items.{told};
-ghost use Rattle.srt_seq.specs.Lift.{stamped_from};
 ghost use Rattle.srt_seq.specs.Terms.{Terms};
 ghost use Rattle.srt_packet.specs.View.{body_of, packet_of};
-ghost use Rattle.srt_pub.specs.Calls.{payload_length, ended};
-ghost use Rattle.srt_pub.specs.Heard as to_publisher;
-ghost use Rattle.srt_pub.specs.Publishing as publishing;
-ghost use Rattle.srt_pub.specs.Stands.{StandsFor as PublisherStandsFor};
+ghost use Rattle.srt_pub.specs.Calls.{payload_length};
 ghost use Rattle.srt_sub.specs.Endings.{is_ended, is_shutdown};
-ghost use Rattle.srt_sub.specs.Heard as to_subscriber;
-ghost use Rattle.srt_sub.specs.Says.{says};
-ghost use Rattle.srt_sub.specs.Stands.{StandsFor as SubscriberStandsFor, texts_of};
-ghost use Rattle.srt_sub.specs.Subscribing as subscribing;
+ghost use Rattle.srt_sub.specs.Stands.{texts_of};
 ghost use Rattle.srt_route.specs.Sessions.{Session as TheSession};
 ghost use Rattle.srt_route.specs.Route.{arrived, packet_taken, sent, taken};
 ghost use Rattle.srt_route.specs.Tables.{stored_after, written_of};
 ghost use Rattle.srt_route.specs.Media.{IsBody, IsBodyTaken, datagrams_to};
+ghost use Rattle.srt_route.specs.OneSession.{PublisherTook, PublisherEnds, SubscriberTook, SubscriberAnswers};
 
 use crate::admission::conclude;
 use crate::arrival::Arrival;
@@ -37,8 +31,8 @@ fn hear_publisher(slot: &mut Slot, publisher: &mut Publisher, clock: u64, packet
     requires early { clock < 2 ^ 62 }
     requires some { 0 < payload_length (body_of packet.now.kind) }
     requires fits { payload_length (body_of packet.now.kind) ≤ 1456 }
-    ensures publisher { (terms : publishing.Terms) (initial opening stamp caller time : ℕ) (m : publishing.Publishing) → clock ≡ opening + time → PublisherStandsFor terms initial opening stamp caller publisher.old m → PublisherStandsFor terms initial opening stamp caller publisher.new (publishing.took terms time (stamped_from stamp packet.now.stamp) (to_publisher.heard_from initial (body_of packet.now.kind)) m) }
-    ensures slot { (terms : publishing.Terms) (initial opening stamp caller : ℕ) (m : publishing.Publishing) → PublisherStandsFor terms initial opening stamp caller publisher.old m → slot.new ≡ record { generation = slot.old.generation; session = stored_after (is_some (ended terms initial (body_of packet.now.kind) m)) clock slot.old.session } }
+    ensures publisher { PublisherTook clock (packet_of packet.now) publisher.old publisher.new }
+    ensures slot { PublisherEnds clock (packet_of packet.now) publisher.old slot.old slot.new }
 {
     let end = publisher.datagram(packet, clock);
     slot.keep_or_end(clock, end.is_some());
@@ -74,9 +68,9 @@ fn hear_subscriber(
     reply: &mut Reply,
 ) -> bool
     requires early { arrival.clock < 2 ^ 62 }
-    ensures subscriber { (terms : subscribing.Terms) (initial opening caller last : ℕ) (m : subscribing.Subscribing) → SubscriberStandsFor terms initial opening caller last subscriber.old m → last ≤ arrival.clock → SubscriberStandsFor terms initial opening caller arrival.clock subscriber.new (subscribing.took (arrival.clock - opening) (to_subscriber.heard_from initial (body_of packet.now.kind)) (subscribing.expired terms (arrival.clock - opening) m)) }
+    ensures subscriber { SubscriberTook arrival.clock (packet_of packet.now) subscriber.old subscriber.new }
     ensures slot { slot.new ≡ record { generation = slot.old.generation; session = stored_after (is_shutdown (body_of packet.now.kind)) arrival.clock slot.old.session } }
-    ensures answer { (terms : subscribing.Terms) (initial opening caller last : ℕ) (m : subscribing.Subscribing) → SubscriberStandsFor terms initial opening caller last subscriber.old m → last ≤ arrival.clock → written_of (given result reply.new) ≡ datagrams_to arrival.peer (map (says caller initial (arrival.clock - opening)) (subscribing.answers (to_subscriber.heard_from initial (body_of packet.now.kind)))) }
+    ensures answer { SubscriberAnswers arrival.clock arrival.peer (packet_of packet.now) subscriber.old (written_of (given result reply.new)) }
 {
     let took = subscriber.datagram(packet, arrival.clock, &mut reply.packet);
     slot.keep_or_end(arrival.clock, is_ended(took));

@@ -50,7 +50,7 @@ impl ReplyQueue {
     ghost use Rattle.srt_packet.specs.Text.{text};
     ghost use Rattle.srt_pub.specs.Calls.{texts, listed};
     ghost use Rattle.srt_route.specs.Media.{datagrams_to};
-    ghost use Rattle.srt_route.specs.Reports.{AreSaid};
+    ghost use Rattle.srt_route.specs.Reports.{Queues};
     ghost use Rattle.srt_route.specs.Tables.{written_of};
     ghost use Rattle.srt_route.specs.Waits.{replies_of, places_of};
 
@@ -81,7 +81,7 @@ impl ReplyQueue {
 
     /// Queues the reply in this box, if there is one.
     pub fn put_if(&mut self, hand: &mut Box<Reply>, some: bool)
-        ensures { AreSaid (replies_of self.old) (replies_of self.new) (places_of self.old) (places_of self.new) (written_of (given some hand.old.value)) }
+        ensures { Queues self.old self.new (written_of (given some hand.old.value)) }
     {
         if some {
             self.put(hand);
@@ -90,7 +90,7 @@ impl ReplyQueue {
 
     /// Queues the packet in this box as a reply to this peer.
     pub fn put_to(&mut self, peer: Peer, hand: &mut Box<Reply>)
-        ensures { AreSaid (replies_of self.old) (replies_of self.new) (places_of self.old) (places_of self.new) (datagrams_to peer (text hand.old.value.packet ∷ [])) }
+        ensures { Queues self.old self.new (datagrams_to peer (text hand.old.value.packet ∷ [])) }
     {
         hand.peer = peer;
         self.put(hand);
@@ -98,7 +98,7 @@ impl ReplyQueue {
 
     /// Queues the packet in this box as a reply to this peer, if there is one.
     pub fn put_to_if(&mut self, peer: Peer, hand: &mut Box<Reply>, some: bool)
-        ensures { AreSaid (replies_of self.old) (replies_of self.new) (places_of self.old) (places_of self.new) (datagrams_to peer (texts (listed (given some hand.old.value.packet)))) }
+        ensures { Queues self.old self.new (datagrams_to peer (texts (listed (given some hand.old.value.packet)))) }
     {
         if some {
             self.put_to(peer, hand);

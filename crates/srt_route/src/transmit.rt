@@ -3,19 +3,12 @@
 
 ghost use Rattle.std.specs.Prelude.{◌≡◌, ℕ, ◌+◌, ◌-◌, ◌<◌, ◌≤◌, ◌^◌, [], true, false, Some, List, map, length};
 ghost use Rattle.srt_seq.specs.Terms.{Terms};
-ghost use Rattle.srt_seq.specs.Given.{given};
-ghost use Rattle.srt_pub.specs.Publishing as publishing;
-ghost use Rattle.srt_pub.specs.Says as publisher_text;
-ghost use Rattle.srt_pub.specs.Stands as publishers;
-ghost use Rattle.srt_sub.specs.Subscribing as subscribing;
-ghost use Rattle.srt_sub.specs.Says as subscriber_text;
-ghost use Rattle.srt_sub.specs.Stands as subscribers;
-ghost use Rattle.srt_route.specs.Sessions.{Session as TheSession, publishes, is_publisher, is_subscriber};
+ghost use Rattle.srt_route.specs.Sessions.{Session as TheSession, is_publisher, is_subscriber};
 ghost use Rattle.srt_route.specs.Route.{packets_where, sent};
-ghost use Rattle.srt_route.specs.Media.{IsBody, datagrams_to};
+ghost use Rattle.srt_route.specs.Media.{IsBody};
 ghost use Rattle.srt_route.specs.Delivery.{has_subscriber, changed, after_publisher, after_subscriber};
-ghost use Rattle.srt_route.specs.Waits.{replies_of, places_of};
-ghost use Rattle.srt_route.specs.Reports.{AreSaid};
+ghost use Rattle.srt_route.specs.Reports.{Queues};
+ghost use Rattle.srt_route.specs.OneSession.{PublisherReported, PublisherSaid, SubscriberReported, SubscriberSaid};
 ghost use Rattle.srt_route.specs.declared.slot.Session.{Session as StoredSession};
 
 use crate::delivery::{has_subscriber, publisher_slot};
@@ -40,8 +33,8 @@ fn transmit_reports(
     waiting: &mut ReplyQueue,
 )
     requires { clock < 2 ^ 62 }
-    ensures stands { (terms : publishing.Terms) (initial opening stamp caller time : ℕ) (m : publishing.Publishing) → clock ≡ opening + time → publishers.StandsFor terms initial opening stamp caller publisher.old m → publishers.StandsFor terms initial opening stamp caller publisher.new (publishing.reported terms time m) }
-    ensures said { (terms : publishing.Terms) (initial opening stamp caller time : ℕ) (m : publishing.Publishing) → clock ≡ opening + time → publishers.StandsFor terms initial opening stamp caller publisher.old m → AreSaid (replies_of waiting.old) (replies_of waiting.new) (places_of waiting.old) (places_of waiting.new) (datagrams_to peer (map (publisher_text.says caller initial time) (publishing.reports terms time m))) }
+    ensures stands { PublisherReported clock publisher.old publisher.new }
+    ensures said { PublisherSaid clock peer publisher.old waiting.old waiting.new }
 {
     let reports = publisher.tick(
         clock,
@@ -64,7 +57,7 @@ pub fn transmit_publisher(
 )
     requires { clock < 2 ^ 62 }
     ensures body { (e : Terms) (index : ℕ) (sessions : List TheSession) → IsBody e index clock table.now media.old sessions → IsBody e index clock table.now media.new (map (changed (after_publisher e clock)) sessions) }
-    ensures said { (e : Terms) (index : ℕ) (sessions : List TheSession) → IsBody e index clock table.now media.old sessions → AreSaid (replies_of waiting.old) (replies_of waiting.new) (places_of waiting.old) (places_of waiting.new) (map sent (packets_where e clock is_publisher sessions)) }
+    ensures said { (e : Terms) (index : ℕ) (sessions : List TheSession) → IsBody e index clock table.now media.old sessions → Queues waiting.old waiting.new (map sent (packets_where e clock is_publisher sessions)) }
 {
     let Some(at) = publisher_slot(&table.slots) else {
         return;
@@ -84,8 +77,8 @@ fn transmit_subscriber(
     waiting: &mut ReplyQueue,
 )
     requires { clock < 2 ^ 62 }
-    ensures stands { (terms : subscribing.Terms) (initial opening caller : ℕ) (m : subscribing.Subscribing) → subscribers.StandsFor terms initial opening caller clock subscriber.old m → subscribing.expired terms (clock - opening) m ≡ m → subscribers.StandsFor terms initial opening caller clock subscriber.new (subscribing.reported terms (clock - opening) m) }
-    ensures said { (terms : subscribing.Terms) (initial opening caller : ℕ) (m : subscribing.Subscribing) → subscribers.StandsFor terms initial opening caller clock subscriber.old m → subscribing.expired terms (clock - opening) m ≡ m → AreSaid (replies_of waiting.old) (replies_of waiting.new) (places_of waiting.old) (places_of waiting.new) (datagrams_to peer (map (subscriber_text.says caller initial (clock - opening)) (subscribing.reports terms (clock - opening) m))) }
+    ensures stands { SubscriberReported clock subscriber.old subscriber.new }
+    ensures said { SubscriberSaid clock peer subscriber.old waiting.old waiting.new }
 {
     for turn in 0..CALLS_MAX {
         if !subscriber.emit(clock, &mut hand.packet) {
@@ -105,9 +98,9 @@ fn transmit_slot(
 )
     requires { clock < 2 ^ 62 }
     ensures none { has_subscriber slot.now ≡ false → subscriber.new ≡ subscriber.old }
-    ensures silent { has_subscriber slot.now ≡ false → AreSaid (replies_of waiting.old) (replies_of waiting.new) (places_of waiting.old) (places_of waiting.new) [] }
-    ensures stands { has_subscriber slot.now ≡ true → (terms : subscribing.Terms) (initial opening caller : ℕ) (m : subscribing.Subscribing) → subscribers.StandsFor terms initial opening caller clock subscriber.old m → subscribing.expired terms (clock - opening) m ≡ m → subscribers.StandsFor terms initial opening caller clock subscriber.new (subscribing.reported terms (clock - opening) m) }
-    ensures said { has_subscriber slot.now ≡ true → (t : StoredSession) (terms : subscribing.Terms) (initial opening caller : ℕ) (m : subscribing.Subscribing) → slot.now.session ≡ Some t → subscribers.StandsFor terms initial opening caller clock subscriber.old m → subscribing.expired terms (clock - opening) m ≡ m → AreSaid (replies_of waiting.old) (replies_of waiting.new) (places_of waiting.old) (places_of waiting.new) (datagrams_to t.peer (map (subscriber_text.says caller initial (clock - opening)) (subscribing.reports terms (clock - opening) m))) }
+    ensures silent { has_subscriber slot.now ≡ false → Queues waiting.old waiting.new [] }
+    ensures stands { has_subscriber slot.now ≡ true → SubscriberReported clock subscriber.old subscriber.new }
+    ensures said { has_subscriber slot.now ≡ true → (t : StoredSession) → slot.now.session ≡ Some t → SubscriberSaid clock t.peer subscriber.old waiting.old waiting.new }
 {
     if !has_subscriber(slot) {
         return;
@@ -127,7 +120,7 @@ pub fn transmit_subscribers(
 )
     requires { clock < 2 ^ 62 }
     ensures body { (e : Terms) (index : ℕ) (sessions : List TheSession) → IsBody e index clock table.now media.old sessions → IsBody e index clock table.now media.new (map (changed (after_subscriber e clock)) sessions) }
-    ensures said { (e : Terms) (index : ℕ) (sessions : List TheSession) → IsBody e index clock table.now media.old sessions → AreSaid (replies_of waiting.old) (replies_of waiting.new) (places_of waiting.old) (places_of waiting.new) (map sent (packets_where e clock is_subscriber sessions)) }
+    ensures said { (e : Terms) (index : ℕ) (sessions : List TheSession) → IsBody e index clock table.now media.old sessions → Queues waiting.old waiting.new (map sent (packets_where e clock is_subscriber sessions)) }
 {
     for at in 0..table.slots.len() {
         if let Some(subscriber) = media.subscribers.get_mut(at) {

@@ -27,7 +27,7 @@ loop-at-preserved c e index ss body =
       | in-Some w ↦
           subst (λ (v : _). IsTold e c.args.clock (c.loop-at.at + 1) c.match-get_mut.media ss (replies_of c.args.waiting.now) (replies_of v) (places_of c.args.waiting.now) (places_of v)) (sym w.waiting-is)
           (tell_step e index c.args.clock c.args.table.now c.args.media.now c.loop-at.media c.match-get_mut.media ss c.loop-at.at w.index.result.now w.in-Some.subscriber.now w.transmit_slot.new.subscriber (replies_of c.args.waiting.now) (replies_of c.loop-at.waiting) (replies_of w.transmit_slot.new.waiting) _ _ _
-          body below w.index.ensures w.in-Some.ensures.value w.transmit_slot.ensures.none w.transmit_slot.ensures.stands w.transmit_slot.ensures.silent w.transmit_slot.ensures.said w.media-is h)
+          body below w.index.ensures w.in-Some.ensures.value w.transmit_slot.ensures.none w.transmit_slot.ensures.stands w.transmit_slot.ensures.silent (λ h t terms initial opening caller m is. w.transmit_slot.ensures.said h t is terms initial opening caller m) w.media-is h)
       | in_default w ↦
           let there : IsSome c.get_mut.result = c.get_mut.ensures.variant.1 (omega (arith, below, h.half.as_many, c.loop-at.media.subscribers.ok.0)) in
           absurd (not_there c.get_mut.result w.in_default.is there)
