@@ -1,4 +1,4 @@
-use Rattle.std.proofs.Common.{◌∙◌, None, refl, sym, ap}
+use Rattle.std.proofs.Common.{◌∙◌, None, sym, ap}
 use Rattle.std.specs.List.{list_any, position}
 use Rattle.srt_route.specs.Tables.{has_publisher, is_vacant}
 use Rattle.srt_route.proofs.Stored.{free_at, none_free}

@@ -1,4 +1,4 @@
-use Rattle.std.proofs.Common.{◌≡◌, ◌<◌, ◌∙◌, refl, sym, ap, arith}
+use Rattle.std.proofs.Common.{◌<◌, ◌∙◌, refl, sym, arith}
 use Rattle.srt_route.specs.Sessions.{generation_of}
 use Rattle.srt_route.proofs.Stored.{free_is_vacant}
 use Rattle.srt_route.proofs.Steps.{not_admitted, is_admitted, opened_taken, alone_opens}
