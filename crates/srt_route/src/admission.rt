@@ -60,7 +60,7 @@ fn agreed_ms(mode: Mode, ours: u16, theirs: u16) -> u16
     }
 }
 
-/// What a session of this conclusion agrees on with its route: the greater of both delays, and the lesser MTU.
+/// What a route and a conclusion agree on: in live mode the greater of both delays in each direction, and the lesser MTU.
 fn agree(mode: Mode, latency_ms: u16, c: &Conclusion) -> Agreement
     ensures { (e : Terms) → mode ≡ e.mode → latency_ms ≡ e.latency_ms → result ≡ agreement_of e c.now }
 {
@@ -72,8 +72,7 @@ fn agree(mode: Mode, latency_ms: u16, c: &Conclusion) -> Agreement
     }
 }
 
-/// Why a conclusion opens no session, of the first reason that applies: 1012, 1004, 1002. Only with a slot to open
-/// in is there one more, in `admit`.
+/// The first reason that applies why a conclusion opens no session, whatever slots are free: 1012, 1004 or 1002.
 fn refused(mode: Mode, has_publisher: bool, c: &Conclusion) -> Option<RefusalCode>
     ensures { result ≡ refused mode has_publisher c.now }
 {

@@ -1,4 +1,4 @@
-//! Conclusions (draft-sharabayko-srt-01, sections 3.2.1 and 4.3.1.2).
+//! What a conclusion says (draft-sharabayko-srt-01, sections 3.2.1 and 4.3.1.2).
 
 ghost use Rattle.std.specs.Prelude.{◌≡◌, ◌^◌, ◌<◌, IfSome};
 ghost use Rattle.srt_hs.specs.View.{handshake_of, text_of};
@@ -26,7 +26,7 @@ pub struct Conclusion {
     pub sender_ms: u16,
     /// What the caller wants of the route.
     pub role: Role,
-    /// The words of the CONGESTION block as they came.
+    /// The words of the congestion control block as they came, 1 to 4.
     pub congestion: Option<CongestionText>,
 }
 
@@ -36,7 +36,7 @@ fn is_conclusion(kind: HsKind) -> bool
     matches!(kind, HsKind::Conclusion)
 }
 
-/// The role that a handshake's Stream ID asks for. None where there is no Stream ID, or one that doesn't read.
+/// The role that a handshake's Stream ID asks for (appendix B). None if there is no Stream ID, or one with a fault.
 fn role_asked(hs: &HsRef<'_>) -> Option<Role>
     ensures { result ≡ role_asked (handshake_of hs.now).blocks.stream_id }
 {
@@ -77,8 +77,8 @@ fn conclusion_of(hs: &HsRef<'_>) -> Option<Conclusion>
     })
 }
 
-/// The conclusion that the bytes after a packet's header are. None where they are no handshake, or one that no
-/// session can be opened with.
+/// Reads a conclusion from the bytes after a packet's header. None if they are no conclusion of version 5 with an initial
+/// number below 2^31, an HSREQ and a Stream ID.
 #[tactic(auto, unfolding(crate::specs::Conclusions::conclusion_in))]
 pub fn conclusion_in(info: &[u8]) -> Option<Conclusion>
     ensures value { result ≡ conclusion_in info.now }

@@ -9,15 +9,15 @@ use srt_seq::Peer;
 /// A packet that a route sends.
 #[derive(Drop)]
 pub struct Reply {
-    /// To whom.
+    /// The receiver.
     pub peer: Peer,
-    /// What; it can be written.
+    /// What is sent; it can be written.
     pub packet: Packet,
     pub ghost writable: { is_writable packet.body ≡ true },
 }
 
 impl Reply {
-    /// A place for replies: a KEEPALIVE to nobody, to be written over.
+    /// A blank reply, to be written over: a KEEPALIVE to no address.
     pub fn blank() -> Reply
         ensures { result.packet.body ≡ Body.KeepAlive }
     {
