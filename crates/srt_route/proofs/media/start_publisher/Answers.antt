@@ -12,4 +12,4 @@ returns c e d same caller wide fits =
     (subst (λ (t : Terms). StandsFor t (word_of c.args.initial) c.args.arrival.clock c.args.arrival.stamp c.args.caller c.start.new.self opened)
     (publisher_terms e d c.args.agreement (width_of c.args.publisher.now) (c.from-delay.result * 1000) same wide (omega (arith, c.from-delay.ensures)))
     (subst (λ (n : ℕ). StandsFor (record { mode = c.args.agreement.mode; width = width_of c.args.publisher.now; delay = c.from-delay.result * 1000 }) (word_of c.args.initial) c.args.arrival.clock n c.args.caller c.start.new.self opened) c.new.ensures
-    (c.start.ensures.stands (omega (arith, wide, fits)))))
+    c.start.ensures.stands))
