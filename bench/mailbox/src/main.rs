@@ -1,5 +1,6 @@
 //! The mailbox's structure in plain Rust: a route between two bounded queues of many producers and consumers, behind a
-//! claim word, with replies in boxes that come back. The route answers each item with a copy of 80 bytes.
+//! claim word, with replies in boxes that come back and of which the last is used first. The route replies to each item by
+//! writing a whole box, as the gateway's does.
 use std::cell::UnsafeCell;
 use std::mem::MaybeUninit;
 use std::sync::atomic::{AtomicBool, AtomicU64, AtomicUsize, Ordering::SeqCst};
@@ -56,6 +57,11 @@ impl<T> Queue<T> {
         }
     }
 
+    fn is_empty(&self) -> bool {
+        let head = self.head.load(SeqCst);
+        self.tail.load(SeqCst) == head
+    }
+
     fn pop(&self) -> Option<T> {
         let mut head = self.head.load(SeqCst);
         loop {
@@ -79,13 +85,32 @@ impl<T> Queue<T> {
     }
 }
 
+/// A datagram, as large as the gateway's.
+const DATAGRAM: usize = 1472;
+
 struct Reply {
-    #[allow(dead_code)]
-    bytes: [u8; 1500],
+    peer: [u8; 18],
+    bytes: [u8; DATAGRAM],
 }
 
 fn blank() -> Box<Reply> {
-    Box::new(Reply { bytes: [0; 1500] })
+    Box::new(Reply { peer: [0; 18], bytes: [0; DATAGRAM] })
+}
+
+/// Empty boxes that come back, and a stock.
+struct Boxes {
+    returned: Arc<Queue<Box<Reply>>>,
+    stock: Vec<Box<Reply>>,
+}
+
+impl Boxes {
+    fn empty_box(&mut self) -> Box<Reply> {
+        for _ in 0..2 {
+            let Some(place) = self.returned.pop() else { break };
+            self.stock.push(place);
+        }
+        self.stock.pop().unwrap()
+    }
 }
 
 /// An item of the inbox, as large as the gateway's.
@@ -97,17 +122,42 @@ struct Item {
     body: Vec<u8>,
 }
 
-/// What the route stands for here: it answers an item with a word.
+/// What the route stands for here: it replies to an item with a datagram that it has at hand.
 struct Route {
     clock: u64,
+    datagram: [u8; DATAGRAM],
     waiting: Vec<Box<Reply>>,
     spare: Vec<Box<Reply>>,
+}
+
+impl Route {
+    fn new() -> Route {
+        Route { clock: 0, datagram: [7; DATAGRAM], waiting: Vec::with_capacity(4), spare: vec![blank(), blank()] }
+    }
+
+    fn step(&mut self, item: Item) -> usize {
+        self.clock = self.clock.max(item.moment);
+        if item.polled && item.head[0] == 0x80 && !item.body.is_empty() {
+            let mut place = self.spare.pop().unwrap();
+            place.peer = item.peer;
+            place.bytes.copy_from_slice(std::hint::black_box(&self.datagram));
+            place.bytes[0] = item.body[0];
+            self.waiting.push(place);
+        }
+        self.waiting.len()
+    }
+
+    fn next_reply(&mut self, place: &mut Box<Reply>) {
+        if let Some(reply) = self.waiting.pop() {
+            self.spare.push(std::mem::replace(place, reply));
+        }
+    }
 }
 
 struct Running {
     inbox: Arc<Queue<Item>>,
     outbox: Arc<Queue<Box<Reply>>>,
-    spares: Arc<Queue<Box<Reply>>>,
+    boxes: Boxes,
     route: Box<Route>,
     held: Option<Box<Reply>>,
     waiting: usize,
@@ -129,10 +179,8 @@ impl Running {
             let reply = match self.held.take() {
                 Some(reply) => reply,
                 None => {
-                    let mut place = self.spares.pop().unwrap();
-                    std::mem::swap(&mut place, self.route.waiting.last_mut().unwrap());
-                    let spare = self.route.waiting.pop().unwrap();
-                    self.route.spare.push(spare);
+                    let mut place = self.boxes.empty_box();
+                    self.route.next_reply(&mut place);
                     place
                 }
             };
@@ -147,15 +195,12 @@ impl Running {
                 }
             };
         }
+        if self.inbox.is_empty() {
+            return Served::Idle;
+        }
         match self.inbox.pop() {
             Some(item) => {
-                self.route.clock = self.route.clock.max(item.moment);
-                if item.polled && item.head[0] == 0x80 && item.peer[0] == 0 && !item.body.is_empty() {
-                    let mut place = self.route.spare.pop().unwrap();
-                    place.bytes[0] = item.body[0];
-                    self.route.waiting.push(place);
-                    self.waiting = 1;
-                }
+                self.waiting = self.route.step(item);
                 self.taken = self.taken.saturating_add(1);
                 Served::Applied
             }
@@ -164,9 +209,11 @@ impl Running {
     }
 }
 
+/// Two of them share no cache line.
+#[repr(align(128))]
 struct Cell {
     word: AtomicU64,
-    place: UnsafeCell<Option<Running>>,
+    place: UnsafeCell<Option<Box<Running>>>,
 }
 
 unsafe impl Sync for Cell {}
@@ -189,7 +236,7 @@ impl Cell {
 
 struct Drain {
     outbox: Arc<Queue<Box<Reply>>>,
-    spares: Arc<Queue<Box<Reply>>>,
+    returned: Arc<Queue<Box<Reply>>>,
     hand: Box<Reply>,
 }
 
@@ -197,7 +244,7 @@ impl Drain {
     fn take(&mut self) -> bool {
         let Some(reply) = self.outbox.pop() else { return false };
         let empty = std::mem::replace(&mut self.hand, reply);
-        let _ = self.spares.push(empty);
+        let _ = self.returned.push(empty);
         true
     }
 }
@@ -205,14 +252,14 @@ impl Drain {
 fn open(capacity: usize) -> (Arc<Queue<Item>>, Cell, Drain) {
     let inbox = Arc::new(Queue::new(capacity));
     let outbox = Arc::new(Queue::new(capacity));
-    let spares = Arc::new(Queue::new(capacity + 3));
+    let returned = Arc::new(Queue::new(capacity + 3));
     for _ in 0..capacity + 2 {
-        let _ = spares.push(blank());
+        let _ = returned.push(blank());
     }
-    let route = Box::new(Route { clock: 0, waiting: Vec::with_capacity(4), spare: vec![blank(), blank()] });
-    let running = Running { inbox: inbox.clone(), outbox: outbox.clone(), spares: spares.clone(), route, held: None, waiting: 0, taken: 0 };
-    let cell = Cell { word: AtomicU64::new(0), place: UnsafeCell::new(Some(running)) };
-    (inbox, cell, Drain { outbox, spares, hand: blank() })
+    let boxes = Boxes { returned: returned.clone(), stock: Vec::with_capacity(capacity + 3) };
+    let running = Running { inbox: inbox.clone(), outbox: outbox.clone(), boxes, route: Box::new(Route::new()), held: None, waiting: 0, taken: 0 };
+    let cell = Cell { word: AtomicU64::new(0), place: UnsafeCell::new(Some(Box::new(running))) };
+    (inbox, cell, Drain { outbox, returned, hand: blank() })
 }
 
 fn item(body: &[u8]) -> Item {
@@ -225,24 +272,16 @@ fn shown(name: &str, start: Instant, calls: u64) {
 
 /// The same items without the queues: what the route itself costs, and the copy of each body.
 fn alone() {
-    let mut route = Route { clock: 0, waiting: Vec::with_capacity(4), spare: vec![blank(), blank()] };
-    let mut hand = blank();
-    let body = [7u8; 76];
+    let mut route = Route::new();
+    let mut place = blank();
+    let body = [7u8; 92];
     let start = Instant::now();
     for _ in 0..CALLS {
-        let item = std::hint::black_box(item(&body));
-        route.clock = route.clock.max(item.moment);
-        if item.polled && item.head[0] == 0x80 && item.peer[0] == 0 && !item.body.is_empty() {
-            let mut place = route.spare.pop().unwrap();
-            place.bytes[0] = item.body[0];
-            route.waiting.push(place);
-        }
-        let mut place = route.waiting.pop().unwrap();
-        std::mem::swap(&mut hand, &mut place);
-        route.spare.push(place);
+        route.step(std::hint::black_box(item(&body)));
+        route.next_reply(&mut place);
+        std::hint::black_box(&mut place);
     }
     shown("alone", start, CALLS);
-    std::hint::black_box(hand);
 }
 
 fn idle() {
@@ -256,13 +295,13 @@ fn idle() {
 
 fn through() {
     let (inbox, cell, mut drain) = open(256);
-    let body = [7u8; 76];
+    let body = [7u8; 92];
     let start = Instant::now();
     for _ in 0..CALLS {
         let _ = inbox.push(std::hint::black_box(item(&body)));
         cell.serve(&mut || true);
         cell.serve(&mut || true);
-        drain.take();
+        std::hint::black_box(drain.take());
     }
     shown("through", start, CALLS);
 }

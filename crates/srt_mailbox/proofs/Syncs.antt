@@ -44,7 +44,9 @@ use Rattle.srt_mailbox.proofs.inbox.Taker.TheSendSync as taker_is
 use Rattle.srt_mailbox.proofs.outbox.Putter.TheSendSync as putter_is
 use Rattle.srt_mailbox.specs.contracts.cells.RouteCell as cell
 use Rattle.srt_mailbox.specs.contracts.cells.Label as label
-use Rattle.srt_mailbox.specs.contracts.cells.RunningFits.TheImpl as running_fits
+use Rattle.srt_mailbox.specs.contracts.cells.Boxed as boxed_route
+use Rattle.srt_mailbox.specs.contracts.cells.BoxedFits.TheImpl as boxed_fits
+use Rattle.srt_mailbox.specs.contracts.spares.Boxes as boxes
 
 pub seat_sync : (S V : RattleType) → IsSend S → IsSync (seat.the_row S V)
 seat_sync S V s = record { shared = λ d b o ν q. part_keyless (seat.the_row S V) (seat_is.the_send S V s) q d b o }
@@ -88,32 +90,44 @@ snapshot_send Y = record { owned = λ d vs. ((λ vss. (tt, ((λ uss. (tt, tt)), 
 snapshot_sync : (Y : RattleType) → IsSync (snapshot.the_row Y)
 snapshot_sync Y = record { shared = λ d b o κ q. part_keyless (snapshot.the_row Y) (snapshot_send Y) q d b o }
 
-abbrev spares : RattleType
-spares = plain.the_row (box_of reply.the_row) heap_c.the_row heap_impl.ghosts
+abbrev returned : RattleType
+returned = plain.the_row (box_of reply.the_row) heap_c.the_row heap_impl.ghosts
 
-spares_send : IsSend spares
-spares_send = plain_is.the_send (box_of reply.the_row) heap_c.the_row heap_impl.ghosts (heap.Box-send _ reply_is.the_send) heap.send heap.frees
+returned_send : IsSend returned
+returned_send = plain_is.the_send (box_of reply.the_row) heap_c.the_row heap_impl.ghosts (heap.Box-send _ reply_is.the_send) heap.send heap.frees
 
-spares_sync : IsSync spares
-spares_sync = plain_is.the_sync (box_of reply.the_row) heap_c.the_row heap_impl.ghosts (heap.Box-send _ reply_is.the_send) heap.send heap.sync heap.frees
+returned_sync : IsSync returned
+returned_sync = plain_is.the_sync (box_of reply.the_row) heap_c.the_row heap_impl.ghosts (heap.Box-send _ reply_is.the_send) heap.send heap.sync heap.frees
+
+boxes_send : IsSend (boxes.the_field).row
+boxes_send = (struct_send (shape boxes.the_type) (heap.Arc-send returned returned_send returned_sync, (heap.Vec-send (box_of reply.the_row) (heap.Box-send _ reply_is.the_send), tt)))
+
+boxes_sync : IsSync (boxes.the_field).row
+boxes_sync = (struct_sync (shape boxes.the_type) (heap.Arc-sync returned returned_send returned_sync, (heap.Vec-sync (box_of reply.the_row) (heap.Box-sync _ reply_is.the_sync), tt)))
 
 putter_in_sync : IsSync putter_in.the_row
-putter_in_sync = recorded_sync (putter_in.the_field).row _ _ putter_in.the_type.to_one (struct_sync (shape putter_in.the_type) (heap.Arc-sync outbox_queue outbox_queue_send outbox_queue_sync, (seat_sync _ _ option_box, (heap.Arc-sync spares spares_send spares_sync, tt))))
+putter_in_sync = recorded_sync (putter_in.the_field).row _ _ putter_in.the_type.to_one (struct_sync (shape putter_in.the_type) (heap.Arc-sync outbox_queue outbox_queue_send outbox_queue_sync, (seat_sync _ _ option_box, tt)))
 
 putter_sync : IsSync putter.the_row
 putter_sync = view_sync _ _ _ _ _ putter_in_sync
 
 running_in_send : IsSend running_in.the_row
-running_in_send = recorded_send (running_in.the_field).row _ _ running_in.the_type.to_one (struct_send (shape running_in.the_type) (taker_is.the_send, (putter_is.the_send, (heap.Box-send route.the_row route_is.the_send, (option_is.the_field_send _ (heap.Box-send _ reply_is.the_send), (search sendable, (search sendable, (snapshot_send entry.the_row, (snapshot_send builtin.usize, tt)))))))))
+running_in_send = recorded_send (running_in.the_field).row _ _ running_in.the_type.to_one (struct_send (shape running_in.the_type) (taker_is.the_send, (putter_is.the_send, (boxes_send, (heap.Box-send route.the_row route_is.the_send, (option_is.the_field_send _ (heap.Box-send _ reply_is.the_send), (search sendable, (search sendable, (snapshot_send entry.the_row, (snapshot_send builtin.usize, tt))))))))))
 
 running_send : IsSend running.the_row
 running_send = view_send _ _ _ _ _ running_in_send
 
 running_in_sync : IsSync running_in.the_row
-running_in_sync = recorded_sync (running_in.the_field).row _ _ running_in.the_type.to_one (struct_sync (shape running_in.the_type) (taker_sync, (putter_sync, (heap.Box-sync route.the_row route_is.the_sync, (option_is.the_field_sync _ (heap.Box-sync _ reply_is.the_sync), (search sendable, (search sendable, (snapshot_sync entry.the_row, (snapshot_sync builtin.usize, tt)))))))))
+running_in_sync = recorded_sync (running_in.the_field).row _ _ running_in.the_type.to_one (struct_sync (shape running_in.the_type) (taker_sync, (putter_sync, (boxes_sync, (heap.Box-sync route.the_row route_is.the_sync, (option_is.the_field_sync _ (heap.Box-sync _ reply_is.the_sync), (search sendable, (search sendable, (snapshot_sync entry.the_row, (snapshot_sync builtin.usize, tt))))))))))
 
 running_sync : IsSync running.the_row
 running_sync = view_sync _ _ _ _ _ running_in_sync
+
+boxed_send : IsSend boxed_route.the_row
+boxed_send = recorded_send (boxed_route.the_field).row _ _ boxed_route.the_type.to_one (struct_send (shape boxed_route.the_type) (heap.Box-send running.the_row running_send, tt))
+
+boxed_sync : IsSync boxed_route.the_row
+boxed_sync = recorded_sync (boxed_route.the_field).row _ _ boxed_route.the_type.to_one (struct_sync (shape boxed_route.the_type) (heap.Box-sync running.the_row running_sync, tt))
 
 -- a route behind its claim word may go to another thread
 pub cell_send : IsSend cell.the_row
@@ -121,9 +135,9 @@ cell_send = recorded_send (cell.the_field).row _ _ cell.the_type.to_one
     (struct_send (shape cell.the_type) (
       search sendable,
       (
-        counted.the_send (option.the_row running.the_row) label.the_row (option_fits.ghosts running.the_row label.the_row running_fits.ghosts option_fits.no_dict)
-            (option_is.the_send running.the_row running_send),
-        tt,
+        counted.the_send (option.the_row boxed_route.the_row) label.the_row (option_fits.ghosts boxed_route.the_row label.the_row boxed_fits.ghosts option_fits.no_dict)
+            (option_is.the_send boxed_route.the_row boxed_send),
+        (search sendable, tt),
       ),
     ))
 
@@ -133,8 +147,8 @@ cell_sync = recorded_sync (cell.the_field).row _ _ cell.the_type.to_one
     (struct_sync (shape cell.the_type) (
       search sendable,
       (
-        counted.the_sync (option.the_row running.the_row) label.the_row (option_fits.ghosts running.the_row label.the_row running_fits.ghosts option_fits.no_dict)
-            (option_is.the_send running.the_row running_send) (option_is.the_sync running.the_row running_sync),
-        tt,
+        counted.the_sync (option.the_row boxed_route.the_row) label.the_row (option_fits.ghosts boxed_route.the_row label.the_row boxed_fits.ghosts option_fits.no_dict)
+            (option_is.the_send boxed_route.the_row boxed_send) (option_is.the_sync boxed_route.the_row boxed_sync),
+        (search sendable, tt),
       ),
     ))

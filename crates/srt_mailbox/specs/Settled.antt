@@ -1,5 +1,5 @@
 -- The account of a route.
-use Rattle.std.specs.Prelude.{◌≡◌, ℕ, List, ◌++◌, length, map}
+use Rattle.std.specs.Prelude.{◌≡◌, List, ◌++◌, length, map}
 use Rattle.srt_seq.specs.Items.{Datagram}
 use Rattle.srt_route.specs.declared.replies.Reply.{Reply}
 use Rattle.srt_route.specs.Route.{solo}

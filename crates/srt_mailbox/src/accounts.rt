@@ -47,7 +47,7 @@ pub fn settle<R: Wait>(
     ensures settled { IfOk result (λ account. Settles account (name_in cell) ingress clock drain) }
     ensures busy { IfErr result (λ ends. (ends.ingress ≡ ingress) × (ends.clock ≡ clock) × (ends.cell ≡ cell) × (ends.drain ≡ drain)) }
 {
-    let Some(running) = cell.claim() else {
+    let Some(boxed) = cell.claim() else {
         return Err(Unsettled {
             ingress,
             clock,
@@ -55,7 +55,7 @@ pub fn settle<R: Wait>(
             drain,
         });
     };
-    let parts = running.into_parts();
+    let parts = Box::into_inner(boxed.running).into_parts();
     let left = parts.taker.settle(rt, ingress, clock);
     let (queued, drained) = parts.putter.settle(rt, drain);
     Ok(Account {

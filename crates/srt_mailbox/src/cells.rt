@@ -36,35 +36,44 @@ impl Model for Label {
     ghost view = { λ s. name_of (terms_of s.entry.value) s.index.value (arc_value s.inbox).table.shared.table_id (arc_value s.outbox).table.shared.table_id };
 }
 
-impl Fits for Running {
+/// A route in its box: a claim moves the box twice, and the route stays where it is.
+#[derive(Drop)]
+pub struct Boxed {
+    pub(crate) running: Box<Running>,
+}
+
+impl Fits for Boxed {
     ghost use Rattle.srt_mailbox.specs.Cells.{Bears};
 
     type Tag = Label;
 
-    ghost fits = { λ label running. Bears label running };
+    ghost fits = { λ label boxed. Bears label boxed.running.value };
 }
 
 /// A route that workers share. Whoever has claimed it has it alone; the place is empty while a call has the route.
 #[derive(Drop)]
 pub struct RouteCell {
     index: usize,
-    slot: Counted<Option<Running>>,
+    slot: Counted<Option<Boxed>>,
+    // 64 bytes between the words of two cells that lie side by side, which therefore share no cache line
+    _apart: [u64; 8],
 }
 
 impl RouteCell {
-    pub(crate) fn new(index: usize, running: Running, label: &Label) -> RouteCell
-        requires { Bears label.now running }
+    pub(crate) fn new(index: usize, boxed: Boxed, label: &Label) -> RouteCell
+        requires { Bears label.now boxed.running.value }
         ensures { name_in result ≡ label.now }
     {
         RouteCell {
             index,
-            slot: Counted::new(Some(running), label),
+            slot: Counted::new(Some(boxed), label),
+            _apart: [0; 8],
         }
     }
 
     // Takes the route out, if nobody else has it.
-    pub(crate) fn claim(&self) -> Option<Running>
-        ensures { IfSome result (λ r. Bears (name_in self.now) r) }
+    pub(crate) fn claim(&self) -> Option<Boxed>
+        ensures { IfSome result (λ r. Bears (name_in self.now) r.running.value) }
     {
         let (found, claim) = self.slot.turn(FREE, TAKEN);
         if found != FREE {
@@ -75,13 +84,13 @@ impl RouteCell {
     }
 
     // Puts the route back. No claim lasts long here, so this alone may try again.
-    fn give_back<R: Wait>(&self, rt: &R, running: Running)
-        requires { Bears (name_in self.now) running }
+    fn give_back<R: Wait>(&self, rt: &R, boxed: Boxed)
+        requires { Bears (name_in self.now) boxed.running.value }
     {
         for _ in rt.forever() {
             let (found, claim) = self.slot.turn(PRESENT, TAKEN);
             if found == PRESENT {
-                let _ = claim.put(Some(running), FREE);
+                let _ = claim.put(Some(boxed), FREE);
                 return;
             }
             claim.done();
@@ -94,15 +103,15 @@ impl RouteCell {
     pub fn serve<R: Wait, G: Gate>(&self, rt: &R, gate: &mut G) -> Served
         ensures held { result ≡ Held → Grew (G.held gate.old) (G.held gate.new) }
     {
-        let Some(mut running) = self.claim() else {
+        let Some(mut boxed) = self.claim() else {
             return Served::Busy;
         };
         let served = if gate.pass(self.index) {
-            Served::Turned(running.turn(rt))
+            Served::Turned(boxed.running.turn(rt))
         } else {
             Served::Held
         };
-        self.give_back(rt, running);
+        self.give_back(rt, boxed);
         served
     }
 }

@@ -123,6 +123,10 @@ impl Taker {
             ((self.new ≡ self.old) × Held 0 (StoodAsTaken self.old.taken))
             (λ x. self.new ≡ consumer self.old.queue self.old.capacity (self.old.taken ++ x ∷ [])) }
     {
+        // An empty inbox is seen by two loads, without a place for an item on the way back.
+        if self.queue.is_empty_as::<Takes>(&mut self.pass) {
+            return None;
+        }
         self.queue.pop_as::<Takes, R>(rt, &mut self.pass)
     }
 

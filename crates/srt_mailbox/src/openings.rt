@@ -8,10 +8,10 @@ ghost use Rattle.srt_route.specs.Stands.{stands, waiting};
 ghost use Rattle.srt_mailbox.specs.Ends.{producer, drained};
 ghost use Rattle.srt_mailbox.specs.Names.{name_in};
 
-use crate::cells::{Label, RouteCell};
+use crate::cells::{Boxed, Label, RouteCell};
 use crate::inbox::{ClockEnd, Ingress, open_inbox};
 use crate::outbox::{Drain, open_outbox};
-use crate::running::Running;
+use crate::running::{Ends, Running};
 use srt_route::Route;
 use srt_seq::{Entry, OpenFault};
 use std::alloc::{AllocError, Global};
@@ -35,7 +35,7 @@ fn joined<R: Wait>(
     ensures drain { IfOk result (λ r. r.3 ≡ drained (name_in r.2).outbox entry.now.outbox [] r.3.hand) }
 {
     let (ingress, clock, taker) = open_inbox(alloc, entry.inbox as usize)?;
-    let (putter, drain) = open_outbox(rt, alloc, entry.outbox as usize)?;
+    let (putter, drain, boxes) = open_outbox(rt, alloc, entry.outbox as usize)?;
     let label = Label {
         inbox: taker.share()?,
         outbox: putter.share()?,
@@ -43,13 +43,15 @@ fn joined<R: Wait>(
         index: Snapshot::of(&index),
     };
     let route = Box::new(alloc, route)?;
-    let running = Running::new(taker, putter, route, entry, index);
-    Ok((
-        ingress,
-        clock,
-        RouteCell::new(index, running, &label),
-        drain,
-    ))
+    let ends = Ends {
+        taker,
+        putter,
+        boxes,
+    };
+    let boxed = Boxed {
+        running: Box::new(alloc, Running::new(ends, route, entry, index))?,
+    };
+    Ok((ingress, clock, RouteCell::new(index, boxed, &label), drain))
 }
 
 /// A route that was told nothing, with the ends of its two empty queues: the poller's and the clock's of the inbox, the

@@ -9,19 +9,18 @@ ghost use Rattle.srt_mailbox.specs.Ends.{pipe, drained};
 ghost use Rattle.srt_mailbox.specs.Outbox.{StoodAsPut, StoodAsDrained};
 
 use crate::outbox_rule::{Draining, Drains, Left, Outbox, OutboxPass, Puts};
-use crate::spares::{Spares, empty_box, open_spares};
+use crate::spares::{Boxes, Returned};
 use srt_route::Reply;
 use std::alloc::{AllocError, Global};
 use std::marker::Model;
 use std::mem;
 use std::sync::{Arc, Wait};
 
-/// The route's own end of its outbox, with the way back of the empty boxes.
+/// The route's own end of its outbox.
 #[derive(Drop)]
 pub struct Putter {
     queue: Arc<Outbox>,
     pass: OutboxPass,
-    spares: Arc<Spares>,
 }
 
 impl Model for Putter {
@@ -44,7 +43,7 @@ impl Model for Putter {
 pub struct Drain {
     queue: Arc<Outbox>,
     pass: OutboxPass,
-    spares: Arc<Spares>,
+    returned: Arc<Returned>,
     hand: Box<Reply>,
     // how many replies were drained; it stops at 2^64 - 1
     count: u64,
@@ -74,11 +73,6 @@ impl Putter {
         self.queue.push_as::<Puts, R>(rt, &mut self.pass, reply)
     }
 
-    /// An empty box, to be filled.
-    pub fn empty_box<R: Wait>(&self, rt: &R) -> Box<Reply> {
-        empty_box(rt, &self.spares)
-    }
-
     /// Returns how many replies are left, once the other end is here again. The replies drained and then those left
     /// are what was put.
     pub fn settle<R: Wait>(self, rt: &R, drain: Drain) -> (usize, u64)
@@ -86,15 +80,11 @@ impl Putter {
         ensures left { (left : List TheReply) × (length left ≡ result.0) × (self.put ≡ drain.through ++ left) }
         ensures drained { result.1 ≡ counted (length drain.through) }
     {
-        let Putter {
-            queue,
-            mut pass,
-            spares: _,
-        } = self;
+        let Putter { queue, mut pass } = self;
         let Drain {
             queue: _,
             pass: drains,
-            spares: _,
+            returned: _,
             hand: _,
             count,
         } = drain;
@@ -121,7 +111,7 @@ impl Drain {
         match self.queue.pop_as::<Drains, R>(rt, &mut self.pass) {
             Some(reply) => {
                 let empty = mem::replace(&mut self.hand, reply);
-                let _ = self.spares.push(rt, empty);
+                let _ = self.returned.push(rt, empty);
                 self.count = self.count.saturating_add(1);
                 true
             }
@@ -137,12 +127,12 @@ impl Drain {
     }
 }
 
-/// The two ends of a new outbox, which holds nothing.
+/// The two ends of a new outbox, which holds nothing, and the empty boxes between them.
 pub fn open_outbox<R: Wait>(
     rt: &R,
     alloc: Global,
     capacity: usize,
-) -> Result<(Putter, Drain), AllocError>
+) -> Result<(Putter, Drain, Boxes), AllocError>
     requires { (0 < capacity) × (capacity ≤ 4096) }
     ensures { IfOk result (λ r. (r.0 ≡ pipe r.0.queue capacity []) × (r.1 ≡ drained r.0.queue capacity [] r.1.hand)) }
 {
@@ -150,20 +140,16 @@ pub fn open_outbox<R: Wait>(
     let drains = queue.another::<Draining>(&mut pass);
     let ours = Arc::new(alloc, queue)?;
     let theirs = Arc::try_clone(&ours)?;
-    let spares = open_spares(rt, alloc, capacity + 2)?;
-    let back = Arc::try_clone(&spares)?;
+    let boxes = Boxes::open(rt, alloc, capacity + 2)?;
+    let returned = boxes.share()?;
     let hand = Box::new(alloc, Reply::blank())?;
-    let putter = Putter {
-        queue: ours,
-        pass,
-        spares,
-    };
+    let putter = Putter { queue: ours, pass };
     let drain = Drain {
         queue: theirs,
         pass: drains,
-        spares: back,
+        returned,
         hand,
         count: 0,
     };
-    Ok((putter, drain))
+    Ok((putter, drain, boxes))
 }

@@ -10,17 +10,27 @@ ghost use Rattle.srt_mailbox.specs.Runs.{run, waiting_at, Replays, TurnedAs};
 
 use crate::inbox::Taker;
 use crate::outbox::Putter;
+use crate::spares::Boxes;
 use srt_route::{Reply, Route};
 use srt_seq::{Entry, Turned};
 use std::marker::Model;
 use std::snapshot::Snapshot;
 use std::sync::Wait;
 
-/// A route with its own ends of the inbox and of the outbox. It is small, since a claim moves it by value twice.
+/// A route's own ends of its two queues, and its empty boxes.
+#[derive(Drop)]
+pub(crate) struct Ends {
+    pub taker: Taker,
+    pub putter: Putter,
+    pub boxes: Boxes,
+}
+
+/// A route with its own ends of the inbox and of the outbox, and its empty boxes.
 #[derive(Drop)]
 pub struct Running {
     taker: Taker,
     putter: Putter,
+    boxes: Boxes,
     route: Box<Route>,
     // a reply that a full outbox handed back: the first that waits
     held: Option<Box<Reply>>,
@@ -54,7 +64,7 @@ fn next_waiting<R: Wait>(
     rt: &R,
     held: &mut Option<Box<Reply>>,
     route: &mut Route,
-    putter: &Putter,
+    boxes: &mut Boxes,
 ) -> Box<Reply>
     requires { 0 < length (waiting_at held.old route.old) }
     ensures stands { (e : Terms) (index : ℕ) (items : List TheItem) → stands route.old e index items → stands route.new e index items }
@@ -64,28 +74,28 @@ fn next_waiting<R: Wait>(
     if let Some(reply) = held.take() {
         return reply;
     }
-    let mut place = putter.empty_box(rt);
+    let mut place = boxes.empty_box(rt);
     let _ = route.next_reply(&mut place);
     place
 }
 
 impl Running {
     /// A route that was told nothing, at ends that nothing went through.
-    pub(crate) fn new(
-        taker: Taker,
-        putter: Putter,
-        route: Box<Route>,
-        entry: &Entry,
-        index: usize,
-    ) -> Running
+    pub(crate) fn new(ends: Ends, route: Box<Route>, entry: &Entry, index: usize) -> Running
         requires fresh { stands route.value (terms_of entry.now) index [] }
         requires none_waits { waiting route.value ≡ [] }
-        requires empty { (taker.taken ≡ []) × (putter.put ≡ []) }
-        ensures { result ≡ run (terms_of entry.now) index taker putter [] }
+        requires empty { (ends.taker.taken ≡ []) × (ends.putter.put ≡ []) }
+        ensures { result ≡ run (terms_of entry.now) index ends.taker ends.putter [] }
     {
+        let Ends {
+            taker,
+            putter,
+            boxes,
+        } = ends;
         Running {
             taker,
             putter,
+            boxes,
             route,
             held: None,
             waiting: 0,
@@ -100,7 +110,7 @@ impl Running {
         requires { 0 < length self.old.waiting }
         ensures { TurnedAs result self.old self.new }
     {
-        let reply = next_waiting(rt, &mut self.held, &mut self.route, &self.putter);
+        let reply = next_waiting(rt, &mut self.held, &mut self.route, &mut self.boxes);
         match self.putter.put(rt, reply) {
             Ok(()) => {
                 self.waiting -= 1;
@@ -158,6 +168,7 @@ impl Running {
         let Running {
             taker,
             putter,
+            boxes: _,
             route: _,
             held: _,
             waiting,

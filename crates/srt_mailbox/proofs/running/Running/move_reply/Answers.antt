@@ -1,4 +1,4 @@
-use Rattle.std.proofs.Common.{◌≡◌, ◌++◌, ◌∷◌, [], map, length, sym, ap, ◌∙◌, subst, rules, arith}
+use Rattle.std.proofs.Common.{◌≡◌, ◌++◌, ◌∷◌, [], map, length, sym, ap, ◌∙◌, subst, arith}
 use Rattle.srt_seq.specs.Terms.{terms_of}
 use Rattle.srt_route.specs.Stands.{waiting}
 use Rattle.srt_route.specs.Written.{written}
