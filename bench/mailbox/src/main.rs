@@ -7,7 +7,7 @@ use std::sync::atomic::{AtomicBool, AtomicU64, AtomicUsize, Ordering::SeqCst};
 use std::sync::Arc;
 use std::time::Instant;
 
-const CALLS: u64 = 2_000_000;
+const CALLS: u64 = 100_000;
 
 struct Slot<T> {
     stamp: AtomicUsize,
@@ -324,11 +324,11 @@ fn workers(name: &str, cells: &[&Cell]) {
                 })
             })
             .collect();
-        std::thread::sleep(std::time::Duration::from_millis(500));
+        std::thread::sleep(std::time::Duration::from_millis(50));
         done.store(true, SeqCst);
         handles.into_iter().map(|it| it.join().unwrap()).sum()
     });
-    println!("{name} {} ns", 500_000_000u64 * 100 / turns.max(1));
+    println!("{name} {} ns", 50_000_000u64 * 100 / turns.max(1));
 }
 
 fn main() {
