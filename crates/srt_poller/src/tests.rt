@@ -4,6 +4,8 @@
 ghost use Rattle.std.specs.Prelude.{◌≡◌, ◌<◌, ◌≤◌, ◌^◌, IfOk, length};
 ghost use Rattle.srt_lobby.specs.Names.{names_of};
 
+mod faults;
+
 use crate::{
     BindFault, ClockScript, Ends, MioSource, MioWire, Polled, Read, Report, ScriptDatagram, Sent,
     Source, SourceScript, SourceStep, Wire, WireScript, pump,
@@ -333,53 +335,46 @@ fn a_reply_that_meets_a_failure_is_lost(rt: HostRuntime) -> Result<(), Fail> {
     Ok(())
 }
 
-/// A source that serves a route whenever it waits, and gives one conclusion a round.
+/// Serves a route until it has nothing to do or is blocked, and returns whether it is blocked.
+fn serve_all<R: Wait>(rt: &R, cell: &RouteCell) -> bool {
+    let mut gate = Open;
+    for _ in 0..64u32 {
+        match cell.serve(rt, &mut gate) {
+            Served::Turned(Turned::Applied) | Served::Turned(Turned::Moved) => {}
+            Served::Turned(Turned::Blocked) => return true,
+            _ => return false,
+        }
+    }
+    false
+}
+
+/// A source that serves a route whenever it waits, and does what its script says.
 #[derive(Drop)]
 struct Serving<'a, R: Wait> {
     rt: &'a R,
     cell: &'a RouteCell,
-    bytes: Vec<u8>,
-    left: u32,
-    given: bool,
+    script: SourceScript,
     blocked: u32,
 }
 
 impl<'a, R: Wait> Source for Serving<'a, R> {
-    ghost use Rattle.std.specs.Prelude.{None};
+    ghost failures = { λ s. ⟦<SourceScript as Source>⟧.failures s.script };
 
-    ghost failures = { λ s. 0 };
-
-    ghost gave = { λ s. None };
+    ghost gave = { λ s. ⟦<SourceScript as Source>⟧.gave s.script };
 
     fn wait(&mut self) -> Polled {
-        let mut gate = Open;
-        self.given = false;
-        for _ in 0..64u32 {
-            match self.cell.serve(self.rt, &mut gate) {
-                Served::Turned(Turned::Applied) | Served::Turned(Turned::Moved) => {}
-                Served::Turned(Turned::Blocked) => {
-                    self.blocked = self.blocked.saturating_add(1);
-                    return Polled::Ready;
-                }
-                _ => return Polled::Ready,
-            }
+        if serve_all(self.rt, self.cell) {
+            self.blocked = self.blocked.saturating_add(1);
         }
-        Polled::Ready
+        self.script.wait()
     }
 
     fn next(&mut self, buffer: &mut [u8; 2048]) -> Read {
-        if self.given || self.left == 0 {
-            return Read::Empty;
-        }
-        self.given = true;
-        self.left -= 1;
-        let len = self.bytes.len().min(2048);
-        buffer[..len].copy_from_slice(&self.bytes.as_slice()[..len]);
-        Read::Datagram(peer(5000), len, 1_000_000)
+        self.script.next(buffer)
     }
 
     fn failures(&self) -> u64 {
-        0
+        self.script.failures()
     }
 }
 
@@ -402,12 +397,15 @@ fn a_wire_that_puts_off_blocks_turns_and_fills_inboxes(rt: HostRuntime) -> Resul
     let Some(cell) = cells.first() else {
         return Err(Fail::from("a first route"));
     };
+    let mut steps = Vec::new(alloc);
+    for _ in 0..60 {
+        steps.push(comes(alloc, CONCLUSION)?)?;
+        steps.push(SourceStep::Empty)?;
+    }
     let mut source = Serving {
         rt: &rt,
         cell,
-        bytes: hex::decode(alloc, CONCLUSION)?,
-        left: 60,
-        given: false,
+        script: SourceScript::new(steps),
         blocked: 0,
     };
     let report = pump(
@@ -459,36 +457,57 @@ fn address(source: &MioSource<ClockScript>) -> Result<SocketAddr, Fail> {
     }
 }
 
-/// The next datagram within 100 waits: from whom, and how many bytes.
-fn received(source: &mut MioSource<ClockScript>, buffer: &mut [u8; 2048]) -> Option<(Peer, usize)> {
+/// The next datagram within 100 waits: from whom, how many bytes, and whether each of them is this one.
+fn received(
+    source: &mut MioSource<ClockScript>,
+    buffer: &mut [u8; 2048],
+    byte: u8,
+) -> Option<(Peer, usize, bool)> {
     for _ in 0..100u32 {
         if let Read::Datagram(from, len, _) = source.next(buffer) {
-            return Some((from, len));
+            let same = buffer.iter().take(len).all(|it| *it == byte);
+            return Some((from, len, same));
         }
         let _ = source.wait();
     }
     None
 }
 
+/// A peer sends datagrams of several sizes that repeat a byte, and each is read.
+fn assert_reads(
+    rt: &(impl Net + Abort),
+    source: &mut MioSource<ClockScript>,
+    byte: u8,
+) -> Result<(), Fail> {
+    let bytes = [byte; 3000];
+    let mut buffer = [0u8; 2048];
+    let target = address(source)?;
+    let client = UdpSocket::bind(rt, SocketAddr::V4(local(0)))?;
+    let port = client.local_addr()?.port();
+    for sent in [
+        &bytes[..0],
+        &bytes[..15],
+        &bytes[..16],
+        &bytes[..1472],
+        &bytes[..1473],
+        &bytes[..2048],
+        &bytes[..],
+    ] {
+        client.send_to(sent, target)?;
+        assert_eq!(rt;
+            received(source, &mut buffer, byte),
+            Some((peer(port), sent.len().min(2048), true))
+        );
+    }
+    assert_eq!(rt; source.next(&mut buffer), Read::Empty);
+    Ok(())
+}
+
 #[test]
 fn a_socket_reads_datagrams_of_several_peers(rt: HostRuntime) -> Result<(), Fail> {
-    let alloc = rt.alloc();
-    let (mut source, _wire) = bound(&rt, alloc, 0)?;
-    let target = address(&source)?;
-    let bytes = [7u8; 3000];
-    let mut buffer = [0u8; 2048];
-    for _ in 0..2 {
-        let client = UdpSocket::bind(&rt, SocketAddr::V4(local(0)))?;
-        let port = client.local_addr()?.port();
-        for size in [0usize, 15, 16, 1472, 1473, 2048, 3000] {
-            client.send_to(&bytes[..size], target)?;
-            assert_eq!(&rt;
-                received(&mut source, &mut buffer),
-                Some((peer(port), size.min(2048)))
-            );
-        }
-    }
-    assert_eq!(&rt; source.next(&mut buffer), Read::Empty);
+    let (mut source, _wire) = bound(&rt, rt.alloc(), 0)?;
+    assert_reads(&rt, &mut source, 7)?;
+    assert_reads(&rt, &mut source, 8)?;
     assert_eq!(&rt; source.failures(), 0);
     Ok(())
 }

@@ -1,0 +1,233 @@
+//! One call of a device doesn't go well, at each place in turn of a script of several rounds. What is wanted is worked out
+//! by hand: a failed wait or read loses nothing, since what was to be read comes a round later; a failed send loses that
+//! datagram alone; a send that is put off loses an answer, and a reply goes with the next round.
+
+use super::{
+    CONCLUSION, CONCLUSION_ANSWER, INDUCTION, INDUCTION_ANSWER, NOTHING, Routes, STRAY, Serving,
+    comes, open_routes,
+};
+use crate::{Report, Sent, Source, SourceScript, SourceStep, Wire, WireScript, pump};
+use std::alloc::Global;
+use std::sync::Wait;
+use std::test::Fail;
+
+/// The refusal of a second publisher, with reason 1002, to the caller with ID 0.
+const REFUSAL: &str =
+    "80000000000000000000000000000000000000050000000000000005000005dc00002000000003ea000000010000000000000000000000000000000000000000";
+
+/// Which call doesn't go well, counted from 0.
+#[derive(Clone, Copy, Debug, PartialEq, Eq)]
+enum Fault {
+    Nothing,
+    Wait(u32),
+    Read(u32),
+    Send(u32),
+    Later(u32),
+}
+
+/// What came of the rounds: the report, how often the source and the wire failed, and what the wire was handed and
+/// didn't put off, in order, a digit each: 1 to 3 the answers to the inductions, 4 to 6 the replies to the conclusions.
+#[derive(Clone, Copy, Debug, PartialEq, Eq)]
+struct Outcome {
+    report: Report,
+    source: u64,
+    wire: u64,
+    handed: u32,
+}
+
+/// The bytes that these digits spell, with another one at this place. The caller's ID ends with byte 43 in a handshake,
+/// and with byte 15 in its answer.
+fn with(alloc: Global, text: &str, at: usize, byte: u8) -> Result<Vec<u8>, Fail> {
+    let mut bytes = hex::decode(alloc, text)?;
+    if let Some(place) = bytes.as_mut_slice().get_mut(at) {
+        *place = byte;
+    }
+    Ok(bytes)
+}
+
+/// This handshake of the caller whose ID ends with this byte.
+fn comes_of(alloc: Global, text: &str, caller: u8) -> Result<SourceStep, Fail> {
+    let mut step = comes(alloc, text)?;
+    if let SourceStep::Datagram(datagram) = &mut step {
+        datagram.bytes = with(alloc, text, 43, caller)?;
+    }
+    Ok(step)
+}
+
+/// Three rounds: in each a wait, four reads that give three datagrams, and all of them again where one fails.
+fn script(alloc: Global, fault: Fault) -> Result<Vec<SourceStep>, Fail> {
+    let mut steps = Vec::new(alloc);
+    let mut reads = 0u32;
+    for round in 0..3u32 {
+        steps.push(if fault == Fault::Wait(round) {
+            SourceStep::WaitFails
+        } else {
+            SourceStep::Wait
+        })?;
+        let caller = [1u8, 2, 3].get(round as usize).copied().unwrap_or(0);
+        for text in [STRAY, INDUCTION, CONCLUSION] {
+            if fault == Fault::Read(reads) {
+                steps.push(SourceStep::ReadFails)?;
+            }
+            steps.push(if text == STRAY {
+                comes(alloc, text)?
+            } else {
+                comes_of(alloc, text, caller)?
+            })?;
+            reads = reads.wrapping_add(1);
+        }
+        steps.push(if fault == Fault::Read(reads) {
+            SourceStep::ReadFails
+        } else {
+            SourceStep::Empty
+        })?;
+        reads = reads.wrapping_add(1);
+    }
+    Ok(steps)
+}
+
+/// What the wire does at each send.
+fn answers(alloc: Global, fault: Fault) -> Result<Vec<Sent>, Fail> {
+    let mut answers = Vec::new(alloc);
+    for send in 0..6u32 {
+        answers.push(if fault == Fault::Send(send) {
+            Sent::Failed
+        } else if fault == Fault::Later(send) {
+            Sent::Later
+        } else {
+            Sent::Taken
+        })?;
+    }
+    Ok(answers)
+}
+
+/// The digit of a datagram that the wire was handed; 9 if it is none of those.
+fn digit(alloc: Global, bytes: &Vec<u8>) -> Result<u32, Fail> {
+    let mut digit = 1u32;
+    for (text, caller) in [
+        (INDUCTION_ANSWER, 1u8),
+        (INDUCTION_ANSWER, 2),
+        (INDUCTION_ANSWER, 3),
+        (CONCLUSION_ANSWER, 1),
+        (REFUSAL, 2),
+        (REFUSAL, 3),
+    ] {
+        if *bytes == with(alloc, text, 15, caller)? {
+            return Ok(digit);
+        }
+        digit = digit.wrapping_add(1);
+    }
+    Ok(9)
+}
+
+/// What comes of six rounds; the first route is served at each wait.
+fn played(rt: &(impl AllocGlobal + Wait), fault: Fault) -> Result<Outcome, Fail> {
+    let alloc = rt.alloc();
+    let Routes {
+        secret,
+        names,
+        mut ends,
+        cells,
+    } = open_routes(rt, alloc)?;
+    let mut wire = WireScript::new(alloc, answers(alloc, fault)?);
+    let Some(cell) = cells.first() else {
+        return Err(Fail::from("a first route"));
+    };
+    let mut source = Serving {
+        rt,
+        cell,
+        script: SourceScript::new(script(alloc, fault)?),
+        blocked: 0,
+    };
+    let report = pump(
+        rt,
+        alloc,
+        &secret,
+        &names,
+        &mut source,
+        &mut wire,
+        ends.as_mut_slice(),
+        6,
+    );
+    let mut handed = 0u32;
+    for sent in wire.handed() {
+        handed = handed
+            .wrapping_mul(10)
+            .wrapping_add(digit(alloc, &sent.bytes)?);
+    }
+    Ok(Outcome {
+        report,
+        source: source.failures(),
+        wire: wire.failures(),
+        handed,
+    })
+}
+
+/// What is wanted, with this order of the datagrams that the wire is handed.
+fn wanted(fault: Fault, handed: u32) -> Outcome {
+    let all = Report {
+        read: 9,
+        answered: 3,
+        accepted: 3,
+        dropped: 3,
+        sent: 6,
+        ..NOTHING
+    };
+    let fails = Report { faults: 1, ..all };
+    let loses = Report {
+        sent: 5,
+        lost: 1,
+        ..all
+    };
+    let (report, source, wire) = match fault {
+        Fault::Nothing => (all, 0, 0),
+        Fault::Wait(_) | Fault::Read(_) => (fails, 1, 0),
+        Fault::Send(_) => (Report { faults: 1, ..loses }, 0, 1),
+        Fault::Later(_) => (if handed < 100_000 { loses } else { all }, 0, 0),
+    };
+    Outcome {
+        report,
+        source,
+        wire,
+        handed,
+    }
+}
+
+/// In a round the answers go before the replies. A conclusion is served at the wait after it came, so its reply goes
+/// with the answer of the round after; where that round's answer is late, the reply goes before it.
+#[test]
+fn one_call_fails_at_each_place_in_turn(rt: HostRuntime) -> Result<(), Fail> {
+    for (fault, handed) in [
+        (Fault::Nothing, 124356),
+        (Fault::Wait(0), 124356),
+        (Fault::Wait(1), 142356),
+        (Fault::Wait(2), 124536),
+        (Fault::Read(0), 124356),
+        (Fault::Read(1), 124356),
+        (Fault::Read(2), 124356),
+        (Fault::Read(3), 124356),
+        (Fault::Read(4), 142356),
+        (Fault::Read(5), 142356),
+        (Fault::Read(6), 124356),
+        (Fault::Read(7), 124356),
+        (Fault::Read(8), 124536),
+        (Fault::Read(9), 124536),
+        (Fault::Read(10), 124356),
+        (Fault::Read(11), 124356),
+        (Fault::Send(0), 124356),
+        (Fault::Send(1), 124356),
+        (Fault::Send(2), 124356),
+        (Fault::Send(3), 124356),
+        (Fault::Send(4), 124356),
+        (Fault::Send(5), 124356),
+        (Fault::Later(0), 24356),
+        (Fault::Later(1), 14356),
+        (Fault::Later(2), 124356),
+        (Fault::Later(3), 12456),
+        (Fault::Later(4), 124356),
+        (Fault::Later(5), 124356),
+    ] {
+        assert_eq!(&rt; played(&rt, fault)?, wanted(fault, handed));
+    }
+    Ok(())
+}
