@@ -452,6 +452,28 @@ def port_taken(_):
     expect(ended == (1, "socket fault\n", ""), f"it ended with {ended}")
 
 
+@case("each thread that can't be started is a thread fault, and nothing is read")
+def no_thread(_):
+    workers = 3
+    every = workers + 2  # the workers, the thread that starts them, and the one that ticks
+    gateways = [Gateway([live("none", buffer=32, sessions=1, inbox=16, outbox=16)], 100, workers, threads=count) for count in range(every)]
+    callers = [Caller(gateway.address) for gateway in gateways]
+    answers = 0
+    until = time.monotonic() + 30
+    while time.monotonic() < until and any(gateway.runs() for gateway in gateways):
+        for one in callers:
+            one.send(wire.control(wire.HANDSHAKE, 0, 0, 0, wire.handshake(4, 2, 1, 1500, 8192, wire.INDUCTION, 1, 0)))
+            answers += one.receive(0) is not None
+        time.sleep(0.002)
+    for count, gateway in enumerate(gateways):
+        ended = gateway.ended(0.1)
+        expect(ended == (1, "thread fault\n", ""), f"with room for {count} of {every} threads it ended with {ended}")
+    expect(answers == 0, f"{answers} inductions were answered")
+    gateway = Gateway([live("none")], 300, workers, threads=every)
+    expect(gateway.is_up(), "it doesn't come up with room for all threads")
+    expect((gateway.ended(20) or [None])[0] == 0, "it has a fault with room for all threads")
+
+
 @case("511 routes and 16 workers")
 def many_routes(_):
     names = [f"r{index}" for index in range(511)]

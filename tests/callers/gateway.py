@@ -1,5 +1,6 @@
 """`srtgw serve` as a process of its own, on a free port of this machine."""
 import os
+import resource
 import subprocess
 import tempfile
 import time
@@ -9,6 +10,7 @@ from tools import free_port
 
 TOP = os.path.dirname(os.path.dirname(os.path.dirname(os.path.realpath(__file__))))
 PROGRAM = os.environ.get("SRTGW", f"{TOP}/crates/srtgw/out/srtgw")
+STACK = 64 << 20
 NAMES = ["read", "answered", "accepted", "full", "dropped", "memory", "sent", "lost", "faults"]
 SECRET = bytes(range(32)).hex()
 
@@ -33,16 +35,28 @@ def configuration(routes, port, workers=2):
     return f'secret = "{SECRET}"\nbind = "127.0.0.1:{port}"\nworkers = {workers}\n' + "".join(routes)
 
 
-class Gateway:
-    """A gateway that serves routes for a number of rounds."""
+def room_for(threads):
+    """What a process does before the program runs, so that beside the program itself its address space holds the stacks of
+    so many threads and no more."""
+    def limit():
+        resource.setrlimit(resource.RLIMIT_STACK, (STACK, STACK))
+        resource.setrlimit(resource.RLIMIT_AS, (STACK // 2 + threads * STACK,) * 2)
+    return limit
 
-    def __init__(self, routes, rounds=1_000_000_000, workers=2, port=None):
+
+class Gateway:
+    """A gateway that serves routes for a number of rounds; if `threads` is given, with room for so many more threads."""
+
+    def __init__(self, routes, rounds=1_000_000_000, workers=2, port=None, threads=None):
         self.address = ("127.0.0.1", free_port() if port is None else port)
         with tempfile.NamedTemporaryFile("w", prefix="srtgw-", suffix=".toml", delete=False) as it:
             it.write(configuration(routes, self.address[1], workers))
         self.file, self.began = it.name, time.monotonic()
         words = [PROGRAM, "serve", self.file, "--rounds", str(rounds)]
-        self.process = subprocess.Popen(words, stdin=subprocess.DEVNULL, stdout=subprocess.PIPE, stderr=subprocess.PIPE, text=True)
+        pipes = dict(stdin=subprocess.DEVNULL, stdout=subprocess.PIPE, stderr=subprocess.PIPE, text=True)
+        if threads is not None:
+            pipes |= dict(preexec_fn=room_for(threads), env={**os.environ, "MALLOC_ARENA_MAX": "1"})
+        self.process = subprocess.Popen(words, **pipes)
 
     def is_up(self, seconds=10):
         """Waits until an induction is answered, and returns whether one was."""
