@@ -123,7 +123,7 @@ impl Taker {
             ((self.new ≡ self.old) × Held 0 (StoodAsTaken self.old.taken))
             (λ x. self.new ≡ consumer self.old.queue self.old.capacity (self.old.taken ++ x ∷ [])) }
     {
-        // An empty inbox is seen by two loads, without a place for an item on the way back.
+        // Two loads show that an inbox is empty. A pop that finds nothing copies a place for an item all the same.
         if self.queue.is_empty_as::<Takes>(&mut self.pass) {
             return None;
         }
