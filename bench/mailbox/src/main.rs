@@ -324,11 +324,11 @@ fn workers(name: &str, cells: &[&Cell]) {
                 })
             })
             .collect();
-        std::thread::sleep(std::time::Duration::from_millis(50));
+        std::thread::sleep(std::time::Duration::from_millis(500));
         done.store(true, SeqCst);
         handles.into_iter().map(|it| it.join().unwrap()).sum()
     });
-    println!("{name} {} ns", 50_000_000u64 * 100 / turns.max(1));
+    println!("{name} {} ns", 500_000_000u64 * 100 / turns.max(1));
 }
 
 fn main() {
