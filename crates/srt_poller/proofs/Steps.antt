@@ -1,6 +1,7 @@
 -- One event, and one after the other.
 use Rattle.std.proofs.Common.{◌≡◌, ◌≢◌, ℕ, zero, suc, ◌+◌, ◌*◌, ◌<◌, ◌≤◌, ◌==◌, Bool, true, false, Option, None, Some, List, [], ◌∷◌, ◌++◌, length, map, slice_index_or, slice_set, refl, sym, ap, ◌∙◌, subst, append_assoc, append-nil, arith, add-mul}
 use Rattle.std.specs.Prelude.{if◌then◌else◌}
+use Rattle.std.specs.Option.{is_some}
 use Rattle.std.proofs.lemmas.Grind.{flat_map-append, fold-append}
 use Rattle.std.proofs.lemmas.List.Sums.{sum_by-append}
 use Rattle.std.proofs.lemmas.Bool.Decides.{nat_tests}
@@ -239,3 +240,8 @@ unchanged_here es k d z h = ap (λ (y : Drained). slice_set es k (record { ingre
 
 pub rounds_more : (k a b : ℕ) → b ≡ a → k * (258 + 64 * a) + (258 + 64 * b) ≤ (k + 1) * (258 + 64 * a)
 rounds_more k a b e = rw (e, add-mul k 1 (258 + 64 * a)) (omega arith)
+
+-- what isn't some is none
+pub none_is : {A : Type 0} (o : Option A) → is_some o ≡ false → o ≡ None
+none_is None e = refl
+none_is (Some x) e = absurd (let bad : true ≡ false = e in cc)

@@ -44,8 +44,8 @@ pub(crate) struct Poller {
     text: [u8; 1472],
     kept: Option<KeptReply>,
     report: Report,
-    // The routes whose outbox was left before it was found empty.
-    left: [bool; 512],
+    // An outbox was left before it was found empty.
+    left: bool,
 }
 
 impl Poller {
@@ -65,7 +65,7 @@ impl Poller {
             text: [0; 1472],
             kept: None,
             report: Report::new(),
-            left: [false; 512],
+            left: false,
         }
     }
 
@@ -287,7 +287,8 @@ impl Poller {
         false
     }
 
-    /// Takes replies from an outbox, unless all is known to be taken.
+    /// Takes replies from an outbox, unless the hint says that it has none. With `all` it takes them in any case. True if
+    /// no reply is kept.
     fn visit<R: Wait, W: Wire, G: Signals>(
         &mut self,
         rt: &R,
@@ -296,20 +297,22 @@ impl Poller {
         route: usize,
         signals: &G,
         all: bool,
-    )
+    ) -> bool
         requires route { route < length ends.old }
         requires kept { self.old.kept ≡ None }
-        ensures { (class : Sorting) (gave : Option (List Arrival)) → Went class 64 0 0 (world_of gave (W.handed wire.old) ends.old self.old) (world_of gave (W.handed wire.new) ends.new self.new) }
+        ensures went { (class : Sorting) (gave : Option (List Arrival)) → Went class 64 0 0 (world_of gave (W.handed wire.old) ends.old self.old) (world_of gave (W.handed wire.new) ends.new self.new) }
+        ensures none { result ≡ true → self.new.kept ≡ None }
     {
-        let told = signals.may_have(route);
-        if !(told || all || self.was_left(route)) {
-            return;
+        if !signals.may_have(route) && !all {
+            return true;
         }
         let empty = self.drain_route(rt, wire, ends, route);
-        self.leave(route, !empty);
+        self.left |= !empty;
+        self.kept.is_none()
     }
 
-    /// Hands replies of all routes to the wire, until one is kept. With `all` it asks for no hints.
+    /// Hands replies of all routes to the wire, until one is kept. It asks for no hints with `all`, nor if an outbox was
+    /// left in the round before.
     fn drain<R: Wait, W: Wire, G: Signals>(
         &mut self,
         rt: &R,
@@ -320,30 +323,15 @@ impl Poller {
     )
         ensures { (class : Sorting) (gave : Option (List Arrival)) → Went class (64 * length ends.old) 0 0 (world_of gave (W.handed wire.old) ends.old self.old) (world_of gave (W.handed wire.new) ends.new self.new) }
     {
+        if self.kept.is_some() {
+            return;
+        }
+        let all = all | self.left;
+        self.left = false;
         for route in 0..ends.len() {
-            if self.kept.is_some() {
+            if !self.visit(rt, wire, ends, route, signals, all) {
                 return;
             }
-            self.visit(rt, wire, ends, route, signals, all);
-        }
-    }
-
-    /// Whether the outbox of this route was left before it was found empty.
-    fn was_left(&self, route: usize) -> bool {
-        match self.left.get(route) {
-            Some(left) => *left,
-            None => true,
-        }
-    }
-
-    /// Notes whether the outbox of this route was left before it was found empty.
-    fn leave(&mut self, route: usize, left: bool)
-        ensures text { self.new.text ≡ self.old.text }
-        ensures kept { self.new.kept ≡ self.old.kept }
-        ensures report { self.new.report ≡ self.old.report }
-    {
-        if let Some(place) = self.left.get_mut(route) {
-            *place = left;
         }
     }
 

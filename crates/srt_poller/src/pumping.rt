@@ -48,7 +48,8 @@ pub fn pump<R: Wait, S: Source, W: Wire>(
     )
 }
 
-/// The same with hints. Routes whose outbox is said to have nothing are passed over, but for one round in 64.
+/// The same with hints. Routes whose outbox is said to have nothing are passed over, but for one round in 64, and for the
+/// round after one that left an outbox before it was found empty.
 pub fn pump_under<R: Wait, S: Source, W: Wire, G: Signals>(
     rt: &R,
     alloc: Global,

@@ -1,15 +1,22 @@
-use Rattle.std.proofs.Common.{arith}
-use Rattle.srt_poller.proofs.Steps.{went_none, went_then, went_more}
+use Rattle.std.proofs.Common.{◌≡◌, None, sym, arith}
+use Rattle.srt_poller.proofs.Steps.{went_none, went_then, went_more, none_is}
 use Rattle.srt_poller.proofs.poller.Poller.drain.Goals as goal
 
-pub loop-route-init : goal.loop-route-init
-loop-route-init g c class gave = went_none _ _ _
-
 pub returns-then-is_some : goal.returns-then-is_some
-returns-then-is_some g c class gave = went_more (omega arith) (omega arith) (c.loop-route.invariant class gave)
+returns-then-is_some g c class gave = went_more {m = 0} (omega arith) (omega arith) (went_none _ _ _)
+
+pub loop-route-init : goal.loop-route-init
+loop-route-init g c =
+    let none : c.args.self.now.kept ≡ None = none_is _ (sym c.if-is_some.ensures) in
+    (none, λ class gave. went_none _ _ _)
+
+pub returns-then-not-visit : goal.returns-then-not-visit
+returns-then-not-visit g c class gave = went_more (omega arith) (omega (arith, c.loop-route-test.true)) (went_then (c.loop-route.invariant.1 class gave) (c.visit.ensures.went class gave))
 
 pub loop-route-preserved : goal.loop-route-preserved
-loop-route-preserved g c class gave = went_more (omega arith) (omega arith) (went_then (c.loop-route.invariant class gave) (c.visit.ensures class gave))
+loop-route-preserved g c =
+    let none : c.visit.new.self.kept ≡ None = search c.visit.ensures.none in
+    (none, λ class gave. went_more (omega arith) (omega arith) (went_then (c.loop-route.invariant.1 class gave) (c.visit.ensures.went class gave)))
 
 pub returns : goal.returns
-returns g c class gave = went_more (omega arith) (omega arith) (c.loop-route.invariant class gave)
+returns g c class gave = went_more (omega arith) (omega (arith, c.loop-route-test.false)) (c.loop-route.invariant.1 class gave)

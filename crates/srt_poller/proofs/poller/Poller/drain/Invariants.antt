@@ -1,4 +1,4 @@
-use Rattle.std.proofs.Common.{Option, List, ◌*◌}
+use Rattle.std.proofs.Common.{◌≡◌, None, Option, List, ◌*◌}
 use Rattle.srt_poller.specs.Devices.{Arrival}
 use Rattle.srt_poller.specs.History.{Sorting}
 use Rattle.srt_poller.specs.Rounds.{Went}
@@ -7,5 +7,6 @@ use Rattle.srt_poller.proofs.poller.Poller.drain.Given as goal
 
 abbrev pub invariant-loop-route : goal.invariant-loop-route
 invariant-loop-route g l =
-    (class : Sorting) (gave : Option (List Arrival)) →
-    Went class (64 * l.route) 0 0 (world_of gave (g.W.Wire.handed l.fn.wire) l.fn.ends l.fn.self) (world_of gave (g.W.Wire.handed l.wire) l.ends l.self)
+    (l.self.kept ≡ None) ×
+    ((class : Sorting) (gave : Option (List Arrival)) →
+    Went class (64 * l.route) 0 0 (world_of gave (g.W.Wire.handed l.fn.wire) l.fn.ends l.fn.self) (world_of gave (g.W.Wire.handed l.wire) l.ends l.self))

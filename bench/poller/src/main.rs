@@ -1,0 +1,346 @@
+//! A poller's round in plain Rust over the same kind of devices in memory: a datagram is read, classified, copied and put
+//! into a bounded queue; a reply is taken from one, its box goes back by a third, and it is written and sent.
+use std::cell::UnsafeCell;
+use std::mem::MaybeUninit;
+use std::sync::atomic::{AtomicUsize, Ordering::SeqCst};
+use std::sync::Arc;
+use std::time::{Duration, Instant};
+
+const AT_ONCE: usize = 256;
+const TIMES: u64 = 4_000;
+
+struct Slot<T> {
+    stamp: AtomicUsize,
+    value: UnsafeCell<MaybeUninit<T>>,
+}
+
+/// A bounded queue: each slot has a stamp that says in which lap it may be written or read.
+struct Queue<T> {
+    head: AtomicUsize,
+    tail: AtomicUsize,
+    slots: Box<[Slot<T>]>,
+    lap: usize,
+}
+
+unsafe impl<T: Send> Sync for Queue<T> {}
+
+impl<T> Queue<T> {
+    fn new(capacity: usize) -> Queue<T> {
+        let slots = (0..capacity).map(|at| Slot { stamp: AtomicUsize::new(at), value: UnsafeCell::new(MaybeUninit::uninit()) }).collect();
+        Queue { head: AtomicUsize::new(0), tail: AtomicUsize::new(0), slots, lap: (capacity + 1).next_power_of_two() }
+    }
+
+    fn next(&self, place: usize) -> usize {
+        let at = place & (self.lap - 1);
+        if at + 1 < self.slots.len() { place + 1 } else { (place & !(self.lap - 1)).wrapping_add(self.lap) }
+    }
+
+    fn push(&self, value: T) -> Result<(), T> {
+        let mut tail = self.tail.load(SeqCst);
+        loop {
+            let slot = &self.slots[tail & (self.lap - 1)];
+            let stamp = slot.stamp.load(SeqCst);
+            if stamp == tail {
+                match self.tail.compare_exchange(tail, self.next(tail), SeqCst, SeqCst) {
+                    Ok(_) => {
+                        unsafe { (*slot.value.get()).write(value) };
+                        slot.stamp.store(tail + 1, SeqCst);
+                        return Ok(());
+                    }
+                    Err(found) => tail = found,
+                }
+            } else if stamp.wrapping_add(self.lap) == tail + 1 && self.head.load(SeqCst).wrapping_add(self.lap) == tail {
+                return Err(value);
+            } else {
+                tail = self.tail.load(SeqCst);
+            }
+        }
+    }
+
+    fn pop(&self) -> Option<T> {
+        let mut head = self.head.load(SeqCst);
+        loop {
+            let slot = &self.slots[head & (self.lap - 1)];
+            let stamp = slot.stamp.load(SeqCst);
+            if stamp == head + 1 {
+                match self.head.compare_exchange(head, self.next(head), SeqCst, SeqCst) {
+                    Ok(_) => {
+                        let value = unsafe { (*slot.value.get()).assume_init_read() };
+                        slot.stamp.store(head.wrapping_add(self.lap), SeqCst);
+                        return Some(value);
+                    }
+                    Err(found) => head = found,
+                }
+            } else if stamp == head && self.tail.load(SeqCst) == head {
+                return None;
+            } else {
+                head = self.head.load(SeqCst);
+            }
+        }
+    }
+}
+
+#[derive(Clone, Copy)]
+#[allow(dead_code)]
+struct Peer {
+    ip: [u8; 16],
+    port: u16,
+}
+
+struct Item {
+    peer: Peer,
+    moment: u64,
+    head: [u8; 16],
+    body: Vec<u8>,
+}
+
+/// As large as the gateway's replies.
+#[allow(dead_code)]
+enum Body {
+    Media { number: u32, message: u32, len: usize, payload: [u8; 1456] },
+    AckAck { number: u32 },
+    FullAck { number: u32, words: [u32; 7] },
+}
+
+struct Reply {
+    peer: Peer,
+    stamp: u32,
+    dest: u32,
+    body: Body,
+}
+
+enum Polled {
+    Ready,
+    #[allow(dead_code)]
+    Failed,
+}
+
+enum Read {
+    Datagram(Peer, usize, u64),
+    Empty,
+}
+
+#[derive(PartialEq)]
+enum Sent {
+    Taken,
+    #[allow(dead_code)]
+    Later,
+}
+
+trait Source {
+    fn wait(&mut self) -> Polled;
+    fn next(&mut self, buffer: &mut [u8; 2048]) -> Read;
+}
+
+trait Wire {
+    fn send(&mut self, to: Peer, bytes: &[u8]) -> Sent;
+}
+
+struct Once {
+    peer: Peer,
+    bytes: Vec<u8>,
+    given: bool,
+}
+
+impl Source for Once {
+    fn wait(&mut self) -> Polled {
+        self.given = false;
+        Polled::Ready
+    }
+
+    fn next(&mut self, buffer: &mut [u8; 2048]) -> Read {
+        if self.given {
+            return Read::Empty;
+        }
+        self.given = true;
+        let len = self.bytes.len().min(2048);
+        buffer[..len].copy_from_slice(&self.bytes[..len]);
+        Read::Datagram(self.peer, len, 1_000_000)
+    }
+}
+
+struct Last {
+    text: Vec<u8>,
+    count: u64,
+}
+
+impl Wire for Last {
+    fn send(&mut self, _to: Peer, bytes: &[u8]) -> Sent {
+        self.text.clear();
+        self.text.extend_from_slice(bytes);
+        self.count += 1;
+        Sent::Taken
+    }
+}
+
+struct Ends {
+    inbox: Arc<Queue<Item>>,
+    outbox: Arc<Queue<Box<Reply>>>,
+    spares: Arc<Queue<Box<Reply>>>,
+    hand: Box<Reply>,
+}
+
+fn word(bytes: &[u8], at: usize) -> u32 {
+    u32::from_be_bytes(bytes[at..at + 4].try_into().unwrap())
+}
+
+/// The route that a datagram is for; handshakes aren't read here.
+fn classify(bytes: &[u8], routes: usize) -> Option<usize> {
+    if bytes.len() < 16 || bytes.len() > 1472 {
+        return None;
+    }
+    let (first, rest) = (word(bytes, 0), bytes.len() - 16);
+    let spelled = match first >> 16 {
+        kind if kind < 0x8000 => rest > 0,
+        0x8000 | 0x8001 | 0x8004 | 0x8005 | 0x8006 | 0x8008 | 0xffff => true,
+        0x8002 | 0x8003 => rest >= 4,
+        0x8007 => rest >= 8,
+        _ => false,
+    };
+    let place = (word(bytes, 12) >> 20) as usize;
+    if spelled && 0 < place && place <= routes { Some(place - 1) } else { None }
+}
+
+fn encode(reply: &Reply, text: &mut [u8; 1472]) -> usize {
+    let (first, second) = match &reply.body {
+        Body::Media { number, message, .. } => (*number, 0xe000_0000 + *message),
+        Body::AckAck { number } => (0x8006_0000, *number),
+        Body::FullAck { number, .. } => (0x8002_0000, *number),
+    };
+    for (k, word) in [first, second, reply.stamp, reply.dest].iter().enumerate() {
+        text[4 * k..4 * k + 4].copy_from_slice(&word.to_be_bytes());
+    }
+    match &reply.body {
+        Body::Media { len, payload, .. } => {
+            text[16..16 + len].copy_from_slice(&payload[..*len]);
+            16 + len
+        }
+        Body::AckAck { .. } => 16,
+        Body::FullAck { words, .. } => {
+            for (k, word) in words.iter().enumerate() {
+                text[16 + 4 * k..20 + 4 * k].copy_from_slice(&word.to_be_bytes());
+            }
+            44
+        }
+    }
+}
+
+#[derive(Default)]
+struct Report {
+    read: u64,
+    accepted: u64,
+    full: u64,
+    dropped: u64,
+    sent: u64,
+    faults: u64,
+}
+
+struct Poller {
+    datagram: [u8; 2048],
+    text: [u8; 1472],
+    kept: Option<(Peer, usize)>,
+    report: Report,
+}
+
+impl Poller {
+    fn read<S: Source>(&mut self, source: &mut S, ends: &mut [Ends]) {
+        for _ in 0..256 {
+            let Read::Datagram(peer, len, moment) = source.next(&mut self.datagram) else { return };
+            self.report.read += 1;
+            let bytes = &self.datagram[..len];
+            match classify(bytes, ends.len()) {
+                Some(route) => {
+                    let mut head = [0; 16];
+                    head.copy_from_slice(&bytes[..16]);
+                    let item = Item { peer, moment, head, body: bytes[16..].to_vec() };
+                    match ends[route].inbox.push(item) {
+                        Ok(()) => self.report.accepted += 1,
+                        Err(_) => self.report.full += 1,
+                    }
+                }
+                None => self.report.dropped += 1,
+            }
+        }
+    }
+
+    fn drain<W: Wire>(&mut self, wire: &mut W, end: &mut Ends) {
+        for _ in 0..64 {
+            let Some(reply) = end.outbox.pop() else { return };
+            let _ = end.spares.push(std::mem::replace(&mut end.hand, reply));
+            let len = encode(&end.hand, &mut self.text);
+            match wire.send(end.hand.peer, &self.text[..len]) {
+                Sent::Taken => self.report.sent += 1,
+                Sent::Later => {
+                    self.kept = Some((end.hand.peer, len));
+                    return;
+                }
+            }
+        }
+    }
+
+    fn round<S: Source, W: Wire>(&mut self, source: &mut S, wire: &mut W, ends: &mut [Ends]) {
+        if let Some((peer, len)) = self.kept {
+            if wire.send(peer, &self.text[..len]) == Sent::Taken {
+                self.kept = None;
+            }
+        }
+        match source.wait() {
+            Polled::Ready => self.read(source, ends),
+            Polled::Failed => self.report.faults += 1,
+        }
+        for end in ends {
+            if self.kept.is_some() {
+                return;
+            }
+            self.drain(wire, end);
+        }
+    }
+}
+
+#[inline(never)]
+fn pump<S: Source, W: Wire>(source: &mut S, wire: &mut W, ends: &mut [Ends], rounds: usize) -> Report {
+    let mut poller = Poller { datagram: [0; 2048], text: [0; 1472], kept: None, report: Report::default() };
+    for _ in 0..rounds {
+        poller.round(source, wire, ends);
+    }
+    poller.report
+}
+
+/// Takes each item from the inbox, and puts a reply into the outbox.
+fn serve(ends: &Ends) {
+    while let Some(item) = ends.inbox.pop() {
+        let mut reply = ends.spares.pop().unwrap();
+        reply.peer = item.peer;
+        reply.stamp = item.moment as u32;
+        reply.dest = word(&item.head, 12) ^ item.body.len() as u32;
+        reply.body = Body::AckAck { number: word(&item.head, 4) };
+        let _ = ends.outbox.push(reply);
+    }
+}
+
+fn blank() -> Box<Reply> {
+    let peer = Peer { ip: [0; 16], port: 0 };
+    Box::new(Reply { peer, stamp: 0, dest: 0, body: Body::Media { number: 0, message: 0, len: 0, payload: [0; 1456] } })
+}
+
+fn main() {
+    let mut peer = Peer { ip: [0; 16], port: 5000 };
+    peer.ip[10..].copy_from_slice(&[0xff, 0xff, 127, 0, 0, 1]);
+    let words = [0x8002_0000u32, 1, 0, 0x0010_0000, 0, 10_000, 100, 8192, 0, 0, 0];
+    let bytes = words.iter().flat_map(|it| it.to_be_bytes()).collect();
+    let mut source = Once { peer, bytes, given: false };
+    let mut wire = Last { text: Vec::with_capacity(1472), count: 0 };
+    let spares = Arc::new(Queue::new(AT_ONCE + 4));
+    for _ in 0..AT_ONCE + 3 {
+        let _ = spares.push(blank());
+    }
+    let mut ends = [Ends { inbox: Arc::new(Queue::new(AT_ONCE)), outbox: Arc::new(Queue::new(AT_ONCE)), spares, hand: blank() }];
+    let mut least = Duration::MAX;
+    for _ in 0..TIMES {
+        let start = Instant::now();
+        std::hint::black_box(pump(&mut source, &mut wire, &mut ends, AT_ONCE));
+        least = least.min(start.elapsed());
+        serve(&ends[0]);
+    }
+    println!("round {} {}", least.as_nanos() * 100 / 256, wire.count);
+}
