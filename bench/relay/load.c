@@ -10,7 +10,8 @@
    RATE packets a second in all, of 1316 bytes, each with its number and the moment when it was sent. A publisher answers
    each ACK by an ACKACK, and sends nothing again. A subscriber acknowledges each 64th packet, and each 10 ms if there was
    one, as if none were missing, so what is lost stays lost. Both threads rest between their turns and then take what is
-   there; latencies are reckoned from the kernel's stamp of the arrival.
+   there; latencies are reckoned from the kernel's stamp of the arrival, without the first and the last tenth of the packets:
+   when nothing more arrives, what is held back comes out at ticks alone.
 
    Prints one line: names and numbers. cpu_ns is the processor time of PID between the first half second and the end of
    sending, relayed and datagrams what came out and all that went either way between these moments. */
@@ -257,7 +258,7 @@ static void take_payload(struct sub *it, const uint8_t *payload, int64_t came) {
     it->got++;
     if (number >= it->next)
         it->next = number + 1;
-    if (latency_count < latency_room && number >= each / 10)
+    if (latency_count < latency_room && number >= each / 10 && number < each - each / 10)
         latencies[latency_count++] = came > sent ? (came - sent) / 1000 : 0;
     atomic_fetch_add_explicit(&received, 1, memory_order_relaxed);
 }
