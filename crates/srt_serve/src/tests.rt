@@ -219,7 +219,7 @@ impl Ticker for Standing {
 }
 
 /// A gate that always passes.
-#[derive(Drop)]
+#[derive(Clone, Copy)]
 struct Open;
 
 impl Gate for Open {
@@ -412,5 +412,34 @@ fn a_hundred_answers_are_sent(rt: HostRuntime) -> Result<(), Fail> {
     };
     assert!(rt; studio.drained >= ANSWERS);
     assert_eq!(rt; studia.drained, 0);
+    Ok(())
+}
+
+/// As many routes and workers as there can be; one caller is heard by the last route, and the others have nothing to say.
+#[test]
+fn all_routes_and_workers_run(rt: HostRuntime) -> Result<(), Fail> {
+    let alloc = rt.alloc();
+    let mut entries = Vec::new(alloc);
+    for index in 0..510u32 {
+        let name = format!(in alloc; "r{index}")?;
+        entries.push(entry(alloc, &name)?)?;
+    }
+    entries.push(entry(alloc, "studio")?)?;
+    let meeting = Meeting::open(alloc)?;
+    let texts = vec![in alloc; hex::decode(alloc, STUDIO)?]?;
+    let mut source = Callers::new(Arc::try_clone(&meeting)?, texts, false);
+    let workers = vec![in alloc; Open; 16]?;
+    let ran = run_of(&rt, alloc, &entries, &meeting, &mut source, workers, 2_000)?;
+    assert_eq!(rt; source.waits, 2_000);
+    assert_eq!(rt; ran.accounts.len(), 511);
+    assert!(rt; ran.report.read == 1 && ran.report.accepted == 1 && ran.report.sent <= 1);
+    assert_eq!(rt; meeting.taken.load(Ordering::SeqCst), ran.report.sent);
+    for account in &ran.accounts {
+        assert!(rt; account.drained <= ran.report.sent && account.queued <= 1);
+    }
+    let Some(studio) = ran.accounts.get(510) else {
+        return Err(Fail::from("511 accounts"));
+    };
+    assert_eq!(rt; studio.drained, ran.report.sent);
     Ok(())
 }
