@@ -5,7 +5,7 @@ use Rattle.std.proofs.lemmas.Bool.{lt-ltb}
 use Rattle.srt_seq.specs.Window.{offset_of, counted_from}
 use Rattle.srt_seq.specs.Runs.{RangesFromInitial}
 
--- a word of the wire counts as what stands between it and the initial number
+-- a word counted from the initial number is its offset from that number
 pub counted_is : (initial word : ℕ) → word < 2 ^ 31 → counted_from initial word ≡ offset_of word initial
 counted_is initial word lt = let b : nat_lt word (2 ^ 31) ≡ true = lt-ltb _ _ lt in rw b refl
 

@@ -1,4 +1,4 @@
--- The function in_window gives the one number, and numbers may be counted from an initial one.
+-- The function in_window gives the only number, and numbers may be counted from an initial one.
 use Rattle.std.proofs.Common.{arith}
 use Rattle.std.proofs.lemmas.Bool.Decides.{nat_tests}
 use Rattle.srt_seq.specs.Window.{in_window, InWindowIsTheNumber, NumbersFromInitial}

@@ -1,19 +1,19 @@
--- Counts that come back to 1 (sections 3.1 and 3.2.4).
+-- Counters that start at 1 and return to 1 (sections 3.1 and 3.2.4).
 use Rattle.std.specs.Prelude.{ℕ, ◌+◌, ◌-◌, ◌%◌, ◌^◌}
 use Rattle.srt_seq.specs.declared.numbers.Msg26.{Msg26}
 
--- the k-th, from 0, of the numbers 1 .. many that go round
+-- the k-th value, counted from 0, of a counter that runs from 1 to many and then starts at 1 again
 abbrev pub round_number : (many k : ℕ) → ℕ
 round_number many k = 1 + k % many
 
--- the message number of a subscriber's k-th packet: after 2^26 - 1 comes 1 (section 3.1)
+-- the message number of a subscriber's k-th packet, counted from 0: after 2^26 - 1 comes 1 (section 3.1)
 abbrev pub message_number : ℕ → ℕ
 message_number k = round_number (2 ^ 26 - 1) k
 
--- the number of a publisher's k-th Full ACK: after 2^32 - 1 comes 1 (this profile)
+-- the number of the k-th Full ACK of a publisher's session, counted from 0: after 2^32 - 1 comes 1 (this profile)
 abbrev pub ack_number : ℕ → ℕ
 ack_number k = round_number (2 ^ 32 - 1) k
 
--- what the wire writes for a message number
+-- the value of a message number
 abbrev pub message_of : Msg26 → ℕ
 message_of m = m.number

@@ -6,14 +6,14 @@ use Rattle.srt_seq.specs.Terms.{Terms}
 abbrev pub is_between : (low high n : ℕ) → Bool
 is_between low high n = nat_le low n && nat_le n high
 
--- a small letter, a capital, a digit, one of `-`, `.` and `/`, or `_`
+-- a lowercase letter, an uppercase letter, a digit, one of `-`, `.` and `/`, or `_`
 abbrev pub is_name_byte : ℕ → Bool
 is_name_byte b = is_between 97 122 b || is_between 65 90 b || is_between 48 57 b || is_between 45 47 b || b == 95
 
 abbrev pub is_name : List ℕ → Bool
 is_name name = is_between 1 64 (length name) && list_all is_name_byte name
 
--- the numbers of a route are within their limits
+-- whether the numbers of a route are within their limits
 abbrev pub in_limits : Terms → Bool
 in_limits e =
     is_between 20 8000 e.latency_ms && is_between 32 8192 e.buffer && is_between 1 17 e.sessions &&

@@ -1,7 +1,7 @@
--- What is put into a place.
+-- The value that a call writes through a reference.
 use Rattle.std.specs.Prelude.{Bool, true, false, Option, None, Some}
 
--- what stands in a place, where the answer is that something was put there
+-- the value x if the call returned true (it wrote x), else none
 abbrev pub given : {A : Type 0} → Bool → A → Option A
 given true x = Some x
 given false x = None

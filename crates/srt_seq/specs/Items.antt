@@ -1,20 +1,20 @@
--- What routes are told and what they say, as bytes (section 3).
+-- The inputs of routes, and datagrams as bytes (section 3).
 use Rattle.std.specs.Prelude.{ℕ, List, ◌++◌}
 use Rattle.srt_seq.specs.declared.shared.Peer.{Peer}
 use Rattle.srt_seq.specs.declared.shared.Item.{Item as TheItem}
 use Rattle.srt_seq.specs.declared.shared.Item.TheVariants.{Datagram as TheDatagram, Tick as TheTick}
 
--- bytes, and where they come from or go to
+-- the bytes of a datagram, and the peer that it comes from or goes to
 pub record Datagram : Type 0 where
   pub peer : Peer
   pub bytes : List ℕ
 
--- what a route is told
+-- an input of a route; moments are microseconds
 pub data Item : Type 0 where
   Received : (datagram : Datagram) (moment : ℕ) → Item
   Tick : (moment : ℕ) → Item
 
--- the item of the code's: its header and what follows are one datagram
+-- the input that a value of the code means: its head and its body are one datagram
 abbrev pub told : TheItem → Item
 told (TheDatagram peer moment head body) = Received (record { peer = peer; bytes = head ++ body.items }) moment
 told (TheTick moment) = Tick moment

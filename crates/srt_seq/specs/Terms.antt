@@ -1,4 +1,4 @@
--- One route as the configuration gives it, as plain values.
+-- The configuration of one route, as plain values.
 use Rattle.std.specs.Prelude.{ℕ, List, string_bytes}
 use Rattle.srt_seq.specs.declared.shared.Mode.{Mode}
 use Rattle.srt_seq.specs.declared.shared.Entry.{Entry}

@@ -1,42 +1,42 @@
--- Sequence numbers on the wire and the unbounded numbers that they stand for (section 3.1).
+-- Sequence numbers on the wire and the unbounded numbers that they mean (section 3.1).
 use Rattle.std.specs.Prelude.{◌≡◌, ℕ, ◌+◌, ◌-◌, ◌%◌, ◌^◌, ◌<◌, ◌≤◌, Option, None, Some, option_map, nat_lt, ◌&&◌, if◌then◌else◌}
 use Rattle.srt_seq.specs.declared.numbers.Seq31.{Seq31}
 
--- what the wire writes for a number
+-- the word of a sequence number
 abbrev pub word_of : Seq31 → ℕ
 word_of s = s.word
 
--- n is the number of front .. front + width, the end out, that the wire writes as this word
+-- n lies in front .. front + width, the upper end excluded, and its word is this one
 pub record IsInWindow (word front width n : ℕ) : Type 0 where
   pub above : front ≤ n
   pub below : n < front + width
   pub same : n % 2 ^ 31 ≡ word
 
--- the one such number, or none where there is none
+-- the only such number; none if there is no such number
 abbrev pub IsWindowNumber : (word front width : ℕ) → Option ℕ → Type 0
 IsWindowNumber word front width None = (n : ℕ) → IsInWindow word front width n → ⊥
 IsWindowNumber word front width (Some n) = IsInWindow word front width n × ((m : ℕ) → IsInWindow word front width m → m ≡ n)
 
--- how far a word stands past another, round the circle of 2^31
+-- the offset of a word from another one, modulo 2^31
 abbrev pub offset_of : (word from : ℕ) → ℕ
 offset_of word from = (word + (2 ^ 31 - from % 2 ^ 31)) % 2 ^ 31
 
--- the number of front .. front + width that the wire writes as this word
+-- the number in front .. front + width, the upper end excluded, whose word is this one
 unfoldable pub in_window : (word front width : ℕ) → Option ℕ
 in_window word front width = if nat_lt word (2 ^ 31) && nat_lt (offset_of word front) width then Some (front + offset_of word front) else None
 
--- a word of the wire as a number counted from an initial number; 2^31, which is none, where its top bit is set
+-- a word as a number counted from an initial number; 2^31, which no number has, if the word's top bit is set
 abbrev pub counted_from : (initial word : ℕ) → ℕ
 counted_from initial word = if nat_lt word (2 ^ 31) then offset_of word initial else 2 ^ 31
 
--- what the wire writes for a number counted from an initial number
+-- the word of a number that is counted from an initial number
 abbrev pub number_word : (initial n : ℕ) → ℕ
 number_word initial n = (initial + n) % 2 ^ 31
 
--- the function gives the one number
+-- the function in_window gives the only number
 abbrev pub InWindowIsTheNumber : Type 0
 InWindowIsTheNumber = (word front width : ℕ) → width ≤ 2 ^ 31 → IsWindowNumber word front width (in_window word front width)
 
--- the numbers of a window are the initial number and those counted from it
+-- each number of a window is the initial number plus a number counted from it
 abbrev pub NumbersFromInitial : Type 0
 NumbersFromInitial = (initial word front width : ℕ) → in_window word (initial + front) width ≡ option_map (λ n. initial + n) (in_window (counted_from initial word) front width)

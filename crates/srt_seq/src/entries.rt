@@ -1,4 +1,4 @@
-//! The form of a route's name, and the limits of its numbers.
+//! The form of a route's name, and the limits of its numbers. Both are this gateway's choice.
 
 ghost use Rattle.std.specs.Prelude.{◌≡◌};
 ghost use Rattle.std.specs.List.{list_all};
@@ -7,7 +7,7 @@ ghost use Rattle.srt_seq.specs.Entries.{is_between, is_name_byte, is_name, in_li
 
 use crate::shared::Entry;
 
-/// Whether a number is one of these, both ends in.
+/// Whether `low <= n <= high`.
 pub fn is_between(low: usize, high: usize, n: usize) -> bool
     ensures { result ≡ is_between low high n }
 {
@@ -30,7 +30,8 @@ fn are_name_bytes(bytes: &[u8]) -> bool
     bytes.iter().all(|b| is_name_byte(*b))
 }
 
-/// Whether a route may have these bytes as its name: 1 to 64 ASCII letters and digits, `-`, `_`, `.` and `/`.
+/// Whether a route may have these bytes as its name: 1 to 64 bytes, each an ASCII letter or digit, `-`, `_`, `.` or
+/// `/`. Linear in the length.
 pub fn is_name(name: &[u8]) -> bool
     ensures { result ≡ is_name name.now }
 {
@@ -38,7 +39,7 @@ pub fn is_name(name: &[u8]) -> bool
 }
 
 impl Entry {
-    /// Whether the numbers are within their limits, which the fields' comments name.
+    /// Whether each number is within its limits, which are listed at the fields of [`Entry`]. The name isn't checked.
     pub fn in_limits(&self) -> bool
         ensures { result ≡ in_limits (terms_of self.now) }
     {

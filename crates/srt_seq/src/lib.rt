@@ -1,5 +1,16 @@
-//! What every crate of the gateway speaks of: sequence numbers, message numbers and timestamps as they
-//! stand on the wire, words of 32 bits, and the types that routes, hub and configuration share.
+//! The vocabulary of the gateway: the numbers and timestamps of the wire, words of 32 bits, and the types that routes,
+//! hub and configuration share (draft-sharabayko-srt-01, sections 3 and 3.1).
+//!
+//! It reads no packet and holds no session: packets are in `srt_packet`, and what a number does to a session is in
+//! `srt_pub` and `srt_sub`. No function here takes memory or reads a clock.
+//!
+//! Numbers: [`Seq31`], a packet sequence number (31 bits), and [`Msg26`], a message number (1 to 2^26 - 1), in
+//! `numbers.rt`; [`Stamp32`], a timestamp in microseconds modulo 2^32, in `stamps.rt`. Each wraps. To compare two of
+//! them, first choose a reference: `Seq31::offset_in` a window, or `Stamp32::lift` near a time.
+//!
+//! Shared types, in `shared.rt`: [`Peer`], [`Item`] (the input of a route), [`Payload`] and [`PayloadRef`], [`Entry`]
+//! (a route's configuration), [`Mode`], [`Role`], [`Turned`], [`OpenFault`]. The limits of an `Entry` are in
+//! `entries.rt`, words in network byte order in `words.rt`.
 #![tactic(auto)]
 
 mod entries;

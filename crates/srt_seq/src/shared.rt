@@ -4,108 +4,111 @@ ghost use Rattle.std.specs.Prelude.{◌<◌, ◌≤◌, length};
 
 use arrayvec::ArrayVec;
 
-/// Every moment, in microseconds, is below this: 2^62.
+/// The upper bound of moments, itself excluded: 2^62 microseconds. Moments count from the gateway's start; in a replay
+/// they are what the tape gives.
 pub const MOMENT_END: u64 = 1 << 62;
 
-/// Where a datagram comes from or goes to. An IPv4 address is written as `::ffff:a.b.c.d`.
+/// The address and port that a datagram comes from or goes to. An IPv4 address has the form `::ffff:a.b.c.d`.
 #[derive(Clone, Copy, Debug, PartialEq, Eq)]
 pub struct Peer {
-    /// The address, the greatest byte first.
+    /// The IPv6 address, in network byte order.
     pub ip: [u8; 16],
-    /// The UDP port.
+    /// The UDP port, 0 to 65535.
     pub port: u16,
 }
 
-/// How a route hands payloads on.
+/// How a route delivers payloads.
 #[derive(Clone, Copy, Debug, PartialEq, Eq)]
 pub enum Mode {
-    /// Each payload at its time; what comes too late is left out (section 4.5).
+    /// Each payload at the time that its timestamp asks for; one that comes too late is left out (section 4.5).
     Live,
-    /// An unbroken run of bytes, as fast as it comes (section 4.2.2).
+    /// An unbroken stream of bytes, as fast as the slowest subscriber takes it (section 4.2.2).
     Buffer,
 }
 
-/// What a caller wants of a route (the key `m` of a Stream ID, appendix B).
+/// The side of the stream that a caller wants (the key `m` of a Stream ID, appendix B).
 #[derive(Clone, Copy, Debug, PartialEq, Eq)]
 pub enum Role {
-    /// It sends the stream.
+    /// It sends the stream to the route.
     Publish,
-    /// It is sent the stream.
+    /// It receives the stream from the route.
     Request,
 }
 
-/// What one turn of a route did.
+/// What one turn of a route did. A turn takes at most one step.
 #[derive(Clone, Copy, Debug, PartialEq, Eq)]
 pub enum Turned {
     /// The first waiting reply went to the outbox.
     Moved,
     /// The first item of the inbox was applied.
     Applied,
-    /// A reply waits, and the outbox is full: nothing changed.
+    /// A reply waits, but the outbox is full: nothing changed.
     Blocked,
-    /// No reply waits, and the inbox is empty: nothing changed.
+    /// No reply waits, and the inbox has no item: nothing changed.
     Idle,
 }
 
-/// One route as the configuration gives it.
+/// The configuration of one route. The type doesn't enforce the limits named below: `in_limits` and `is_name` check
+/// them.
 #[derive(Debug, Drop)]
 pub struct Entry {
-    /// The name that Stream IDs give: 1 to 64 bytes.
+    /// The name that Stream IDs ask for: 1 to 64 bytes, as `is_name` wants them.
     pub name: String,
-    /// How it hands payloads on.
+    /// How the route delivers payloads.
     pub mode: Mode,
-    /// The least delay of a live session, in milliseconds: 20 to 8000.
+    /// The least delay of a live session, in milliseconds: 20 to 8000. Callers may ask for more. Unused in buffer mode.
     pub latency_ms: u32,
-    /// The packets of each session's window: 32 to 8192.
+    /// The size of each session's window, in packets: 32 to 8192.
     pub buffer: u32,
-    /// The most sessions at a time: 1 to 17, of which one publisher.
+    /// The greatest number of open sessions: 1 to 17, of which at most one publishes.
     pub sessions: u32,
-    /// The most items that wait to be applied: 16 to 4096.
+    /// The greatest number of items that wait to be applied: 16 to 4096.
     pub inbox: u32,
-    /// The most replies that wait to be sent: 16 to 4096.
+    /// The greatest number of replies that wait to be sent: 16 to 4096.
     pub outbox: u32,
 }
 
-/// What a route is told.
+/// One input of a route.
 #[derive(Debug, Drop)]
 pub enum Item {
-    /// A datagram came.
+    /// A datagram that arrived.
     Datagram {
-        /// From whom.
+        /// The sender.
         peer: Peer,
-        /// When, in microseconds.
+        /// The moment of arrival, in microseconds: below [`MOMENT_END`].
         moment: u64,
-        /// Its first 16 bytes.
+        /// Its first 16 bytes: the header of a packet.
         head: [u8; 16],
-        /// All bytes after those.
+        /// All bytes after the header; empty if there are none.
         body: Vec<u8>,
     },
-    /// Time went by.
+    /// Time passes, and nothing arrived.
     Tick {
-        /// The moment, in microseconds.
+        /// The moment, in microseconds: below [`MOMENT_END`].
         moment: u64,
     },
 }
 
-/// The bytes that a data packet carries: 1 to 1456.
+/// A copy of the bytes that a data packet carries: at most 1456, held inline. A packet that is sent has at least one
+/// byte; the empty payload is only an initial value, to be filled.
 pub type Payload = ArrayVec<u8, 1456>;
 
-/// The bytes that a data packet carries, where they lie.
+/// The bytes that a data packet carries, borrowed from the datagram or the buffer that holds them: 1 to 1456.
 #[derive(Clone, Copy, Debug)]
 pub struct PayloadRef<'a> {
-    /// 1 to 1456 bytes.
+    /// The bytes: 1 to 1456.
     pub bytes: &'a [u8],
     pub ghost some: { 0 < length bytes.now },
     pub ghost most: { length bytes.now ≤ 1456 },
 }
 
-/// Why something could not be opened. Nothing is kept then.
+/// Why a route, a hub or a table of names could not be opened. Memory that was taken before the fault is given back.
 #[derive(Clone, Copy, Debug, PartialEq, Eq)]
 pub enum OpenFault {
-    /// A route's name is of wrong form, or stands twice.
+    /// A route's name is not of the form that `is_name` wants, or two routes have the same name.
     Names,
-    /// A number is outside its limits.
+    /// A number of an [`Entry`], the number of routes or a route's index is outside its limits.
     Limits,
-    /// The memory was refused.
+    /// An allocation failed.
     OutOfMemory,
 }

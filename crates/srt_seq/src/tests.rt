@@ -1,4 +1,4 @@
-//! Numbers and times at the edges of their circles.
+//! Numbers and times next to the values at which they wrap.
 
 use crate::{Msg26, Seq31, Stamp32, read_word, write_at};
 use std::test::Fail;
@@ -49,7 +49,7 @@ fn message_numbers_begin_at_1(rt: HostRuntime) -> Result<(), Fail> {
 
 #[test]
 fn a_stamp_stands_for_the_nearest_time(rt: HostRuntime) -> Result<(), Fail> {
-    // from 2^31 before, in, to 2^31 after, out
+    // From 2^31 before (included) to 2^31 after (excluded).
     assert_eq!(rt; Stamp32::new(0).lift(1 << 31), 0);
     assert_eq!(rt; Stamp32::new(0).lift((1 << 31) + 1), 1 << 32);
     assert_eq!(rt; Stamp32::new(0x8000_0000).lift(0), -(1 << 31));
