@@ -23,7 +23,7 @@ body_only word0 word1 rest (DropRequest message first last) s = grind (arith, na
 body_only word0 word1 rest PeerError s = grind (arith, nat_tests)
 body_only word0 word1 rest UserDefined s = grind (arith, nat_tests)
 
--- what is wrong with what follows the first 16 bytes
+-- this fault applies to a packet with this word 0 and these bytes after the first 16
 abbrev HasBodyFault : (word0 : ℕ) → List ℕ → PacketFault → Type 0
 HasBodyFault word0 rest Short = ⊥
 HasBodyFault word0 rest Long = ⊥
@@ -85,7 +85,7 @@ long_first bytes long = record { applies = long; first = above_two }
     above_two UnknownType k = omega arith
     above_two ShortControl k = omega arith
 
--- the fault of a body is the packet's
+-- the fault of a body is the fault of its packet
 with_header : (bytes : List ℕ) (stamp dest : ℕ) (r : Result Body PacketFault) → 16 ≤ length bytes → length bytes ≤ 1472 → IfErr r (λ fault. HasBodyFault (word_at bytes 0) (drop 16 bytes) fault) → IfErr (packet_with stamp dest r) (λ fault. IsFirstFault bytes fault)
 with_header bytes stamp dest (Ok body) header limit h = tt
 with_header bytes stamp dest (Err fault) header limit h = is_first bytes fault header limit h

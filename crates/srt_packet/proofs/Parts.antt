@@ -1,4 +1,4 @@
--- What an answer that equals packet_in's is.
+-- What follows for a result that equals packet_in's.
 use Rattle.std.proofs.Common.{◌≡◌, ℕ, ◌+◌, ◌-◌, ◌<◌, ◌≤◌, List, Result, Ok, Err, IfOk, IfErr, IsOkAnd, length, length-append, length-drop, take, drop, ◌++◌, refl, ◌∙◌, arith}
 use Rattle.std.proofs.lemmas.Bool.Decides.{nat_tests}
 use Rattle.std.proofs.lemmas.List.{get_or_append_left, take_all}
@@ -27,7 +27,7 @@ fault_by bytes (Err fault) e = let f = packet_fault bytes in rw (← e) at f
 whole_is : (bytes : List ℕ) → 16 ≤ length bytes → length bytes ≤ 1472 → packet_after bytes (drop 16 bytes) ≡ packet_in bytes
 whole_is bytes header limit = grind (arith, nat_tests)
 
--- what a slice from the 17th byte on holds
+-- the bytes of a slice from the 17th byte on
 pub whole_by : (bytes : List ℕ) (r : Result Packet PacketFault) → 16 ≤ length bytes → length bytes ≤ 1472 → r ≡ packet_after bytes (take (length bytes - 16) (drop 16 bytes)) → r ≡ packet_in bytes
 whole_by bytes r header limit e =
     let all = take_all (length bytes - 16) (drop 16 bytes) (omega (arith, length-drop 16 bytes)) in

@@ -1,8 +1,8 @@
--- Packets as the wire spells them (section 3): a relation by cases over the kinds.
+-- Packets as the wire spells them (section 3): a relation with one case for each kind.
 use Rattle.std.specs.Prelude.{◌≡◌, ℕ, ◌/◌, ◌%◌, ◌^◌, ◌<◌, ◌≤◌, List, length, drop}
 use Rattle.srt_seq.specs.Words.{word_at}
 
--- what a packet says beside its timestamp and its destination
+-- the content of a packet apart from its timestamp and its destination
 pub data Body : Type 0 where
   Data : (number encryption : ℕ) (payload : List ℕ) → Body
   Handshake : (info : List ℕ) → Body
@@ -21,14 +21,15 @@ pub record Packet : Type 0 where
   pub dest : ℕ
   pub body : Body
 
--- words 0 and 1, and what follows the header, spell this body
+-- words 0 and 1 of the header, and what follows the header, spell this body
 abbrev pub SpellsBody : (word0 word1 : ℕ) → List ℕ → Body → Type 0
--- top bit 0, then the number. Of word 1 the two bits of encryption stand at bit 27, and the others are free (section 3.1)
+-- top bit 0, then the number. Bits 27 and 28 of word 1 are the field KK, and its other bits are free (section 3.1)
 SpellsBody word0 word1 rest (Data number encryption payload) =
     (word0 < 2 ^ 31) × (number ≡ word0) × (encryption ≡ word1 / 2 ^ 27 % 4) × (0 < length rest) × (payload ≡ rest)
--- top bit 1, the type in 15 bits, and 16 free bits (section 3.2, table 1)
+-- top bit 1, the type in 15 bits, and a subtype of 16 bits, which is free (section 3.2, table 1)
 SpellsBody word0 word1 rest (Handshake info) = (word0 / 2 ^ 16 ≡ 0x8000) × (info ≡ rest)
--- what follows a keep-alive is free, and so it is after a shutdown, an ACKACK and the first two words of a drop request (this profile)
+-- bytes after the header of a keep-alive, a shutdown or an ACKACK are free, and so are those after the first two words
+-- of a drop request (this profile)
 SpellsBody word0 word1 rest KeepAlive = word0 / 2 ^ 16 ≡ 0x8001
 SpellsBody word0 word1 rest (Ack number info) = (word0 / 2 ^ 16 ≡ 0x8002) × (number ≡ word1) × (4 ≤ length rest) × (info ≡ rest)
 SpellsBody word0 word1 rest (Nak info) = (word0 / 2 ^ 16 ≡ 0x8003) × (4 ≤ length rest) × (info ≡ rest)
@@ -40,7 +41,7 @@ SpellsBody word0 word1 rest (DropRequest message first last) =
 SpellsBody word0 word1 rest PeerError = word0 / 2 ^ 16 ≡ 0x8008
 SpellsBody word0 word1 rest UserDefined = word0 / 2 ^ 16 ≡ 0xffff
 
--- these bytes are this packet
+-- these bytes spell this packet
 pub record Spells (bytes : List ℕ) (packet : Packet) : Type 0 where
   pub header : 16 ≤ length bytes
   pub limit : length bytes ≤ 1472

@@ -1,4 +1,4 @@
--- What is written is in the grammar, and reads back.
+-- What is written is in the grammar, and reading it gives the packet back.
 use Rattle.std.specs.Prelude.{◌≡◌, ◌^◌, ◌<◌, ◌≤◌, length, Ok}
 use Rattle.srt_seq.specs.Window.{word_of}
 use Rattle.srt_seq.specs.Counts.{message_of}
@@ -9,7 +9,7 @@ use Rattle.srt_packet.specs.Text.{rest_of, word1_of, IsWritable, text}
 use Rattle.srt_packet.specs.Grammar as grammar
 use Rattle.srt_packet.specs.Reading.{packet_in}
 
--- what a reader sees of a packet that was sent
+-- a written packet as a reader sees it
 abbrev pub sent_body : Body → grammar.Body
 sent_body (out.Media number message again payload) = grammar.Data (word_of number) 0 payload.items
 sent_body (out.Handshake info) = grammar.Handshake info.items
@@ -24,7 +24,7 @@ sent_body (out.DropRequest message first last) = grammar.DropRequest (message_of
 abbrev pub sent : written.Packet → grammar.Packet
 sent p = record { stamp = p.stamp; dest = p.dest; body = sent_body p.body }
 
--- what can be sent: words of 32 bits, and no more bytes than a datagram takes. Of each value of the code it holds
+-- words have 32 bits, and the bytes fit a datagram. All this holds of each value of the code that is writable
 pub record CanBeSent (p : written.Packet) : Type 0 where
   pub stamp : p.stamp < 2 ^ 32
   pub dest : p.dest < 2 ^ 32

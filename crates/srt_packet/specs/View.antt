@@ -1,4 +1,4 @@
--- What the crate's packets that were read mean.
+-- The packets of the grammar that the code's values mean.
 use Rattle.std.specs.Prelude.{Result, Ok, Err}
 use Rattle.srt_packet.specs.declared.reading.Kind.{Kind}
 use Rattle.srt_packet.specs.declared.reading.Kind.TheVariants as kinds
@@ -22,7 +22,7 @@ body_of kinds.UserDefined = UserDefined
 abbrev pub packet_of : PacketRef → Packet
 packet_of p = record { stamp = p.stamp; dest = p.dest; body = body_of p.kind }
 
--- an answer without its borrows
+-- a result without its borrows
 abbrev pub body_read : Result Kind PacketFault → Result Body PacketFault
 body_read (Ok kind) = Ok (body_of kind)
 body_read (Err fault) = Err fault

@@ -7,84 +7,84 @@ ghost use Rattle.srt_packet.specs.View.{body_read, packet_of, packet_read};
 
 use srt_seq::{PayloadRef, read_word};
 
-/// Why bytes are no packet. Where several apply, the first of this list is answered.
+/// Why bytes are no packet. If several apply, the first of this list is returned (this profile's order).
 #[derive(Clone, Copy, Debug, PartialEq, Eq)]
 pub enum PacketFault {
-    /// Under 16 bytes.
+    /// Fewer than 16 bytes: no whole header.
     Short,
-    /// Over 1472 bytes.
+    /// More than 1472 bytes: 1500 less the headers of IPv4 and UDP.
     Long,
-    /// A data packet of 16 bytes.
+    /// A data packet of just a header.
     NoPayload,
-    /// A control packet of a type that section 3.2 doesn't list.
+    /// A control packet of a type that section 3.2 doesn't list: 9 to 0x7ffe.
     UnknownType,
-    /// An ACK or a NAK with under 4 bytes of information, or a drop request with under 8.
+    /// An ACK or a NAK with fewer than 4 bytes after the header, or a drop request with fewer than 8.
     ShortControl,
 }
 
-/// What a packet says beside its timestamp and its destination.
+/// The kind of a packet, and its content apart from timestamp and destination.
 #[derive(Clone, Copy, Debug)]
 pub enum Kind<'a> {
     /// A data packet (section 3.1).
     Data {
-        /// The packet sequence number.
+        /// The packet sequence number: below 2^31.
         number: u32,
-        /// The field KK: 0 where the payload isn't encrypted.
+        /// The field KK, 0 to 3: 0 if the payload isn't encrypted.
         encryption: u8,
-        /// What it carries.
+        /// The bytes that it carries: 1 to 1456.
         payload: PayloadRef<'a>,
     },
-    /// Section 3.2.1.
+    /// A handshake (section 3.2.1). Its content isn't checked here.
     Handshake {
-        /// All bytes after the header.
+        /// All bytes after the header: 0 to 1456.
         info: &'a [u8],
     },
-    /// Section 3.2.3.
+    /// A keep-alive (section 3.2.3).
     KeepAlive,
     /// An acknowledgement of any form (section 3.2.4).
     Ack {
-        /// The acknowledgement number; 0 in Light and Small ones.
+        /// The acknowledgement number: word 1 of the header. 0 in Light ACKs and Small ACKs.
         number: u32,
-        /// At least 4 bytes; the first word is the acknowledged number.
+        /// All bytes after the header: 4 to 1456. All packets before the number in its first word are acknowledged.
         info: &'a [u8],
     },
     /// A loss report (section 3.2.5).
     Nak {
-        /// The loss list: at least 4 bytes.
+        /// All bytes after the header, 4 to 1456: a loss list, unchecked.
         info: &'a [u8],
     },
-    /// Section 3.2.6.
+    /// A congestion warning (section 3.2.6). What follows the header isn't looked at.
     CongestionWarning,
-    /// Section 3.2.7.
+    /// The peer ends its session (section 3.2.7).
     Shutdown,
     /// The acknowledgement of an acknowledgement (section 3.2.8).
     AckAck {
-        /// The number of the acknowledgement that it answers.
+        /// The number of the Full ACK that it confirms: word 1 of the header, unchecked.
         number: u32,
     },
     /// A message drop request (section 3.2.9).
     DropRequest {
-        /// The message number.
+        /// The message number: word 1 of the header, unchecked.
         message: u32,
-        /// The first packet of the message, as a word of any value.
+        /// The first sequence number to drop, as a word of any value.
         first: u32,
-        /// The last packet of the message, as a word of any value.
+        /// The last sequence number to drop, as a word of any value.
         last: u32,
     },
-    /// Section 3.2.10.
+    /// A peer error (section 3.2.10). What follows the header isn't looked at.
     PeerError,
-    /// Type 0x7fff.
+    /// A user-defined packet: type 0x7fff (section 3.2). What follows the header isn't looked at.
     UserDefined,
 }
 
-/// A packet that borrows its bytes.
+/// A packet that was read. It borrows the bytes of its datagram.
 #[derive(Clone, Copy, Debug)]
 pub struct PacketRef<'a> {
-    /// The timestamp, in microseconds, modulo 2^32.
+    /// The timestamp, in microseconds modulo 2^32.
     pub stamp: u32,
-    /// The socket ID that it is sent to.
+    /// The socket ID of the receiver; 0 in a handshake that opens a connection.
     pub dest: u32,
-    /// What it says.
+    /// The rest of the packet.
     pub kind: Kind<'a>,
 }
 
@@ -153,8 +153,8 @@ fn kind_of(word0: u32, word1: u32, rest: &[u8]) -> Result<Kind<'_>, PacketFault>
     }
 }
 
-/// The packet whose header is the first 16 bytes of `head`, whatever follows them there, with what follows
-/// the header.
+/// The packet with the first 16 bytes of `head` as its header, and `rest` after it. Bytes of `head` after the first 16
+/// are ignored.
 fn packet_of_parts<'a>(head: &[u8], rest: &'a [u8]) -> Result<PacketRef<'a>, PacketFault>
     requires header { 16 ≤ length head.now }
     requires most { length rest.now ≤ 1456 }
@@ -168,15 +168,15 @@ fn packet_of_parts<'a>(head: &[u8], rest: &'a [u8]) -> Result<PacketRef<'a>, Pac
     })
 }
 
-/// The packet that the bytes of a datagram spell.
+/// Reads the bytes of a datagram as a packet. It copies nothing. O(1).
 pub fn decode(bytes: &[u8]) -> Result<PacketRef<'_>, PacketFault>
-    // The answer as a function of the bytes.
+    // The result as a function of the bytes.
     ensures value { packet_read result ≡ packet_in bytes.now }
-    // What is read is spelled so.
+    // The bytes spell the packet that is read.
     ensures found { IfOk result (λ p. Spells bytes.now (packet_of p)) }
-    // What is spelled so is read, so a fault is answered exactly where nothing is spelled.
+    // A packet that the bytes spell is read, so a fault is returned only if they spell none.
     ensures only { (packet : ThePacket) → Spells bytes.now packet → IsOkAnd result (λ p. packet_of p ≡ packet) }
-    // Of the faults that apply, it is the first.
+    // The fault is the first that applies.
     ensures fault { IfErr result (λ fault. IsFirstFault bytes.now fault) }
 {
     if bytes.len() < 16 {
@@ -188,16 +188,16 @@ pub fn decode(bytes: &[u8]) -> Result<PacketRef<'_>, PacketFault>
     packet_of_parts(bytes, &bytes[16..])
 }
 
-/// The packet that the first 16 bytes of a datagram and the bytes after them spell: as [`decode`] of both
-/// in a row.
+/// Reads the first 16 bytes of a datagram, and the bytes after them, as a packet. The result is that of [`decode`] of
+/// both in a row, without [`PacketFault::Short`]. O(1).
 pub fn decode_parts<'a>(head: &[u8; 16], body: &'a [u8]) -> Result<PacketRef<'a>, PacketFault>
-    // The answer as a function of the bytes.
+    // The result as a function of the bytes.
     ensures value { packet_read result ≡ packet_in (head.now ++ body.now) }
-    // What is read is spelled so.
+    // The bytes spell the packet that is read.
     ensures found { IfOk result (λ p. Spells (head.now ++ body.now) (packet_of p)) }
-    // What is spelled so is read, so a fault is answered exactly where nothing is spelled.
+    // A packet that the bytes spell is read, so a fault is returned only if they spell none.
     ensures only { (packet : ThePacket) → Spells (head.now ++ body.now) packet → IsOkAnd result (λ p. packet_of p ≡ packet) }
-    // Of the faults that apply, it is the first.
+    // The fault is the first that applies.
     ensures fault { IfErr result (λ fault. IsFirstFault (head.now ++ body.now) fault) }
 {
     if body.len() > 1456 {

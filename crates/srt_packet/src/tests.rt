@@ -1,4 +1,4 @@
-//! Packets of each kind with their bytes, both ways, and bytes of each fault.
+//! Packets of each kind with their bytes, written and read, and bytes with each fault.
 
 ghost use Rattle.std.specs.Prelude.{◌≡◌};
 ghost use Rattle.srt_packet.specs.Text.{IsWritable};
@@ -27,7 +27,7 @@ fn assert_written(rt: &(impl AllocGlobal + Abort), packet: &Packet, text: &str) 
     Ok(())
 }
 
-/// The first 16 bytes and those after them.
+/// The first 16 bytes, and the bytes after them.
 fn split(bytes: &[u8]) -> Option<([u8; 16], &[u8])> {
     if bytes.len() < 16 {
         return None;
@@ -143,7 +143,7 @@ fn short_packets_are_written(rt: HostRuntime) -> Result<(), Fail> {
     )
 }
 
-/// The fault of these bytes, whole and in parts.
+/// The fault of these bytes, which must be the same for the whole datagram and for its two parts.
 fn fault_of(rt: &(impl AllocGlobal + Abort), text: &str) -> Result<PacketFault, Fail> {
     let bytes = hex::decode(rt.alloc(), text)?;
     let whole = decode(&bytes).err().ok_or("no packet")?;
@@ -202,7 +202,7 @@ fn too_many_bytes_are_found_before_other_faults(rt: HostRuntime) -> Result<(), F
 
 #[test]
 fn data_is_read(rt: HostRuntime) -> Result<(), Fail> {
-    // As libsrt sends it again: single, not in order; then with an even key.
+    // As libsrt retransmits it: a single packet, not in order; then with an even key.
     for (text, key) in [
         ("00000009c400000100000102000000026869", 0),
         ("00000009cc00000100000102000000026869", 1),
@@ -225,7 +225,7 @@ fn data_is_read(rt: HostRuntime) -> Result<(), Fail> {
     Ok(())
 }
 
-/// The name of a kind, its numbers, and how many bytes of information it has.
+/// The name of a kind, its numbers, and the number of bytes after the header.
 fn told(kind: Kind<'_>) -> (&'static str, [u32; 3], usize) {
     match kind {
         Kind::Data {

@@ -9,74 +9,73 @@ ghost use Rattle.srt_packet.specs.Text.{text, word0_of, word1_of, rest_of, IsWri
 use arrayvec::ArrayVec;
 use srt_seq::{Msg26, Payload, Seq31, write_at, write_words};
 
-/// What a packet to be sent says beside its timestamp and its destination.
+/// The kind of a packet to be sent, and its content apart from timestamp and destination.
 #[derive(Drop)]
 pub enum Body {
-    /// A data packet: a whole message, unencrypted (section 3.1).
+    /// A data packet: a whole message in one packet, in order, unencrypted (section 3.1).
     Media {
         /// The packet sequence number.
         number: Seq31,
         /// The message number.
         message: Msg26,
-        /// Whether it was sent before: the field R.
+        /// The field R: whether this is a retransmission.
         again: bool,
-        /// 1 to 1456 bytes.
+        /// The bytes that it carries: 1 to 1456. An empty payload can't be encoded.
         payload: Payload,
     },
-    /// Section 3.2.1: all bytes after the header.
+    /// A handshake: all bytes after the header, at most 84 (section 3.2.1).
     Handshake(ArrayVec<u8, 84>),
-    /// Section 3.2.3.
+    /// A keep-alive (section 3.2.3).
     KeepAlive,
-    /// An acknowledgement with a number (section 3.2.4). It has seven words, of which the last three, the
-    /// rates and the link's capacity, are 0.
+    /// A Full ACK (section 3.2.4): seven words, of which the last three (receiving rates and link capacity) are 0.
     FullAck {
-        /// The acknowledgement number.
+        /// The acknowledgement number, which its ACKACK repeats. It should be 1 or more, since Light ACKs have 0.
         number: u32,
-        /// The first packet that didn't come.
+        /// The acknowledgement point: all packets before this number are acknowledged.
         point: Seq31,
         /// The round-trip time, in microseconds.
         round_trip: u32,
-        /// Its variance, in microseconds.
+        /// The variance of the round-trip time, in microseconds.
         variance: u32,
-        /// The packets that there is room for.
+        /// The free space of the receiver's buffer, in packets.
         available: u32,
     },
-    /// An acknowledgement of one word (section 3.2.4).
+    /// A Light ACK, of one word (section 3.2.4).
     LightAck {
-        /// The first packet that didn't come.
+        /// The acknowledgement point: all packets before this number are acknowledged.
         point: Seq31,
     },
     /// A loss report (section 3.2.5).
     Nak {
-        /// The words of the loss list (appendix A): at least one.
+        /// The words of the loss list (appendix A): 1 to 64. An empty list can't be encoded.
         losses: ArrayVec<u32, 64>,
     },
     /// The acknowledgement of a Full ACK (section 3.2.8).
     AckAck {
-        /// The number of the Full ACK.
+        /// The number of the Full ACK that it confirms.
         number: u32,
     },
     /// A message drop request (section 3.2.9).
     DropRequest {
-        /// The message number of the first packet.
+        /// The message number of the first packet to drop.
         message: Msg26,
-        /// The first packet.
+        /// The first sequence number to drop.
         first: Seq31,
-        /// The last packet.
+        /// The last sequence number to drop, itself included.
         last: Seq31,
     },
-    /// Section 3.2.7.
+    /// The session ends (section 3.2.7).
     Shutdown,
 }
 
-/// A packet to be sent.
+/// A packet to be sent. It owns its content and takes no memory.
 #[derive(Drop)]
 pub struct Packet {
-    /// The timestamp, in microseconds, modulo 2^32.
+    /// The timestamp, in microseconds modulo 2^32.
     pub stamp: u32,
-    /// The socket ID that it is sent to.
+    /// The receiver's socket ID.
     pub dest: u32,
-    /// What it says.
+    /// The rest of the packet.
     pub body: Body,
 }
 
@@ -105,7 +104,7 @@ fn first_words(body: &Body) -> (u32, u32)
     }
 }
 
-/// Writes what follows the header, and answers where it ends.
+/// Writes what follows the header from the offset `at` on, and returns the offset of its end.
 #[tactic(auto, using(srt_seq::proofs::WordBytes::length_of_words))]
 fn write_rest(body: &Body, out: &mut [u8], at: usize) -> usize
     requires room { at + 1456 ≤ length out.old }
@@ -139,14 +138,15 @@ fn write_rest(body: &Body, out: &mut [u8], at: usize) -> usize
     }
 }
 
-/// Writes a packet to the front of the buffer, and answers its length.
+/// Writes a packet to the front of the buffer, and returns its length in bytes: 16 to 1472. The rest of the buffer
+/// doesn't change. Linear in the length; it takes no memory. The subtype of a control packet is written as 0.
 pub fn encode(packet: &Packet, out: &mut [u8; 1472]) -> usize
     requires { IsWritable packet.now.body }
     ensures within { result ≤ 1472 }
     ensures len { result ≡ length (text packet.now) }
     ensures written { take result out.new ≡ text packet.now }
     ensures kept { drop result out.new ≡ drop result out.old }
-    // What is written is in the grammar, and so it reads back.
+    // What is written is in the grammar, and reading it gives the packet back.
     ensures spelled { Spells (take result out.new) (sent packet.now) }
     ensures read { packet_in (take result out.new) ≡ Ok (sent packet.now) }
 {
