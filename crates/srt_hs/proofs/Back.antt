@@ -1,4 +1,4 @@
--- What is written reads back.
+-- Reading what is written gives it back.
 use Rattle.std.proofs.Common.{◌≡◌, ℕ, suc, flat_map, ◌^◌, ◌<◌, List, [], ◌∷◌, ◌++◌, None, Some, Ok, refl, sym, ap, ◌∙◌, arith}
 use Rattle.std.proofs.lemmas.Nat.{from_be_bytes-to_be_bytes_2, from_be_bytes-to_be_bytes_4}
 use Rattle.srt_seq.specs.Words.{word, word_at, words_in}

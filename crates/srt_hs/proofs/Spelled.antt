@@ -1,4 +1,4 @@
--- What the bytes read as is what they spell.
+-- Reading, as a function, and spelling, as a relation, agree.
 use Rattle.std.proofs.Common.{◌≡◌, ℕ, zero, suc, ◌≤◌, ◌⊎◌, inl, inr, List, [], ◌∷◌, length, drop, ltb, Result, Ok, Err, IfOk, IfErr, IsOkAnd, refl, sym, ap, subst, ◌∙◌, arith}
 use Rattle.std.proofs.lemmas.Bool.{ltb-true, ltb-false}
 use Rattle.srt_seq.specs.Words.{word_at}

@@ -1,4 +1,4 @@
--- Handshakes as the wire spells them: a relation by cases, and the faults (section 3.2.1).
+-- Handshakes as the wire spells them, as a relation by cases, and the faults (section 3.2.1).
 use Rattle.std.specs.Prelude.{◌≡◌, ◌≢◌, ℕ, ◌+◌, ◌*◌, ◌<◌, ◌≤◌, ◌⊎◌, Bool, true, false, List, [], ◌∷◌, length, take, drop, slice_index, Option, None, Some, IsSome, if◌then◌else◌, ◌==◌}
 use Rattle.std.specs.Int.{w16, from_be_bytes}
 use Rattle.srt_seq.specs.Words.{word_at, words_in}
@@ -8,11 +8,11 @@ use Rattle.srt_hs.specs.declared.handshake.HsReq.{HsReq}
 use Rattle.srt_hs.specs.declared.handshake.HsFault.{HsFault}
 use Rattle.srt_hs.specs.declared.handshake.HsFault.TheVariants.{Short, TruncatedExtension, BadLength, Repeated}
 
--- the half word of the two bytes at this place, the greater byte first
+-- the number of 16 bits of the two bytes at this offset, in network byte order
 abbrev pub half_at : List ℕ → ℕ → ℕ
 half_at bytes at = from_be_bytes w16 (slice_index bytes at ∷ slice_index bytes (at + 1) ∷ [])
 
--- what a number of the field "handshake type" means (section 3.2.1)
+-- the meaning of a number in the field "handshake type" (section 3.2.1)
 abbrev pub kind_of : ℕ → HsKind
 kind_of n =
     if n == 0 then WaveHand
@@ -22,12 +22,12 @@ kind_of n =
     else if n == 0xffff_fffd then Done
     else Refusal n
 
--- what the extension blocks say
+-- the content of the extension blocks
 pub record Blocks : Type 0 where
   pub hsreq : Option HsReq
-  -- its bytes, without the zeros at their end
+  -- the bytes of its text, without the zeros that pad it
   pub stream_id : Option (List ℕ)
-  -- its words
+  -- its words, unchanged
   pub congestion : Option (List ℕ)
   pub has_kmreq : Bool
   pub has_filter : Bool
@@ -36,7 +36,7 @@ pub record Blocks : Type 0 where
 abbrev pub no_blocks : Blocks
 no_blocks = record { hsreq = None; stream_id = None; congestion = None; has_kmreq = false; has_filter = false; has_group = false }
 
--- a handshake. One that isn't a conclusion has no blocks
+-- a handshake. Only a conclusion has blocks
 pub record Handshake : Type 0 where
   pub version : ℕ
   pub encryption : ℕ
@@ -49,11 +49,11 @@ pub record Handshake : Type 0 where
   pub cookie : ℕ
   pub blocks : Blocks
 
--- an HSREQ's version, flags and delays (section 3.2.1.1)
+-- the version, flags and delays of an HSREQ (section 3.2.1.1)
 abbrev pub hsreq_in : List ℕ → HsReq
 hsreq_in contents = record { version = word_at contents 0; flags = word_at contents 4; receiver_ms = half_at contents 8; sender_ms = half_at contents 10 }
 
--- each group of four bytes the other way round (section 3.2.1.3)
+-- the bytes with each group of four in reverse order (section 3.2.1.3)
 abbrev pub turned_words : List ℕ → List ℕ
 turned_words (a ∷ b ∷ c ∷ d ∷ rest) = d ∷ c ∷ b ∷ a ∷ turned_words rest
 turned_words _ = []
@@ -67,11 +67,12 @@ abbrev pub without_zeros : List ℕ → List ℕ
 without_zeros [] = []
 without_zeros (byte ∷ rest) = before_zeros byte (without_zeros rest)
 
--- the bytes of a Stream ID (section 3.2.1.3)
+-- the text of a Stream ID, as bytes (section 3.2.1.3)
 abbrev pub stream_id_in : List ℕ → List ℕ
 stream_id_in contents = without_zeros (turned_words contents)
 
--- the first block of these bytes: its type, its length in bytes, its contents, and what follows it (section 3.2.1)
+-- of the first block of these bytes: its type, the length of its contents in bytes, its contents, and the bytes after
+-- it (section 3.2.1)
 abbrev pub type_of : List ℕ → ℕ
 type_of bytes = half_at bytes 0
 
@@ -89,7 +90,7 @@ pub record HasBlock (bytes : List ℕ) : Type 0 where
   pub header : 4 ≤ length bytes
   pub contents : 4 + length_of bytes ≤ length bytes
 
--- a type of which nothing is read (an answer's HSRSP and KMRSP, and those that this standard doesn't name)
+-- a type that is skipped: HSRSP and KMRSP, which only answers have, and those that the draft doesn't name
 pub record IsSkipped (type : ℕ) : Type 0 where
   pub not_hsreq : type ≢ 1
   pub not_kmreq : type ≢ 3
@@ -98,7 +99,7 @@ pub record IsSkipped (type : ℕ) : Type 0 where
   pub not_filter : type ≢ 7
   pub not_group : type ≢ 8
 
--- a block of this type and these contents makes, of what the blocks before it said, this
+-- a block of this type and these contents turns the blocks before it into these blocks
 pub data Adds (before : Blocks) (contents : List ℕ) : ℕ → Blocks → Type 0 where
   -- three words, once
   hsreq : length contents ≡ 12 → before.hsreq ≡ None → Adds before contents 1 (record before { hsreq = Some (hsreq_in contents) })
@@ -111,17 +112,17 @@ pub data Adds (before : Blocks) (contents : List ℕ) : ℕ → Blocks → Type 
   group : Adds before contents 8 (record before { has_group = true })
   skipped : (type : ℕ) → IsSkipped type → Adds before contents type before
 
--- these bytes are blocks, up to their end, and make of what the blocks before them said this
+-- these bytes are a sequence of whole blocks, which turn the blocks before them into these blocks
 pub data SpellsBlocks : List ℕ → Blocks → Blocks → Type 0 where
   nothing : (before : Blocks) → SpellsBlocks [] before before
   block : (bytes : List ℕ) (before next after : Blocks) → HasBlock bytes → Adds before (contents_of bytes) (type_of bytes) next → SpellsBlocks (after_block bytes) next after → SpellsBlocks bytes before after
 
--- the blocks are read of a conclusion alone
+-- only the blocks of a conclusion are read
 abbrev pub SpellsExtension : HsKind → List ℕ → Blocks → Type 0
 SpellsExtension Conclusion bytes blocks = SpellsBlocks bytes no_blocks blocks
 SpellsExtension _ bytes blocks = blocks ≡ no_blocks
 
--- these bytes are this handshake. The 16 bytes of the peer's address are free
+-- these bytes spell this handshake. The 16 bytes of the peer's address are free
 pub record Spells (bytes : List ℕ) (hs : Handshake) : Type 0 where
   pub whole : 48 ≤ length bytes
   pub version : hs.version ≡ word_at bytes 0
@@ -135,31 +136,31 @@ pub record Spells (bytes : List ℕ) (hs : Handshake) : Type 0 where
   pub cookie : hs.cookie ≡ word_at bytes 28
   pub blocks : SpellsExtension (kind_of (word_at bytes 20)) (drop 48 bytes) hs.blocks
 
--- a length that no block of this type has (this profile)
+-- the contents have a length that a block of this type can't have (this profile)
 pub data HasBadLength (contents : List ℕ) : ℕ → Type 0 where
   hsreq_length : length contents ≢ 12 → HasBadLength contents 1
   stream_id_length : 512 < length contents → HasBadLength contents 5
   congestion_length : (length contents ≡ 0) ⊎ (16 < length contents) → HasBadLength contents 6
 
--- a second block of a type that stands once at most (this profile)
+-- a second block of a type that may occur only once (this profile)
 pub data IsRepeated (before : Blocks) : ℕ → Type 0 where
   second_hsreq : IsSome before.hsreq → IsRepeated before 1
   second_stream_id : IsSome before.stream_id → IsRepeated before 5
   second_congestion : IsSome before.congestion → IsRepeated before 6
 
--- what is wrong with the first block of these bytes
+-- the first block of these bytes has this fault
 abbrev pub HasBlockFault : List ℕ → Blocks → HsFault → Type 0
 HasBlockFault bytes before Short = ⊥
 HasBlockFault bytes before TruncatedExtension = (0 < length bytes) × ((length bytes < 4) ⊎ (length bytes < 4 + length_of bytes))
 HasBlockFault bytes before BadLength = HasBlock bytes × HasBadLength (contents_of bytes) (type_of bytes)
 HasBlockFault bytes before Repeated = HasBlock bytes × (HasBadLength (contents_of bytes) (type_of bytes) → ⊥) × IsRepeated before (type_of bytes)
 
--- what is wrong with the first block that is wrong
+-- the first block that has a fault has this one
 pub data HasBlocksFault : List ℕ → Blocks → HsFault → Type 0 where
   here : (bytes : List ℕ) (before : Blocks) (fault : HsFault) → HasBlockFault bytes before fault → HasBlocksFault bytes before fault
   later : (bytes : List ℕ) (before next : Blocks) (fault : HsFault) → HasBlock bytes → Adds before (contents_of bytes) (type_of bytes) next → HasBlocksFault (after_block bytes) next fault → HasBlocksFault bytes before fault
 
--- the first fault of these bytes
+-- the first fault of these bytes, from the left
 abbrev pub HasFault : List ℕ → HsFault → Type 0
 HasFault bytes Short = length bytes < 48
 HasFault bytes fault = (48 ≤ length bytes) × (kind_of (word_at bytes 20) ≡ Conclusion) × HasBlocksFault (drop 48 bytes) no_blocks fault

@@ -1,4 +1,4 @@
--- What the bytes of a handshake read as (section 3.2.1).
+-- Reading the bytes of a handshake, as a function (section 3.2.1).
 use Rattle.std.specs.Prelude.{ℕ, zero, suc, ◌+◌, true, List, [], ◌∷◌, length, drop, Some, is_some, Result, Ok, Err, if◌then◌else◌, ◌==◌, ◌||◌, nat_lt}
 use Rattle.srt_seq.specs.Words.{word_at, words_in}
 use Rattle.srt_hs.specs.Grammar.{Handshake, Blocks, half_at, kind_of, no_blocks, hsreq_in, stream_id_in, type_of, length_of, contents_of, after_block}
@@ -22,7 +22,7 @@ with_congestion before contents =
     if length contents == 0 || nat_lt 16 (length contents) then Err BadLength
     else (if is_some before.congestion then Err Repeated else Ok (record before { congestion = Some (words_in contents) }))
 
--- what the blocks say with one more
+-- the blocks so far with one more block
 unfoldable pub with_block : Blocks → (type : ℕ) → (contents : List ℕ) → Result Blocks HsFault
 with_block before type contents =
     if type == 1 then with_hsreq before contents
@@ -33,7 +33,7 @@ with_block before type contents =
     else if type == 8 then Ok (record before { has_group = true })
     else Ok before
 
--- what they say with the first block of these bytes
+-- the blocks so far with the first block of these bytes
 unfoldable pub with_first : Blocks → List ℕ → Result Blocks HsFault
 with_first before bytes =
     if nat_lt (length bytes) 4 then Err TruncatedExtension
@@ -44,17 +44,17 @@ abbrev pub and_then : {A B : Type 0} → Result A HsFault → (A → Result B Hs
 and_then (Ok x) f = f x
 and_then (Err fault) f = Err fault
 
--- what they say with all blocks of these bytes, of which there are at most so many
+-- the blocks so far with all blocks of these bytes, which are at most this many
 abbrev pub with_all : (most : ℕ) → Blocks → List ℕ → Result Blocks HsFault
 with_all most before [] = Ok before
 with_all zero before (byte ∷ bytes) = Err TruncatedExtension
 with_all (suc most) before (byte ∷ bytes) = and_then (with_first before (byte ∷ bytes)) (λ next. with_all most next (after_block (byte ∷ bytes)))
 
--- what the blocks of these bytes say; each takes some bytes
+-- the blocks of these bytes. Each has at least one byte, so the number of bytes bounds the number of blocks
 unfoldable pub blocks_in : List ℕ → Result Blocks HsFault
 blocks_in bytes = with_all (length bytes) no_blocks bytes
 
--- the blocks are read of a conclusion alone
+-- only the blocks of a conclusion are read
 abbrev pub extension_in : HsKind → List ℕ → Result Blocks HsFault
 extension_in Conclusion bytes = blocks_in bytes
 extension_in _ bytes = Ok no_blocks
@@ -74,7 +74,7 @@ with_fields bytes blocks =
       blocks = blocks;
     }
 
--- the handshake that the bytes spell, or the first fault
+-- the handshake that the bytes spell, or the first fault from the left
 unfoldable pub handshake_in : List ℕ → Result Handshake HsFault
 handshake_in bytes =
     if nat_lt (length bytes) 48 then Err Short

@@ -1,4 +1,4 @@
--- What is written reads back.
+-- Reading what is written gives it back.
 use Rattle.std.specs.Prelude.{◌≡◌, ℕ, ◌^◌, ◌<◌, ◌≤◌, List, ◌++◌, length, slice_index, Option, option_map, IfSome, Ok}
 use Rattle.srt_seq.specs.declared.shared.Mode.{Mode}
 use Rattle.srt_hs.specs.declared.handshake.HsKind.{HsKind}
@@ -19,7 +19,7 @@ pub record AreFewWords (words : List ℕ) : Type 0 where
   pub few : length words ≤ 4
   pub fit : AreWords words
 
--- what fits its fields
+-- each value fits its field of the wire
 abbrev pub KindFits : AnswerKind → Type 0
 KindFits (Induction cookie) = cookie < 2 ^ 32
 KindFits (Refusal code) = Unit {0}
@@ -34,7 +34,7 @@ abbrev pub fields : (extension initial mtu window : ℕ) (kind : HsKind) (id coo
 fields extension initial mtu window kind id cookie blocks =
     record { version = 5; encryption = 0; extension = extension; initial = initial; mtu = mtu; window = window; kind = kind; id = id; cookie = cookie; blocks = blocks }
 
--- what a reader sees of a conclusion's blocks: an HSRSP is passed over
+-- the blocks of an accepted conclusion's answer as a reader sees them: an HSRSP is skipped
 abbrev pub answered_blocks : Option (List ℕ) → Blocks
 answered_blocks congestion = record no_blocks { congestion = congestion }
 
@@ -45,14 +45,14 @@ answered_kind initial (Conclusion mtu window id mode recv_ms send_ms congestion)
     let words = option_map text_words congestion in
     fields (extension_of words) initial mtu window kinds.Conclusion id 0 (answered_blocks words)
 
--- what a reader sees of an answer
+-- an answer as a reader sees it
 abbrev pub answered : HsAnswer → Handshake
 answered a = answered_kind a.initial a.what
 
 abbrev pub WhatIsWrittenReadsBack : Type 0
 WhatIsWrittenReadsBack = (a : HsAnswer) → CanBeWritten a → handshake_in (answer_text a) ≡ Ok (answered a)
 
--- an HSRSP block, read as an HSREQ is
+-- the bytes begin with this HSRSP block, read as an HSREQ block is, and rest follows
 pub record IsHsrsp (mode : Mode) (recv_ms send_ms : ℕ) (rest bytes : List ℕ) : Type 0 where
   pub whole : HasBlock bytes
   pub type : type_of bytes ≡ 2

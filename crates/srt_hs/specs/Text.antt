@@ -1,4 +1,4 @@
--- The one spelling of each answer, after the packet's header (section 3.2.1).
+-- The bytes that are written for each answer, after the packet's header (section 3.2.1).
 use Rattle.std.specs.Prelude.{ℕ, List, [], ◌++◌, length, replicate, flat_map, Option, None, Some, option_map}
 use Rattle.std.specs.Int.{w16, to_be_bytes}
 use Rattle.srt_seq.specs.Words.{word}
@@ -11,11 +11,11 @@ use Rattle.srt_hs.specs.declared.writing.AnswerKind.TheVariants.{Induction, Refu
 use Rattle.srt_hs.specs.declared.writing.HsAnswer.{HsAnswer}
 use Rattle.srt_hs.specs.View.{text_words}
 
--- the two bytes of a half word
+-- the two bytes of a number of 16 bits, in network byte order
 abbrev pub half : ℕ → List ℕ
 half n = to_be_bytes w16 n
 
--- the reason's number (section 4.3)
+-- the number of a reason (section 4.3)
 abbrev pub code_of : RefusalCode → ℕ
 code_of codes.Peer = 1002
 code_of codes.Resource = 1003
@@ -26,7 +26,7 @@ code_of codes.MessageApi = 1012
 code_of codes.Filter = 1014
 code_of codes.Group = 1015
 
--- the 48 bytes: version 5, no encryption, and zeros for the peer's address (this profile)
+-- the 48 bytes before the extension blocks: version 5, no encryption, and zeros for the peer's address (this profile)
 abbrev pub fields_text : (extension initial mtu window type id cookie : ℕ) → List ℕ
 fields_text extension initial mtu window type id cookie = word 5 ++ half 0 ++ half extension ++ word initial ++ word mtu ++ word window ++ word type ++ word id ++ word cookie ++ replicate 16 0
 
@@ -39,12 +39,12 @@ flags_of Buffer = 0x74
 abbrev pub hsrsp_text : (mode : Mode) (recv_ms send_ms : ℕ) → List ℕ
 hsrsp_text mode recv_ms send_ms = half 2 ++ half 3 ++ word 0x0001_0500 ++ word (flags_of mode) ++ half recv_ms ++ half send_ms
 
--- a CONGESTION block of these words, where there is one
+-- a CONGESTION block of these words, or nothing
 abbrev pub congestion_text : Option (List ℕ) → List ℕ
 congestion_text None = []
 congestion_text (Some words) = half 6 ++ half (length words) ++ flat_map word words
 
--- the extension field: HSREQ, and CONFIG where there is a CONGESTION block
+-- the extension field: the flag HSREQ, and the flag CONFIG if there is a CONGESTION block
 abbrev pub extension_of : Option (List ℕ) → ℕ
 extension_of None = 1
 extension_of (Some words) = 5

@@ -1,4 +1,4 @@
--- What the bytes read as is what they spell.
+-- Reading, as a function, and spelling, as a relation, agree.
 use Rattle.std.specs.Prelude.{◌≡◌, ◌↔◌, ℕ, List, Ok, Err}
 use Rattle.srt_hs.specs.declared.handshake.HsFault.{HsFault}
 use Rattle.srt_hs.specs.Grammar.{Handshake, Spells, HasFault}
@@ -7,6 +7,6 @@ use Rattle.srt_hs.specs.Reading.{handshake_in}
 abbrev pub ReadingIsSpelling : Type 0
 ReadingIsSpelling = (bytes : List ℕ) (hs : Handshake) → (handshake_in bytes ≡ Ok hs) ↔ Spells bytes hs
 
--- where nothing is spelled, the fault is the first
+-- reading gives a fault exactly if it is the first from the left
 abbrev pub FaultIsTheFirst : Type 0
 FaultIsTheFirst = (bytes : List ℕ) (fault : HsFault) → (handshake_in bytes ≡ Err fault) ↔ HasFault bytes fault

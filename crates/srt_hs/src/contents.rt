@@ -1,4 +1,4 @@
-//! The contents of blocks that hold text.
+//! The contents of the Stream ID block and of the CONGESTION block (draft-sharabayko-srt-01, section 3.2.1).
 
 ghost use Rattle.std.specs.Prelude.{◌≡◌, ℕ, ◌+◌, ◌%◌, ◌<◌, ◌≤◌, ◌++◌, length, take, drop, IfSome, IfNone, option_map};
 ghost use Rattle.srt_seq.specs.Words.{words_in};
@@ -9,7 +9,7 @@ use crate::{CongestionText, HsRef};
 use arrayvec::ArrayVec;
 use srt_seq::{read_word, write_at};
 
-/// Writes each group of four bytes the other way round.
+/// Writes the bytes to the front of `out`, each group of four in reverse order, and returns their number.
 #[tactic(auto, using(crate::proofs::Groups::turned_step))]
 fn turn_words(contents: &[u8], out: &mut [u8]) -> usize
     requires words { length contents.now % 4 ≡ 0 }
@@ -27,7 +27,7 @@ fn turn_words(contents: &[u8], out: &mut [u8]) -> usize
     end
 }
 
-/// How many bytes stand before the zeros at the end.
+/// The number of bytes before the zeros at the end.
 #[tactic(auto, using(crate::proofs::Groups::without_last_zero, crate::proofs::Groups::last_is_other))]
 fn len_before_zeros(bytes: &[u8]) -> usize
     ensures within { result ≤ length bytes.now }
@@ -40,9 +40,9 @@ fn len_before_zeros(bytes: &[u8]) -> usize
     end
 }
 
-/// Writes the bytes of the Stream ID, and returns how many they are without the zeros at their end; these
-/// zeros are written too. Behind the length of the block the buffer stays as it was. Returns None and
-/// writes nothing if there is no such block.
+/// Writes the text of the Stream ID block to the front of `out`, and returns its length in bytes: 0 to 512, without the
+/// zeros that pad it. These zeros are written too; the buffer doesn't change after the length of the block. None if
+/// there is no such block; then nothing is written. Linear in the length of the block. The bytes need not be UTF-8.
 pub fn stream_id(hs: &HsRef<'_>, out: &mut [u8; 512]) -> Option<usize>
     ensures within { IfSome result (λ n. n ≤ 512) }
     ensures value { option_map (λ n. take n out.new) result ≡ (handshake_of hs.now).blocks.stream_id }
@@ -58,7 +58,7 @@ pub fn stream_id(hs: &HsRef<'_>, out: &mut [u8; 512]) -> Option<usize>
     }
 }
 
-/// The words of these bytes.
+/// The words of at most 12 bytes.
 #[tactic(auto, using(crate::proofs::Groups::words_step))]
 fn words_of(contents: &[u8]) -> ArrayVec<u32, 3>
     requires words { length contents.now % 4 ≡ 0 }
@@ -74,7 +74,7 @@ fn words_of(contents: &[u8]) -> ArrayVec<u32, 3>
     words
 }
 
-/// The words of the CONGESTION block as they came. None where there is no such block.
+/// A copy of the words of the CONGESTION block, unchanged. None if there is no such block.
 #[tactic(auto, using(crate::proofs::Groups::first_word))]
 pub fn congestion(hs: &HsRef<'_>) -> Option<CongestionText>
     ensures words { option_map text_words result ≡ (handshake_of hs.now).blocks.congestion }

@@ -1,45 +1,46 @@
-//! What stands in a handshake (draft-sharabayko-srt-01, section 3.2.1).
+//! The content of a handshake (draft-sharabayko-srt-01, section 3.2.1).
 
 ghost use Rattle.std.specs.Prelude.{◌≡◌, ◌%◌, ◌<◌, ◌≤◌, length};
 
 use arrayvec::ArrayVec;
 
-/// Why bytes are no handshake. Of several faults it is the first from the left.
+/// Why bytes are no handshake. Of several faults, the first from the left is returned. All but `Short` come from the
+/// extension blocks, so only a conclusion can have them.
 #[derive(Clone, Copy, Debug, PartialEq, Eq)]
 pub enum HsFault {
-    /// Under 48 bytes.
+    /// Fewer than 48 bytes.
     Short,
-    /// 1 to 3 bytes are left behind the last extension block, or a block goes past the end.
+    /// 1 to 3 bytes are left after the last extension block, or a block is longer than the bytes that are left.
     TruncatedExtension,
-    /// An HSREQ not of 3 words, a Stream ID of over 128, or a CONGESTION block of none or over 4.
+    /// An HSREQ block of other than 3 words, a Stream ID of more than 128, or a CONGESTION block of 0 or more than 4.
     BadLength,
-    /// A second HSREQ, Stream ID or CONGESTION block.
+    /// A second HSREQ, Stream ID or CONGESTION block, of a length that is right for it.
     Repeated,
 }
 
 /// The handshake type (section 3.2.1).
 #[derive(Clone, Copy, Debug, PartialEq, Eq)]
 pub enum HsKind {
-    /// 1: the caller asks for a cookie.
+    /// 1, INDUCTION: the caller asks for a cookie.
     Induction,
-    /// 0: rendezvous.
+    /// 0, WAVEHAND: only for rendezvous.
     WaveHand,
-    /// 0xffffffff: the caller brings its cookie and its extension blocks.
+    /// 0xffffffff, CONCLUSION: the caller sends the cookie back, with its extension blocks.
     Conclusion,
-    /// 0xfffffffe: rendezvous.
+    /// 0xfffffffe, AGREEMENT: only for rendezvous.
     Agreement,
-    /// 0xfffffffd.
+    /// 0xfffffffd, DONE.
     Done,
-    /// Any other number: the reason of a refusal.
+    /// Any other number: the reason for a refusal.
     Refusal(u32),
 }
 
-/// The contents of an HSREQ block (section 3.2.1.1).
+/// The contents of an HSREQ block, unchecked (section 3.2.1.1).
 #[derive(Clone, Copy, Debug, PartialEq, Eq)]
 pub struct HsReq {
-    /// The caller's version of SRT.
+    /// The caller's version of SRT: 0x010500 is 1.5.0.
     pub version: u32,
-    /// The SRT flags (section 3.2.1.1.1).
+    /// The SRT flags, any value of 32 bits (section 3.2.1.1.1).
     pub flags: u32,
     /// The caller's delay as a receiver, in milliseconds.
     pub receiver_ms: u16,
@@ -47,10 +48,10 @@ pub struct HsReq {
     pub sender_ms: u16,
 }
 
-/// The contents of a Stream ID block: at most 128 words.
+/// The contents of a Stream ID block: 0 to 128 words (section 3.2.1.3).
 #[derive(Clone, Copy, Debug)]
 pub struct StreamIdRef<'a> {
-    /// The words as the wire has them.
+    /// The bytes as they came, 0 to 512: the text in little-endian words, padded with zeros.
     pub contents: &'a [u8],
     pub ghost words: { length contents.now % 4 ≡ 0 },
     pub ghost most: { length contents.now ≤ 512 },
@@ -59,60 +60,61 @@ pub struct StreamIdRef<'a> {
 /// The contents of a CONGESTION block: one to four words.
 #[derive(Clone, Copy, Debug)]
 pub struct CongestionRef<'a> {
-    /// The words as the wire has them.
+    /// The bytes as they came: 4, 8, 12 or 16.
     pub contents: &'a [u8],
     pub ghost words: { length contents.now % 4 ≡ 0 },
     pub ghost some: { 0 < length contents.now },
     pub ghost most: { length contents.now ≤ 16 },
 }
 
-/// The words of a CONGESTION block, as [`congestion`](crate::congestion) copies them: one to four.
+/// A copy of the words of a CONGESTION block: one to four. [`congestion`](crate::congestion) makes it.
 #[derive(Debug, Drop)]
 pub struct CongestionText {
     /// The first word.
     pub first: u32,
-    /// The words after it: up to three.
+    /// The words after it: at most three.
     pub others: ArrayVec<u32, 3>,
 }
 
-/// What the extension blocks of a conclusion say.
+/// The extension blocks of a conclusion (section 3.2.1). Blocks of other types are skipped.
 #[derive(Clone, Copy, Debug)]
 pub struct BlocksRef<'a> {
-    /// The HSREQ block.
+    /// The HSREQ block (type 1), if there is one.
     pub hsreq: Option<HsReq>,
-    /// The Stream ID block, which [`stream_id`] reads.
+    /// The Stream ID block (type 5), if there is one. [`stream_id`](crate::stream_id) reads it.
     pub stream_id: Option<StreamIdRef<'a>>,
-    /// The CONGESTION block, which [`congestion`] reads.
+    /// The CONGESTION block (type 6), if there is one. [`congestion`](crate::congestion) reads it.
     pub congestion: Option<CongestionRef<'a>>,
-    /// There is a KMREQ block: the caller wants encryption.
+    /// Whether there is a KMREQ block (type 3): the caller wants encryption.
     pub has_kmreq: bool,
-    /// There is a FILTER block.
+    /// Whether there is a FILTER block (type 7): the caller wants a packet filter, such as FEC.
     pub has_filter: bool,
-    /// There is a GROUP block.
+    /// Whether there is a GROUP block (type 8): the caller wants a connection group.
     pub has_group: bool,
 }
 
-/// A handshake that borrows its bytes.
+/// A handshake that was read. It borrows its bytes. Only the extension blocks were checked: any field but `blocks` can
+/// have any value.
 #[derive(Clone, Copy, Debug)]
 pub struct HsRef<'a> {
-    /// The version of the handshake.
+    /// The version of the handshake: 4 in a caller's induction, 5 in its conclusion.
     pub version: u32,
-    /// The encryption field.
+    /// The encryption field. It isn't checked.
     pub encryption: u16,
-    /// The extension field.
+    /// The extension field. It isn't checked.
     pub extension: u16,
-    /// The initial packet sequence number as it came: its top bit may be set.
+    /// The initial packet sequence number as it came: its top bit may be set, and then it is no sequence number.
     pub initial: u32,
-    /// The greatest packet, in bytes, with the headers of IP and UDP.
+    /// The greatest size of a packet, in bytes, including the headers of IP and UDP.
     pub mtu: u32,
-    /// The flow window, in packets.
+    /// The flow window: the greatest number of packets in flight.
     pub window: u32,
     /// The handshake type.
     pub kind: HsKind,
     /// The caller's socket ID.
     pub id: u32,
-    /// The cookie.
+    /// The cookie; 0 in a caller's induction.
     pub cookie: u32,
-    /// The extension blocks; none where it isn't a conclusion.
+    /// The extension blocks; none unless it is a conclusion.
     pub blocks: BlocksRef<'a>,
 }

@@ -3,14 +3,14 @@
 ghost use Rattle.srt_hs.specs.Tie.{ReadingIsSpelling, FaultIsTheFirst};
 ghost use Rattle.srt_hs.specs.RoundTrip.{WhatIsWrittenReadsBack, HsrspReadsBack};
 
-/// Bytes read as what they spell, and as a fault exactly where that fault is the first from the left.
+/// Reading gives the handshake that the bytes spell, or the fault that is the first from the left.
 pub fn reading()
     ensures spelled { ReadingIsSpelling }
     ensures fault { FaultIsTheFirst }
 {}
 
-/// What is written is read again: an answer as a handshake, and the HSRSP block of a conclusion, which
-/// `read` passes over, as an HSREQ block is.
+/// Reading a written answer gives its fields back. `read` skips the HSRSP block of a conclusion; read as an HSREQ
+/// block, it gives the written values.
 pub fn round_trip()
     ensures answer { WhatIsWrittenReadsBack }
     ensures hsrsp { HsrspReadsBack }

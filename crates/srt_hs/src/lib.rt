@@ -1,4 +1,17 @@
-//! Handshakes: those of callers read from borrowed bytes, and the listener's answers written.
+//! Handshakes: those of callers are read from borrowed bytes, and the listener's answers are written
+//! (draft-sharabayko-srt-01, sections 3.2.1 and 4.3).
+//!
+//! It decides nothing: `srt_lobby` and `srt_route` decide who is answered, admitted or refused. The packet's header is
+//! `srt_packet`'s, the meaning of a Stream ID `srt_streamid`'s, the cookie `srt_cookie`'s. It takes no memory.
+//!
+//! Reading: [`read`] in `reading.rt` takes what follows the packet's header and returns an [`HsRef`] with its
+//! [`BlocksRef`] (types in `handshake.rt`), or the first [`HsFault`]. Then [`stream_id`] and [`congestion`], in
+//! `contents.rt`, copy the contents of two blocks.
+//!
+//! Writing: fill an [`HsAnswer`] with an [`AnswerKind`] and [`write`] it, all in `writing.rt`. [`RefusalCode`] lists
+//! each reason for a refusal with its causes.
+//!
+//! `specs/Grammar.antt` defines which bytes are which handshake, and the faults; `specs/Text.antt` what is written.
 #![tactic(auto)]
 
 mod contents;

@@ -8,7 +8,7 @@ ghost use Rattle.srt_hs.specs.View.{blocks_of, first_of, handshake_of, seen, see
 use crate::{BlocksRef, CongestionRef, HsFault, HsKind, HsRef, HsReq, StreamIdRef};
 use srt_seq::read_word;
 
-/// The half word of the two bytes at a place.
+/// The number of 16 bits that the two bytes at the offset `at` encode, in network byte order.
 fn read_half(bytes: &[u8], at: usize) -> u16
     requires { at + 2 ≤ length bytes.now }
     ensures { result ≡ half_at bytes.now at }
@@ -82,7 +82,7 @@ fn with_congestion<'a>(before: BlocksRef<'a>, contents: &'a [u8]) -> Result<Bloc
     })
 }
 
-/// What the blocks say with one more.
+/// The blocks so far with one more block, of this type and contents.
 #[tactic(auto, unfolding(crate::specs::Reading::with_block))]
 fn with_block<'a>(
     before: BlocksRef<'a>,
@@ -112,7 +112,7 @@ fn with_block<'a>(
     }
 }
 
-/// What the blocks say with the first of these bytes, and the bytes after it.
+/// The blocks so far with the first block of these bytes, and the bytes after that block.
 #[tactic(auto, unfolding(crate::specs::Reading::with_first))]
 fn with_first<'a>(
     before: BlocksRef<'a>,
@@ -134,7 +134,7 @@ fn with_first<'a>(
     Ok((next, &rest[len..]))
 }
 
-/// What the blocks of these bytes say.
+/// All blocks of these bytes.
 #[tactic(auto, unfolding(crate::specs::Reading::blocks_in))]
 fn read_blocks(bytes: &[u8]) -> Result<BlocksRef<'_>, HsFault>
     ensures { seen_blocks result ≡ blocks_in bytes.now }
@@ -156,7 +156,7 @@ fn read_blocks(bytes: &[u8]) -> Result<BlocksRef<'_>, HsFault>
     Ok(blocks)
 }
 
-/// What the extension of a handshake of this kind says: of all but a conclusion, what no bytes say.
+/// The extension blocks of a handshake of this kind: those of the bytes in a conclusion, else none.
 #[tactic(auto, unfolding(crate::specs::Reading::blocks_in))]
 fn read_extension(kind: HsKind, bytes: &[u8]) -> Result<BlocksRef<'_>, HsFault>
     ensures { seen_blocks result ≡ extension_in kind bytes.now }
@@ -167,7 +167,7 @@ fn read_extension(kind: HsKind, bytes: &[u8]) -> Result<BlocksRef<'_>, HsFault>
     }
 }
 
-/// What [`read`] answers.
+/// The result of [`read`].
 fn parse(body: &[u8]) -> Result<HsRef<'_>, HsFault>
     ensures { seen result ≡ handshake_in body.now }
 {
@@ -190,15 +190,16 @@ fn parse(body: &[u8]) -> Result<HsRef<'_>, HsFault>
     })
 }
 
-/// The handshake that the bytes after a packet's header spell. Encryption, extension field and the
-/// peer's address are not checked, and extension blocks are read of a conclusion alone.
+/// Reads the bytes after a packet's header as a handshake. Only form is checked: version, encryption field, extension
+/// field and peer address may have any value. Extension blocks are read only in a conclusion; in any other handshake,
+/// bytes after the first 48 are ignored. Copies no block. Linear in the number of blocks.
 pub fn read(body: &[u8]) -> Result<HsRef<'_>, HsFault>
     ensures value { seen result ≡ handshake_in body.now }
-    // What is read is spelled so.
+    // The bytes spell the handshake that is read.
     ensures found { IfOk result (λ h. Spells body.now (handshake_of h)) }
-    // What is spelled so is read.
+    // A handshake that the bytes spell is read.
     ensures only { (hs : Handshake) → Spells body.now hs → IsOkAnd result (λ h. handshake_of h ≡ hs) }
-    // Which fault it is.
+    // The fault is the first from the left.
     ensures fault { IfErr result (λ fault. HasFault body.now fault) }
 {
     parse(body)

@@ -1,4 +1,4 @@
-//! Rows of bytes: handshakes of callers as they were captured, answers, and each fault.
+//! Handshakes of callers as they were captured, answers, and bytes with each fault.
 
 use crate::{
     AnswerKind, CongestionText, HsAnswer, HsFault, HsKind, HsReq, RefusalCode, congestion, read,
@@ -234,7 +234,7 @@ fn long_stream_ids(rt: HostRuntime) -> Result<(), Fail> {
 
 #[test]
 fn the_first_fault_counts(rt: HostRuntime) -> Result<(), Fail> {
-    // Past the end before a bad length, a bad length before a second one.
+    // A block past the end counts before a bad length, and a bad length before a repeated block.
     assert_eq!(rt;
         fault_of(rt.alloc(), &[CONCLUSION, "00010004 00010501 000000bf"])?,
         HsFault::TruncatedExtension
@@ -246,7 +246,7 @@ fn the_first_fault_counts(rt: HostRuntime) -> Result<(), Fail> {
         )?,
         HsFault::BadLength
     );
-    // From left to right.
+    // The first from the left counts.
     assert_eq!(rt;
         fault_of(rt.alloc(), &[CONCLUSION, HSREQ, HSREQ, "00060000"])?,
         HsFault::Repeated
@@ -330,7 +330,7 @@ fn answers_are_written(rt: HostRuntime) -> Result<(), Fail> {
     Ok(())
 }
 
-/// A CONGESTION block of four words is read, and goes back as it came.
+/// A CONGESTION block of four words is read, and the answer repeats it unchanged.
 #[test]
 fn four_words_of_congestion(rt: HostRuntime) -> Result<(), Fail> {
     let block = "00060004 34333231 38373635 63626139 66656463";

@@ -1,4 +1,4 @@
-//! The listener's answers, written to a buffer.
+//! The listener's answers, written to a buffer (draft-sharabayko-srt-01, sections 3.2.1 and 4.3).
 
 ghost use Rattle.std.specs.Prelude.{◌≡◌, ℕ, ◌+◌, ◌*◌, ◌≤◌, ◌++◌, length, take, drop, Some};
 ghost use Rattle.srt_hs.specs.View.{text_words};
@@ -7,63 +7,79 @@ ghost use Rattle.srt_hs.specs.Text.{answer_text, code_of, fields_text, flags_of,
 use crate::CongestionText;
 use srt_seq::{Mode, write_at, write_words};
 
-/// Why a caller is refused (section 4.3).
+/// Why a conclusion is refused (section 4.3, table 7). The number is written as the handshake type of the answer; the
+/// name after it is libsrt's. Which cause leads to which reason is this profile's. A caller whose conclusion doesn't
+/// read as a handshake, or has a wrong cookie, gets no answer at all.
+///
+/// If several causes apply, the first counts. `srt_lobby` checks, in this order: the version (1008), the initial number
+/// and the HSREQ (1004), KMREQ (1011), FILTER (1014), GROUP (1015), the Stream ID and its route (1002). Then
+/// `srt_route` checks the flag STREAM (1012), the MTU and the window (1004), a second publisher (1002), and a free slot
+/// (1003).
 #[derive(Clone, Copy, Debug, PartialEq, Eq)]
 pub enum RefusalCode {
-    /// 1002: the peer won't take it.
+    /// 1002, `SRT_REJ_PEER`: the conclusion has no Stream ID block; or its Stream ID has a fault (not UTF-8, a mode
+    /// other than `publish` and `request`, `r` or `m` twice, no name or an empty one); or no route has the name that it
+    /// asks for; or it wants to publish to a route that already has a publisher.
     Peer,
-    /// 1003: no room.
+    /// 1003, `SRT_REJ_RESOURCE`: as many sessions of the route are open as its configuration allows.
     Resource,
-    /// 1004: wrong data in the handshake.
+    /// 1004, `SRT_REJ_ROGUE`: the top bit of the initial sequence number is set; or there is no HSREQ block; or the MTU
+    /// is below 76 bytes; or the flow window is 0; or the caller requests a stream in buffer mode with an MTU below
+    /// 1500 bytes.
     Rogue,
-    /// 1008: another version of the handshake.
+    /// 1008, `SRT_REJ_VERSION`: the version of the handshake isn't 5.
     Version,
-    /// 1011: one side encrypts.
+    /// 1011, `SRT_REJ_UNSECURE`: there is a KMREQ block. The gateway doesn't encrypt.
     Unsecure,
-    /// 1012: messages on one side, a stream of bytes on the other.
+    /// 1012, `SRT_REJ_MESSAGEAPI`: the flag STREAM of the HSREQ is set for a route in live mode, or not set for one in
+    /// buffer mode.
     MessageApi,
-    /// 1014: packet filters that don't fit.
+    /// 1014, `SRT_REJ_FILTER`: there is a FILTER block. The gateway has no packet filter.
     Filter,
-    /// 1015: connection groups that don't fit.
+    /// 1015, `SRT_REJ_GROUP`: there is a GROUP block. The gateway has no connection groups.
     Group,
 }
 
-/// What an answer says beside the initial number.
+/// The kind of an answer, and its content apart from the initial number. The other fields of the 48 bytes are fixed:
+/// version 5, no encryption, and zeros for the peer's address.
 #[derive(Debug, Drop)]
 pub enum AnswerKind {
-    /// Here is the cookie to conclude with.
+    /// The answer to an induction, with the cookie that the conclusion must send back (section 4.3.1.1). Extension
+    /// 0x4a17, MTU 1500, window 8192, socket ID 1.
     Induction(u32),
-    /// The caller is refused.
+    /// A refusal, with its reason as the handshake type (section 4.3). Extension 0, MTU 1500, window 8192, socket ID 1,
+    /// cookie 0.
     Refusal(RefusalCode),
-    /// The caller has a session.
+    /// The answer to a conclusion that opens a session (section 4.3.1.2), with an HSRSP block that reports SRT 1.5.0.
+    /// Cookie 0.
     Conclusion {
-        /// The greatest packet, in bytes, with the headers of IP and UDP.
+        /// The agreed MTU: the greatest size of a packet, in bytes, including the headers of IP and UDP.
         mtu: u32,
-        /// The flow window, in packets.
+        /// The listener's flow window, in packets.
         window: u32,
         /// The session's socket ID.
         id: u32,
-        /// How the route hands payloads on.
+        /// How the route delivers payloads; the flags of the HSRSP follow from it.
         mode: Mode,
-        /// The delay from a publisher, in milliseconds; 0 in buffer mode.
+        /// The agreed delay of what the caller sends, in milliseconds; 0 in buffer mode (section 4.4).
         recv_ms: u16,
-        /// The delay to a subscriber, in milliseconds; 0 in buffer mode.
+        /// The agreed delay of what the caller receives, in milliseconds; 0 in buffer mode (section 4.4).
         send_ms: u16,
-        /// The words of the caller's CONGESTION block as they came.
+        /// The words of the caller's CONGESTION block, which the answer repeats; None if the caller sent none.
         congestion: Option<CongestionText>,
     },
 }
 
-/// An answer to a caller's handshake.
+/// An answer to a caller's handshake, without the packet's header.
 #[derive(Debug, Drop)]
 pub struct HsAnswer {
-    /// The caller's initial number as it came.
+    /// The caller's initial sequence number, repeated as it came: any word.
     pub initial: u32,
-    /// What it says.
+    /// The kind of the answer and its content.
     pub what: AnswerKind,
 }
 
-/// The fields of an answer that differ between answers.
+/// The fields that aren't the same in all answers.
 #[derive(Clone, Copy)]
 struct Fields {
     extension: u16,
@@ -90,7 +106,7 @@ fn code(reason: RefusalCode) -> u32
     }
 }
 
-/// Writes the 48 bytes.
+/// Writes the 48 bytes before the extension blocks, and returns 48.
 fn write_fields(fields: Fields, out: &mut [u8]) -> usize
     requires { 48 ≤ length out.old }
     ensures end { result ≡ 48 }
@@ -117,7 +133,7 @@ fn flags(mode: Mode) -> u32
     }
 }
 
-/// An HSRSP block.
+/// The bytes of an HSRSP block; the delays are milliseconds (section 3.2.1.1).
 fn hsrsp(mode: Mode, recv_ms: u16, send_ms: u16) -> [u8; 16]
     ensures { result ≡ hsrsp_text mode recv_ms send_ms }
 {
@@ -130,7 +146,7 @@ fn hsrsp(mode: Mode, recv_ms: u16, send_ms: u16) -> [u8; 16]
     ]
 }
 
-/// Writes a CONGESTION block at a place.
+/// Writes a CONGESTION block from the offset `at` on, and returns the offset of its end.
 #[tactic(auto, using(srt_seq::proofs::WordBytes::length_of_words))]
 fn write_congestion(text: &CongestionText, out: &mut [u8], at: usize) -> usize
     requires room { at + 20 ≤ length out.old }
@@ -146,7 +162,8 @@ fn write_congestion(text: &CongestionText, out: &mut [u8], at: usize) -> usize
     write_words(out, end, text.others.as_slice())
 }
 
-/// Writes the answer's bytes after the packet's header to the front of the buffer, and answers how many they are.
+/// Writes an answer, without the packet's header, to the front of the buffer, and returns its length in bytes: 48; a
+/// conclusion has 64, or 72 to 84 with a CONGESTION block. The rest of the buffer doesn't change. O(1).
 #[tactic(auto, unfolding(crate::specs::Text::answer_text))]
 pub fn write(answer: &HsAnswer, out: &mut [u8; 84]) -> usize
     ensures within { result ≤ 84 }
