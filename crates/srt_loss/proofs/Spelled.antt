@@ -15,7 +15,7 @@ begins_read ws r next (Single e small same) =
     ap (λ x. ranges_in None x) e ∙ alone_read r.first next small ∙ ap (λ x. then_those x (ranges_in None next)) one
 begins_read ws r next (FirstAndLast e small near) = ap (λ x. ranges_in None x) e ∙ range_read r next small near
 
--- ranges, and then those that were read after them
+-- ranges, and then the ranges that were read after them, or their fault
 all_those : List Range → Result (List Range) LossFault → Result (List Range) LossFault
 all_those [] x = x
 all_those (r ∷ rs) x = then_those r (all_those rs x)
@@ -55,7 +55,7 @@ fault_read bytes Dangling (whole, rs, rest, s, h) =
 fault_read bytes Backward (whole, rs, rest, s, h) =
     whole_read bytes whole ∙ up_to_read (words_of bytes) rs rest s ∙ ap (λ x. all_those rs x) (is_backward_read rest h) ∙ all_err rs Backward
 
--- what the words are, by what was read of them
+-- what follows for the words from the result of reading them
 Outcome : List ℕ → Result (List Range) LossFault → Type 0
 Outcome ws (Ok rs) = SpellsUpTo ws rs []
 Outcome ws (Err Ragged) = ⊥
@@ -148,7 +148,7 @@ spelled_is_read bytes rs = (spelled_read bytes rs, read_spelled bytes rs)
 pub fault_is_read : FaultIsRead
 fault_is_read bytes fault = (fault_read bytes fault, read_fault bytes fault)
 
--- an answer that is the function's is right by the relation
+-- a result that equals the function's is right by the relation
 pub answer_found : (bytes : List ℕ) (read : Result (List Range) LossFault) → read ≡ losses_in bytes → IfOk read (λ ranges. Spells bytes ranges)
 answer_found bytes (Ok rs) e = read_spelled bytes rs (sym e)
 answer_found bytes (Err fault) e = tt
@@ -169,6 +169,6 @@ empty_read : (bytes : List ℕ) → length bytes ≡ 0 → losses_in bytes ≡ O
 empty_read [] h = refl
 empty_read (b ∷ bytes) h = absurd (omega (arith, h))
 
--- bytes with the fault of no bytes have none
+-- if the bytes have the same fault as the empty rest, they have none
 pub all_read : (bytes rest : List ℕ) → result_err (losses_in rest) ≡ result_err (losses_in bytes) → length rest ≡ 0 → losses_in bytes ≡ Ok (result_unwrap_or (losses_in bytes) [])
 all_read bytes rest e h = no_fault (losses_in bytes) (sym e ∙ ap (λ x. result_err x) (empty_read rest h))

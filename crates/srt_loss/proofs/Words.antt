@@ -1,4 +1,4 @@
--- Words of bytes, and what they begin with.
+-- The words of bytes, and the ranges at their front.
 use Rattle.std.proofs.Common.{◌≡◌, ℕ, ◌+◌, ◌-◌, ◌%◌, ◌^◌, ◌<◌, ◌≤◌, ◌≢◌, None, Err, List, [], ◌∷◌, length, drop, refl, sym, ap, subst, ◌∙◌, arith}
 use Rattle.std.proofs.lemmas.Bool.Decides.{nat_tests}
 use Rattle.std.proofs.lemmas.List.{length-drop}
@@ -23,7 +23,7 @@ whole_read bytes h = grind (arith, nat_tests)
 pub ragged_read : (bytes : List ℕ) → length bytes % 4 ≢ 0 → losses_in bytes ≡ Err Ragged
 ragged_read bytes h = grind (arith, nat_tests)
 
--- a number alone
+-- a single number
 pub alone_read : (w : ℕ) (ws : List ℕ) → w < 2 ^ 31 → ranges_in None (w ∷ ws) ≡ then_those (alone w) (ranges_in None ws)
 alone_read w ws h = grind (arith, nat_tests)
 
@@ -31,11 +31,11 @@ alone_read w ws h = grind (arith, nat_tests)
 pub both_read : (first last : ℕ) (ws : List ℕ) → 2 ^ 31 ≤ first → last < 2 ^ 31 → span (record { first = first - 2 ^ 31; last = last }) < 2 ^ 30 → ranges_in None (first ∷ last ∷ ws) ≡ then_those (record { first = first - 2 ^ 31; last = last }) (ranges_in None ws)
 both_read first last ws h l n = grind (arith, nat_tests)
 
--- the same, where they are too far apart
+-- the same, if they are too far apart
 pub backward_read : (first last : ℕ) (ws : List ℕ) → 2 ^ 31 ≤ first → last < 2 ^ 31 → 2 ^ 30 ≤ span (record { first = first - 2 ^ 31; last = last }) → ranges_in None (first ∷ last ∷ ws) ≡ Err Backward
 backward_read first last ws h l n = grind (arith, nat_tests)
 
--- a first word, and no last word
+-- a first word without a last word
 pub dangling_read : (first last : ℕ) (ws : List ℕ) → 2 ^ 31 ≤ first → 2 ^ 31 ≤ last → ranges_in None (first ∷ last ∷ ws) ≡ Err Dangling
 dangling_read first last ws h l = grind (arith, nat_tests)
 

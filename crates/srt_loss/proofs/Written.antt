@@ -1,4 +1,4 @@
--- What is written reads back.
+-- Reading what is written gives it back.
 use Rattle.std.proofs.Common.{◌≡◌, ℕ, ◌+◌, ◌%◌, ◌^◌, ◌<◌, ◌≢◌, List, [], ◌∷◌, ◌++◌, length, map, Ok, slice_index_or, refl, ap, inl, inr, ◌∙◌, arith}
 use Rattle.std.proofs.lemmas.Bool.{cases_order}
 use Rattle.std.proofs.lemmas.Bool.Decides.{nat_tests}
@@ -53,7 +53,7 @@ spelled (r ∷ rs) w = (words_of (loss_text rs), begins_written r (loss_words rs
 pub written_is_read : WrittenIsRead
 written_is_read rs w = spelled_read (loss_text rs) rs (record { whole = text_whole (loss_words rs); words = spelled rs w })
 
--- runs whose ends lie near read back
+-- runs whose ends are fewer than 2^30 apart are read back
 pub runs_read : (runs : List (Seq31 × Seq31)) (words : List ℕ) → words ≡ loss_words (map range_of runs) → All (λ r. span (range_of r) < 2 ^ 30) runs → losses_in (flat_map word words) ≡ Ok (map range_of runs)
 runs_read runs words e near =
     ap (λ x. losses_in (flat_map word x)) e ∙ written_is_read (map range_of runs) (All-map IsWritable range_of runs (λ k d h. record { first = (slice_index_or runs k d).0.small; last = (slice_index_or runs k d).1.small; near = near k d h }))

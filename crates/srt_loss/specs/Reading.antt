@@ -5,26 +5,27 @@ use Rattle.srt_seq.specs.Runs.{Range, span}
 use Rattle.srt_loss.specs.declared.reading.LossFault.{LossFault}
 use Rattle.srt_loss.specs.declared.reading.LossFault.TheVariants.{Ragged, Dangling, Backward}
 
--- the words of bytes, four bytes each
+-- the words of a list of bytes, four bytes each
 abbrev pub words_of : List ℕ → List ℕ
 words_of (a ∷ b ∷ c ∷ d ∷ bytes) = from_be_bytes w32 (a ∷ b ∷ c ∷ d ∷ []) ∷ words_of bytes
 words_of _ = []
 
--- a range, and then those that were read after it
+-- a range, and then the ranges that were read after it, or their fault
 abbrev pub then_those : Range → Result (List Range) LossFault → Result (List Range) LossFault
 then_those r (Ok rs) = Ok (r ∷ rs)
 then_those r (Err fault) = Err fault
 
--- a number alone is a range of one
+-- a single number as a range of one
 abbrev pub alone : ℕ → Range
 alone n = record { first = n; last = n }
 
--- a range whose last word was read, and then those after it: the last number is fewer than 2^30 on (this profile)
+-- a range whose last word was read, and then those after it: the last number is fewer than 2^30 after the first (this
+-- profile)
 abbrev pub ended : Range → Result (List Range) LossFault → Result (List Range) LossFault
 ended r those = if nat_lt (span r) (2 ^ 30) then then_those r those else Err Backward
 
--- the ranges that words spell, or the first fault from the left. A word with top bit 1 begins a range, and the next one,
--- with top bit 0, ends it
+-- the ranges that words spell, or the first fault from the left. A word with top bit 1 begins a range, and the next
+-- word, with top bit 0, ends it. begun is the first number of a range whose last word is still to come
 abbrev pub ranges_in : (begun : Option ℕ) → List ℕ → Result (List Range) LossFault
 ranges_in None [] = Ok []
 ranges_in None (word ∷ words) =
@@ -33,6 +34,6 @@ ranges_in (Some first) [] = Err Dangling
 ranges_in (Some first) (word ∷ words) =
     if nat_lt word (2 ^ 31) then ended (record { first = first; last = word }) (ranges_in None words) else Err Dangling
 
--- the ranges that bytes spell, or why they spell none
+-- the ranges that bytes spell, or the first fault
 abbrev pub losses_in : List ℕ → Result (List Range) LossFault
 losses_in bytes = if length bytes % 4 == 0 then ranges_in None (words_of bytes) else Err Ragged

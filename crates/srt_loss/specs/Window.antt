@@ -1,12 +1,12 @@
--- Where a range stands in a window of numbers (section 3.2.5).
+-- The part of a window of numbers that a range covers (section 3.2.5).
 use Rattle.std.specs.Prelude.{◌≡◌, ℕ, ◌+◌, ◌<◌, Bool, false, Option, None, Some, nat_le, ◌&&◌}
 use Rattle.srt_seq.specs.Runs.{Range, is_in}
 
--- whether a place is in a part, both ends in
+-- whether an offset is in a part, whose ends are both included
 abbrev pub is_in_part : Option (ℕ × ℕ) → ℕ → Bool
 is_in_part None place = false
 is_in_part (Some part) place = nat_le part.0 place && nat_le place part.1
 
--- of the numbers front .. front + width, the end out, the range has those whose places are in the part
+-- of the numbers front .. front + width, the upper end excluded, the range contains those whose offsets are in the part
 abbrev pub IsPartOf : (r : Range) (front width : ℕ) → Option (ℕ × ℕ) → Type 0
 IsPartOf r front width part = (place : ℕ) → place < width → is_in r (front + place) ≡ is_in_part part place

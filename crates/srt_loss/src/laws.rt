@@ -3,14 +3,13 @@
 ghost use Rattle.srt_loss.specs.Spelling.{FaultIsRead, SpelledIsRead};
 ghost use Rattle.srt_loss.specs.Text.{WrittenIsRead};
 
-/// The function that reads loss lists and the relation that spells them agree, faults too.
+/// The function that reads loss lists and the relation that spells them agree, also on faults.
 pub fn spelled()
     ensures ranges { SpelledIsRead }
     ensures fault { FaultIsRead }
 {}
 
-/// What is written reads back: what a written text asks for is asked for by one of its ranges, and the
-/// other way round.
+/// Reading what is written gives back just the ranges that were written.
 pub fn written()
     ensures is_read { WrittenIsRead }
 {}

@@ -11,24 +11,24 @@ use crate::circle::{number_of, steps};
 use srt_seq::{Seq31, read_word};
 use std::marker::Model;
 
-/// Why bytes are no loss list: the first that applies, from left to right.
+/// Why bytes are no loss list. `Ragged` is checked first; then the first fault from the left counts (this profile).
 #[derive(Clone, Copy, Debug, PartialEq, Eq)]
 pub enum LossFault {
-    /// The bytes aren't whole words. This is looked at first.
+    /// The number of bytes is no multiple of 4.
     Ragged,
-    /// The first word of a range isn't followed by a last word.
+    /// The first word of a range (top bit 1) isn't followed by a last word (top bit 0).
     Dangling,
-    /// The last number of a range is 2^30 or more past the first, round the circle (this profile).
+    /// The distance from the first number of a range to its last, modulo 2^31, is 2^30 or more (this profile).
     Backward,
 }
 
-/// A loss list that reads; it borrows its bytes.
+/// A loss list that was read and is well formed. It borrows its bytes.
 #[derive(Debug, Drop)]
 pub struct LossRef<'a> {
     bytes: &'a [u8],
 }
 
-// A loss list is its ranges, in order.
+// Its value is the list of its ranges, in order.
 impl<'a> Model for LossRef<'a> {
     ghost use Rattle.std.specs.Prelude.{List, [], IsOk};
     ghost use Rattle.std.specs.Result.{result_unwrap_or};
@@ -42,13 +42,13 @@ impl<'a> Model for LossRef<'a> {
     ghost invariant = { λ losses. IsOk (losses_in losses.bytes.now) };
 }
 
-/// What is left of a loss list to go through, range by range.
+/// An iteration over the ranges of a loss list. It borrows the list's bytes.
 #[derive(Debug, Drop)]
 pub struct Ranges<'a> {
     bytes: &'a [u8],
 }
 
-// They are the ranges that weren't taken yet, in order.
+// Its value is the list of the ranges that weren't taken yet, in order.
 impl<'a> Model for Ranges<'a> {
     ghost use Rattle.std.specs.Prelude.{List, [], IsOk};
     ghost use Rattle.std.specs.Result.{result_unwrap_or};
@@ -62,14 +62,14 @@ impl<'a> Model for Ranges<'a> {
     ghost invariant = { λ ranges. IsOk (losses_in ranges.bytes.now) };
 }
 
-/// The range at the front of a text, and the text after it.
+/// The first range of a text, and the text after it.
 #[derive(Clone, Copy)]
 struct Front<'a> {
     range: (Seq31, Seq31),
     rest: &'a [u8],
 }
 
-/// Reads the range that a text begins with. A single number is a range of one.
+/// Reads the range at the front of a text. A single number is a range of one.
 fn read_front(text: &[u8]) -> Result<Front<'_>, LossFault>
     requires some { 4 ≤ length text.now }
     requires whole { length text.now % 4 ≡ 0 }
@@ -104,14 +104,15 @@ fn read_front(text: &[u8]) -> Result<Front<'_>, LossFault>
     })
 }
 
-/// Reads a loss list. No bytes at all are the empty list.
+/// Reads a loss list. No bytes at all are the empty list. Ranges may overlap and come in any order. Linear in the
+/// number of bytes; copies nothing.
 pub fn read(bytes: &[u8]) -> Result<LossRef<'_>, LossFault>
     ensures value { result ≡ losses_in bytes.now }
-    // What is read is spelled so.
+    // The bytes spell the list that is read.
     ensures found { IfOk result (λ losses. Spells bytes.now losses) }
-    // What is spelled so is read.
+    // A list that the bytes spell is read.
     ensures only { (ranges : List Range) → Spells bytes.now ranges → IsOkAnd result (λ losses. losses ≡ ranges) }
-    // Which fault it is.
+    // The fault is the first one.
     ensures fault { IfErr result (λ fault. HasFault bytes.now fault) }
 {
     if bytes.len() % 4 != 0 {
@@ -125,7 +126,7 @@ pub fn read(bytes: &[u8]) -> Result<LossRef<'_>, LossFault>
 }
 
 impl<'a> LossRef<'a> {
-    /// Whether the list asks for a number. Each range takes the same time, however long it is.
+    /// Whether one of the ranges contains the number. Linear in the number of ranges; their lengths don't matter.
     pub fn asks(&self, number: Seq31) -> bool
         ensures { result ≡ is_asked self.now (word_of number) }
     {
@@ -138,7 +139,7 @@ impl<'a> LossRef<'a> {
         false
     }
 
-    /// All ranges, in the order in which they stand.
+    /// All ranges, in the order of the list. O(1).
     pub fn ranges(&self) -> Ranges<'a>
         ensures { result ≡ self.now }
     {
@@ -147,8 +148,8 @@ impl<'a> LossRef<'a> {
 }
 
 impl Ranges<'_> {
-    /// Takes the next range: its first and its last number, both in, fewer than 2^30 apart. They are
-    /// the same where one number is asked for.
+    /// Takes the next range: its first and its last number, both included, fewer than 2^30 apart. They are equal in a
+    /// range of one number. The last can be below the first, since numbers wrap. None at the end of the list. O(1).
     pub fn next_range(&mut self) -> Option<(Seq31, Seq31)>
         ensures some { IfSome result (λ r. self.old ≡ range_of r ∷ self.new) }
         ensures near { IfSome result (λ r. span (range_of r) < 2 ^ 30) }

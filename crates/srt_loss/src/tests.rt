@@ -1,4 +1,4 @@
-//! Loss lists as bytes, and what they ask for.
+//! Loss lists as bytes, and the numbers that they ask for.
 
 use crate::{LossFault, part_in, read, write};
 use arrayvec::ArrayVec;
@@ -33,14 +33,14 @@ fn faults(rt: HostRuntime) -> Result<(), Fail> {
     let backward = LossFault::Backward;
     for (text, fault) in [
         ("800000", ragged),
-        // The length is looked at before any word.
+        // The length is checked before any word.
         ("8000000580", ragged),
         ("80000005", dangling),
         ("8000000580000006", dangling),
         ("00000001800000058000000600000007", dangling),
         ("8000000040000000", backward),
         ("8000000940000009", backward),
-        // Round the circle, 2^30 on.
+        // Across the wrap, 2^30 later.
         ("ffffffff3fffffff", backward),
         // The first fault counts.
         ("80000005800000068000000040000000", dangling),
@@ -62,12 +62,12 @@ fn sets(rt: HostRuntime) -> Result<(), Fail> {
         // One number as a first and a last word.
         ("8000000500000005", 5, true),
         ("8000000500000005", 6, false),
-        // 2^30 numbers, both ends in.
+        // 2^30 numbers, both ends included.
         ("8000000940000008", 9, true),
         ("8000000940000008", 0x4000_0008, true),
         ("8000000940000008", 8, false),
         ("8000000940000008", 0x4000_0009, false),
-        // Across the end of the circle.
+        // Across the wrap.
         ("fffffffe00000002", 0x7fff_fffd, false),
         ("fffffffe00000002", 0x7fff_fffe, true),
         ("fffffffe00000002", 0x7fff_ffff, true),
@@ -102,13 +102,13 @@ fn ranges_come_in_order(rt: HostRuntime) -> Result<(), Fail> {
 
 #[test]
 fn the_longest_text(rt: HostRuntime) -> Result<(), Fail> {
-    // 364 words, as many as a datagram holds: 363 times 0, and then another number.
+    // 364 words, as many as fit a datagram: 363 times 0, and then another number.
     let mut bytes = [0u8; 1456];
     bytes[1455] = 7;
     assert!(rt; asks(&bytes, 0)?);
     assert!(rt; asks(&bytes, 7)?);
     assert!(rt; !asks(&bytes, 1)?);
-    // The last of them is a first word.
+    // The last word is the first of a range.
     bytes[1452] = 0x80;
     assert_eq!(rt; fault_of(&bytes)?, LossFault::Dangling);
     Ok(())
@@ -133,7 +133,7 @@ fn runs_are_written(rt: HostRuntime) -> Result<(), Fail> {
 
 #[test]
 fn ranges_stand_in_a_window(rt: HostRuntime) -> Result<(), Fail> {
-    // The window of 7ffffffe, 7fffffff and 0 to 5.
+    // The window from 7ffffffe over 7fffffff and 0 to 5.
     let front = number(0x7fff_fffe)?;
     for (text, part) in [
         ("ffffffff00000000", Some((1, 2))),

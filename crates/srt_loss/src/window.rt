@@ -1,4 +1,4 @@
-//! Ranges of numbers in a window.
+//! The part of a window of numbers that a range covers.
 
 ghost use Rattle.std.specs.Prelude.{◌≡◌, ℕ, ◌%◌, ◌^◌, ◌<◌, ◌≤◌, IfSome};
 ghost use Rattle.srt_seq.specs.Window.{word_of};
@@ -9,12 +9,13 @@ ghost use Rattle.srt_loss.specs.Window.{IsPartOf};
 use crate::circle::steps;
 use srt_seq::Seq31;
 
-/// The places of a window that a range asks for, counted from the window's front: the first and the last
-/// of them. They stand side by side. Takes the same time however long the range and the window are.
+/// The part of a window that a range covers, as the first and the last offset from `front`, both included; None if it
+/// covers nothing. The part is contiguous. The range has its first and its last number, both included, fewer than 2^30
+/// apart; `width` is the size of the window in packets, at most 2^30. O(1).
 pub fn part_in(range: (Seq31, Seq31), front: Seq31, width: u32) -> Option<(u32, u32)>
     requires short { span (range_of range) < 2 ^ 30 }
     requires narrow { width ≤ 2 ^ 30 }
-    // Of the unbounded numbers of the window.
+    // The front of the window is any unbounded number with the word of `front`.
     ensures value { (n : ℕ) → n % 2 ^ 31 ≡ word_of front → IsPartOf (range_of range) n width result }
     ensures within { IfSome result (λ part. (part.0 ≤ part.1) × (part.1 < width)) }
 {
@@ -23,7 +24,7 @@ pub fn part_in(range: (Seq31, Seq31), front: Seq31, width: u32) -> Option<(u32, 
     if width == 0 {
         None
     } else if high >= 1 << 31 {
-        // It comes round the circle from behind the front.
+        // The range begins before the front and reaches it across the wrap.
         Some((0, (high - (1 << 31)).min(width - 1)))
     } else if low < width {
         Some((low, high.min(width - 1)))

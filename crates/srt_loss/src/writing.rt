@@ -10,10 +10,12 @@ ghost use Rattle.srt_loss.specs.Text.{loss_words, range_of};
 use arrayvec::ArrayVec;
 use srt_seq::Seq31;
 
-/// The words of runs, each its first and its last number.
+/// The words of at most 32 runs, each given by its first and its last number, both included. A run of one number is one
+/// word; a longer run is two, its first number with the top bit set and its last. At most 64 words; in network byte
+/// order they are the content of a NAK. Linear in the number of runs.
 pub fn write(runs: &ArrayVec<(Seq31, Seq31), 32>) -> ArrayVec<u32, 64>
     ensures value { result.items ≡ loss_words (map range_of runs.now.items) }
-    // The words in network byte order read back as just those runs.
+    // Reading the words in network byte order gives just those runs.
     ensures reads_back { All (λ r. span (range_of r) < 2 ^ 30) runs.now.items → losses_in (flat_map word result.items) ≡ Ok (map range_of runs.now.items) }
 {
     let mut words = ArrayVec::new();
