@@ -1,4 +1,4 @@
--- What is read is asked so, and a fault is had.
+-- What is read is what the Stream ID asks for, and a fault that is read is one that it has.
 use Rattle.std.proofs.Common.{◌≡◌, ℕ, ◌<◌, ◌==◌, Bool, true, false, if◌then◌else◌, List, [], ◌∷◌, ◌++◌, Option, None, Some, unwrap_or, Result, Ok, Err, MatchResult, length, take, drop, codes, nat_eq, ◌⊎◌, inl, inr, refl, sym, ap, subst, ◌∙◌, arith, Decides}
 use Rattle.std.proofs.lemmas.Bool.{false≢true}
 use Rattle.std.specs.List.{starts_with, AllByRecursion}
@@ -20,7 +20,7 @@ use Rattle.srt_streamid.specs.Spelling.{IsList, SayRole, ListAsks, Asks, NoneIsA
 use Rattle.srt_streamid.proofs.Places.{StandsIn, parts_stand, values_stand}
 use Rattle.srt_streamid.proofs.Told.{NameStands, RoleStands, PartsTold, parts_told}
 
--- what is at fault with a list
+-- the fault of a list
 abbrev pub HasListFault : List ℕ → AskFault → Type 0
 HasListFault bytes NotUtf8 = ⊥
 HasListFault bytes NoRoute = ListNamesNothing bytes
@@ -42,7 +42,7 @@ no_bytes n e = grind (arith, nat_tests)
 some_bytes : (n : ℕ) → (n == 0) ≡ false → 0 < n
 some_bytes n e = grind (arith, nat_tests)
 
--- the one name
+-- a list with one name
 one_told_if : (none : Bool) (bytes : List ℕ) (start : ℕ) (text : List ℕ) (role : Option Role) → (length text == 0) ≡ none → NoneIsAtFault [] (parts_of bytes) → names_in (parts_of bytes) ≡ record { start = start; text = text } ∷ [] → text ≡ take (length text) (drop start bytes) → RoleStands (modes_in (parts_of bytes)) role
     → ListTold bytes (if none then Err NoRoute else Ok (record { start = start; len = length text; role = unwrap_or role Request }))
 one_told_if true bytes start text role e clean names stands r = record { faultless = clean; nameless = subst NameNothing (sym names) (nil_from_length text (no_bytes (length text) e)) }
@@ -90,7 +90,7 @@ pub list_told : (bytes : List ℕ) → ListTold bytes (list_in bytes)
 unfolding list_in
 list_told bytes = asked_told bytes _ (parts_told [] (parts_of bytes) nothing (record { name = tt; role = tt }))
 
--- whether the bytes begin as a list
+-- the test whether the bytes begin like a list
 list_tested : (bytes : List ℕ) → Decides (starts_with nat_eq bytes (codes "#!::")) (codes "#!::" ≡ take 4 bytes)
 list_tested bytes = bytes_eq-Decides (codes "#!::") (take 4 bytes)
 
@@ -101,7 +101,7 @@ list_or_not bytes = list_cases bytes (starts_with nat_eq bytes (codes "#!::")) r
     list_cases bytes true e = inl (sym ((list_tested bytes).0 e))
     list_cases bytes false e = inr (λ h. false≢true (sym e ∙ (list_tested bytes).1 (sym h)))
 
--- what is asked, and what is at fault
+-- a result is what is asked for, or the fault
 abbrev pub Told : List ℕ → Result Ask AskFault → Type 0
 Told bytes read = MatchResult read (Asks bytes) (HasFault bytes)
 

@@ -1,4 +1,4 @@
--- The first comma cuts a list into its first part and the others.
+-- The first comma splits a list into its first part and the others.
 use Rattle.std.proofs.Common.{◌≡◌, ℕ, suc, ◌+◌, Bool, true, false, cond, not, nat_lt, ◌==◌, List, [], ◌∷◌, Option, None, Some, option_map, length, take, drop, position, refl, ap, sym, ◌∙◌, arith, add-one, ◌-◌, ◌<◌, length-drop}
 use Rattle.std.proofs.Math.Seq.{take-length}
 use Rattle.std.proofs.lemmas.List.{length-take-le}
@@ -16,7 +16,7 @@ position_step p x xs = placed (p x) _ (length xs)
 abbrev pub is_comma : ℕ → Bool
 is_comma b = b == byte ","
 
--- the parts, where the first comma stands here or nowhere
+-- the parts, given the offset of the first comma, or none
 abbrev pub cut_at : (at : ℕ) → List ℕ → Option ℕ → List Piece
 cut_at at xs None = record { start = at; text = xs } ∷ []
 cut_at at xs (Some n) = record { start = at; text = take n xs } ∷ parts_from (at + (n + 1)) (drop (n + 1) xs)
@@ -35,11 +35,11 @@ pub cuts : (at : ℕ) (bs : List ℕ) → parts_from at bs ≡ cut_at at bs (pos
 cuts at [] = refl
 cuts at (b ∷ bs) = rw (position_step is_comma b bs) (cut_here (is_comma b) at b bs (cuts (at + 1) bs))
 
--- the rest of a list, as a slice to its end is written
+-- the rest of a list, in the form of a slice up to its end
 pub slice_rest : (k : ℕ) (bs : List ℕ) → take (length bs - k) (drop k bs) ≡ drop k bs
 slice_rest k bs = ap (λ n. take n (drop k bs)) (sym (length-drop k bs)) ∙ take-length (drop k bs)
 
--- the part before the first comma and those behind it, as slices are written
+-- the part before the first comma and the parts after it, in the form of slices
 pub cut_there : (at n : ℕ) (bs : List ℕ) → n < length bs → position is_comma bs ≡ Some n → parts_from at bs ≡ record { start = at; text = take n bs } ∷ parts_from (at + (length (take n bs) + 1)) (take (length bs - (n + 1)) (drop (n + 1) bs))
 cut_there at n bs inside e =
     let cut = cuts at bs ∙ ap (cut_at at bs) e in

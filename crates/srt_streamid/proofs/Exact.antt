@@ -1,4 +1,4 @@
--- A Stream ID asks for one thing at most, or has one fault.
+-- A Stream ID asks for at most one thing, or has one fault.
 use Rattle.std.proofs.Common.{◌≡◌, ◌≢◌, ℕ, ◌+◌, ◌<◌, ◌≤◌, List, [], ◌∷◌, ◌++◌, Option, None, Some, Result, Ok, Err, length, take, drop, map, inl, inr, refl, sym, ap, subst, ◌∙◌, arith, append_assoc, length-take, length-drop}
 use Rattle.std.proofs.Math.Seq.{take-length}
 use Rattle.std.specs.List.{cons_option}
@@ -47,11 +47,11 @@ one_list bytes a b x y =
 one_name : (bytes : List ℕ) (a b : Ask) → NameAsks bytes a → NameAsks bytes b → a ≡ b
 one_name bytes a b x y = same_ask a b (x.start ∙ sym y.start) (x.len ∙ sym y.len) (x.role ∙ sym y.role)
 
--- one thing is asked for
+-- at most one thing is asked for
 one_ask : (bytes : List ℕ) (a b : Ask) → Asks bytes a → Asks bytes b → a ≡ b
 one_ask bytes a b x y = elim (list_or_not bytes) [ inl list ↦ one_list bytes a b (x.list list) (y.list list) | inr plain ↦ one_name bytes a b (x.plain plain) (y.plain plain) ]
 
--- a list that says a role has no bad mode and no second one
+-- a list that spells a role has no bad mode and no second mode
 good_mode : (modes more : List Piece) (mode : Option Piece) (role : Role) → IsBadMode mode → ¬ (SayRole (modes ++ cons_option mode more) role)
 good_mode modes more None role bad s = bad
 good_mode [] [] (Some mode) role bad s = bad role s
@@ -78,7 +78,7 @@ value_faultless names modes more_names more_modes name mode BadMode one role n s
 value_faultless names modes more_names more_modes name mode RepeatedKey one role n s h =
     elim h.1 [ inl again ↦ once_name names more_names name one again n | inr again ↦ once_mode modes more_modes mode role again s ]
 
--- nor has it a part at fault
+-- a list that asks for a route has no part with a fault
 asks_faultless : (before parts : List Piece) (fault : AskFault) (one : Piece) (role : Role) → names_in (before ++ parts) ≡ one ∷ [] → SayRole (modes_in (before ++ parts)) role → ¬ (HasFirstFault before parts fault)
 asks_faultless before [] fault one role n s h = h
 asks_faultless before (part ∷ parts) fault one role n s h = elim h [
@@ -102,14 +102,14 @@ list_names bytes ask some a h =
 name_names : (bytes : List ℕ) (ask : Ask) → 0 < ask.len → NameAsks bytes ask → bytes ≢ []
 name_names bytes ask some a none = let size : length bytes ≡ 0 = ap length none in omega (arith, a.len)
 
--- what is asked for has no fault
+-- a Stream ID that asks for something has no fault
 no_fault : (bytes : List ℕ) (ask : Ask) (fault : AskFault) → Asks bytes ask → ¬ (HasFault bytes fault)
 no_fault bytes ask NotUtf8 a h = h a.utf8
 no_fault bytes ask NoRoute a h = elim (list_or_not bytes) [ inl list ↦ list_names bytes ask a.some (a.list list) (h.list list) | inr plain ↦ name_names bytes ask a.some (a.plain plain) (h.plain plain) ]
 no_fault bytes ask BadMode a h = let l = a.list h.1 in asks_faultless [] (parts_of bytes) BadMode _ ask.role l.name l.role h.2
 no_fault bytes ask RepeatedKey a h = let l = a.list h.1 in asks_faultless [] (parts_of bytes) RepeatedKey _ ask.role l.name l.role h.2
 
--- the first fault is one
+-- parts without a fault have no first fault
 clean_is_clean : (before parts : List Piece) (fault : AskFault) → NoneIsAtFault before parts → ¬ (HasFirstFault before parts fault)
 clean_is_clean before [] fault n h = h
 clean_is_clean before (part ∷ parts) fault n h = elim h [ inl here ↦ n.0 fault here | inr later ↦ clean_is_clean (before ++ part ∷ []) parts fault n.1 later.1 ]

@@ -1,4 +1,4 @@
--- What was found stands for the parts so far, and each fault is the first of the parts.
+-- What was found is right for the parts so far, and each fault is the first of the parts.
 use Rattle.std.proofs.Common.{◌≡◌, ◌≢◌, ℕ, Bool, true, false, if◌then◌else◌, List, [], ◌∷◌, ◌++◌, Option, None, Some, is_some, Result, Ok, Err, MatchResult, length, take, codes, inl, inr, refl, sym, ap, ◌∙◌, append_assoc, append-nil, Decides, subst}
 use Rattle.std.specs.Bool.{⊤}
 use Rattle.std.specs.List.{cons_option}
@@ -15,7 +15,7 @@ use Rattle.srt_streamid.specs.Parts.{Piece, value_behind, equals_in, name_in, mo
 use Rattle.srt_streamid.specs.Reading.{◌>>=◌, role_in, with_name, with_values, with_part, with_parts}
 use Rattle.srt_streamid.specs.Spelling.{mode_of, IsBadMode, IsSaidAgain, HasValueFault, HasPartFault, NoneIsAtFault, HasFirstFault}
 
--- where a name stands
+-- the span of a name
 abbrev pub span_of : Piece → Span
 span_of name = record { start = name.start; len = length name.text }
 
@@ -33,12 +33,12 @@ RoleStands (mode ∷ []) None = ⊥
 RoleStands (mode ∷ []) (Some role) = mode.text ≡ mode_of role
 RoleStands (mode ∷ again ∷ modes) role = ⊥
 
--- what was found is the one name and the one mode
+-- what was found is the only name and the role of the only mode
 pub record Stands (names modes : List Piece) (found : Found) : Type 0 where
   pub name : NameStands names found.name
   pub role : RoleStands modes found.role
 
--- the role of a mode, or none is spelled so
+-- a text that is no mode spells no role
 neither : (text : List ℕ) → text ≢ codes "publish" → text ≢ codes "request" → (role : Role) → text ≢ mode_of role
 neither text p q Publish = p
 neither text p q Request = q
@@ -55,18 +55,18 @@ role_cases text false false d e = (refl, neither text (λ h. cc (d.1 h)) (λ h. 
 role_told : (text : List ℕ) → RoleTold text (role_in text)
 role_told text = role_cases text _ _ (bytes_eq-Decides text (codes "publish")) (bytes_eq-Decides text (codes "request"))
 
--- no fault, where neither the mode is bad nor anything said again
+-- no fault, if the mode isn't bad and nothing is given twice
 faultless : (names modes : List Piece) (name mode : Option Piece) → ¬ (IsBadMode mode) → ¬ (IsSaidAgain names name) → ¬ (IsSaidAgain modes mode) → (fault : AskFault) → ¬ (HasValueFault names modes name mode fault)
 faultless names modes name mode good once first NotUtf8 = λ h. h
 faultless names modes name mode good once first NoRoute = λ h. h
 faultless names modes name mode good once first BadMode = good
 faultless names modes name mode good once first RepeatedKey = λ h. elim h.1 [ inl again ↦ once again | inr again ↦ first again ]
 
--- what one part does
+-- what follows from the result of reading one part
 abbrev PartTold : (names modes : List Piece) (name mode : Option Piece) → Result Found AskFault → Type 0
 PartTold names modes name mode read = MatchResult read (λ more. ((fault : AskFault) → ¬ (HasValueFault names modes name mode fault)) × Stands (names ++ cons_option name []) (modes ++ cons_option mode []) more) (HasValueFault names modes name mode)
 
--- the key of a part is one only
+-- a part gives a name, or a mode, or neither
 abbrev pub Alone : Option Piece → Option Piece → Type 0
 Alone None mode = ⊤
 Alone (Some name) None = ⊤
@@ -95,7 +95,7 @@ values_told names modes found (Some name) None alone s = name_told names modes f
 values_told names modes found None (Some mode) alone s = mode_told names modes found.name found.role mode (role_in mode.text) s.name s.role (role_told mode.text)
 values_told names modes found (Some name) (Some mode) alone s = absurd alone
 
--- a key isn't both
+-- no key is both r and m
 keys_differ : (key : List ℕ) → bytes_eq key (codes "r") ≡ true → bytes_eq key (codes "m") ≡ true → ⊥
 keys_differ key p q =
     let r : key ≡ codes "r" = (bytes_eq-Decides key (codes "r")).0 p in
@@ -112,7 +112,7 @@ alone_behind : (part : Piece) (equals : Option ℕ) → Alone (value_behind (cod
 alone_behind part None = tt
 alone_behind part (Some at) = alone_tests _ _ _ _ (keys_differ (take at part.text))
 
--- what one part of a list does
+-- reading one part of a list
 part_told : (before : List Piece) (part : Piece) (found : Found) → Stands (names_in before) (modes_in before) found
     → MatchResult (with_part found part) (λ more. ((fault : AskFault) → ¬ (HasPartFault before part fault)) × Stands (names_in (before ++ part ∷ [])) (modes_in (before ++ part ∷ [])) more) (HasPartFault before part)
 unfolding with_part
@@ -124,7 +124,7 @@ matched : {T : Type 0} (read : Result T AskFault) (P Q : T → Type 0) (R S : As
 matched (Ok x) P Q R S h p r = p x h
 matched (Err e) P Q R S h p r = r e h
 
--- what the parts behind these do
+-- what follows from the result of reading the parts that follow the parts before them
 abbrev pub PartsTold : (before parts : List Piece) → Result Found AskFault → Type 0
 PartsTold before parts read = MatchResult read (λ more. NoneIsAtFault before parts × Stands (names_in (before ++ parts)) (modes_in (before ++ parts)) more) (HasFirstFault before parts)
 

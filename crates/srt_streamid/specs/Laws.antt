@@ -1,4 +1,4 @@
--- What reading has to do with what Stream IDs mean.
+-- Reading Stream IDs agrees with what they mean.
 use Rattle.std.specs.Prelude.{◌≡◌, ℕ, ◌+◌, ◌<◌, ◌≤◌, ◌↔◌, List, [], ◌∷◌, Ok, Err, length, map}
 use Rattle.srt_streamid.specs.declared.reading.Ask.{Ask}
 use Rattle.srt_streamid.specs.declared.reading.AskFault.{AskFault}
@@ -6,23 +6,23 @@ use Rattle.srt_streamid.specs.Parts.{names_in, parts_of}
 use Rattle.srt_streamid.specs.Reading.{ask_in, name_of}
 use Rattle.srt_streamid.specs.Spelling.{IsList, Asks, HasFault}
 
--- what is asked is read, and nothing else
+-- reading gives what is asked for, and nothing else
 abbrev pub AskIsRead : Type 0
 AskIsRead = (bytes : List ℕ) (ask : Ask) → (ask_in bytes ≡ Ok ask) ↔ Asks bytes ask
 
--- the fault that a Stream ID has is read, and no other
+-- reading gives the fault that a Stream ID has, and no other
 abbrev pub FaultIsRead : Type 0
 FaultIsRead = (bytes : List ℕ) (fault : AskFault) → (ask_in bytes ≡ Err fault) ↔ HasFault bytes fault
 
--- a name has bytes, and they stand in the Stream ID
+-- a name has at least one byte, and lies within the Stream ID
 abbrev pub NameIsInside : Type 0
 NameIsInside = (bytes : List ℕ) (ask : Ask) → ask_in bytes ≡ Ok ask → (0 < ask.len) × (ask.start + ask.len ≤ length bytes)
 
--- the name is the value of the list's one r, and a text that is no list is the name
+-- the name is the value of the list's only r; a text that is no list is itself the name
 pub record IsRouteName (bytes name : List ℕ) : Type 0 where
   pub list : IsList bytes → map (λ piece. piece.text) (names_in (parts_of bytes)) ≡ name ∷ []
   pub plain : ¬ (IsList bytes) → name ≡ bytes
 
--- so it is with the name of what is read
+-- each name that is read is the route's name in this sense
 abbrev pub NameIsSaid : Type 0
 NameIsSaid = (bytes : List ℕ) (ask : Ask) → ask_in bytes ≡ Ok ask → IsRouteName bytes (name_of bytes ask)

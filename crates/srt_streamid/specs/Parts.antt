@@ -3,40 +3,40 @@ use Rattle.std.specs.Prelude.{ℕ, ◌+◌, List, [], ◌∷◌, Option, None, S
 use Rattle.std.specs.Str.{byte, bytes_eq}
 use Rattle.std.specs.List.{filter_map}
 
--- some bytes of a text, and where they start in it
+-- some bytes of a text, and the offset at which they start in it
 pub record Piece : Type 0 where
   pub start : ℕ
   pub text : List ℕ
 
--- a byte joins the part that begins behind it
+-- the parts after a byte, with that byte put at the front of the first of them
 abbrev pub joined : (at b : ℕ) → List Piece → List Piece
 joined at b [] = record { start = at; text = b ∷ [] } ∷ []
 joined at b (part ∷ parts) = record { start = at; text = b ∷ part.text } ∷ parts
 
--- the parts of a list that starts at this place: a comma ends each but the last
+-- the parts of a list that starts at this offset: a comma ends each part but the last
 abbrev pub parts_from : (at : ℕ) → List ℕ → List Piece
 parts_from at [] = record { start = at; text = [] } ∷ []
 parts_from at (b ∷ bs) = let parts = parts_from (at + 1) bs in if b == byte "," then record { start = at; text = [] } ∷ parts else joined at b parts
 
--- the parts of what follows a comma, which may be nothing
+-- the parts of what follows a comma; none if there is no comma
 abbrev pub parts_behind : (at : ℕ) → Option (List ℕ) → List Piece
 parts_behind at None = []
 parts_behind at (Some bs) = parts_from at bs
 
--- where a part's first = stands
+-- the offset of the first = of a part
 abbrev pub equals_in : Piece → Option ℕ
 equals_in part = position (λ b. b == byte "=") part.text
 
--- what stands behind the = at this place, where the key before it is this one
+-- what follows the = at this offset, if the key before it is this one
 abbrev pub value_behind : (key : List ℕ) → Piece → Option ℕ → Option Piece
 value_behind key part None = None
 value_behind key part (Some at) = if bytes_eq (take at part.text) key then Some (record { start = part.start + at + 1; text = drop (at + 1) part.text }) else None
 
--- a part's value, where its key is this one
+-- the value of a part, if its key is this one
 abbrev pub value_of : (key : List ℕ) → Piece → Option Piece
 value_of key part = value_behind key part (equals_in part)
 
--- a part's name and its mode, where it says one; all the names and all the modes, in order (appendix B.2)
+-- the name or the mode that a part gives, if it gives one; all the names and all the modes, in order (appendix B.2)
 abbrev pub name_in : Piece → Option Piece
 name_in part = value_of (codes "r") part
 
@@ -49,6 +49,6 @@ names_in parts = filter_map name_in parts
 abbrev pub modes_in : List Piece → List Piece
 modes_in parts = filter_map mode_in parts
 
--- the parts of the text after the four bytes that begin a list
+-- the parts of a list, which follow its first four bytes
 abbrev pub parts_of : List ℕ → List Piece
 parts_of bytes = parts_from 4 (drop 4 bytes)

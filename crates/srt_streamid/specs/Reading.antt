@@ -1,4 +1,4 @@
--- What a Stream ID asks for, read from the left (appendix B).
+-- What a Stream ID asks for, read from left to right (appendix B).
 use Rattle.std.specs.Prelude.{ℕ, List, [], ◌∷◌, Option, None, Some, Result, Ok, Err, length, take, drop, codes, is_some, nat_eq, unwrap_or, ◌==◌, if◌then◌else◌}
 use Rattle.std.specs.List.{starts_with}
 use Rattle.std.specs.Str.{is_utf8, bytes_eq}
@@ -16,15 +16,15 @@ abbrev pub ◌>>=◌ : {A B : Type 0} → Result A AskFault → (A → Result B 
 (Ok x) >>= f = f x
 (Err e) >>= f = Err e
 
--- the role that a mode says
+-- the role of a mode
 abbrev pub role_in : List ℕ → Result Role AskFault
 role_in mode = if bytes_eq mode (codes "publish") then Ok Publish else (if bytes_eq mode (codes "request") then Ok Request else Err BadMode)
 
--- what was found, and a name
+-- what was found so far with one more name
 abbrev pub with_name : Found → Piece → Result Found AskFault
 with_name found name = if is_some found.name then Err RepeatedKey else Ok (record found { name = Some (record { start = name.start; len = length name.text }) })
 
--- what was found, and a mode
+-- what was found so far with one more mode
 abbrev pub with_mode : Found → Piece → Result Found AskFault
 with_mode found mode = do
   role ← role_in mode.text
@@ -35,20 +35,20 @@ with_values found (Some name) mode = with_name found name
 with_values found None (Some mode) = with_mode found mode
 with_values found None None = Ok found
 
--- what was found, and one part more: r is the name and m the mode (appendix B.2)
+-- what was found so far with one more part: r is the key of the name and m that of the mode (appendix B.2)
 unfoldable pub with_part : Found → Piece → Result Found AskFault
 with_part found part = with_values found (name_in part) (mode_in part)
 
--- what was found, and these parts, or the first fault
+-- what was found so far with these parts, or their first fault
 abbrev pub with_parts : Found → List Piece → Result Found AskFault
 with_parts found [] = Ok found
 with_parts found (part ∷ parts) = with_part found part >>= λ more. with_parts more parts
 
--- a name of no bytes is none
+-- a name with this offset and length; an empty name counts as none
 abbrev pub named : (start len : ℕ) → Role → Result Ask AskFault
 named start len role = if len == 0 then Err NoRoute else Ok (record { start = start; len = len; role = role })
 
--- what is asked for: without a mode the stream is requested (appendix B.2)
+-- what the list asks for: without a mode the stream is requested (appendix B.2)
 abbrev pub asked : Found → Result Ask AskFault
 asked found = asked_as found.name found.role
   where
@@ -59,11 +59,11 @@ asked found = asked_as found.name found.role
 abbrev pub nothing : Found
 nothing = record { name = None; role = None }
 
--- what a list asks for, after the four bytes of its front
+-- what a list asks for. Its parts follow its first four bytes
 unfoldable pub list_in : List ℕ → Result Ask AskFault
 list_in bytes = with_parts nothing (parts_of bytes) >>= asked
 
--- what a Stream ID asks for: a text that is no list is the name (this profile)
+-- what a Stream ID asks for: a text that is no list is itself the name (this profile)
 unfoldable pub ask_in : List ℕ → Result Ask AskFault
 ask_in bytes = if is_utf8 bytes then (if starts_with nat_eq bytes (codes "#!::") then list_in bytes else named 0 (length bytes) Request) else Err NotUtf8
 

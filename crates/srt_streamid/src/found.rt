@@ -1,4 +1,4 @@
-//! What the parts of a list say, one after another.
+//! The name and the role that the parts of a list give, one part after another.
 
 ghost use Rattle.std.specs.Prelude.{◌≡◌, ℕ, ◌+◌, ◌<◌, ◌^◌, ◌==◌, List, length, position, IfSome};
 ghost use Rattle.srt_streamid.specs.Reading.{role_in};
@@ -6,21 +6,21 @@ ghost use Rattle.srt_streamid.specs.Reading.{role_in};
 use crate::reading::{Ask, AskFault, named};
 use srt_seq::Role;
 
-/// Where a name stands in the bytes.
+/// The place of a name in the bytes of a Stream ID.
 #[derive(Clone, Copy)]
 pub struct Span {
-    /// Its first byte's place.
+    /// The offset of its first byte.
     pub start: usize,
-    /// How many bytes it has.
+    /// Its length in bytes.
     pub len: usize,
 }
 
-/// What was found so far.
+/// The name and the role that were found so far.
 #[derive(Clone, Copy)]
 pub struct Found {
-    /// The route's name, where a part says it.
+    /// The route's name, if a part gave it. It may be empty.
     pub name: Option<Span>,
-    /// What is wanted of the route, where a part says it.
+    /// The role, if a part gave it.
     pub role: Option<Role>,
 }
 
@@ -30,13 +30,13 @@ const RESOURCE: &[u8] = b"r";
 /// The key of a mode (appendix B.2).
 const MODE: &[u8] = b"m";
 
-/// The mode of a caller that sends the stream.
+/// The mode of a caller that sends the stream (appendix B.2).
 const PUBLISH: &[u8] = b"publish";
 
-/// The mode of a caller that is sent the stream.
+/// The mode of a caller that receives the stream (appendix B.2).
 const REQUEST: &[u8] = b"request";
 
-/// Where a byte first stands.
+/// The offset of the first byte of the text with this value. None if there is none. Linear in the length.
 pub fn place_of(byte: u8, text: &[u8]) -> Option<usize>
     ensures value { result ≡ position (λ b. b == byte) text.now }
     ensures inside { IfSome result (λ at. at < length text.now) }
@@ -44,7 +44,7 @@ pub fn place_of(byte: u8, text: &[u8]) -> Option<usize>
     text.iter().position(|b| *b == byte)
 }
 
-/// The role that a mode says.
+/// The role of a mode. `BadMode` if it is neither `publish` nor `request`.
 fn role_of(mode: &[u8]) -> Result<Role, AskFault>
     ensures { result ≡ role_in mode.now }
 {
@@ -61,7 +61,7 @@ impl Found {
     ghost use Rattle.srt_streamid.specs.Reading.{nothing, with_name, with_mode, with_part, asked};
     ghost use Rattle.srt_streamid.specs.Parts.{Piece};
 
-    /// Nothing yet.
+    /// Before any part: neither a name nor a role.
     pub fn nothing() -> Found
         ensures { result ≡ nothing }
     {
@@ -96,7 +96,8 @@ impl Found {
         })
     }
 
-    /// What was found, and one part more, which starts at this place.
+    /// What was found so far with one more part, which starts at this offset. A part without `=`, or with a key other
+    /// than `r` and `m`, changes nothing. `BadMode` for another mode, else `RepeatedKey` for a second `r` or `m`.
     #[tactic(auto, unfolding(crate::specs::Reading::with_part))]
     pub fn with_part(self, start: usize, part: &[u8]) -> Result<Found, AskFault>
         requires { start + length part.now < 2 ^ 64 }
@@ -119,7 +120,8 @@ impl Found {
         }
     }
 
-    /// What is asked for.
+    /// What the whole list asks for; without a mode the role is request. `NoRoute` if no name was found, or an empty
+    /// one.
     pub fn asked(self) -> Result<Ask, AskFault>
         ensures { result ≡ asked self }
     {

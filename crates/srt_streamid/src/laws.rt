@@ -1,15 +1,15 @@
-//! Laws of the definitions: reading from the left gives what the parts of a Stream ID mean together.
+//! Laws of the definitions: reading from left to right gives what all parts of a Stream ID together mean.
 
 ghost use Rattle.srt_streamid.specs.Laws.{AskIsRead, FaultIsRead, NameIsInside, NameIsSaid};
 
-/// What is asked for is read, and each fault where it is had.
+/// Reading gives what the Stream ID asks for, or else the fault that it has.
 pub fn meanings()
     ensures asks { AskIsRead }
     ensures faults { FaultIsRead }
 {}
 
-/// A name that is read stands in the bytes, and is what the Stream ID says: the value of the one `r`
-/// of a list, and any other text whole.
+/// A name that is read lies within the bytes. It is the value of the only `r` of a list, or the whole text if that is
+/// no list.
 pub fn names()
     ensures inside { NameIsInside }
     ensures said { NameIsSaid }

@@ -1,4 +1,15 @@
 //! Stream IDs: which route a caller asks for, and in which role (draft-sharabayko-srt-01, appendix B).
+//!
+//! It only reads the text. That text comes from a handshake's extension block (`srt_hs::stream_id`, section 3.2.1.3),
+//! and whether a route has the name is for `srt_lobby` to find. It takes no memory.
+//!
+//! One call: [`read`] takes the text as bytes and returns an [`Ask`] (the name as a span of these bytes, and the role)
+//! or an [`AskFault`]. Two forms are read: a list such as `#!::r=studio,m=publish`, and any other text, which is itself
+//! the name of a route that is requested.
+//!
+//! `reading.rt` splits a list into parts at its commas; `found.rt` reads one part after another, which is a key, `=`
+//! and a value, and keeps the name and the role. `specs/Spelling.antt` defines what a Stream ID means, all parts at
+//! once; `specs/Reading.antt` reads them from left to right; `laws.rt` ties the two.
 #![tactic(auto)]
 
 mod found;

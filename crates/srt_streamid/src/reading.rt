@@ -1,4 +1,4 @@
-//! Stream IDs read from borrowed bytes.
+//! Stream IDs read from borrowed bytes (draft-sharabayko-srt-01, appendix B).
 
 ghost use Rattle.std.specs.Prelude.{◌≡◌, ℕ, ◌+◌, ◌≤◌, ◌∷◌, ◌↔◌, List, length, MatchOption, IfOk, Ok, Err};
 ghost use Rattle.std.specs.Option.{option_copied};
@@ -13,41 +13,42 @@ use crate::found::{Found, place_of};
 use srt_seq::Role;
 use std::str;
 
-/// What a Stream ID asks for. The route's name stands in its bytes.
+/// What a Stream ID asks for. The route's name is given as a span of the bytes that were read.
 #[derive(Clone, Copy, Debug, PartialEq, Eq)]
 pub struct Ask {
-    /// Where the route's name starts, in bytes.
+    /// The offset of the first byte of the route's name.
     pub start: usize,
-    /// How many bytes the name has: at least 1.
+    /// The length of the name in bytes: at least 1, and at most what follows `start`.
     pub len: usize,
-    /// What the caller wants of the route.
+    /// Whether the caller publishes to the route or requests its stream.
     pub role: Role,
 }
 
-/// Why a Stream ID asks for nothing.
+/// Why a Stream ID asks for nothing. `NotUtf8` comes first, then the first `BadMode` or `RepeatedKey` from the left,
+/// and `NoRoute` only if there is no other fault (this profile's order).
 #[derive(Clone, Copy, Debug, PartialEq, Eq)]
 pub enum AskFault {
     /// The bytes aren't UTF-8.
     NotUtf8,
-    /// The route's name is empty, or there is none.
+    /// The route's name is empty, or there is none: no `r` in a list, or no text at all.
     NoRoute,
-    /// The key `m` has another value than `request` and `publish`.
+    /// The key `m` has a value other than `request` and `publish`. This counts before `RepeatedKey` in the same part.
     BadMode,
-    /// The key `r` or the key `m` stands twice.
+    /// A second part with the key `r`, or a second one with the key `m`, even if the values are the same.
     RepeatedKey,
 }
 
-/// How a list of keys and values begins (appendix B.1).
+/// The first four bytes of a list of keys and values (appendix B.1).
 const LIST: &[u8] = b"#!::";
 
-/// Whether the bytes are a text.
+/// Whether the bytes are UTF-8.
 fn is_text(bytes: &[u8]) -> bool
     ensures { result ≡ is_utf8 bytes.now }
 {
     str::from_utf8(bytes).is_ok()
 }
 
-/// What a Stream ID asks for.
+/// The result of [`read`].
 #[tactic(auto, unfolding(crate::specs::Reading::ask_in))]
 fn ask_of(bytes: &[u8]) -> Result<Ask, AskFault>
     ensures { result ≡ ask_in bytes.now }
@@ -62,11 +63,14 @@ fn ask_of(bytes: &[u8]) -> Result<Ask, AskFault>
     }
 }
 
-/// What a Stream ID asks for. `bytes` is the text without the zeros that pad it.
+/// Reads a Stream ID. `bytes` is its text without the zeros that pad it in a handshake, of any length. A text that
+/// begins with `#!::` is a list of parts; keys and modes are case-sensitive, and other keys than `r` and `m` are
+/// skipped. Any other text is a route's name, with the role request (this profile). Linear in the number of bytes;
+/// copies nothing.
 pub fn read(bytes: &[u8]) -> Result<Ask, AskFault>
-    // What is asked so is read, and nothing else.
+    // The result is what the Stream ID asks for, and nothing else.
     ensures asks { (ask : TheAsk) → (result ≡ Ok ask) ↔ Asks bytes.now ask }
-    // Which fault it is.
+    // The fault is the one that the Stream ID has.
     ensures fault { (fault : TheFault) → (result ≡ Err fault) ↔ HasFault bytes.now fault }
     ensures inside { IfOk result (λ ask. ask.start + ask.len ≤ length bytes.now) }
     ensures value { result ≡ ask_in bytes.now }
@@ -74,7 +78,7 @@ pub fn read(bytes: &[u8]) -> Result<Ask, AskFault>
     ask_of(bytes)
 }
 
-/// What a name of so many bytes asks for in this role.
+/// What a name with this offset and length asks for in this role. `NoRoute` if it is empty.
 pub(crate) fn named(start: usize, len: usize, role: Role) -> Result<Ask, AskFault>
     ensures { result ≡ named start len role }
 {
@@ -85,7 +89,7 @@ pub(crate) fn named(start: usize, len: usize, role: Role) -> Result<Ask, AskFaul
     }
 }
 
-/// The first part of a list, and what follows its comma.
+/// The first part of a list, and what follows its comma; None if there is no comma.
 fn first_part(list: &[u8]) -> (&[u8], Option<&[u8]>)
     ensures parts { (start : ℕ) → parts_from start list.now ≡ record { start = start; text = result.0.now }
         ∷ parts_behind (start + (length result.0.now + 1)) (option_copied result.1) }
@@ -98,7 +102,7 @@ fn first_part(list: &[u8]) -> (&[u8], Option<&[u8]>)
     }
 }
 
-/// What a list asks for.
+/// What a list asks for. `bytes` begins with the four bytes of [`LIST`].
 fn read_list(bytes: &[u8]) -> Result<Ask, AskFault>
     requires { 4 ≤ length bytes.now }
     ensures { result ≡ list_in bytes.now }

@@ -1,4 +1,4 @@
-//! Stream IDs and what they ask for.
+//! Stream IDs, and the routes and roles that they ask for.
 
 use crate::{Ask, AskFault, read};
 use srt_seq::Role;
