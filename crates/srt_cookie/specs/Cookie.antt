@@ -1,4 +1,4 @@
--- The cookie of a peer in a minute (section 4.3.1.1). How it is made is this profile's.
+-- The cookie of a peer in a minute (section 4.3.1.1). The formula is this profile's.
 use Rattle.std.specs.Prelude.{◌≡◌, ℕ, ◌+◌, ◌-◌, ◌/◌, ◌⊎◌, List, ◌++◌, take, Bool, ◌==◌, nat_lt, ◌||◌, ◌&&◌, if◌then◌else◌}
 use Rattle.std.specs.Int.{w16, w32, w64, from_be_bytes, to_be_bytes}
 use Rattle.sha2.specs.Sha256.{sha256}
@@ -9,7 +9,7 @@ use Rattle.srt_cookie.specs.declared.secret.Secret.{Secret}
 abbrev pub secret_bytes : Secret → List ℕ
 secret_bytes s = s.bytes
 
--- the 58 bytes that are hashed: secret, address, port and minute, the greatest byte of each number first
+-- the 58 bytes that are hashed: secret, address, port and minute, each number in network byte order
 abbrev pub hashed : List ℕ → Peer → (minute : ℕ) → List ℕ
 hashed secret peer minute = secret ++ peer.ip ++ to_be_bytes w16 peer.port ++ to_be_bytes w64 minute
 
@@ -17,20 +17,20 @@ hashed secret peer minute = secret ++ peer.ip ++ to_be_bytes w16 peer.port ++ to
 abbrev pub front_of_hash : List ℕ → Peer → (minute : ℕ) → ℕ
 front_of_hash secret peer minute = from_be_bytes w32 (take 4 (sha256 (hashed secret peer minute)))
 
--- that number, and 1 where it is 0
+-- that number, or 1 if it is 0
 unfoldable pub cookie_of : List ℕ → Peer → (minute : ℕ) → ℕ
 cookie_of secret peer minute = if front_of_hash secret peer minute == 0 then 1 else front_of_hash secret peer minute
 
--- the minute of a moment in microseconds
+-- the number of whole minutes in a moment, which is in microseconds
 abbrev pub minute_of : ℕ → ℕ
 minute_of moment = moment / 60_000_000
 
--- right is the cookie of the moment's minute, and that of the minute before it
+-- the cookie of the moment's minute is right, and so is that of the minute before
 abbrev pub IsRight : List ℕ → Peer → (moment word : ℕ) → Type 0
 IsRight secret peer moment word =
     (minute : ℕ) × ((minute ≡ minute_of moment) ⊎ (minute + 1 ≡ minute_of moment)) × (word ≡ cookie_of secret peer minute)
 
--- the same as a test; before minute 0 there is none
+-- the same as a test; minute 0 has no minute before it
 abbrev pub is_right : List ℕ → Peer → (moment word : ℕ) → Bool
 is_right secret peer moment word =
     (word == cookie_of secret peer (minute_of moment)) ||

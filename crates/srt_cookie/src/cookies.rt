@@ -1,4 +1,4 @@
-//! Cookies (draft-sharabayko-srt-01, section 4.3.1.1).
+//! Cookies (draft-sharabayko-srt-01, section 4.3.1.1; the formula is this profile's).
 
 ghost use Rattle.std.specs.Prelude.{◌≡◌, ◌<◌, ◌↔◌, IsTrue};
 ghost use Rattle.srt_cookie.specs.Cookie.{cookie_of, minute_of, IsRight, is_right, secret_bytes};
@@ -9,14 +9,15 @@ use srt_seq::Peer;
 
 const MICROSECONDS_OF_A_MINUTE: u64 = 60_000_000;
 
-/// The minute of a moment in microseconds, which is rounded down.
+/// The number of whole minutes in `moment`, which is in microseconds.
 pub fn minute_of(moment: u64) -> u64
     ensures { result ≡ minute_of moment }
 {
     moment / MICROSECONDS_OF_A_MINUTE
 }
 
-/// The cookie of a peer in a minute.
+/// The cookie of a peer in a minute, as [`minute_of`] counts: the first four bytes of a SHA-256 hash, as a number in
+/// network byte order, with 1 in place of 0. It costs one hash of 58 bytes.
 #[tactic(auto, unfolding(crate::specs::Cookie::cookie_of))]
 pub fn cookie(secret: &Secret, peer: Peer, minute: u64) -> u32
     ensures some { 0 < result }
@@ -32,8 +33,8 @@ pub fn cookie(secret: &Secret, peer: Peer, minute: u64) -> u32
     if front == 0 { 1 } else { front }
 }
 
-/// Whether the word that a peer sent back at a moment, in microseconds, is a cookie that it was given in
-/// the same minute or in the one before.
+/// Whether the word that a peer sent back at `moment`, in microseconds, is its cookie of the same minute or of the
+/// minute before. So a cookie is right for at least one minute and less than two. It costs one or two hashes.
 pub fn right(secret: &Secret, peer: Peer, moment: u64, word: u32) -> bool
     ensures cookie { IsTrue result ↔ IsRight (secret_bytes secret.now) peer moment word }
     ensures value { result ≡ is_right (secret_bytes secret.now) peer moment word }

@@ -1,5 +1,13 @@
-//! The cookie that the gateway gives to a caller in the first answer of the handshake, and that the
-//! caller has to send back: whoever does so can be reached at the address that it gave.
+//! The cookie of the handshake (draft-sharabayko-srt-01, section 4.3.1.1). The gateway puts it into the answer to an
+//! induction, and the caller must send it back in its conclusion. A caller that does so can receive datagrams at the
+//! address that it sends from, which keeps out callers with a forged address.
+//!
+//! Nothing is kept for a caller: a cookie is computed from a [`Secret`], the caller's address and port, and the minute,
+//! and it is checked by computing it again. It is no proof of identity and no encryption. It takes no memory and reads
+//! no clock.
+//!
+//! Calls: `Secret::new` once (`secret.rt`); [`cookie`] with [`minute_of`] the moment, for an induction; [`right`] for a
+//! conclusion (all in `cookies.rt`). `srt_lobby` makes these calls. The formula is in `specs/Cookie.antt`.
 #![tactic(auto)]
 
 mod cookies;

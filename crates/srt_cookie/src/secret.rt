@@ -1,16 +1,16 @@
-//! What makes a cookie hard to guess.
+//! The secret that makes cookies hard to guess.
 
 ghost use Rattle.std.specs.Prelude.{◌≡◌};
 ghost use Rattle.srt_cookie.specs.Cookie.{secret_bytes};
 
-/// What only the gateway knows: 32 bytes. It can't be printed or compared.
+/// 32 bytes that only the gateway knows. They can't be read back, printed or compared.
 #[derive(Clone, Copy)]
 pub struct Secret {
     pub(crate) bytes: [u8; 32],
 }
 
 impl Secret {
-    /// The secret of these bytes.
+    /// The secret with these bytes. Any bytes are taken: choosing them at random is up to the caller.
     pub fn new(bytes: [u8; 32]) -> Secret
         ensures { secret_bytes result ≡ bytes }
     {

@@ -1,4 +1,4 @@
-//! Cookies against hashes that were computed by Python's hashlib.
+//! Cookies compared with hashes from Python's hashlib.
 
 use crate::{Secret, cookie, right};
 use srt_seq::{MOMENT_END, Peer};
@@ -72,7 +72,7 @@ fn right_in_its_minute_and_the_next(rt: HostRuntime) -> Result<(), Fail> {
 fn minute_0_has_its_own_alone(rt: HostRuntime) -> Result<(), Fail> {
     assert!(rt; right(&secret(), near(5000), 0, 0xecc9_58a6));
     assert!(rt; right(&secret(), near(5000), 59_999_999, 0xecc9_58a6));
-    // the cookies of minute 1 and of the greatest number of 64 bits
+    // The cookies of minute 1 and of minute 2^64 - 1, and 0, which is never a cookie.
     assert!(rt; !right(&secret(), near(5000), 0, 0x3e9c_b415));
     assert!(rt; !right(&secret(), near(5000), 0, 0x6a16_0f85));
     assert!(rt; !right(&secret(), near(5000), 0, 0));
