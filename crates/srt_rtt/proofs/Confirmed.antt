@@ -1,4 +1,4 @@
--- What a number confirms, and the book after it.
+-- The Full ACK that a number confirms, and the book after that.
 use Rattle.std.proofs.Common.{◌≡◌, ◌≢◌, ℕ, zero, suc, ◌+◌, ◌-◌, ◌%◌, ◌<◌, ◌≤◌, min, Bool, true, Option, Some, None, List, [], ◌∷◌, length, map, take, get_or, inl, inr, set, refl, sym, ap, ◌∙◌, arith}
 use Rattle.std.specs.List.{find, position, position_or_len, slice_get}
 use Rattle.std.proofs.lemmas.List.{length-map, get_or-set_other}
@@ -12,7 +12,7 @@ use Rattle.srt_seq.specs.Counts.{ack_number}
 use Rattle.srt_rtt.specs.Book.{Noted, is_waiting, waiting, waiting_place, marked, confirmed, IsNumbered, moment_at, sample, sample_at, with_marked, IsBookOf}
 use Rattle.srt_rtt.proofs.Places.{nobody, index_at, moment_is, still, its_number, in_last}
 
--- what a number confirms stands at its place
+-- the Full ACK that a number confirms is the one at its place
 pub not_found : (h : List Noted) (number : ℕ) → waiting_place number h ≡ None → waiting number h ≡ None
 not_found h number none =
     let f = find_at (is_waiting number) (take 64 h) in
@@ -45,7 +45,7 @@ found h number d e =
       number_is = its_number number (get_or h d nobody) (rw (← last.2) passes);
     }
 
--- marking one as confirmed
+-- marking a Full ACK as confirmed
 pub numbered_marked : (h : List Noted) (i : ℕ) → IsNumbered h → IsNumbered (map (marked i) h)
 numbered_marked [] i k = tt
 numbered_marked (n ∷ h) i k = (k.0 ∙ sym (length-map h (marked i)), numbered_marked h i k.1)
@@ -87,13 +87,13 @@ sample_found h number now d m e at =
     let same : (get_or h d nobody).moment ≡ m = grind arith in
     ap (option_map (sample_at now)) f.it_is ∙ ap (λ (k : ℕ). Some (min (now - k) 10_000_000)) same
 
--- a number that confirms none
+-- a number that confirms no Full ACK
 pub sample_none : (h : List Noted) (number now : ℕ) → waiting_place number h ≡ None → sample number now h ≡ None
 sample_none h number now e = ap (option_map (sample_at now)) (not_found h number e)
 
 pub confirmed_none : (h : List Noted) (number : ℕ) → waiting_place number h ≡ None → confirmed number h ≡ h
 confirmed_none h number e = ap (λ (o : Option Noted). with_marked o h) (not_found h number e)
 
--- what a number confirms has a moment
+-- the Full ACK that a number confirms has a moment
 pub has_moment : (h : List Noted) (number d : ℕ) → waiting_place number h ≡ Some d → moment_at h d ≢ None
 has_moment h number d e none = let f = found h number d e in let w = f.waits in cc

@@ -1,4 +1,4 @@
--- Which Full ACK stands at a place, and at which place the one stands that a number confirms.
+-- The Full ACK at a place, and the place of the one that a number confirms.
 use Rattle.std.proofs.Common.{◌≡◌, ◌≢◌, ℕ, zero, suc, ◌+◌, ◌-◌, ◌%◌, ◌<◌, Bool, true, false, cond, Option, Some, None, List, [], ◌∷◌, length, take, get_or, inl, inr, refl, sym, ap, ◌∙◌, arith}
 use Rattle.std.specs.List.{position}
 use Rattle.std.proofs.lemmas.List.{get_or-take, get_or_read, length-take}
@@ -41,7 +41,7 @@ its_number number n w = grind (arith, nat_tests)
 pub still : (number : ℕ) (n : Noted) → is_waiting number n ≡ true → moment_of n ≡ Some n.moment
 still number n w = grind (arith, nat_tests)
 
--- a Full ACK of the last 64 has a number only where that number leads to it
+-- a Full ACK of the last 64 has a number only if that number leads to its place
 no_wait : (h : List Noted) (number e : ℕ) → IsNumbered h → e < length h → ack_number (length h - (e + 1)) ≢ number → is_waiting number (get_or h e nobody) ≡ false
 no_wait h number e k lt w = let i = index_at h e k lt in grind (arith, nat_tests)
 

@@ -1,31 +1,32 @@
--- The Full ACKs that were sent, and which of them an ACKACK confirms (sections 3.2.4 and 3.2.8).
+-- The Full ACKs that were sent, and which of them an ACKACK confirms (sections 3.2.4 and 3.2.8). Moments and samples
+-- are microseconds.
 use Rattle.std.specs.Prelude.{◌≡◌, ℕ, zero, suc, ◌+◌, ◌-◌, ◌%◌, ◌<◌, min, Bool, true, false, not, ◌&&◌, ◌==◌, if◌then◌else◌, Option, None, Some, option_map, List, [], ◌∷◌, length, map, take, find, position, slice_get, slice_index_or, option_and_then}
 use Rattle.srt_seq.specs.Counts.{ack_number}
 use Rattle.srt_rtt.specs.declared.book.AckBook.{AckBook}
 
--- a Full ACK: how many were sent before it, when it was sent, and whether an ACKACK confirmed it
+-- a Full ACK: the number of those sent before it, the moment it was sent, and whether an ACKACK confirmed it
 pub record Noted : Type 0 where
   pub index : ℕ
   pub moment : ℕ
   pub is_confirmed : Bool
 
--- a history has the newest first; a Full ACK is sent
+-- the history after a Full ACK is sent at this moment; a history has the newest first
 abbrev pub noted : (moment : ℕ) → List Noted → List Noted
 noted moment history = record { index = length history; moment = moment; is_confirmed = false } ∷ history
 
--- whether an ACKACK with this number can confirm it
+-- whether an ACKACK with this number can confirm this Full ACK
 abbrev pub is_waiting : (number : ℕ) → Noted → Bool
 is_waiting number n = (ack_number n.index == number) && not n.is_confirmed
 
--- the one of the last 64 that it confirms (this profile)
+-- the one of the last 64 that an ACKACK with this number confirms (this profile)
 abbrev pub waiting : (number : ℕ) → List Noted → Option Noted
 waiting number history = find (is_waiting number) (take 64 history)
 
--- how many were sent after that one
+-- the number of those sent after that one
 abbrev pub waiting_place : (number : ℕ) → List Noted → Option ℕ
 waiting_place number history = position (is_waiting number) (take 64 history)
 
--- the time from its sending till now, at most 10 s (this profile)
+-- the time since it was sent, at most 10 s (this profile)
 abbrev pub sample_at : (now : ℕ) → Noted → ℕ
 sample_at now n = min (now - n.moment) 10_000_000
 
@@ -33,31 +34,32 @@ sample_at now n = min (now - n.moment) 10_000_000
 abbrev pub sample : (number now : ℕ) → List Noted → Option ℕ
 sample number now history = option_map (sample_at now) (waiting number history)
 
--- marked as confirmed, where it is the one with this index
+-- a Full ACK, marked as confirmed if it has this index
 abbrev pub marked : (index : ℕ) → Noted → Noted
 marked index n = record n { is_confirmed = if n.index == index then true else n.is_confirmed }
 
--- after this one was confirmed, if it is one
+-- the history after this Full ACK was confirmed; unchanged if there is none
 abbrev pub with_marked : Option Noted → List Noted → List Noted
 with_marked None history = history
 with_marked (Some n) history = map (marked n.index) history
 
--- an ACKACK comes
+-- the history after an ACKACK with this number comes
 abbrev pub confirmed : (number : ℕ) → List Noted → List Noted
 confirmed number history = with_marked (waiting number history) history
 
--- the indexes count up from 0, the oldest's
+-- the indexes count up from 0, which the oldest has
 abbrev pub IsNumbered : List Noted → Type 0
 IsNumbered [] = Unit
 IsNumbered (n ∷ history) = (n.index ≡ length history) × IsNumbered history
 
--- the moment of the one after which so many were sent, where it isn't confirmed
+-- the moment of the Full ACK after which place others were sent; None if it is confirmed, or if there is none
 abbrev pub moment_at : List Noted → (place : ℕ) → Option ℕ
 moment_at [] place = None
 moment_at (n ∷ history) zero = if n.is_confirmed then None else Some n.moment
 moment_at (n ∷ history) (suc place) = moment_at history place
 
--- these fields have the values of a history: the next one's number, where it goes, and a ring of moments
+-- these fields have the values of a history: the number of the next Full ACK, the index of its moment, and the ring of
+-- moments
 pub record IsBookOf (next at : ℕ) (moments : List (Option ℕ)) (history : List Noted) : Type 0 where
   pub numbered : IsNumbered history
   pub next_is : next ≡ ack_number (length history)
@@ -66,14 +68,14 @@ pub record IsBookOf (next at : ℕ) (moments : List (Option ℕ)) (history : Lis
 abbrev pub StandsFor : AckBook → List Noted → Type 0
 StandsFor b history = IsBookOf b.next b.at b.moments.items history
 
--- what an ACKACK confirms stands at the place that is told
+-- the Full ACK that an ACKACK confirms is the one at its waiting_place
 abbrev pub WaitsAtPlace : Type 0
 WaitsAtPlace = (number : ℕ) (history : List Noted) → waiting number history ≡ option_and_then (slice_get history) (waiting_place number history)
 
--- after an ACKACK, none of the last 64 is left that another one with its number would confirm
+-- after an ACKACK, another one with the same number confirms none of the last 64
 abbrev pub ConfirmsOnce : Type 0
 ConfirmsOnce = (number : ℕ) (history : List Noted) → IsNumbered history → waiting number (confirmed number history) ≡ None
 
--- so many were sent after the one at a place
+-- the place of a Full ACK is the number of those sent after it
 abbrev pub PlacesCountBack : Type 0
 PlacesCountBack = (history : List Noted) (place : ℕ) (n : Noted) → IsNumbered history → slice_get history place ≡ Some n → n.index + (place + 1) ≡ length history

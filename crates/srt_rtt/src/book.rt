@@ -1,4 +1,4 @@
-//! The book of Full ACKs (draft-sharabayko-srt-01, sections 3.2.4 and 3.2.8).
+//! The book of Full ACKs and their confirmation by ACKACKs (draft-sharabayko-srt-01, sections 3.2.4 and 3.2.8).
 
 ghost use Rattle.std.specs.Prelude.{◌≡◌, ℕ, ◌+◌, ◌-◌, ◌%◌, ◌<◌, ◌≤◌, List, [], IfOk, IfSome, IsNone, vec_len, length};
 ghost use Rattle.srt_seq.specs.Counts.{ack_number};
@@ -6,23 +6,23 @@ ghost use Rattle.srt_rtt.specs.Steps.{IsStepsBack};
 
 use std::alloc::{AllocError, Global};
 
-/// How many Full ACKs can still be confirmed.
+/// The number of newest Full ACKs that can be confirmed (this profile).
 const PLACES: usize = 64;
 
-/// The last number of a Full ACK; after it comes 1.
+/// The greatest number of a Full ACK. The one after it has number 1 (this profile).
 const LAST_NUMBER: u32 = u32::MAX;
 
-/// The longest sample, in microseconds.
+/// The greatest sample, in microseconds: 10 s (this profile).
 const LONGEST: u64 = 10_000_000;
 
-/// The last 64 Full ACKs that were sent: when each was, and whether it was confirmed.
+/// The last 64 Full ACKs that were sent: when each was sent, and whether it was confirmed. A fixed ring of about 1 KB.
 #[derive(Drop)]
 pub struct AckBook {
     /// The number of the next Full ACK.
     next: u32,
-    /// Where the next one's moment goes. The one before it stands just before, round the ring.
+    /// The index at which the next moment is stored. The latest is at the index before, modulo 64.
     at: usize,
-    /// The moments of those that aren't confirmed.
+    /// The moments, in microseconds, of those that aren't confirmed; None for all others.
     moments: Vec<Option<u64>>,
     ghost numbers_from_one: { 0 < next },
     ghost at_in: { at < 64 },
@@ -32,7 +32,8 @@ pub struct AckBook {
 impl AckBook {
     ghost use Rattle.srt_rtt.specs.Book.{Noted, noted, sample, confirmed, waiting_place, StandsFor};
 
-    /// A book of no Full ACK. The only call that takes memory.
+    /// An empty book, whose first Full ACK gets number 1. The only call that takes memory; its only error is a failed
+    /// allocation.
     pub fn open(alloc: Global) -> Result<AckBook, AllocError>
         ensures { IfOk result (λ book. StandsFor book []) }
     {
@@ -43,7 +44,7 @@ impl AckBook {
         })
     }
 
-    /// Forgets everything: the next Full ACK is again the first.
+    /// Empties the book: the next Full ACK gets number 1 again.
     pub fn clear(&mut self)
         ensures { StandsFor self.new [] }
     {
@@ -52,7 +53,8 @@ impl AckBook {
         self.moments.fill(None);
     }
 
-    /// A Full ACK is sent at this moment, in microseconds. Gives its number.
+    /// Records a Full ACK that is sent at this moment, in microseconds, and returns its number. Numbers count from 1 to
+    /// 2^32 - 1, and then from 1 again. The Full ACK 64 before this one can no longer be confirmed. O(1).
     pub fn note(&mut self, moment: u64) -> u32
         ensures number { (history : List Noted) → StandsFor self.old history → result ≡ ack_number (length history) }
         ensures stands { (history : List Noted) → StandsFor self.old history → StandsFor self.new (noted moment history) }
@@ -64,8 +66,8 @@ impl AckBook {
         number
     }
 
-    /// How many Full ACKs were sent after the one that an ACKACK with this number would confirm. None
-    /// where it would confirm none.
+    /// The number of Full ACKs that were sent after the one that an ACKACK with this number would confirm: 0 to 63.
+    /// None if it would confirm none. O(1).
     pub fn place_of(&self, number: u32) -> Option<usize>
         ensures value { (history : List Noted) → StandsFor self.now history → result ≡ waiting_place number history }
         ensures below { IfSome result (λ place. place < 64) }
@@ -77,9 +79,9 @@ impl AckBook {
         }
     }
 
-    /// An ACKACK with this number comes now, in microseconds. Gives the sample of the round-trip time.
-    /// None, and nothing changes, where the number is none of the last 64 Full ACKs' or that one was
-    /// confirmed before.
+    /// Takes an ACKACK with this number that comes at `now`, in microseconds. Returns the sample of the round-trip
+    /// time: the microseconds since the Full ACK was sent, 0 to 10,000,000. None if none of the last 64 Full ACKs has
+    /// the number, or if that one was confirmed before; then nothing changes. O(1).
     pub fn confirm(&mut self, number: u32, now: u64) -> Option<u64>
         ensures reply { (history : List Noted) → StandsFor self.old history → result ≡ sample number now history }
         ensures stands { (history : List Noted) → StandsFor self.old history → StandsFor self.new (confirmed number history) }
@@ -93,7 +95,7 @@ impl AckBook {
         Some(now.saturating_sub(moment).min(LONGEST))
     }
 
-    /// Where the moment of the one stands after which so many were noted.
+    /// The index of the moment of the Full ACK after which `place` others were noted.
     fn index_of(&self, place: usize) -> usize
         requires { place < 64 }
         ensures value { result ≡ (self.now.at + (63 - place)) % 64 }
@@ -103,8 +105,8 @@ impl AckBook {
     }
 }
 
-/// How many Full ACKs were sent after the one that has this number, where `next` is the number of the one
-/// to come. None where that is 64 or more.
+/// The number of Full ACKs that were sent after the one with this number, if `next` is the number of the next one. None
+/// if that is 64 or more, or if `number` is 0.
 fn steps_back(next: u32, number: u32) -> Option<usize>
     requires { 0 < next }
     ensures back { (count : ℕ) → next ≡ ack_number count → IsStepsBack number count result }

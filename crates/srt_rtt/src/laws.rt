@@ -1,9 +1,9 @@
-//! Laws of the book.
+//! Laws of the book of Full ACKs.
 
 ghost use Rattle.srt_rtt.specs.Book.{ConfirmsOnce, PlacesCountBack, WaitsAtPlace};
 
-/// The Full ACK that an ACKACK confirms is the one at the place that the book tells, and it is confirmed
-/// only once. A place says how many were sent after it.
+/// An ACKACK confirms the Full ACK at the place that the book gives, and it does so only once. A place is the number of
+/// Full ACKs that were sent after it.
 pub fn confirmations()
     ensures at_place { WaitsAtPlace }
     ensures once { ConfirmsOnce }

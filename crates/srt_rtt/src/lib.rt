@@ -1,5 +1,16 @@
-//! The round-trip time of a session, and the book of the Full ACKs that wait to be confirmed
-//! (draft-sharabayko-srt-01, sections 3.2.4, 3.2.8 and 4.10).
+//! The round-trip time of a session, and the Full ACKs that wait to be confirmed (draft-sharabayko-srt-01, sections
+//! 3.2.4, 3.2.8 and 4.10).
+//!
+//! It sends nothing and reads no clock: when ACKs and NAKs go out is for `srt_pub` to decide, and when packets are sent
+//! again is for `srt_sub`. Moments are handed in, all in microseconds.
+//!
+//! [`Rtt`] in `round_trip.rt`: the smoothed round-trip time and its variance. A publisher's session, which sends ACKs,
+//! feeds it samples; a subscriber's session takes the values of the ACKs that it receives. `nak_interval` and
+//! `resend_after` are the two timers that follow from it.
+//!
+//! [`AckBook`] in `book.rt`: the last 64 Full ACKs. `open` it once; `note` each Full ACK that is sent, for its number;
+//! `confirm` each ACKACK that comes, for a sample, which goes to `Rtt::sample`. Only `open` takes memory. What an
+//! ACKACK confirms is defined in `specs/Book.antt`, the smoothing in `specs/RoundTrip.antt`.
 #![tactic(auto)]
 
 mod book;

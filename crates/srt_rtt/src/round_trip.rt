@@ -3,7 +3,7 @@
 ghost use Rattle.std.specs.Prelude.{◌≡◌, ℕ, ◌≤◌, List, [], ◌∷◌};
 ghost use Rattle.srt_rtt.specs.RoundTrip.{start as at_first, with_sample, nak_interval as interval_of, resend_after as resend_of, round_trip_of, StandsFor};
 
-/// A smoothed round-trip time and its variance, in microseconds.
+/// A smoothed round-trip time and its variance, both in microseconds. No method takes memory, and each is O(1).
 #[derive(Clone, Copy, Debug, PartialEq, Eq)]
 pub struct Rtt {
     time: u32,
@@ -11,7 +11,7 @@ pub struct Rtt {
 }
 
 impl Rtt {
-    /// Before the first sample: 100 ms, and a variance of 50 ms.
+    /// The values before the first sample: 100 ms, and a variance of 50 ms.
     pub fn start() -> Rtt
         ensures value { round_trip_of result ≡ at_first }
         ensures stands { StandsFor result [] }
@@ -22,14 +22,15 @@ impl Rtt {
         }
     }
 
-    /// Takes over what an ACK says, whatever stood here.
+    /// Replaces both values by those of an ACK, in microseconds. Any values of 32 bits are taken.
     pub fn set(&mut self, time: u32, variance: u32)
         ensures { round_trip_of self.new ≡ record { time = time; variance = variance } }
     {
         *self = Rtt { time, variance };
     }
 
-    /// One more sample, in microseconds.
+    /// Takes one more sample, in microseconds. Round-trip time and variance move by 1/8 and 1/4 towards the new values,
+    /// rounded down (section 4.10; the rounding is this profile's).
     pub fn sample(&mut self, sample: u64)
         requires { sample ≤ 10_000_000 }
         ensures value { round_trip_of self.new ≡ with_sample sample (round_trip_of self.old) }
@@ -43,29 +44,31 @@ impl Rtt {
         };
     }
 
-    /// The time between two NAKs of all gaps, in microseconds: at least 20 ms (section 4.8.2).
+    /// The interval between two periodic NAKs, which name all gaps, in microseconds: half the sum of the round-trip
+    /// time and four times the variance, rounded down, and at least 20 ms (section 4.8.2).
     pub fn nak_interval(&self) -> u64
         ensures { result ≡ interval_of (round_trip_of self.now) }
     {
         ((u64::from(self.time) + 4 * u64::from(self.variance)) / 2).max(20_000)
     }
 
-    /// The time without an acknowledgement after which everything in flight is sent again, in
-    /// microseconds. It can exceed 32 bits.
+    /// The time, in microseconds, after which everything in flight is sent again, counted from the last new
+    /// acknowledgement or the last data packet sent, whichever was later: the round-trip time plus four times the
+    /// variance plus 20 ms (this profile). It can exceed 32 bits.
     pub fn resend_after(&self) -> u64
         ensures { result ≡ resend_of (round_trip_of self.now) }
     {
         u64::from(self.time) + 4 * u64::from(self.variance) + 20_000
     }
 
-    /// The round-trip time in microseconds, as an ACK says it.
+    /// The smoothed round-trip time, in microseconds, as an ACK carries it.
     pub fn rtt(&self) -> u32
         ensures { result ≡ (round_trip_of self.now).time }
     {
         self.time
     }
 
-    /// The variance in microseconds, as an ACK says it.
+    /// The variance, in microseconds, as an ACK carries it.
     pub fn var(&self) -> u32
         ensures { result ≡ (round_trip_of self.now).variance }
     {

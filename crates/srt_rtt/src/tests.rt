@@ -1,4 +1,4 @@
-//! Rows of round-trip times and of books.
+//! Sequences of round-trip samples, and of Full ACKs and ACKACKs.
 
 use crate::{AckBook, Rtt};
 use std::test::Fail;
@@ -14,7 +14,7 @@ fn round_trips(rt: HostRuntime) -> Result<(), Fail> {
     assert_eq!(rt; times.nak_interval(), 160_000);
     times.set(3_000, 1_000);
     assert_eq!(rt; times.nak_interval(), 20_000);
-    // 7 x 3000 + 3003 is 3000 eighths and 3 more; 3 x 1000 + 3 is 750 quarters and 3 more.
+    // 7 x 3000 + 3003 is 8 x 3000 + 3, and 3 x 1000 + 3 is 4 x 750 + 3: both are rounded down.
     times.sample(3_003);
     assert_eq!(rt; (times.rtt(), times.var()), (3_000, 750));
     times.set(u32::MAX, u32::MAX);
