@@ -1,4 +1,4 @@
--- One deadline; deadlines counted from the opening.
+-- There is one deadline; deadlines may be counted from the opening.
 use Rattle.std.proofs.Common.{◌≡◌, ℕ, ◌+◌, ◌-◌, ◌≤◌, ℤ, pos, ◌+ℤ◌, ◌-ℤ◌, refl, arith}
 use Rattle.std.proofs.lemmas.Int.{ints}
 use Rattle.srt_seq.specs.Lift.{lift, stamped_from}
@@ -10,7 +10,7 @@ deadline_is opening first word now delay =
     let l = lift_is word (sender_time opening first now) in
     ((lift word (sender_time opening first now), l.0, refl), λ due h. omega (arith, ints, h.2, l.1 h.0 h.1))
 
--- the sender's time is its first stamp and the time since the opening
+-- the sender's time is its first timestamp plus the time since the opening
 sender_time_is : (opening first time : ℕ) → sender_time opening first (opening + time) ≡ pos first +ℤ pos time
 sender_time_is opening first time = omega (arith, ints)
 
@@ -20,7 +20,7 @@ deadlines_from_opening opening first word time delay =
     let t = times_from_first first word (pos time) in
     rw e (omega (arith, ints, t))
 
--- the three ways to say when a packet is due
+-- the three forms of the deadline of a packet
 pub due_from_opening : (opening first word now delay : ℕ) (due : ℤ) → due ≡ pos opening +ℤ (lift (stamped_from first word) (pos now -ℤ pos opening) +ℤ pos delay) →
     IsDeadline opening first word now delay due × (due ≡ deadline_at opening first word now delay) × (opening ≤ now → due ≡ pos opening +ℤ due_time delay (now - opening) (stamped_from first word))
 due_from_opening opening first word now delay due e =

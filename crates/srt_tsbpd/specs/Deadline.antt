@@ -1,57 +1,57 @@
--- When a packet is due, and when it is too late. Times are whole microseconds.
+-- When a packet is due, and when it is too late. All times are whole microseconds.
 use Rattle.std.specs.Prelude.{◌≡◌, ℕ, ◌+◌, ◌*◌, ◌/◌, max, ℤ, pos, ◌+ℤ◌, ◌-ℤ◌, ◌*ℤ◌, ◌<ℤ◌}
 use Rattle.srt_seq.specs.Lift.{IsLift, lift, stamped_from}
 use Rattle.srt_tsbpd.specs.declared.deadlines.Base.{Base}
 
--- the moment of a session's opening, and the timestamp of its conclusion
+-- the moment of a session's opening, and the timestamp of the conclusion that opened it
 abbrev pub opening_of : Base → ℕ
 opening_of b = b.opening
 
 abbrev pub first_of : Base → ℕ
 first_of b = b.first.word
 
--- what the sender's clock shows now, if it showed the conclusion's timestamp at the opening
+-- the time on the sender's clock at now, if it was the conclusion's timestamp at the opening
 abbrev pub sender_time : (opening first now : ℕ) → ℤ
 sender_time opening first now = pos first +ℤ (pos now -ℤ pos opening)
 
--- of the times that the packet's timestamp can stand for, the one nearest to the sender's counts; it is due a delay after
--- the moment of ours that is this time of the sender's; drift is 0 (section 4.5.1, and this profile)
+-- of the times that the packet's timestamp can mean, the one nearest to the sender's time counts; the packet is due one
+-- delay after that time, on our clock; clock drift is 0 (section 4.5.1; the drift is this profile's)
 abbrev pub IsDeadline : (opening first word now delay : ℕ) → ℤ → Type 0
 IsDeadline opening first word now delay due =
     (time : ℤ) × IsLift word (sender_time opening first now) time × (due ≡ pos opening -ℤ pos first +ℤ time +ℤ pos delay)
 
--- that moment
+-- that moment, as a function
 abbrev pub deadline_at : (opening first word now delay : ℕ) → ℤ
 deadline_at opening first word now delay = pos opening -ℤ pos first +ℤ lift word (sender_time opening first now) +ℤ pos delay
 
--- the same in a session that counts from its own beginning: time 0 is its opening, stamp 0 its conclusion's
+-- the same in a session that counts from its own beginning: time 0 is its opening, and 0 its conclusion's timestamp
 abbrev pub due_time : (delay time stamp : ℕ) → ℤ
 due_time delay time stamp = lift stamp (pos time) +ℤ pos delay
 
--- there is one deadline, and the function gives it
+-- there is exactly one deadline, and the function gives it
 abbrev pub DeadlineIsTheMoment : Type 0
 DeadlineIsTheMoment = (opening first word now delay : ℕ) →
     IsDeadline opening first word now delay (deadline_at opening first word now delay) ×
     ((due : ℤ) → IsDeadline opening first word now delay due → due ≡ deadline_at opening first word now delay)
 
--- a deadline is the opening and the time counted from it
+-- a deadline is the opening plus the deadline counted from it
 abbrev pub DeadlinesFromOpening : Type 0
 DeadlinesFromOpening = (opening first word time delay : ℕ) →
     deadline_at opening first word (opening + time) delay ≡ pos opening +ℤ due_time delay time (stamped_from first word)
 
--- a packet to be sent is too late when it is older than 1.25 times the delay and older than a second (section 4.6)
+-- a packet to be sent is too late if it is older than 1.25 times the delay and older than a second (section 4.6)
 pub record IsTooLate (delay : ℕ) (age : ℤ) : Type 0 where
   pub than_delay : pos (5 * delay) <ℤ (pos 4 *ℤ age)
   pub than_second : pos 1_000_000 <ℤ age
 
--- the greater of both ages
+-- the greater of these two ages, rounded down
 abbrev pub threshold : (delay : ℕ) → ℕ
 threshold delay = max (delay * 5 / 4) 1_000_000
 
--- what came before this moment is too late
+-- a packet queued before this moment is too late
 abbrev pub too_late_at : (now delay : ℕ) → ℤ
 too_late_at now delay = pos now -ℤ pos (threshold delay)
 
--- in a session that counts its times from its opening it is the same moment
+-- counted from a session's opening, it is the same moment
 abbrev pub ThresholdsFromOpening : Type 0
 ThresholdsFromOpening = (opening time delay : ℕ) → too_late_at (opening + time) delay ≡ pos opening +ℤ too_late_at time delay

@@ -4,8 +4,8 @@ ghost use Rattle.std.specs.Prelude.{◌≡◌, ◌-◌, ◌^◌, ◌<◌, ◌≤
 
 use srt_seq::Stamp32;
 
-/// What ties the sender's clock to ours: the moment at which a session was opened, and the timestamp of
-/// the conclusion that opened it.
+/// The relation of the sender's clock to ours: the moment at which a session was opened, and the timestamp of the
+/// conclusion that opened it.
 #[derive(Clone, Copy, Debug)]
 pub struct Base {
     opening: u64,
@@ -17,7 +17,7 @@ impl Base {
     ghost use Rattle.srt_seq.specs.Lift.{stamped_from};
     ghost use Rattle.srt_tsbpd.specs.Deadline.{opening_of, first_of, IsDeadline, deadline_at, due_time};
 
-    /// A session that is opened at a moment, in microseconds, by a conclusion with this timestamp.
+    /// The base of a session that is opened at `moment`, in microseconds, by a conclusion with this timestamp.
     pub fn new(moment: u64, conclusion: Stamp32) -> Base
         requires { moment < 2 ^ 62 }
         ensures opening { opening_of result ≡ moment }
@@ -29,13 +29,14 @@ impl Base {
         }
     }
 
-    /// The moment at which a packet with this timestamp is due, where it comes now. All are
-    /// microseconds, the delay too. It is below 0 where the packet was due before moment 0.
+    /// The moment at which a packet that has this timestamp and comes at `now` is due: the sender's time of the packet,
+    /// on our clock, plus the delay (section 4.5.1). The timestamp is read as the time nearest to the sender's time at
+    /// `now`. All are microseconds; the result is negative if the packet was due before moment 0.
     pub fn deadline(self, stamp: Stamp32, now: u64, delay: u32) -> i64
         requires early { now < 2 ^ 62 }
         ensures moment { IsDeadline (opening_of self) (first_of self) stamp.word now delay result }
         ensures value { result ≡ deadline_at (opening_of self) (first_of self) stamp.word now delay }
-        // Counted from the session's own beginning.
+        // The same, counted from the session's opening and its first timestamp.
         ensures own { opening_of self ≤ now → result ≡ pos (opening_of self) +ℤ due_time delay (now - opening_of self) (stamped_from (first_of self) stamp.word) }
     {
         let since_first = Stamp32::new(stamp.word.wrapping_sub(self.first.word));

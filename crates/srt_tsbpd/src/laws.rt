@@ -1,14 +1,14 @@
-//! Laws of the definitions: one deadline, and what counting from a session's own opening means.
+//! Laws of the definitions: a packet has one deadline, and a session may count its times from its own opening.
 
 ghost use Rattle.srt_tsbpd.specs.Deadline.{DeadlineIsTheMoment, DeadlinesFromOpening, ThresholdsFromOpening};
 
-/// A timestamp has one deadline. A session may count from its opening and its conclusion's timestamp.
+/// A timestamp has exactly one deadline. A session may count from its opening and its conclusion's timestamp.
 pub fn deadlines()
     ensures moment { DeadlineIsTheMoment }
     ensures from_opening { DeadlinesFromOpening }
 {}
 
-/// A session may count from its opening what is too late.
+/// The cut-off of too-late packets may be counted from a session's opening.
 pub fn thresholds()
     ensures { ThresholdsFromOpening }
 {}

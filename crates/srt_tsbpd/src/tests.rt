@@ -9,7 +9,7 @@ use std::test::Fail;
 /// A second, in microseconds.
 const SECOND: u64 = 1_000_000;
 
-/// The deadline of a stamp in a session that was opened at one second.
+/// The deadline of a timestamp in a session that was opened at moment 1,000,000.
 fn deadline(first: u32, stamp: u32, since_opening: u64, delay: u32) -> i64
     requires { since_opening < 2 ^ 61 }
 {
@@ -23,7 +23,7 @@ fn deadline(first: u32, stamp: u32, since_opening: u64, delay: u32) -> i64
 #[test]
 fn stamps_go_round_between_the_conclusion_and_the_packet(rt: HostRuntime) -> Result<(), Fail> {
     assert_eq!(rt; deadline(0xffff_ff00, 0x0000_0100, 600, 120_000), 1_120_512);
-    // five turns later
+    // The same timestamp after it wrapped five times.
     assert_eq!(rt;
         deadline(0xffff_ff00, 0x0000_0100, 600 + (5 << 32), 120_000),
         21_475_956_992
@@ -34,7 +34,7 @@ fn stamps_go_round_between_the_conclusion_and_the_packet(rt: HostRuntime) -> Res
 
 #[test]
 fn stamps_are_read_nearest_to_the_senders_time(rt: HostRuntime) -> Result<(), Fail> {
-    // 2^31 earlier is read, 2^31 later isn't
+    // A time 2^31 earlier can be read, one 2^31 later can't.
     assert_eq!(rt; deadline(0, 0, 1 << 31, 120_000), 1_120_000);
     assert_eq!(rt; deadline(0, 0, (1 << 31) + 1, 120_000), 4_296_087_296);
     assert_eq!(rt; deadline(0, 0x8000_0000, 0, 120_000), -2_146_363_648);
@@ -72,7 +72,7 @@ fn deadlines_at_the_last_moment(rt: HostRuntime) -> Result<(), Fail> {
 
 #[test]
 fn a_packet_gets_older_than_the_delay_and_a_quarter(rt: HostRuntime) -> Result<(), Fail> {
-    // a packet of 5,000,000 is kept at 7,500,000 and gone a microsecond later
+    // A packet queued at 5,000,000 is kept at 7,500,000 and dropped a microsecond later.
     assert_eq!(rt; too_late_before(7_500_000, 2_000_000), 5_000_000);
     assert_eq!(rt; too_late_before(7_500_001, 2_000_000), 5_000_001);
     assert_eq!(rt; too_late_before(1_000_000_000, 65_535_000), 918_081_250);

@@ -3,11 +3,12 @@
 ghost use Rattle.std.specs.Prelude.{◌≡◌, ℕ, ◌^◌, ◌<◌, ◌↔◌, pos, ◌-ℤ◌, ◌<ℤ◌};
 ghost use Rattle.srt_tsbpd.specs.Deadline.{IsTooLate, too_late_at};
 
-/// How old a packet gets at least, in microseconds.
+/// The least age, in microseconds, that a packet may reach before it is too late.
 const LEAST_THRESHOLD: u64 = 1_000_000;
 
-/// The moment before which a packet must have come to be too late now. All are microseconds, the
-/// session's delay too. It is below 0 where none can be too late.
+/// The cut-off of too-late packet drop: a packet that was queued before the returned moment is too late at `now`. That
+/// is `now` less the greater of 1.25 times the session's delay `latency` and one second (section 4.6). All are
+/// microseconds; the result is negative while no packet can be too late.
 pub fn too_late_before(now: u64, latency: u32) -> i64
     requires { now < 2 ^ 62 }
     ensures too_late { (origin : ℕ) → (pos origin <ℤ result) ↔ IsTooLate latency (pos now -ℤ pos origin) }
