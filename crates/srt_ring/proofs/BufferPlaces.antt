@@ -1,4 +1,4 @@
--- Buffers that are read and set, and where they stand in a ring.
+-- Reading and writing payload buffers, and their places in a ring.
 use Rattle.std.proofs.Common.{◌≡◌, ◌≢◌, ℕ, zero, suc, ◌+◌, ◌<◌, ◌==◌, if◌then◌else◌, List, [], ◌∷◌, length, get_or, refl, sym, ap, arith}
 use Rattle.std.specs.Prelude.{slice_set}
 use Rattle.std.proofs.lemmas.Bool.Decides.{nat_tests}
@@ -37,7 +37,7 @@ slots_in width first at fi ai = grind (arith, nat_tests)
 pub slots_next : (width first next d : ℕ) → first < width → d + 1 < width → next ≡ (if first + 1 == width then 0 else first + 1) → slot_of width next d ≡ slot_of width first (d + 1)
 slots_next width first next d fi di e = grind (arith, nat_tests)
 
--- places apart have buffers apart
+-- different places have different buffers
 pub buffers_apart : (o : BufferOrder) (width first at d : ℕ) → slots_of o ≡ width → first < width → at < width → d < width → d ≢ at → buffer_of_slot o (slot_of width first d) ≢ buffer_of_slot o (slot_of width first at)
 buffers_apart o width first at d sl fi ai di ne =
     let one = slots_in width first d fi di in

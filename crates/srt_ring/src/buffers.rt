@@ -1,10 +1,10 @@
-//! The payload of one packet, filled in place.
+//! Payload buffers, each filled in place by one copy.
 
 ghost use Rattle.std.specs.Prelude.{◌≡◌, ◌≤◌, [], length, take};
 
 use srt_seq::Payload;
 
-/// The most bytes of a payload.
+/// The most bytes of a payload: an MTU of 1500 less 44 bytes of IP, UDP and SRT headers.
 const LONGEST: usize = 1456;
 
 #[derive(Drop)]
@@ -21,7 +21,8 @@ impl Block {
     }
 }
 
-/// The payload of one packet, 0 to 1456 bytes: an array and a length, so that it is set by one copy and nothing else.
+/// The payload of one packet, 0 to 1456 bytes. An array with a length, so that setting it is one copy and nothing
+/// more.
 #[derive(Drop)]
 pub struct PayloadBuffer {
     len: usize,
@@ -32,7 +33,7 @@ pub struct PayloadBuffer {
 impl PayloadBuffer {
     ghost use Rattle.srt_ring.specs.Buffers.{bytes_of};
 
-    /// An empty buffer.
+    /// An empty payload. Takes no memory beyond the value itself, of fixed size.
     pub fn new() -> PayloadBuffer
         ensures { bytes_of result ≡ [] }
     {
@@ -42,7 +43,7 @@ impl PayloadBuffer {
         }
     }
 
-    /// Copies the bytes in, over what was there.
+    /// Replaces the payload by these bytes, at most 1456. One copy.
     pub fn set(&mut self, bytes: &[u8])
         requires { length bytes.now ≤ 1456 }
         ensures { bytes_of self.new ≡ bytes.now }
@@ -51,7 +52,7 @@ impl PayloadBuffer {
         self.len = bytes.len();
     }
 
-    /// Copies the bytes out, over what the payload held.
+    /// Replaces the bytes of `payload` by this buffer's. One copy, and the fastest if both have the same length.
     pub fn copy_to(&self, payload: &mut Payload)
         ensures { payload.new.items ≡ bytes_of self.now }
     {

@@ -1,11 +1,18 @@
-//! The payloads of the receive buffer and of the send buffer: a ring of buffers that never move, each filled in place by one
-//! copy.
+//! A ring of payload buffers, for the receive buffer and the send buffer. Buffers never move; each is filled in place
+//! by one copy.
 //!
-//! [`PayloadRing`] knows the bytes of each place and nothing more: what a place means, and which places are free, is for
-//! `srt_recvbuf` and `srt_sendbuf` to say, which keep a small record of each place beside it. Open it with a width; `set` and
-//! `copy_to` move bytes in and out; `advance` moves the front on by one place. `take_warm` and `exchange` let a place that is
-//! about to be filled have a buffer that is still in the processor's caches. Buffers are `buffers.rt`, and which slot has which
-//! of them is `order.rt`.
+//! It holds bytes only. What an entry of the ring means, and which entries are free, is known to `srt_recvbuf` and
+//! `srt_sendbuf`, which keep a small record beside each payload.
+//!
+//! [`PayloadRing`] is the one public type. An entry is addressed by its distance from the front, its *place*; it
+//! keeps the same *slot* until the front passes it; `order.rt` maps a slot to its *buffer* (`buffers.rt`).
+//!
+//! Calls: `PayloadRing::open` with the width, the only call that takes memory; then `set` and `copy_to`, which each
+//! copy one payload, and `advance`, which moves the front on by one place. Before a `set`, `take_warm` and `exchange`
+//! give the place a buffer that was used lately, so that a steady stream stays in the processor's caches. All calls
+//! but `open` are O(1), besides the bytes that they copy.
+//!
+//! The rules are in `ring.rt`; the definitions that its contracts name are in `specs/Ring.antt`.
 #![tactic(auto)]
 
 mod buffers;

@@ -1,11 +1,11 @@
-//! Which payload buffer each slot of a ring has: each its own.
+//! The map from slots of a ring to payload buffers, one to one.
 
 ghost use Rattle.std.specs.Prelude.{◌≡◌, ℕ, ◌<◌, IfOk, vec_len, slice_index_or};
 
 use std::alloc::{AllocError, Global};
 
-/// Which payload buffer each slot of a ring has, by its index. No two slots have the same, so that slots may exchange theirs
-/// and no bytes are lost.
+/// The index of each slot's payload buffer. No two slots share a buffer, so slots can exchange theirs and no bytes
+/// are lost.
 #[derive(Drop)]
 pub struct BufferOrder {
     buffers: Vec<usize>,
@@ -16,7 +16,8 @@ pub struct BufferOrder {
 impl BufferOrder {
     ghost use Rattle.srt_ring.specs.Slots.{buffer_of_slot, slots_of};
 
-    /// An order of `width` slots.
+    /// A map of `width` slots, each with the buffer of its own index. Takes memory; the error is a refused
+    /// allocation. O(width).
     pub fn open(alloc: Global, width: usize) -> Result<BufferOrder, AllocError>
         ensures { IfOk result (λ o. slots_of o ≡ width) }
     {
@@ -27,7 +28,7 @@ impl BufferOrder {
         Ok(BufferOrder { buffers })
     }
 
-    /// The buffer of a slot.
+    /// The index of a slot's buffer. O(1).
     pub fn buffer(&self, slot: usize) -> usize
         requires { slot < slots_of self.now }
         ensures value { result ≡ buffer_of_slot self.now slot }
@@ -36,7 +37,7 @@ impl BufferOrder {
         self.buffers[slot]
     }
 
-    /// Two slots exchange their buffers.
+    /// Exchanges the buffers of two slots. O(1).
     pub fn swap(&mut self, one: usize, other: usize)
         requires one { one < slots_of self.old }
         requires other { other < slots_of self.old }

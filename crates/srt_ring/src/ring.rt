@@ -1,4 +1,4 @@
-//! The payloads of a ring of places.
+//! A ring of payloads, addressed by their distance from its front.
 
 ghost use Rattle.std.specs.Prelude.{◌≡◌, ℕ, ◌+◌, ◌<◌, ◌≤◌, ◌==◌, [], length, None, IfOk, IfSome, vec_len, if◌then◌else◌};
 ghost use Rattle.srt_ring.specs.Slots.{slots_of};
@@ -8,18 +8,19 @@ use crate::order::BufferOrder;
 use srt_seq::Payload;
 use std::alloc::{AllocError, Global};
 
-/// A payload of 0 to 1456 bytes for each of 1 to 8192 places, which lie in a ring behind a front that moves on.
+/// A ring of 1 to 8192 places with a payload of 0 to 1456 bytes each. A place is a distance from the front, which
+/// moves on.
 ///
-/// The buffers never move. A place has a slot, which stays with it as long as the front doesn't pass it, and a slot has a
-/// buffer. Of the buffers of free places those that were used last, the warm ones, are offered first, so that a steady
-/// stream goes over few of them whatever the width.
+/// Buffers never move. A place's payload keeps its slot until the front passes it, and each slot has a buffer of its
+/// own. The buffers that the front passed last are *warm*, likely still in the processor's caches; they are offered
+/// first for new payloads, so that a steady stream uses few buffers whatever the width.
 #[derive(Drop)]
 pub struct PayloadRing {
     buffers: Vec<PayloadBuffer>,
     order: BufferOrder,
-    /// The slot of the first place; the others follow it, round the end.
+    /// The slot of the front's place. The other places follow it in order, round the end of the ring.
     first: usize,
-    /// How many of the last places have a warm buffer.
+    /// The number of warm buffers. They belong to the last places of the ring.
     warm: usize,
     pub ghost as_many: { vec_len buffers ≡ slots_of order },
     pub ghost first_in: { first < slots_of order },
@@ -31,7 +32,8 @@ impl PayloadRing {
     ghost use Rattle.srt_ring.specs.Buffers.{slot_of};
     ghost use Rattle.srt_ring.specs.Ring.{width_of, first_of, warm_of, payload_at};
 
-    /// Empty payloads. The only call that takes memory.
+    /// A ring of `width` empty payloads. The only call that takes memory; the error is a refused allocation.
+    /// O(width).
     pub fn open(alloc: Global, width: usize) -> Result<PayloadRing, AllocError>
         requires some { 0 < width }
         requires narrow { width ≤ 8192 }
@@ -49,7 +51,7 @@ impl PayloadRing {
         })
     }
 
-    /// How many places there are.
+    /// The number of places, 1 to 8192.
     pub fn width(&self) -> usize
         ensures value { result ≡ width_of self.now }
         ensures some { 0 < result }
@@ -58,7 +60,7 @@ impl PayloadRing {
         self.buffers.len()
     }
 
-    /// The slot of a place.
+    /// The slot of a place; the place must be below the width. O(1).
     pub fn slot(&self, at: usize) -> usize
         requires { at < width_of self.now }
         ensures value { result ≡ slot_of (width_of self.now) (first_of self.now) at }
@@ -72,7 +74,7 @@ impl PayloadRing {
         }
     }
 
-    /// The place of a slot.
+    /// The place of a slot, the inverse of `slot`. It changes whenever the front moves. O(1).
     pub fn place_of_slot(&self, slot: usize) -> usize
         requires { slot < width_of self.now }
         ensures { (d : ℕ) → d < width_of self.now → slot_of (width_of self.now) (first_of self.now) d ≡ slot → d ≡ result }
@@ -84,7 +86,7 @@ impl PayloadRing {
         }
     }
 
-    /// Copies the payload of a place out, over what `payload` held.
+    /// Replaces the bytes of `payload` by those of a place. One copy.
     pub fn copy_to(&self, at: usize, payload: &mut Payload)
         requires { at < width_of self.now }
         ensures { payload.new.items ≡ payload_at self.now at }
@@ -93,7 +95,7 @@ impl PayloadRing {
         self.buffers[index].copy_to(payload);
     }
 
-    /// Copies bytes to a place, over its payload. One copy.
+    /// Replaces the payload of a place by these bytes, at most 1456. One copy.
     pub fn set(&mut self, at: usize, bytes: &[u8])
         requires inside { at < width_of self.old }
         requires fits { length bytes.now ≤ 1456 }
@@ -107,7 +109,8 @@ impl PayloadRing {
         self.buffers[index].set(bytes);
     }
 
-    /// The first of the last places that have a warm buffer, which then doesn't count as one. None if there is none.
+    /// Takes one warm buffer: returns the first of the places that have one, whose buffer then no longer counts as
+    /// warm. None if no buffer is warm. No payload changes. O(1).
     pub fn take_warm(&mut self) -> Option<usize>
         ensures some { IfSome result (λ at. (at + warm_of self.old ≡ width_of self.old) × (warm_of self.old ≡ warm_of self.new + 1)) }
         ensures none { result ≡ None → (warm_of self.old ≡ 0) × (self.new ≡ self.old) }
@@ -123,7 +126,7 @@ impl PayloadRing {
         Some(at)
     }
 
-    /// Two places exchange their payloads. No byte moves.
+    /// Exchanges the payloads of two places, by their buffers: no byte is copied. O(1).
     pub fn exchange(&mut self, one: usize, other: usize)
         requires one { one < width_of self.old }
         requires other { other < width_of self.old }
@@ -139,8 +142,9 @@ impl PayloadRing {
         self.order.swap(one, other);
     }
 
-    /// The front moves on by one place, whose slot and buffer are the last place's then. That buffer is warm; of the warm
-    /// ones as many count as there are free places.
+    /// Moves the front on by one place. The slot and the buffer of the place that was passed become the last place's,
+    /// and that buffer is warm. `free` is the number of free places, and the most warm buffers that count after the
+    /// call. O(1).
     pub fn advance(&mut self, free: usize)
         requires { free ≤ width_of self.old }
         ensures width { width_of self.new ≡ width_of self.old }
