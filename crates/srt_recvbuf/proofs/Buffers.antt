@@ -1,4 +1,4 @@
--- A window of cells and the record that it stands for.
+-- A window of cells and the record that it represents.
 use Rattle.std.proofs.Common.{◌≡◌, ◌≢◌, ℕ, zero, suc, ◌+◌, ◌-◌, ◌%◌, ◌^◌, ◌<◌, ◌≤◌, ◌==◌, ℤ, pos, ◌+ℤ◌, Bool, true, false, not, ◌||◌, ◌&&◌, if◌then◌else◌, Option, None, Some, List, [], ◌∷◌, refl, sym, ap, subst, ◌∙◌, inl, inr, ◌⊎◌, max, min, arith}
 use Rattle.std.specs.Prelude.{is_some, option_map, filter_map, int_le, nat_le, nat_lt}
 use Rattle.std.specs.List.{cons_option}
@@ -21,7 +21,7 @@ use Rattle.srt_recvbuf.specs.Stands.{StandsFor, cell_for, IsWindowOf, own_range}
 use Rattle.srt_recvbuf.specs.OneByOne.{NothingBeyond, NothingDroppedBeyond}
 use Rattle.srt_recvbuf.proofs.OneByOne.{found, skipped, found_number, number_or}
 
--- where none of the first so many passes, and the next one does or is beyond the last place
+-- if none of the first n passes, and the next one does or is past the last place
 pub least_is : (test : ℕ → Bool) (from places steps : ℕ) → steps ≤ places → ((k : ℕ) → k < steps → test (from + k) ≡ false) → (steps < places → test (from + steps) ≡ true) → least_from test from places ≡ from + steps
 least_is test from zero steps le before at = omega (arith, le)
 least_is test from (suc places) zero le before at =
@@ -65,7 +65,7 @@ module _ (width initial origin front end point : ℕ) (cells : ℕ → Cell) (r 
   pub point_is : point ≤ width → ack_point width r ≡ r.position + point
   point_is le = least_is (is_missing width r) r.position width point le (λ k lt. cell_missing k ∙ h.not_missing k lt) (λ lt. cell_missing point ∙ h.missing lt)
 
--- nothing was received beyond the window
+-- nothing is received past the window
 pub window_ends : (width initial origin : ℕ) (b : RecvBuf) (r : Receiving) → StandsFor width initial origin b r → NothingBeyond width r
 window_ends width initial origin b r h n le =
     let w = b.window in
@@ -84,7 +84,7 @@ drops_end width initial origin b r h n le =
     let none = ap (λ p. is_given_up (cell_of p (payload_at w.payloads d))) past in
     ap (is_dropped width r) (sym e) ∙ cell_dropped width initial origin _ _ _ _ r h.1 d ∙ none
 
--- the number of a window that a word stands for
+-- the number of a window that has this sequence number
 pub own_none : (initial position width word front : ℕ) → front ≡ number_word initial position → ((a : ℕ) → a % 2 ^ 31 ≡ front → option_map (λ d. a + d) None ≡ in_window word a width) → in_window (counted_from initial word) position width ≡ None
 unfolding in_window
 own_none initial position width word front e h = let k = h (initial + position) (sym e) in grind (arith, nat_tests)
@@ -119,7 +119,7 @@ with_packet width initial origin front end point point' d cells cells' r payload
     kept k lt (inl lo) (inl same) = ap is_empty (c k) ∙ rw (eq-eqb _ _ same) refl
     kept k lt (inl lo) (inr other) = ap is_empty (c k) ∙ rw (ne_eqb _ _ other) (h.not_missing k lo)
 
--- what comes of a packet
+-- what becomes of a packet
 pub repeated : (r : Receiving) (n : ℕ) (payload : List ℕ) (time : ℤ) → is_received r n ≡ true → with_number (Some n) payload time r ≡ r
 repeated r n payload time e = rw e refl
 
@@ -141,7 +141,7 @@ with_fields width initial origin front front' end end' point w w' r r' ef ew ee 
     let S : Receiving → Type 0 = λ x. IsWindowOf width initial origin front (cell_at w) end point x in
     subst P (sym ef) (subst Q (sym ew) (subst R (sym ee) (subst S (sym er) h)))
 
--- the front moves on by so many places
+-- the front moves on by n places
 pub shifted : (width initial origin front front' end point point' count : ℕ) (cells cells' : ℕ → Cell) (r : Receiving) → IsWindowOf width initial origin front cells end point r → front' ≡ number_word initial (r.position + count) → ((d : ℕ) → cells' d ≡ cells (d + count)) → ((d : ℕ) → point - count ≤ d → d < point' → is_empty (cells' d) ≡ false) → (point' < width → is_empty (cells' point') ≡ true) → IsWindowOf width initial origin front' cells' (end - count) point' (moved_to (r.position + count) r)
 shifted width initial origin front front' end point point' count cells cells' r h f c before here = record {
   front_is = f;
@@ -206,7 +206,7 @@ first_waits width initial origin front end point at cells r h none lt got = by (
 pub some_is : {X : Type 0} (x y : X) → Some x ≡ Some y → x ≡ y
 some_is x y e = cc
 
--- with room the first that is due is next
+-- if there is room, the first packet that is due is the next one
 pub next_is : (time room : ℕ) (r : Receiving) → room ≢ 0 → next_due time room r ≡ first_due time (waiting r)
 next_is time room r ne = rw (ne_eqb _ _ ne) refl
 
@@ -216,7 +216,7 @@ its_turn time a more e = rw e refl
 pub not_yet : (time : ℕ) (a : Arrival) (more : List Arrival) → int_le a.due (pos time) ≡ false → first_due time (a ∷ more) ≡ None
 not_yet time a more e = rw e refl
 
--- offsets that a word has, or hasn't
+-- offsets that a sequence number has, or hasn't
 pub offset_found : (word a width d : ℕ) → option_map (λ d. a + d) (Some d) ≡ in_window word a width → (d ≡ offset_of word a) × (d < width)
 unfolding in_window
 offset_found word a width d e = grind (arith, nat_tests)
@@ -228,7 +228,7 @@ offset_not_found word a width lt e = grind (arith, nat_tests)
 own_word : (initial word : ℕ) → word < 2 ^ 31 → counted_from initial word ≡ offset_of word initial
 own_word initial word lt = grind (arith, nat_tests)
 
--- a range counted from the initial number is as long
+-- a range counted from the initial number has the same length
 own_span : (initial first last : ℕ) → first < 2 ^ 31 → last < 2 ^ 31 → offset_of (counted_from initial last) (counted_from initial first) ≡ offset_of last first
 own_span initial first last f l =
     let a = own_word initial first f in
@@ -261,7 +261,7 @@ range_requested width initial first last r f l short =
     let e = tested q.first q.last (span q) (own_small initial (word_of first) f) (own_small initial (word_of last) l) (omega (arith, s, short)) in
     rw e refl
 
--- which places a range takes
+-- the places that a range names
 pub taken : (width initial position front from end sp d : ℕ) (first last : Seq31) → word_of first < 2 ^ 31 → word_of last < 2 ^ 31 → front ≡ number_word initial position → sp ≡ offset_of (word_of last) (word_of first) → end ≤ width → (d < width → (nat_le from d && nat_lt d end) ≡ nat_le (offset_of (front + d) (word_of first)) sp) → (nat_le from d && nat_lt d end) ≡ names width (record { front = position; range = own_range initial first last }) (position + d)
 taken width initial position front from end sp d first last f l is sp_is inside places = elim (cases_lt d width) [
   | inl lt ↦
@@ -309,7 +309,7 @@ with_dropped width initial origin front end point point' cells cells' given q r 
     kept d lt (inr hi) = before d hi lt
     kept d lt (inl lo) = ap is_empty (c d) ∙ stays_full (given d) (cells d) (h.not_missing d lo)
 
--- the places of a window that a range takes, where it begins in the window
+-- the places of a window that a range names, if it begins in the window
 pub begins_inside : (front first span width from end d : ℕ) → front < 2 ^ 31 → first < 2 ^ 31 → span < 2 ^ 30 → width ≤ 8192 → span + 1 ≤ offset_of front first → from ≡ offset_of first front → from < width → end ≡ min (from + span + 1) width → d < width → (nat_le from d && nat_lt d end) ≡ nat_le (offset_of (front + d) first) span
 begins_inside front first span width from end d f g s w out from_is inside end_is lt = elim (cases_lt d from) [
   | inl below ↦
@@ -326,7 +326,7 @@ begins_inside front first span width from end d f g s w out from_is inside end_i
     right : (from d span width : ℕ) → from ≤ d → d < width → (nat_le from d && nat_lt d (min (from + span + 1) width)) ≡ nat_le (d - from) span
     right from d span width x y = grind (arith, nat_tests)
 
--- none, where it neither has the front nor begins in the window
+-- none, if it neither has the front nor begins in the window
 pub stands_outside : (front first span width d : ℕ) → front < 2 ^ 31 → first < 2 ^ 31 → span < 2 ^ 30 → width ≤ 8192 → span + 1 ≤ offset_of front first → width ≤ offset_of first front → d < width → (nat_le 0 d && nat_lt d 0) ≡ nat_le (offset_of (front + d) first) span
 stands_outside front first span width d f g s w out far lt =
     let o : span < offset_of (front + d) first = omega (arith, f, g, s, w, out, far, lt) in

@@ -4,7 +4,7 @@ use Rattle.std.specs.Prelude.{filter}
 use Rattle.std.proofs.lemmas.Bool.{not-true, cases_eq, cases_lt, eq-eqb, ne_eqb}
 use Rattle.srt_seq.specs.Runs.{Run, run_before, runs, numbers_from}
 
--- numbers that don't pass may be left out
+-- numbers that don't pass can be left out
 pub passed_over : (test : ℕ → Bool) (p m c : ℕ) → ((i : ℕ) → i < m → test (p + i) ≡ false) → filter test (numbers_from p (m + c)) ≡ filter test (numbers_from (p + m) c)
 passed_over test p zero c none =
     let a : p ≡ p + 0 = omega arith in

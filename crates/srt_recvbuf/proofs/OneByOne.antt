@@ -1,4 +1,4 @@
--- Payloads may be delivered one by one.
+-- Delivering payloads one by one is the same as delivering them together.
 use Rattle.std.proofs.Common.{◌≡◌, ◌≢◌, ℕ, zero, suc, ◌+◌, ◌-◌, ◌<◌, Bool, true, false, not, ◌&&◌, Option, None, Some, List, [], ◌∷◌, refl, sym, ap, ◌∙◌, ◌⊎◌, inl, inr, arith}
 use Rattle.std.specs.Prelude.{filter_map, is_some}
 use Rattle.std.specs.List.{cons_option}
@@ -26,7 +26,7 @@ abbrev tail_of : List Arrival → List Arrival
 tail_of [] = []
 tail_of (x ∷ ys) = ys
 
--- where the first one stands, and what follows it
+-- the number of the first one, and what follows it
 record IsFirst (xs : List Arrival) (p c : ℕ) (a : Arrival) (more : List Arrival) : Type 0 where
   place : ℕ
   number_is : a.number ≡ p + place
@@ -52,7 +52,7 @@ first_of_all xs p (suc c) a more e = by (arrival_of xs p) refl (first_of_all xs 
         let d : c ≡ suc c - (0 + 1) = omega arith in
         record { place = 0; number_is = omega (arith, m); more_is = sym rest ∙ ap (λ y. filter_map (arrival_of xs) (numbers_from y c)) q ∙ ap (λ y. filter_map (arrival_of xs) (numbers_from (p + 0 + 1) y)) d }
 
--- numbers of which nothing came may be left out
+-- numbers without a packet can be left out
 pub skipped : (xs : List Arrival) (q c j : ℕ) → ((i : ℕ) → i < j → arrival_of xs (q + i) ≡ None) → filter_map (arrival_of xs) (numbers_from q c) ≡ filter_map (arrival_of xs) (numbers_from (q + j) (c - j))
 skipped xs q c zero none =
     let a : q ≡ q + 0 = omega arith in
@@ -93,7 +93,7 @@ least test from (suc places) = by (test from) refl (least test (from + 1) places
         at i (inl none) lt = let z : from + i ≡ from = omega (arith, none) in rw z is
         at i (inr some) lt = let z : from + 1 + (i - 1) ≡ from + i = omega (arith, some) in rw z at (h.before (i - 1) (omega (arith, some, lt)))
 
--- what was dropped wasn't received
+-- a dropped number wasn't received
 gone : (b : Bool) (o : Option Arrival) → not (b && not (is_some o)) ≡ false → o ≡ None
 gone b None e = refl
 gone true (Some a) e = cc

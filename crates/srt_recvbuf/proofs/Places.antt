@@ -1,4 +1,4 @@
--- What stands at the places of a window.
+-- The states of a window's places.
 use Rattle.std.proofs.Common.{◌≡◌, ℕ, ◌+◌, ◌<◌, ◌==◌, true, false, if◌then◌else◌, List, length, get_or, refl, sym, ap, subst, ◌∙◌, inl, inr}
 use Rattle.std.proofs.lemmas.Bool.{cases_eq, cases_lt, eq-eqb, ne_eqb}
 use Rattle.std.proofs.lemmas.List.{get_or_past}
@@ -8,14 +8,14 @@ use Rattle.srt_recvbuf.specs.declared.window.Place.{Place}
 use Rattle.srt_recvbuf.specs.declared.window.Place.TheVariants.{Missing, Dropped, Received}
 use Rattle.srt_recvbuf.specs.Cells.{cell_of, cell_in, is_got}
 
--- past the last place the payload doesn't count
+-- past the last place the payload doesn't matter
 pub same_inside : (ps : List Place) (d : ℕ) (t u : List ℕ) → (d < length ps → t ≡ u) → cell_of (get_or ps d Missing) t ≡ cell_of (get_or ps d Missing) u
 same_inside ps d t u same = elim (cases_lt d (length ps)) [
   | inl lt ↦ ap (cell_of (get_or ps d Missing)) (same lt)
   | inr past ↦ let e = get_or_past ps d Missing past in ap (λ x. cell_of x t) e ∙ sym (ap (λ x. cell_of x u) e)
 ]
 
--- a place and its payload are set
+-- setting a place and its payload
 pub filled : (ps qs : List Place) (w n : PayloadRing) (at d : ℕ) (p : Place) (bytes : List ℕ) → get_or qs d Missing ≡ (if d == at then p else get_or ps d Missing) → payload_at n at ≡ bytes → (d < length ps → (d ≡ at → ⊥) → payload_at n d ≡ payload_at w d) → cell_in qs n d ≡ (if d == at then cell_of p bytes else cell_in ps w d)
 filled ps qs w n at d p bytes here set kept = elim (cases_eq d at) [
   | inl same ↦
@@ -28,13 +28,13 @@ filled ps qs w n at d p bytes here set kept = elim (cases_eq d at) [
       rw b (ap (λ x. cell_of x (payload_at n d)) e ∙ same_inside ps d _ _ (λ lt. kept lt other))
 ]
 
--- where no packet stands, the payload doesn't count
+-- if no packet is at a place, its payload doesn't matter
 free_same : (p : Place) (t u : List ℕ) → is_got (cell_of p t) ≡ false → cell_of p t ≡ cell_of p u
 free_same Missing t u e = refl
 free_same Dropped t u e = refl
 free_same (Received due) t u e = cc
 
--- two places without packets exchange their payloads
+-- exchanging the payloads of two places without packets
 pub exchanged : (ps : List Place) (w n : PayloadRing) (one other d : ℕ) → is_got (cell_in ps w one) ≡ false → is_got (cell_in ps w other) ≡ false → (d < length ps → (d ≡ one → ⊥) → (d ≡ other → ⊥) → payload_at n d ≡ payload_at w d) → cell_in ps n d ≡ cell_in ps w d
 exchanged ps w n one other d fone fother kept = elim (cases_eq d one) [
   | inl same ↦ subst (λ x. cell_in ps n x ≡ cell_in ps w x) (sym same) (sym (free_same _ _ _ fone))

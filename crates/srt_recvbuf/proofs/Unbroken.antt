@@ -1,4 +1,4 @@
--- What was received without a gap may be delivered one by one.
+-- Packets without a gap can be delivered one by one.
 use Rattle.std.proofs.Common.{◌≡◌, ℕ, zero, suc, ◌+◌, ◌-◌, ◌<◌, Bool, true, false, not, ◌||◌, Option, None, Some, List, [], ◌∷◌, refl, sym, ap, subst, ◌∙◌, inl, inr, arith}
 use Rattle.std.specs.Prelude.{is_some, filter_map}
 use Rattle.std.specs.List.{cons_option}
@@ -10,7 +10,7 @@ use Rattle.srt_recvbuf.proofs.OneByOne.{found_number, number_or}
 use Rattle.srt_recvbuf.proofs.Points.{ack_points}
 use Rattle.srt_recvbuf.proofs.Buffers.{least_is}
 
--- what was received is below the end
+-- received numbers are below the end
 below_end : (xs : List Arrival) (n : ℕ) → is_some (arrival_of xs n) ≡ true → n < end_of xs
 below_end [] n e = cc
 below_end (a ∷ xs) n e = elim (cases_eq a.number n) [
@@ -41,7 +41,7 @@ head_is xs p (suc c) a e lt =
 at_once : (test : ℕ → Bool) (from width : ℕ) → test from ≡ true → least_from test from width ≡ from
 at_once test from width e = let z : from + 0 ≡ from = omega arith in least_is test from width 0 (omega arith) (λ k lt. absurd (omega (arith, lt))) (λ lt. rw z e) ∙ z
 
--- the first packet and the rest, where it stands at the position
+-- the first packet and the rest, if the first has the position's number
 first_and_rest : (width position : ℕ) (xs : List Arrival) (a : Arrival) → let r : Receiving = record { arrivals = xs; requests = []; position = position } in NothingBeyond width r → position < ack_point width r → arrival_of xs position ≡ Some a → is_some (arrival_of xs position) ≡ true → (waiting r ≡ a ∷ filter_map (arrival_of xs) (numbers_from (position + 1) (end_of xs - position - 1))) × (unbroken width r ≡ a ∷ unbroken width (passed width (a ∷ []) r))
 first_and_rest width position xs a beyond lt is some =
     let r : Receiving = record { arrivals = xs; requests = []; position = position } in
@@ -63,7 +63,7 @@ first_and_rest width position xs a beyond lt is some =
           ∙ ap (λ n. a ∷ filter_map (arrival_of xs) (numbers_from n (least_from (is_missing width r) n width - n))) (sym next),
     )
 
--- a record of which nothing was dropped
+-- a record without a dropped number
 of_record : (width position : ℕ) (xs : List Arrival) → let r : Receiving = record { arrivals = xs; requests = []; position = position } in NothingBeyond width r → position < ack_point width r → (a : Arrival) × (more : List Arrival) × (waiting r ≡ a ∷ more) × (unbroken width r ≡ a ∷ unbroken width (passed width (a ∷ []) r))
 of_record width position xs beyond lt = by (arrival_of xs position) refl
   where

@@ -1,4 +1,4 @@
--- The places of a window, and what stands at each.
+-- The places of a window and the state of each.
 use Rattle.std.specs.Prelude.{ℕ, ℤ, Bool, true, false, Option, None, Some, List, [], length, slice_index_or, not}
 use Rattle.srt_recvbuf.specs.declared.window.Place.{Place}
 use Rattle.srt_recvbuf.specs.declared.window.Place.TheVariants.{Missing, Dropped, Received}
@@ -8,7 +8,7 @@ use Rattle.srt_recvbuf.specs.declared.window.Seek.{Seek}
 use Rattle.srt_recvbuf.specs.declared.window.Seek.TheVariants.{NothingThere, SomethingThere, APacket, NotGivenUp}
 use Rattle.srt_recvbuf.specs.declared.window.Window.{Window}
 
--- nothing, a number that the sender gave up, or a packet
+-- the state of a number: missing, dropped by the sender, or received with its due time and payload
 pub data Cell : Type 0 where
   Empty : Cell
   GivenUp : Cell
@@ -22,10 +22,11 @@ cell_of (Received due) payload = Got due payload
 abbrev pub cell_in : (places : List Place) (payloads : PayloadRing) (at : ℕ) → Cell
 cell_in places payloads at = cell_of (slice_index_or places at Missing) (payload_at payloads at)
 
--- what stands so many places from the front; nothing beyond the last place
+-- the state of the place `at`; Empty past the last place
 abbrev pub cell_at : Window → ℕ → Cell
 cell_at w at = cell_in w.places.items w.payloads at
 
+-- the number of places
 abbrev pub width_of : Window → ℕ
 width_of w = length w.places.items
 
@@ -44,14 +45,14 @@ is_given_up Empty = false
 is_given_up GivenUp = true
 is_given_up (Got due payload) = false
 
--- whether a cell is one that is looked for
+-- whether a search for these states finds this one
 abbrev pub is_sought : Seek → Cell → Bool
 is_sought NothingThere cell = is_empty cell
 is_sought SomethingThere cell = not (is_empty cell)
 is_sought APacket cell = is_got cell
 is_sought NotGivenUp cell = not (is_given_up cell)
 
--- after its sender gave it up
+-- the state after the sender dropped the number: a received packet stays
 abbrev pub given_up : Cell → Cell
 given_up Empty = GivenUp
 given_up GivenUp = GivenUp

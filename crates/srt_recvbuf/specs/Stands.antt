@@ -1,5 +1,6 @@
--- What a buffer stands for. Its numbers are words; those of the record count from the initial one. Its times are moments; those of the
--- record count from a moment of the user's choice, the origin: a packet's due moment is the origin and its due time.
+-- What a buffer's fields represent. The buffer has 31-bit sequence numbers; the record's numbers count from the
+-- initial one. The buffer has moments of a clock; the record has times since an origin, a moment that the user
+-- chooses: a packet's due moment is the origin plus its due time.
 use Rattle.std.specs.Prelude.{◌≡◌, ℕ, ◌+◌, ◌-◌, ◌%◌, ◌^◌, ◌<◌, pos, ◌+ℤ◌, Bool, true, false, Option, None, Some, List, map, if◌then◌else◌}
 use Rattle.srt_seq.specs.Window.{word_of, counted_from, in_window, number_word}
 use Rattle.srt_seq.specs.Runs.{Range, Run, range_from}
@@ -8,13 +9,14 @@ use Rattle.srt_recvbuf.specs.Receiving.{Arrival, Receiving, arrival_of, is_reque
 use Rattle.srt_recvbuf.specs.Cells.{Cell, Empty, GivenUp, Got, is_empty, cell_at, width_of}
 use Rattle.srt_recvbuf.specs.declared.buffer.RecvBuf.{RecvBuf}
 
--- what stands at the place of a number
+-- the state of a place, from the arrival of its number and whether that was dropped
 abbrev pub cell_for : (origin : ℕ) → Option Arrival → (requested : Bool) → Cell
 cell_for origin None requested = if requested then GivenUp else Empty
 cell_for origin (Some a) requested = Got (pos origin +ℤ a.due) a.payload
 
--- these fields have the values that the definitions give: the position's word, what stands so many numbers on from it, how far the
--- greatest received number reaches, and how many numbers on from it aren't missing
+-- these fields have the values that the definitions give: the position's sequence number, the state of the place at
+-- each distance from it, the distance of the end of the received numbers, and the distance of the acknowledgement
+-- point
 pub record IsWindowOf (width initial origin front : ℕ) (cells : ℕ → Cell) (end point : ℕ) (r : Receiving) : Type 0 where
   pub front_is : front ≡ (initial + r.position) % 2 ^ 31
   pub cells_are : (d : ℕ) → cells d ≡ cell_for origin (arrival_of r.arrivals (r.position + d)) (is_requested width r.requests (r.position + d))
@@ -22,29 +24,31 @@ pub record IsWindowOf (width initial origin front : ℕ) (cells : ℕ → Cell) 
   pub not_missing : (d : ℕ) → d < point → is_empty (cells d) ≡ false
   pub missing : point < width → is_empty (cells point) ≡ true
 
--- how many places a buffer has
+-- the number of places of a buffer
 abbrev pub places_of : RecvBuf → ℕ
 places_of b = width_of b.window
 
+-- a buffer of this width represents `r`, with this initial number and this origin
 abbrev pub StandsFor : (width initial origin : ℕ) → RecvBuf → Receiving → Type 0
 StandsFor width initial origin b r = (places_of b ≡ width) × IsWindowOf width initial origin (word_of b.front) (cell_at b.window) b.end b.point r
 
--- the range of two words, counted from the initial number
+-- the range between two sequence numbers, counted from the initial number
 abbrev pub own_range : (initial : ℕ) → (first last : Seq31) → Range
 own_range initial first last = range_from initial (record { first = word_of first; last = word_of last })
 
--- the place of the first packet that waits, where it is due
+-- the place of the first waiting packet, if that is due; None if it isn't
 abbrev pub IsFirstDue : (origin time : ℕ) → (cells : ℕ → Cell) → Receiving → Option ℕ → Type 0
 IsFirstDue origin time cells r None = first_due time (waiting r) ≡ None
 IsFirstDue origin time cells r (Some d) = (a : Arrival) × (first_due time (waiting r) ≡ Some a) × (a.number ≡ r.position + d) × (cells d ≡ Got (pos origin +ℤ a.due) a.payload)
 
--- the words of runs, as a list of pairs, and those of a run that counts from the initial number
+-- the sequence numbers of runs, as pairs of a first and a last
 abbrev pub words_of : List (Seq31 × Seq31) → List (ℕ × ℕ)
 words_of pairs = map (λ p. (word_of p.0, word_of p.1)) pairs
 
+-- the pair of sequence numbers of a run that counts from the initial number
 abbrev pub run_words : (initial : ℕ) → Run → ℕ × ℕ
 run_words initial run = (number_word initial run.low, number_word initial run.high)
 
--- what a buffer says of the gaps from a word on
+-- the runs that a NAK reports from a sequence number on, as pairs of sequence numbers
 abbrev pub said_runs : (width initial word : ℕ) → Receiving → List (ℕ × ℕ)
 said_runs width initial word r = map (run_words initial) (runs_from width (in_window (counted_from initial word) r.position (width + 1)) r)

@@ -1,4 +1,4 @@
-//! The receiver buffer.
+//! The receiver buffer: what is received, delivered, dropped and missing.
 
 ghost use Rattle.std.specs.Prelude.{◌≡◌, ℕ, ◌+◌, ◌-◌, ◌%◌, ◌^◌, ◌<◌, ◌≤◌, ℤ, pos, ◌+ℤ◌, List, length, map, filter, take, Bool, Option, None, Some, option_map, IfOk, IfSome, true, false, nat_le, nat_lt, ◌&&◌};
 ghost use Rattle.srt_seq.specs.Given.{given};
@@ -11,33 +11,38 @@ use arrayvec::ArrayVec;
 use srt_seq::{Payload, PayloadRef, Seq31};
 use std::alloc::{AllocError, Global};
 
-/// The most runs that are told.
+/// The most runs that one NAK reports.
 const MOST_RUNS: usize = 32;
 
-/// What a packet was to the buffer.
+/// What became of a data packet (section 3.1).
 #[derive(Clone, Copy, Debug, PartialEq, Eq)]
 pub enum Put {
-    /// The first copy of its number.
+    /// The first copy of its number; it was stored.
     New,
-    /// Another copy of a number.
+    /// The packet of this number is already stored; nothing changed.
     Repeat,
-    /// Its number is not of the window.
+    /// Its number isn't in the window, which is the `width` numbers from the front on; nothing changed. Delivered
+    /// numbers are outside too.
     Outside,
 }
 
-/// What came of one stream, as far as it isn't delivered: a window of numbers from the front on, each
-/// with its packet, dropped or missing. A packet costs the same whatever the width: how far the received
-/// numbers reach, the acknowledgement point and the first packet are kept. Only `start` goes over all
-/// places, `dropped` over those that it names, and `runs` over those from the first missing one on.
+/// The packets of one stream that are received and not yet delivered: a window of 32 to 8192 sequence numbers from
+/// the front on, each of which is received, dropped by the sender, or missing.
+///
+/// The highest received number, the acknowledgement point and a lower bound of the first packet are kept up to date,
+/// so that the work per packet is constant on average and doesn't depend on the width. Linear are only `start` (in
+/// the width), `dropped` (in the numbers of the window that it names) and `runs` (from the first missing number to
+/// the highest received). Times are microseconds of one clock that the caller chooses, the same for `put` and
+/// `advance`.
 #[derive(Drop)]
 pub struct RecvBuf {
     front: Seq31,
     window: Window,
-    /// How many places from the front on reach the greatest number received.
+    /// The number of places from the front to the highest received number, both in; 0 if nothing received is left.
     end: usize,
-    /// How many places from the front on aren't missing.
+    /// The number of places from the front on before the first missing one.
     point: usize,
-    /// No packet stands between the front's place and this one.
+    /// Where the search for the first packet resumes: no packet is after the front's place and before this one.
     next: usize,
     ghost end_inside: { end ≤ width_of window },
     ghost point_inside: { point ≤ width_of window },
@@ -48,7 +53,8 @@ impl RecvBuf {
     ghost use Rattle.srt_recvbuf.specs.Stands.{IsFirstDue, StandsFor, run_words, said_runs, words_of, places_of, own_range};
     ghost use Rattle.srt_recvbuf.specs.Receiving.{Receiving, Arrival, nothing_yet, received, put_of, requested, settled, moved_to, top, ack_point, available, is_waiting, next_due, after_next};
 
-    /// A buffer of so many places, 32 to 8192. The only call that takes memory.
+    /// An empty buffer of `width` packets, 32 to 8192, for a stream with the initial number 0; `start` begins any
+    /// other. The only call that takes memory; the error is a refused allocation. O(width).
     pub fn open(alloc: Global, width: u32) -> Result<RecvBuf, AllocError>
         requires least { 32 ≤ width }
         requires most { width ≤ 8192 }
@@ -63,7 +69,7 @@ impl RecvBuf {
         })
     }
 
-    /// Forgets everything: a stream begins with this number.
+    /// Forgets everything and starts a stream whose first sequence number is `initial`. O(width).
     pub fn start(&mut self, initial: Seq31)
         ensures stands { (origin : ℕ) → StandsFor (places_of self.old) (word_of initial) origin self.new nothing_yet }
         ensures narrow { places_of self.old ≤ 8192 }
@@ -75,7 +81,9 @@ impl RecvBuf {
         self.next = 0;
     }
 
-    /// A packet comes, which is due at a moment in microseconds. Its bytes are copied once.
+    /// Stores a data packet that is due at `due`, in microseconds; it may be in the past, or negative. The payload is
+    /// at most 1456 bytes and is copied once. A number that was dropped and comes later is received all the same.
+    /// O(1) on average.
     pub fn put(&mut self, number: Seq31, due: i64, payload: PayloadRef<'_>) -> Put
         ensures stands { (width initial origin : ℕ) (r : Receiving) (time : ℤ) → due ≡ pos origin +ℤ time → StandsFor width initial origin self.old r → StandsFor width initial origin self.new (received width (counted_from initial (word_of number)) payload.entry.bytes.now time r) }
         ensures answer { (width initial origin : ℕ) (r : Receiving) → StandsFor width initial origin self.old r → result ≡ put_of (in_window (counted_from initial (word_of number)) r.position width) r }
@@ -96,7 +104,7 @@ impl RecvBuf {
         Put::New
     }
 
-    /// Goes on to the next missing number.
+    /// Moves the acknowledgement point on to the next missing number.
     fn find_point(&mut self)
         ensures window { self.new.window ≡ self.old.window }
         ensures front { self.new.front ≡ self.old.front }
@@ -110,14 +118,15 @@ impl RecvBuf {
             .find(Seek::NothingThere, self.point, self.window.width());
     }
 
-    /// How many places there are.
+    /// The number of sequence numbers in the window, 32 to 8192.
     pub fn width(&self) -> u32
         ensures { (width initial origin : ℕ) (r : Receiving) → StandsFor width initial origin self.now r → result ≡ width }
     {
         self.window.width() as u32
     }
 
-    /// The number from which on packets are taken.
+    /// The first sequence number of the window: all before it are delivered or given up. (The position of
+    /// docs/PROTOCOL.md.)
     pub fn front(&self) -> Seq31
         ensures { (width initial origin : ℕ) (r : Receiving) → StandsFor width initial origin self.now r → word_of result ≡ number_word initial r.position }
     {
@@ -125,38 +134,43 @@ impl RecvBuf {
         front
     }
 
-    /// One more than the greatest number received; the front where that is greater.
+    /// The number after the highest received one, or the front if nothing received is left in the window.
     pub fn top(&self) -> Seq31
         ensures { (width initial origin : ℕ) (r : Receiving) → StandsFor width initial origin self.now r → word_of result ≡ number_word initial (top r) }
     {
         self.front.add(self.end as u32)
     }
 
-    /// The least number that is missing (section 4.8.1).
+    /// The acknowledgement point: the least missing number from the front on, or the window's end if none is missing
+    /// (section 4.8.1). O(1).
     pub fn ack_point(&self) -> Seq31
         ensures { (width initial origin : ℕ) (r : Receiving) → StandsFor width initial origin self.now r → word_of result ≡ number_word initial (ack_point width r) }
     {
         self.front.add(self.point as u32)
     }
 
-    /// How many packets have room from the acknowledgement point on (section 3.2.4).
+    /// The available buffer size in packets: the places of the window from the acknowledgement point on (section
+    /// 3.2.4). O(1).
     pub fn available(&self) -> u32
         ensures { (width initial origin : ℕ) (r : Receiving) → StandsFor width initial origin self.now r → result ≡ available width r }
     {
         (self.window.width() - self.point) as u32
     }
 
-    /// Whether something received stands at or above the front.
+    /// Whether any received packet is not yet delivered. O(1).
     pub fn waiting(&self) -> bool
         ensures { (width initial origin : ℕ) (r : Receiving) → StandsFor width initial origin self.now r → result ≡ is_waiting r }
     {
         0 < self.end
     }
 
-    /// Writes the payload of the least number received at or above the front, if it is due by now (in
-    /// microseconds) and there is room; the front then stands past it and past dropped numbers. Answers
-    /// whether there is one; its bytes are copied once. In buffer mode it is called only where the
-    /// acknowledgement point stands above the front.
+    /// Delivers the next payload: the one of the least received number, if it is due at `now` (microseconds, below
+    /// 2^62) and `room` isn't 0. The front then moves past that number, which gives up missing numbers before it, and
+    /// past dropped numbers after it (sections 4.5 and 4.6).
+    ///
+    /// Returns whether there was one. If so, `payload` is replaced by its bytes, one copy; if not, `payload` is
+    /// unchanged. `room` only counts as 0 or not. In buffer mode call it only if the acknowledgement point is past
+    /// the front; else a gap would be skipped. O(1), besides the places that the front passes.
     pub fn advance(&mut self, now: u64, room: u32, payload: &mut Payload) -> bool
         requires { now < 2 ^ 62 }
         ensures stands { (width initial origin time : ℕ) (r : Receiving) → now ≡ origin + time → StandsFor width initial origin self.old r → StandsFor width initial origin self.new (after_next width (next_due time room r) r) }
@@ -175,7 +189,8 @@ impl RecvBuf {
         true
     }
 
-    /// The place of the first packet that waits. None where it isn't due.
+    /// The place of the first packet, if it is due at `now`. None if there is no packet, or it isn't due yet: a
+    /// packet that isn't due holds back those behind it.
     fn first_due(&mut self, now: u64) -> Option<usize>
         requires { now < 2 ^ 62 }
         ensures stands { (width initial origin : ℕ) (r : Receiving) → StandsFor width initial origin self.old r → StandsFor width initial origin self.new r }
@@ -190,8 +205,7 @@ impl RecvBuf {
         if due <= now as i64 { Some(at) } else { None }
     }
 
-    /// The place of the first packet; the end where there is none. It is looked for from where the last
-    /// search came to.
+    /// The place of the first packet, or `end` if there is none. The search resumes where the last one ended.
     fn find_first(&mut self) -> usize
         ensures stands { (width initial origin : ℕ) (r : Receiving) → StandsFor width initial origin self.old r → StandsFor width initial origin self.new r }
         ensures high { result ≤ self.new.end }
@@ -206,8 +220,9 @@ impl RecvBuf {
         self.next
     }
 
-    /// The sender drops the numbers from one to another, both in (section 3.2.9); 2^30 numbers or more
-    /// are none. Those that were received stay, and the front goes past dropped numbers.
+    /// A drop request for the numbers `first` to `last`, both in (section 3.2.9). Those of the window that aren't
+    /// received count as dropped, and the front moves past dropped numbers. Received packets stay. A range of 2^30
+    /// numbers or more, as a backward one is, changes nothing. Linear in the numbers of the window that it names.
     pub fn dropped(&mut self, first: Seq31, last: Seq31)
         ensures { (width initial origin : ℕ) (r : Receiving) → StandsFor width initial origin self.old r → StandsFor width initial origin self.new (requested width (own_range initial first last) r) }
     {
@@ -220,9 +235,10 @@ impl RecvBuf {
         self.settle();
     }
 
-    /// The first 32 runs of missing numbers below the greatest received, from this number on, each from
-    /// its first number to its last (section 4.8.2). None where the number is neither of the window nor
-    /// its end. Costs by the numbers from the first missing one to the greatest received.
+    /// The first 32 runs of missing numbers from `from` on and below the highest received number, lowest first: what
+    /// a NAK reports (section 4.8.2). Each is a pair of its first and its last number. Empty if `from` is outside
+    /// front..=front + width. Linear in the distance from the first missing number, or from `from` if that is
+    /// greater, to the highest received one; takes no memory.
     pub fn runs(&self, from: Seq31) -> ArrayVec<(Seq31, Seq31), 32>
         ensures { (width initial origin : ℕ) (r : Receiving) → StandsFor width initial origin self.now r → words_of result.items ≡ said_runs width initial (word_of from) r }
     {
@@ -232,7 +248,7 @@ impl RecvBuf {
         }
     }
 
-    /// The first 32 runs of places where nothing stands, from one on and before the end.
+    /// The first 32 runs of places that are missing, from `from` on and before `end`.
     fn runs_at(&self, from: usize) -> ArrayVec<(Seq31, Seq31), 32>
         requires { from ≤ self.now.end }
         ensures { (initial position : ℕ) (test : ℕ → Bool) → word_of self.now.front ≡ number_word initial position → ((d : ℕ) → test (position + d) ≡ is_empty (cell_at self.now.window d)) → words_of result.items ≡ map (run_words initial) (take 32 (runs (filter test (numbers_from (position + from) (self.now.end - from))))) }
@@ -250,7 +266,7 @@ impl RecvBuf {
         runs
     }
 
-    /// The front moves on by so many places.
+    /// Moves the front on by `count` places.
     fn shift(&mut self, count: usize)
         requires { count ≤ places_of self.old }
         ensures { (width initial origin : ℕ) (r : Receiving) → StandsFor width initial origin self.old r → StandsFor width initial origin self.new (moved_to (r.position + count) r) }
@@ -263,7 +279,7 @@ impl RecvBuf {
         self.find_point();
     }
 
-    /// The front moves past dropped numbers.
+    /// Moves the front past dropped numbers.
     fn settle(&mut self)
         ensures { (width initial origin : ℕ) (r : Receiving) → StandsFor width initial origin self.old r → StandsFor width initial origin self.new (settled width r) }
     {
@@ -272,7 +288,8 @@ impl RecvBuf {
     }
 }
 
-/// The places of a window that the numbers of a range take: from the first on, and the second is out.
+/// The places of a window that start at `front` and lie in the range of `span` + 1 numbers from `first` on, as a
+/// half-open interval. (0, 0) if there are none.
 fn overlap(front: Seq31, first: Seq31, span: u32, width: u32) -> (u32, u32)
     requires short { span < 2 ^ 30 }
     requires narrow { width ≤ 8192 }

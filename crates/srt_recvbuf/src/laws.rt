@@ -1,4 +1,4 @@
-//! Laws of the definitions.
+//! Facts about the definitions. Each function has an empty body: its contract is the fact.
 
 ghost use Rattle.srt_recvbuf.specs.OneByOne.{OthersWait, PassesOneByOne, UnbrokenOneByOne, NothingBeyond, NothingDroppedBeyond};
 ghost use Rattle.srt_recvbuf.specs.Points.{AckPoints, SettlesAtTheLeast};
@@ -8,21 +8,21 @@ ghost use Rattle.std.specs.Prelude.{ℕ};
 
 use crate::RecvBuf;
 
-/// Payloads may be delivered one by one.
+/// Delivering payloads one by one gives the same as delivering them together.
 pub fn one_by_one()
     ensures wait { OthersWait }
     ensures pass { PassesOneByOne }
     ensures unbroken { UnbrokenOneByOne }
 {}
 
-/// The acknowledgement point is the least missing number, and the position goes on to the least number that
-/// isn't dropped.
+/// The acknowledgement point is the least missing number of the window, or the window's end. The position moves on to
+/// the least number that isn't dropped.
 pub fn ack_points()
     ensures missing { AckPoints }
     ensures settled { SettlesAtTheLeast }
 {}
 
-/// A buffer stands for no record that received or drops a number beyond its window.
+/// No number past the window is received or dropped in anything that a buffer stands for.
 pub fn window_ends(buffer: &RecvBuf)
     ensures dropped { (width initial origin : ℕ) (r : Receiving) → StandsFor width initial origin buffer.now r → NothingDroppedBeyond width r }
     ensures received { (width initial origin : ℕ) (r : Receiving) → StandsFor width initial origin buffer.now r → NothingBeyond width r }

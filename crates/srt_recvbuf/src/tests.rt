@@ -1,4 +1,4 @@
-//! Rows of receptions: across the wrap, behind a gap, dropped on request.
+//! Worked examples of receiving: across the wrap of sequence numbers, behind a gap, and after drop requests.
 
 mod plain;
 mod random;

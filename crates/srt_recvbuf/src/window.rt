@@ -1,4 +1,4 @@
-//! A window of places in a ring, which slides by one.
+//! The window: a ring of packet states and payloads.
 
 ghost use Rattle.std.specs.Prelude.{◌≡◌, ℕ, ◌+◌, ◌<◌, ◌≤◌, List, length, IfOk, vec_len, slice_index_or, ◌==◌, true, false, nat_le, nat_lt, ◌&&◌, if◌then◌else◌};
 ghost use Rattle.srt_ring.specs.Ring.{width_of as width_in};
@@ -8,25 +8,31 @@ use srt_ring::PayloadRing;
 use srt_seq::{Payload, PayloadRef};
 use std::alloc::{AllocError, Global};
 
-/// What stands at a place.
+/// The state of one sequence number of the window.
 #[derive(Clone, Copy, Debug, PartialEq, Eq)]
 pub enum Place {
+    /// Neither received nor dropped.
     Missing,
-    /// The sender gave the number up.
+    /// The sender dropped the number, and no packet of it came (section 3.2.9).
     Dropped,
+    /// A packet was received. It is due at `due`, in microseconds.
     Received { due: i64 },
 }
 
-/// Which place is looked for.
+/// Which states a search looks for.
 #[derive(Clone, Copy, Debug, PartialEq, Eq)]
 pub enum Seek {
+    /// Missing.
     NothingThere,
+    /// Dropped or received.
     SomethingThere,
+    /// Received.
     APacket,
+    /// Missing or received.
     NotGivenUp,
 }
 
-/// Places from the front on, and a payload for each.
+/// A ring of packet states from the front on, with a payload for each. A *place* is a distance from the front.
 #[derive(Drop)]
 pub struct Window {
     places: HeapCircularBuffer<Place>,
@@ -41,7 +47,8 @@ impl Window {
     ghost use Rattle.srt_recvbuf.specs.Cells.Cell.{Empty, GivenUp, Got};
     ghost use Rattle.srt_recvbuf.specs.declared.window.Place.TheVariants.{Missing};
 
-    /// Empty places. The only call that takes memory.
+    /// A window of `width` missing places. The only call that takes memory; the error is a refused allocation.
+    /// O(width).
     pub fn open(alloc: Global, width: usize) -> Result<Window, AllocError>
         requires some { 0 < width }
         requires narrow { width ≤ 8192 }
@@ -57,7 +64,7 @@ impl Window {
         })
     }
 
-    /// How many places there are.
+    /// The number of places, 1 to 8192.
     pub fn width(&self) -> usize
         ensures value { result ≡ width_of self.now }
         ensures some { 0 < result }
@@ -66,7 +73,7 @@ impl Window {
         self.places.len()
     }
 
-    /// What stands at a place; Missing beyond the last.
+    /// The state of a place; Missing past the last.
     pub fn place(&self, at: usize) -> Place
         ensures value { result ≡ slice_index_or self.now.places.items at Missing }
     {
@@ -76,7 +83,7 @@ impl Window {
         }
     }
 
-    /// When the packet that stands at a place is due. None where there is none.
+    /// When the packet of a place is due, in microseconds. None if no packet is there.
     pub fn due(&self, at: usize) -> Option<i64>
         ensures { result ≡ due_of (cell_at self.now at) }
     {
@@ -86,7 +93,8 @@ impl Window {
         }
     }
 
-    /// Copies the bytes out of a packet that stands at a place.
+    /// Replaces the bytes of `payload` by those of a place. They are the packet's if the place has one, and else
+    /// without meaning. One copy.
     pub fn copy_to(&self, at: usize, payload: &mut Payload)
         requires { at < width_of self.now }
         ensures packet { is_got (cell_at self.now at) ≡ true → payload.new.items ≡ payload_of (cell_at self.now at) }
@@ -95,7 +103,7 @@ impl Window {
         self.payloads.copy_to(at, payload);
     }
 
-    /// A place gets the payload buffer of the first of the warm ones, if no packet stands at either.
+    /// Gives a place the first warm buffer, by an exchange, if no packet is in either place. See `PayloadRing`.
     fn warm_up(&mut self, at: usize)
         requires inside { at < width_of self.old }
         ensures width { width_of self.new ≡ width_of self.old }
@@ -108,7 +116,7 @@ impl Window {
         }
     }
 
-    /// A packet comes to a place.
+    /// Stores a packet at a place, over what was there. Its payload is at most 1456 bytes. One copy.
     pub fn fill(&mut self, at: usize, due: i64, payload: PayloadRef<'_>)
         requires inside { at < width_of self.old }
         ensures width { width_of self.new ≡ width_of self.old }
@@ -119,7 +127,7 @@ impl Window {
         self.mark(at, Place::Received { due });
     }
 
-    /// Something else stands at a place.
+    /// Sets the state of a place and leaves its payload as it is.
     fn mark(&mut self, at: usize, place: Place)
         requires inside { at < width_of self.old }
         ensures width { width_of self.new ≡ width_of self.old }
@@ -131,7 +139,7 @@ impl Window {
         }
     }
 
-    /// The sender gives the number of a place up; a packet stays.
+    /// Marks a place as dropped, unless a packet is there.
     fn give_up(&mut self, at: usize)
         requires inside { at < width_of self.old }
         ensures width { width_of self.new ≡ width_of self.old }
@@ -142,7 +150,7 @@ impl Window {
         }
     }
 
-    /// The record of the first place goes, and an empty one comes behind the last.
+    /// Moves the states by one: removes the first, and appends a missing one.
     fn turn(&mut self)
         ensures width { width_of self.new ≡ width_of self.old }
         ensures places { (d : ℕ) → slice_index_or self.new.places.items d Missing ≡ slice_index_or self.old.places.items (d + 1) Missing }
@@ -151,7 +159,7 @@ impl Window {
         self.places.push_back(Place::Missing);
     }
 
-    /// The front moves by one: the first place goes, and an empty one comes.
+    /// Moves the front on by one: removes the first place, and appends a missing one. O(1).
     pub fn slide(&mut self)
         ensures width { width_of self.new ≡ width_of self.old }
         ensures cells { (d : ℕ) → cell_at self.new d ≡ cell_at self.old (d + 1) }
@@ -161,7 +169,7 @@ impl Window {
         self.payloads.advance(width);
     }
 
-    /// The front moves on by `count` places.
+    /// Moves the front on by `count` places. O(count).
     pub fn slide_by(&mut self, count: usize)
         ensures width { width_of self.new ≡ width_of self.old }
         ensures cells { (d : ℕ) → cell_at self.new d ≡ cell_at self.old (d + count) }
@@ -171,7 +179,7 @@ impl Window {
         }
     }
 
-    /// Empties all places.
+    /// Makes all places missing. O(width).
     pub fn clear(&mut self)
         ensures width { width_of self.new ≡ width_of self.old }
         ensures cells { (d : ℕ) → cell_at self.new d ≡ Empty }
@@ -181,7 +189,7 @@ impl Window {
         }
     }
 
-    /// Whether a place is one that is looked for.
+    /// Whether the state of a place is one that `seek` looks for.
     pub fn is(&self, at: usize, seek: Seek) -> bool
         ensures { result ≡ is_sought seek (cell_at self.now at) }
     {
@@ -201,7 +209,8 @@ impl Window {
         }
     }
 
-    /// The first such place from here on and before the end; the end where there is none.
+    /// The first place from `from` on and before `end` that `seek` looks for; `end` if there is none. Linear in the
+    /// places that it passes.
     pub fn find(&self, seek: Seek, from: usize, end: usize) -> usize
         requires { from ≤ end }
         ensures low { from ≤ result }
@@ -217,7 +226,7 @@ impl Window {
         end
     }
 
-    /// The sender gives the numbers of places up; what was received stays.
+    /// Marks the places from `from` on and before `end` as dropped, unless a packet is there.
     pub fn give_up_range(&mut self, from: usize, end: usize)
         requires order { from ≤ end }
         requires inside { end ≤ width_of self.old }

@@ -1,14 +1,14 @@
-//! The receiver as a slow program over plain lists: numbers count on past 2^31, all that came is kept, and each
-//! question goes over it anew.
+//! The reference: a slow receiver over plain lists. Its numbers count on past 2^31, it keeps all that arrived, and it
+//! computes each result from the whole list.
 
 use crate::Put;
 use srt_seq::Seq31;
 use std::alloc::{AllocError, Global};
 
-/// How many numbers go round the circle.
+/// The number of sequence numbers before they wrap.
 const CIRCLE: u64 = 1 << 31;
 
-/// A packet that came: of one byte.
+/// A packet that arrived, with a payload of one byte.
 #[derive(Clone, Copy)]
 struct Arrival {
     number: u64,
@@ -24,7 +24,7 @@ pub(super) struct Plain {
     dropped: Vec<u64>,
 }
 
-/// The wire's number.
+/// The 31-bit sequence number of a number that counts on.
 pub(super) fn wire(number: u64) -> Seq31 {
     Seq31::ZERO.add((number % CIRCLE) as u32)
 }
@@ -102,7 +102,7 @@ impl Plain {
         self.window_end().wrapping_sub(self.ack_point())
     }
 
-    /// The number that the wire's one stands for, from the position on and before an end.
+    /// The number from the position on and before an end that has this 31-bit sequence number.
     fn number_before(&self, number: Seq31, end: u64) -> Option<u64> {
         for there in self.position..end {
             if wire(there) == number {
@@ -183,7 +183,7 @@ impl Plain {
         Ok(runs)
     }
 
-    /// The runs that are told, from the wire's number on.
+    /// The runs that a NAK reports from this 31-bit sequence number on.
     pub(super) fn runs(&self, alloc: Global, from: Seq31) -> Result<Vec<(u64, u64)>, AllocError> {
         match self.number_before(from, self.window_end().wrapping_add(1)) {
             Some(from) => {

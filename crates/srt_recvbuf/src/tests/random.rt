@@ -1,4 +1,4 @@
-//! Random operations on the buffer and on the plain program beside it.
+//! Random operations on the buffer and on the reference program, which must agree.
 
 ghost use Rattle.std.specs.Prelude.{◌≤◌};
 
@@ -8,12 +8,12 @@ use srt_seq::{Payload, PayloadRef, Seq31};
 use std::alloc::{AllocError, Global};
 use std::test::Fail;
 
-/// How a stream is handed on.
+/// How a stream is delivered.
 #[derive(Clone, Copy, PartialEq, Eq)]
 enum Delivery {
-    /// Each packet at its moment.
+    /// Live mode: each packet when it is due.
     Live,
-    /// Without a gap.
+    /// Buffer mode: without gaps.
     Buffer,
 }
 
@@ -24,7 +24,7 @@ struct Dice {
 }
 
 impl Dice {
-    /// A number below a count; 0 where that is 0.
+    /// A number below a count; 0 if the count is 0.
     fn below(&mut self, count: u32) -> u32 {
         self.state = self
             .state
@@ -35,7 +35,7 @@ impl Dice {
     }
 }
 
-/// A stream in both.
+/// One stream in both programs.
 #[derive(Drop)]
 struct Both {
     alloc: Global,
@@ -63,14 +63,14 @@ impl Both {
         })
     }
 
-    /// A stream that begins up to a window before the numbers go round.
+    /// Starts a stream up to a window before the sequence numbers wrap.
     fn start(&mut self) {
         let initial = 0x7fff_ffffu32.wrapping_sub(self.dice.below(self.width));
         self.ours.start(wire(u64::from(initial)));
         self.plain = Plain::new(self.alloc, self.width, initial);
     }
 
-    /// A number near the window, or anywhere.
+    /// A sequence number near the window, or any other.
     fn number(&mut self) -> Seq31 {
         let position = self.plain.position();
         let past = u64::from(self.dice.below(self.width));
@@ -99,7 +99,7 @@ impl Both {
         Ok(ours == self.plain.put(number, due, byte)?)
     }
 
-    /// A range of numbers is dropped, some of them too wide or backward.
+    /// Drops a range of numbers; some ranges are too wide or backward.
     fn dropped(&mut self) -> Result<bool, AllocError> {
         let first = match self.dice.below(3) {
             0 => self.ours.front(),
@@ -132,7 +132,7 @@ impl Both {
         byte == self.plain.advance(i64::from(self.now), room)
     }
 
-    /// One operation. Whether both answer the same.
+    /// Does one operation. Returns whether both programs gave the same result.
     fn step(&mut self) -> Result<bool, AllocError> {
         self.now = self.now.wrapping_add(self.dice.below(3));
         match self.dice.below(40) {
@@ -165,7 +165,7 @@ impl Both {
         Ok(ours.len() == plain.len())
     }
 
-    /// The first step after which the two differ.
+    /// The index of the first step after which the two differ.
     fn difference(&mut self, steps: u32) -> Result<Option<u32>, AllocError> {
         self.start();
         for step in 0..steps {
