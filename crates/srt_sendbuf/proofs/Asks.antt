@@ -1,4 +1,4 @@
--- What lists of ranges ask for, taken in parts.
+-- The numbers that lists of ranges name, if a list is read in parts.
 use Rattle.std.proofs.Common.{◌≡◌, ℕ, ◌-◌, Bool, true, false, ◌||◌, List, [], ◌∷◌, ◌++◌, refl, sym, ap, ◌∙◌}
 use Rattle.std.specs.List.{list_any}
 use Rattle.srt_seq.specs.Runs.{Range, is_in, is_asked, numbers_from, range_from, ranges_from}
@@ -15,7 +15,7 @@ swap true false c = refl
 swap false true c = refl
 swap false false c = refl
 
--- one range asks for what is gone, or those after it do
+-- a list names an expired number if its first range does, or the others do
 pub asks_more : (x : Range) (xs : List Range) (r : Sending) → asks_for_gone (x ∷ xs) r ≡ (list_any (is_in x) (numbers_from (base r) (front r - base r)) || asks_for_gone xs r)
 asks_more x xs r = any_of_both (is_in x) (is_asked xs) (numbers_from (base r) (front r - base r))
 
@@ -32,7 +32,7 @@ asked_both (x ∷ xs) ys n = ap (λ b. is_in x n || b) (asked_both xs ys n) ∙ 
     together true b c = refl
     together false b c = refl
 
--- a part of the ranges goes to those that were taken
+-- the ranges of a part are added to those that were read
 pub part_taken : (initial n : ℕ) (taken old part new : List Range) → ((test : Range → Bool) → list_any test old ≡ (list_any test part || list_any test new)) → (is_asked taken n || is_asked (ranges_from initial old) n) ≡ (is_asked (ranges_from initial part ++ taken) n || is_asked (ranges_from initial new) n)
 part_taken initial n taken old part new same =
     ap (λ b. is_asked taken n || b) (asked_any initial n old ∙ same (λ x. is_in (range_from initial x) n) ∙ ap (λ b. b || list_any (λ x. is_in (range_from initial x) n) new) (sym (asked_any initial n part)) ∙ ap (λ b. is_asked (ranges_from initial part) n || b) (sym (asked_any initial n new)))

@@ -1,4 +1,4 @@
--- Where the front goes.
+-- How the front moves.
 use Rattle.std.proofs.Common.{◌≡◌, ℕ, zero, suc, ◌+◌, ◌-◌, ◌<◌, ◌≤◌, min, max, Bool, true, false, Option, List, [], ◌∷◌, length, cond, inl, inr, ◌⊎◌, refl, sym, ap, ◌∙◌, arith}
 use Rattle.std.specs.Prelude.{ℤ, pos, negsuc, All, int_lt, slice_get, nat_lt}
 use Rattle.std.proofs.lemmas.Bool.{cases_lt, lt-ltb, ltb-true}
@@ -11,7 +11,7 @@ use Rattle.srt_sendbuf.specs.Sending.{Queued, Sending, front, base, acknowledged
 use Rattle.srt_sendbuf.specs.Places.{Kept, is_old}
 use Rattle.srt_sendbuf.specs.Stands.{IsInOrder, IsMoved, kept_as}
 
--- an acknowledgement that the front stays beyond
+-- an ACK that leaves the front where it is
 pub acked_below : (behind back steps message : ℕ) (r : Sending) → behind ≡ min (front r - r.acked) 16384 → back ≡ min behind 8192 → steps < back → message ≡ message_number (base r + steps) → IsMoved 0 (back - steps) message r (acknowledged (base r + steps) r)
 acked_below behind back steps message r b k lt m =
     record {
@@ -22,7 +22,7 @@ acked_below behind back steps message r b k lt m =
       message_is = let e : base (acknowledged (base r + steps) r) ≡ base r + steps = omega (arith, b, k, lt) in m ∙ ap message_number (sym e);
     }
 
--- an acknowledgement that moves it
+-- an ACK that moves the front
 pub acked_beyond : (behind back steps message : ℕ) (r : Sending) → behind ≡ min (front r - r.acked) 16384 → back ≡ min behind 8192 → back ≤ steps → message ≡ message_number (base r + steps) → IsMoved (steps - back) 0 message r (acknowledged (base r + steps) r)
 acked_beyond behind back steps message r b k le m =
     record {
@@ -54,7 +54,7 @@ none_old before first (q ∷ qs) e a =
     let b : test before q ≡ false = later before first q.origin e le in
     rw b (none_old before first qs e (All-tail (λ p. first ≤ p.origin) q qs a))
 
--- in order, those queued before a time are the first ones
+-- since the queue is in the order of time, the payloads queued before a time are its first ones
 old_first : (before : ℤ) (qs : List Queued) (k n : ℕ) → IsInOrder qs → k < length qs → is_old before (kept_as n (slice_get qs k)) ≡ nat_lt k (many before qs)
 old_first before [] k n o lt = absurd (omega (arith, lt))
 old_first before (p ∷ qs) zero n o lt = here (test before p) refl
@@ -74,7 +74,7 @@ old_first before (p ∷ qs) (suc k) n o lt = there (test before p) refl (old_fir
 pub old_is : (before : ℤ) (qs : List Queued) (k n : ℕ) → IsInOrder qs → k < length qs → is_old before (kept_as n (slice_get qs k)) ≡ nat_lt k (queued_before before qs)
 old_is before qs k n o lt = old_first before qs k n o lt ∙ ap (nat_lt k) (many_is before qs)
 
--- the front after the first so many, which were all queued before a time, where the next one wasn't
+-- the front after the first n payloads expired: all of them were queued before a time, and the next one wasn't
 pub expired_front : (before : ℤ) (count queued : ℕ) (kept : ℕ → Option Kept) (r : Sending) → IsInOrder r.queue → front r + queued ≡ length r.queue → ((d : ℕ) → d < queued → kept d ≡ kept_as (front r + d) (slice_get r.queue (front r + d))) → IsLater before r → count ≤ queued → ((d : ℕ) → d < count → is_old before (kept d) ≡ true) → (count < queued → is_old before (kept count) ≡ false) → front (expired_before before r) ≡ front r + count
 expired_front before count queued kept r o q ks later le old young =
     there (cases_lt 0 count) (cases_lt count queued)

@@ -1,4 +1,4 @@
--- The part of a window that ranges have.
+-- The part of a window that a range names.
 use Rattle.std.proofs.Common.{◌≡◌, ℕ, zero, suc, ◌+◌, ◌^◌, ◌<◌, ◌≤◌, Bool, true, false, ◌||◌, Option, None, Some, List, [], ◌∷◌, refl, sym, ap, ◌∙◌, arith}
 use Rattle.std.specs.List.{list_any}
 use Rattle.std.proofs.lemmas.Bool.{or_right, true≢false}
@@ -30,7 +30,7 @@ none_at test from (suc places) off =
     ap (λ t. t || list_any test (numbers_from (from + 1) places)) b
     ∙ none_at test (from + 1) places (λ d l. let m : (from + 1) + d ≡ from + suc d = omega arith in rw m (off (suc d) (omega (arith, l))))
 
--- where a range has a part of a window, it asks for one of its numbers
+-- if a range has a part of a window, it names one of its numbers
 pub asks_part : (initial from places first last : ℕ) (x : Range) → x.first < 2 ^ 31 → x.last < 2 ^ 31 → IsPartOf x (initial + from) places (Some (first, last)) → first ≤ last → last < places → list_any (is_in (range_from initial x)) (numbers_from from places) ≡ true
 asks_part initial from places first last x f l part le lt =
     any_at (is_in (range_from initial x)) from places first (omega (arith, le, lt))
@@ -58,7 +58,7 @@ pub any_alike : (p q : ℕ → Bool) → ((n : ℕ) → p n ≡ q n) → (ns : L
 any_alike p q same [] = refl
 any_alike p q same (n ∷ ns) = ap (λ t. t || list_any p ns) (same n) ∙ ap (λ t. q n || t) (any_alike p q same ns)
 
--- an acknowledgement's number, counted from the initial one
+-- an ACK's number, counted from the initial one
 pub own_number : (initial word from width : ℕ) (steps : Option ℕ) → option_map (λ d. initial + from + d) steps ≡ in_window word (initial + from) width → option_map (λ d. from + d) steps ≡ in_window (counted_from initial word) from width
 own_number initial word from width steps e = same steps (in_window (counted_from initial word) from width) (e ∙ numbers_from_initial initial word from width)
   where

@@ -1,4 +1,4 @@
--- What stands at the places of a ring.
+-- The packets of a ring's places.
 use Rattle.std.proofs.Common.{◌≡◌, ℕ, zero, suc, ◌+◌, ◌<◌, ◌==◌, true, false, if◌then◌else◌, Some, List, [], ◌∷◌, ◌++◌, length, drop, inl, inr, refl, sym, ap, ◌∙◌, arith}
 use Rattle.std.specs.Prelude.{slice_get}
 use Rattle.std.proofs.lemmas.Bool.{cases_lt, cases_order, eq-eqb, ne_eqb}
@@ -25,14 +25,14 @@ module _ {X : Type 0} where
   length_last [] x = refl
   length_last (y ∷ xs) x = let h = length_last xs x in omega (arith, h)
 
--- past the last place the payload doesn't count
+-- past the last place the payload doesn't matter
 pub same_inside : (ps : List Place) (d : ℕ) (t u : List ℕ) → (d < length ps → t ≡ u) → kept_of (slice_get ps d) t ≡ kept_of (slice_get ps d) u
 same_inside ps d t u same = elim (cases_lt d (length ps)) [
   | inl lt ↦ ap (kept_of (slice_get ps d)) (same lt)
   | inr past ↦ let e = slice_get_past ps d past in ap (λ x. kept_of x t) e ∙ sym (ap (λ x. kept_of x u) e)
 ]
 
--- a packet comes after the last
+-- appending a packet
 pub put_kept : (ps : List Place) (w n : PayloadRing) (d : ℕ) (p : Place) (bytes : List ℕ) → payload_at n (length ps) ≡ bytes → (d < length ps → payload_at n d ≡ payload_at w d) → kept_in (ps ++ p ∷ []) n d ≡ (if d == length ps then kept_of (Some p) bytes else kept_in ps w d)
 put_kept ps w n d p bytes here kept = elim (cases_order d (length ps)) [
   | inr (inl below) ↦
@@ -53,7 +53,7 @@ pub get_next : (ps : List Place) (d : ℕ) → slice_get (drop 1 ps) d ≡ slice
 get_next [] d = refl
 get_next (x ∷ ps) d = let e : d + 1 ≡ suc d = omega arith in sym (ap (slice_get (x ∷ ps)) e)
 
--- the first place goes
+-- removing the first place
 pub moved_one : (ps : List Place) (w n : PayloadRing) (d : ℕ) → (d + 1 < length ps → payload_at n d ≡ payload_at w (d + 1)) → kept_in (drop 1 ps) n d ≡ kept_in ps w (d + 1)
 moved_one ps w n d kept = ap (λ p. kept_of p (payload_at n d)) (get_next ps d) ∙ same_inside ps (d + 1) _ _ kept
 

@@ -1,4 +1,4 @@
--- What each call does to what the fields stand for.
+-- What each call does to the record that the fields represent.
 use Rattle.std.proofs.Common.{◌≡◌, ◌≢◌, ℕ, zero, suc, ◌+◌, ◌-◌, ◌%◌, ◌^◌, ◌<◌, ◌≤◌, ◌==◌, min, max, Bool, true, false, ◌&&◌, ◌||◌, if◌then◌else◌, Option, None, Some, List, [], ◌∷◌, ◌++◌, length, inl, inr, ◌⊎◌, refl, sym, ap, subst, ◌∙◌, arith}
 use Rattle.std.specs.Prelude.{All, filter, is_some, slice_get, nat_lt, nat_le}
 use Rattle.std.proofs.lemmas.Bool.{false_from_ne_true, cases_lt, cases_eq, eq-eqb, ne_eqb, lt-ltb, true≢false}
@@ -228,7 +228,7 @@ none_lost initial word behind count flying low high base_message end_message kep
     ap (λ p. filter (is_marked r.marks) (numbers_from (front r) p)) places
     ∙ none_of (is_marked r.marks) (front r) flying (λ k l. sym (h.lost_is k l) ∙ false_from_ne_true (lost_ones k) (λ b. let i = h.within k l b in omega (arith, le, i.0, i.1)))
 
--- which number is due
+-- the number that is due
 pub due_again : (window low : ℕ) (r : Sending) → ((ns : List ℕ) × (lost r ≡ (front r + low) ∷ ns)) → due_number window (lost r) r ≡ Some (front r + low, true)
 due_again window low r f = ap (λ ns. due_number window ns r) f.1
 
@@ -256,7 +256,7 @@ pub nothing_lost : (ns : List ℕ) → nat_lt 0 (length ns) ≡ false → ns ≡
 nothing_lost [] e = refl
 nothing_lost (n ∷ ns) e = let b : nat_lt 0 (length (n ∷ ns)) ≡ true = lt-ltb _ _ (omega arith) in absurd (true≢false (sym b ∙ e))
 
--- whether a new number is due, where the window holds it
+-- whether a new number is due, if the flow window has room for it
 pub is_new_due : (window flying count : ℕ) (r : Sending) → lost r ≡ [] → front r + flying ≡ next r → front r + count ≡ length r.queue → flying < window → nat_lt flying count ≡ is_some (due_number window (lost r) r)
 is_new_due window flying count r none n q w = elim (cases_lt flying count) [
   | inl c ↦ lt-ltb _ _ c ∙ sym (ap (λ (o : Option (ℕ × Bool)). is_some o) (due_new window flying count r none n q w c))
@@ -277,7 +277,7 @@ is_any_lost initial word behind count flying low high base_message end_message k
       e ∙ sym (ap (λ ns. nat_lt 0 (length ns)) none)
 ]
 
--- a loss list of nothing
+-- an empty loss list
 pub asked_nothing : (initial word behind count flying low high base_message end_message : ℕ) (kept : ℕ → Option Kept) (lost : ℕ → Bool) (r : Sending) → IsKept initial word behind count flying low high base_message end_message kept lost r → IsKept initial word behind count flying low high base_message end_message kept lost (asked [] r)
 asked_nothing initial word behind count flying low high base_message end_message kept lost r h =
     marked_alike initial word behind count flying low high base_message end_message kept lost r.marks (Asked (front r) (next r) [] ∷ r.marks) r h refl (λ d k. off (is_between (front r) (next r) (front r + d)) (is_marked r.marks (front r + d)))
@@ -286,7 +286,7 @@ asked_nothing initial word behind count flying low high base_message end_message
     off true m = refl
     off false m = refl
 
--- loss lists that ask for the same
+-- loss lists that name the same numbers
 pub asked_alike : (initial word behind count flying low high base_message end_message : ℕ) (kept : ℕ → Option Kept) (lost : ℕ → Bool) (xs ys : List Range) (r : Sending) → IsKept initial word behind count flying low high base_message end_message kept lost (asked xs r) → ((n : ℕ) → is_asked ys n ≡ is_asked xs n) → IsKept initial word behind count flying low high base_message end_message kept lost (asked ys r)
 asked_alike initial word behind count flying low high base_message end_message kept lost xs ys r h same =
     marked_alike initial word behind count flying low high base_message end_message kept lost (Asked (front r) (next r) xs ∷ r.marks) (Asked (front r) (next r) ys ∷ r.marks) r h refl (λ d k. ap (λ b. (is_between (front r) (next r) (front r + d) && b) || is_marked r.marks (front r + d)) (same (front r + d)))

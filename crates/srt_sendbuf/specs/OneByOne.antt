@@ -1,26 +1,28 @@
--- Laws of what a sender has.
+-- Facts about what a sender keeps.
 use Rattle.std.specs.Prelude.{◌≡◌, ℕ, ◌+◌, ◌≤◌, ℤ, ◌≤ℤ◌, List, [], ◌∷◌}
 use Rattle.srt_sendbuf.specs.Sending.{Sending, nothing_yet, next, lost, queued, expired_before, sent, IsTimely, IsLater}
 
--- all were queued at this time or before; so at a later one, and with one more that is queued at it
+-- the condition on the time of `queue`: no payload was queued later than it. It holds at first, stays for a later
+-- time, and stays after a payload is queued at that time
 pub record TimesGoOn : Type 0 where
   pub none : (now : ℕ) → IsTimely now nothing_yet
   pub later : (now later : ℕ) (s : Sending) → now ≤ later → IsTimely now s → IsTimely later s
   pub queue : (now : ℕ) (payload : List ℕ) (s : Sending) → IsTimely now s → IsTimely now (queued now payload s)
 
--- no time of expiry was later than this one; so for a later one, after one more is queued, and after expiry at it
+-- the condition on the time of expiry: no earlier expiry was for a later time. It holds at first, stays for a later
+-- time, after a payload is queued, and after an expiry for that time
 pub record ExpiryGoesOn : Type 0 where
   pub none : (before : ℤ) → IsLater before nothing_yet
   pub later : (before after : ℤ) (s : Sending) → before ≤ℤ after → IsLater before s → IsLater after s
   pub queue : (before : ℤ) (origin : ℕ) (payload : List ℕ) (s : Sending) → IsLater before s → IsLater before (queued origin payload s)
   pub expire : (before : ℤ) (s : Sending) → IsLater before (expired_before before s)
 
--- once the lowest lost number is sent, the others are lost
+-- after the lowest lost number is sent, the other lost ones are left
 pub record LostOneByOne : Type 0 where
   pub others : (s : Sending) (n : ℕ) (more : List ℕ) → lost s ≡ n ∷ more → lost (sent n s) ≡ more
   pub next_stays : (s : Sending) (n : ℕ) (more : List ℕ) → lost s ≡ n ∷ more → next (sent n s) ≡ next s
 
--- once the next new number is sent, the one after it is the next, and nothing is lost by it
+-- after the next new number is sent, the one after it is the next, and no number is lost because of it
 pub record NewOneByOne : Type 0 where
   pub still_none : (s : Sending) → lost s ≡ [] → lost (sent (next s) s) ≡ []
   pub goes_on : (s : Sending) → next (sent (next s) s) ≡ next s + 1

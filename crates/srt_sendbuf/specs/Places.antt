@@ -1,4 +1,4 @@
--- The places of a ring, and what stands at each.
+-- The places of a ring and the packet of each.
 use Rattle.std.specs.Prelude.{ℕ, ℤ, pos, int_lt, Bool, false, Option, None, Some, List, length, slice_get}
 use Rattle.srt_seq.specs.Counts.{message_of}
 use Rattle.srt_ring.specs.declared.ring.PayloadRing.{PayloadRing}
@@ -7,7 +7,7 @@ use Rattle.srt_sendbuf.specs.declared.ring.Place.{Place}
 use Rattle.srt_sendbuf.specs.Marks.{is_lost}
 use Rattle.srt_sendbuf.specs.declared.ring.Ring.{Ring}
 
--- a packet that is kept
+-- a packet that is kept: when it was queued, its message number and its payload
 pub record Kept : Type 0 where
   pub origin : ℕ
   pub message : ℕ
@@ -20,16 +20,19 @@ kept_of (Some p) payload = Some (record { origin = p.origin; message = message_o
 abbrev pub kept_in : (places : List Place) (payloads : PayloadRing) (at : ℕ) → Option Kept
 kept_in places payloads at = kept_of (slice_get places at) (payload_at payloads at)
 
--- what stands so many places from the first; nothing beyond the last
+-- the packet of the place `at`; None past the last
 abbrev pub kept_at : Ring → ℕ → Option Kept
 kept_at r at = kept_in r.places.items r.payloads at
 
+-- whether the packet of a place is lost
 abbrev pub lost_at : Ring → ℕ → Bool
 lost_at r at = is_lost (slice_get r.places.items at)
 
+-- the number of packets that are kept
 abbrev pub length_of : Ring → ℕ
 length_of r = length r.places.items
 
+-- the number of places
 abbrev pub width_of : Ring → ℕ
 width_of r = r.places.capacity
 

@@ -1,4 +1,5 @@
--- What a sender has of one stream. Numbers count from the initial one.
+-- What a sender keeps of one stream, and all results that follow from it. Numbers count from the initial one, without
+-- a wrap.
 use Rattle.std.specs.Prelude.{ℕ, ◌+◌, ◌-◌, ℤ, pos, int_lt, Bool, true, false, Option, None, Some, List, [], ◌∷◌, ◌++◌, All, filter, length, count_by, slice_get, max, nat_lt, nat_le, ◌==◌, ◌&&◌, ◌||◌, if◌then◌else◌, ◌≤◌}
 use Rattle.std.specs.List.{list_any}
 use Rattle.srt_seq.specs.Window.{in_window}
@@ -9,71 +10,74 @@ pub record Queued : Type 0 where
   pub origin : ℕ
   pub payload : List ℕ
 
--- what happened to numbers
+-- the events that decide which numbers are lost
 pub data Mark : Type 0 where
-  -- sent
+  -- a number was sent
   Sent : (number : ℕ) → Mark
-  -- a NAK asked for some of low .. high, the end out
+  -- a NAK named these ranges; of them, the numbers from low on and before high count
   Asked : (low high : ℕ) (ranges : List Range) → Mark
-  -- all of low .. high are to be sent again
+  -- all numbers from low on and before high count as lost
   All_of : (low high : ℕ) → Mark
 
--- the k-th queued has number k; marks have the newest first
+-- the k-th payload of the queue has the number k. `acked` is the least number not acknowledged, `expired` the least
+-- not expired; marks have the newest first
 pub record Sending : Type 0 where
   pub queue : List Queued
   pub acked : ℕ
   pub expired : ℕ
   pub marks : List Mark
 
+-- a stream of which nothing was queued yet
 abbrev pub nothing_yet : Sending
 nothing_yet = record { queue = []; acked = 0; expired = 0; marks = [] }
 
--- the least number neither acknowledged nor expired
+-- the front: the least number that is neither acknowledged nor expired
 abbrev pub front : Sending → ℕ
 front s = max s.acked s.expired
 
--- this profile: how far back an acknowledgement may lie
+-- the base: the least number that an ACK may name, at most 8192 before the front (this profile)
 abbrev pub base : Sending → ℕ
 base s = max s.acked (front s - 8192)
 
--- one more than the greatest number sent, 0 at first
+-- one more than the highest number sent; 0 if none was
 abbrev pub sent_end : List Mark → ℕ
 sent_end [] = 0
 sent_end (Sent n ∷ marks) = max (n + 1) (sent_end marks)
 sent_end (Asked low high ranges ∷ marks) = sent_end marks
 sent_end (All_of low high ∷ marks) = sent_end marks
 
--- the first number not yet sent
+-- the first number not yet sent; never below the front
 abbrev pub next : Sending → ℕ
 next s = max (front s) (sent_end s.marks)
 
--- how many more payloads find a place
+-- the number of payloads that can still be queued
 abbrev pub room : (width : ℕ) → Sending → ℕ
 room width s = width - (length s.queue - front s)
 
--- how many numbers are sent and neither acknowledged nor expired
+-- the number of packets in flight: sent, and neither acknowledged nor expired
 abbrev pub in_flight : Sending → ℕ
 in_flight s = next s - front s
 
 abbrev pub is_between : (low high n : ℕ) → Bool
 is_between low high n = nat_le low n && nat_lt n high
 
--- marked since it was last sent (section 4.8.2)
+-- marked as lost since it was last sent (section 4.8.2)
 abbrev pub is_marked : List Mark → ℕ → Bool
 is_marked [] n = false
 is_marked (Sent k ∷ marks) n = if k == n then false else is_marked marks n
 is_marked (Asked low high ranges ∷ marks) n = (is_between low high n && is_asked ranges n) || is_marked marks n
 is_marked (All_of low high ∷ marks) n = is_between low high n || is_marked marks n
 
--- the lost numbers, lowest first
+-- the lost numbers in flight, lowest first
 abbrev pub lost : Sending → List ℕ
 lost s = filter (is_marked s.marks) (numbers_from (front s) (in_flight s))
 
--- a payload is queued
+-- after a payload is queued at the time `origin`
 abbrev pub queued : (origin : ℕ) → List ℕ → Sending → Sending
 queued origin payload s = record s { queue = s.queue ++ record { origin = origin; payload = payload } ∷ [] }
 
--- the number that an acknowledgement brings, its word counted from the initial number (section 3.2.4)
+-- the number that an ACK names; `word` is its sequence number, counted from the initial one. None if it is outside
+-- base..=next (section 3.2.4)
 abbrev pub acknowledged_by : (word : ℕ) → Sending → Option ℕ
 acknowledged_by word s = in_window word (base s) (next s - base s + 1)
 
@@ -84,42 +88,42 @@ abbrev pub after_ack : Option ℕ → Sending → Sending
 after_ack None s = s
 after_ack (Some n) s = acknowledged n s
 
--- whether an acknowledgement brings a greater number than those before
+-- whether an ACK acknowledges more than those before
 abbrev pub is_growth : Option ℕ → Sending → Bool
 is_growth None s = false
 is_growth (Some n) s = nat_lt s.acked n
 
--- how many were queued before a time (section 4.6)
+-- the number of payloads that were queued before a time (section 4.6)
 abbrev pub queued_before : ℤ → List Queued → ℕ
 queued_before before queue = count_by (λ q. int_lt (pos q.origin) before) queue
 
--- those queued before this time are gone
+-- after those queued before this time expired
 abbrev pub expired_before : ℤ → Sending → Sending
 expired_before before s = record s { expired = queued_before before s.queue }
 
--- a loss list asks for numbers (section 3.2.5)
+-- after a loss list: the numbers in flight that it names are marked (section 3.2.5)
 abbrev pub asked : List Range → Sending → Sending
 asked ranges s = record s { marks = Asked (front s) (next s) ranges ∷ s.marks }
 
--- whether it asks for a number that is gone
+-- whether a loss list names a number from the base up to the front
 abbrev pub asks_for_gone : List Range → Sending → Bool
 asks_for_gone ranges s = list_any (is_asked ranges) (numbers_from (base s) (front s - base s))
 
--- all in flight are to be sent again
+-- after all numbers in flight were marked as lost
 abbrev pub all_lost : Sending → Sending
 all_lost s = record s { marks = All_of (front s) (next s) ∷ s.marks }
 
--- a number is sent
+-- after a number was sent
 abbrev pub sent : ℕ → Sending → Sending
 sent n s = record s { marks = Sent n ∷ s.marks }
 
--- the number that is due, and whether it is sent again: a lost one first, and else a new one where the window holds it
--- (sections 3.2.4 and 4.8.2)
+-- the next number to be sent, and whether it is sent again: the lowest lost one, or if none is lost, the next new one
+-- if the flow window has room for it (sections 3.2.4 and 4.8.2)
 abbrev pub due_number : (window : ℕ) → (lost_ones : List ℕ) → Sending → Option (ℕ × Bool)
 due_number window [] s = if nat_lt (in_flight s) window && nat_lt (next s) (length s.queue) then Some (next s, false) else None
 due_number window (n ∷ ns) s = Some (n, true)
 
--- what is due
+-- a packet to be sent
 pub record Due : Type 0 where
   pub number : ℕ
   pub again : Bool
@@ -134,6 +138,7 @@ abbrev pub due_at : List Queued → Option (ℕ × Bool) → Option Due
 due_at queue None = None
 due_at queue (Some p) = due_of p.0 p.1 (slice_get queue p.0)
 
+-- the next packet to be sent
 abbrev pub due : (window : ℕ) → Sending → Option Due
 due window s = due_at s.queue (due_number window (lost s) s)
 
@@ -141,14 +146,14 @@ abbrev pub sent_number : Option (ℕ × Bool) → Sending → Sending
 sent_number None s = s
 sent_number (Some p) s = sent p.0 s
 
--- after what is due was sent
+-- after the next packet was sent
 abbrev pub after_due : (window : ℕ) → Sending → Sending
 after_due window s = sent_number (due_number window (lost s) s) s
 
--- all were queued at this time or before
+-- no payload was queued later than this time
 abbrev pub IsTimely : (now : ℕ) → Sending → Type 0
 IsTimely now s = All (λ q. q.origin ≤ now) s.queue
 
--- those that are gone were queued before this time
+-- all expired payloads were queued before this time
 abbrev pub IsLater : (before : ℤ) → Sending → Type 0
 IsLater before s = s.expired ≤ queued_before before s.queue

@@ -1,4 +1,4 @@
--- What the buffer's fields stand for.
+-- What a buffer's fields represent.
 use Rattle.std.specs.Prelude.{◌≡◌, ℕ, ◌+◌, ◌-◌, ◌%◌, ◌^◌, ◌<◌, ◌≤◌, ⊤, Bool, true, Option, None, Some, List, [], ◌∷◌, All, length, slice_get, min}
 use Rattle.srt_seq.specs.Window.{word_of}
 use Rattle.srt_seq.specs.Counts.{message_number, message_of}
@@ -6,16 +6,18 @@ use Rattle.srt_sendbuf.specs.Sending.{Queued, Sending, front, base, next, is_mar
 use Rattle.srt_sendbuf.specs.Places.{Kept, kept_at, lost_at, length_of, width_of}
 use Rattle.srt_sendbuf.specs.declared.buffer.SendBuf.{SendBuf}
 
--- each was queued at the time of the one before, or later
+-- the payloads are in the order of their times
 abbrev pub IsInOrder : List Queued → Type 0
 IsInOrder [] = ⊤
 IsInOrder (q ∷ qs) = All (λ p. q.origin ≤ p.origin) qs × IsInOrder qs
 
+-- the packet that is kept for a number of the queue
 abbrev pub kept_as : (number : ℕ) → Option Queued → Option Kept
 kept_as number None = None
 kept_as number (Some q) = Some (record { origin = q.origin; message = message_number number; payload = q.payload })
 
--- the numbers from front to the queue's end stand in order from the first place on; lost ones stand from low on and before high
+-- the numbers from the front to the queue's end have the places from 0 on, in order; lost ones have places from low
+-- on and before high
 pub record IsKept (initial word behind queued flying low high base_message end_message : ℕ) (kept : ℕ → Option Kept) (lost : ℕ → Bool) (r : Sending) : Type 0 where
   pub word_is : word ≡ (initial + front r) % 2 ^ 31
   pub behind_is : behind ≡ min (front r - r.acked) 16384
@@ -29,12 +31,12 @@ pub record IsKept (initial word behind queued flying low high base_message end_m
   pub lowest : low < high → lost low ≡ true
   pub in_order : IsInOrder r.queue
 
--- the buffer, of so many places, has what the record says of a stream with this initial number
+-- a buffer of this width represents `r`, a stream with this initial number
 pub record StandsFor (width initial : ℕ) (b : SendBuf) (r : Sending) : Type 0 where
   pub width_is : width_of b.ring ≡ width
   pub fields : IsKept initial (word_of b.front) b.behind (length_of b.ring) b.sent b.low b.high (message_of b.message) (message_of b.next_message) (kept_at b.ring) (lost_at b.ring) r
 
--- the front moved on by so many; what was queued and marked is the same
+-- the front moved on by `count`; the queue and the marks are the same
 pub record IsMoved (count behind message : ℕ) (r moved : Sending) : Type 0 where
   pub queue_is : moved.queue ≡ r.queue
   pub marks_are : moved.marks ≡ r.marks

@@ -1,4 +1,4 @@
--- Answers of the code as words of the wire (sections 3.1 and 3.2.9).
+-- Results of the code in the numbers of the packets (sections 3.1 and 3.2.9).
 use Rattle.std.specs.Prelude.{ℕ, ◌-◌, Bool, Option, None, Some, List, if◌then◌else◌}
 use Rattle.srt_seq.specs.Window.{word_of, number_word}
 use Rattle.srt_seq.specs.Counts.{message_number, message_of}
@@ -7,7 +7,7 @@ use Rattle.srt_sendbuf.specs.Sending.{Sending, Due, base, front, asks_for_gone}
 use Rattle.srt_sendbuf.specs.declared.buffer.Out.{Out}
 use Rattle.srt_sendbuf.specs.declared.buffer.DropRun.{DropRun}
 
--- a packet that is to be sent, in words
+-- a packet to be sent, with its sequence number and its message number
 pub record Told : Type 0 where
   pub number : ℕ
   pub message : ℕ
@@ -15,22 +15,25 @@ pub record Told : Type 0 where
   pub origin : ℕ
   pub payload : List ℕ
 
+-- the same of a packet whose number counts from the initial one
 abbrev pub told : (initial : ℕ) → Due → Told
 told initial d = record { number = number_word initial d.number; message = message_number d.number; again = d.again; origin = d.origin; payload = d.payload }
 
 abbrev pub told_by : Out → (payload : List ℕ) → Told
 told_by o payload = record { number = word_of o.number; message = message_of o.msg; again = o.again; origin = o.origin; payload = payload }
 
--- numbers that are gone, in words: the first, the last, and the message number of the first
+-- the contents of a drop request: the first sequence number, the last, and the message number of the first
 pub record Gone : Type 0 where
   pub first : ℕ
   pub last : ℕ
   pub message : ℕ
 
+-- all numbers from the base up to the front
 abbrev pub gone : (initial : ℕ) → Sending → Gone
 gone initial s = record { first = number_word initial (base s); last = number_word initial (front s - 1); message = message_number (base s) }
 
--- the answer to a loss list that asks for what is gone (this profile)
+-- the drop request that answers a loss list: None if the list names no number from the base up to the front (this
+-- profile)
 abbrev pub gone_for : (initial : ℕ) → List Range → Sending → Option Gone
 gone_for initial ranges s = if asks_for_gone ranges s then Some (gone initial s) else None
 

@@ -1,4 +1,4 @@
-//! The sender buffer: what is queued and not acknowledged or expired, and which of it is lost.
+//! The sender buffer: what is queued and neither acknowledged nor expired, and which packets of it are lost.
 
 ghost use Rattle.std.specs.Prelude.{◌≡◌, ℕ, ◌+◌, ◌-◌, ◌%◌, ◌^◌, ◌<◌, ◌≤◌, ◌↔◌, ◌||◌, ◌++◌, true, false, List, [], ◌∷◌, All, length, map, slice_get, option_map, is_some, min, nat_lt, IsErr, IfOk, IfSome, IfNone, OnErr};
 ghost use Rattle.std.specs.List.{list_any};
@@ -14,43 +14,42 @@ use srt_loss::{LossRef, Ranges, part_in};
 use srt_seq::{Msg26, Payload, Seq31};
 use std::alloc::{AllocError, Global};
 
-/// How far back an acknowledgement may lie, in packets (this profile).
+/// The greatest distance from the base to the front: how far back an ACK's number may be, in packets (this profile).
 const REACH: usize = 8192;
 
-/// The distance from the acknowledged number to the front is kept up to this: above `REACH`, so that no
-/// answer tells it from a greater one.
+/// The cap of `behind`. All values above `REACH` behave alike, so the counter stops here.
 const BEHIND_END: usize = 16384;
 
-/// A packet that is to be sent now, beside its bytes.
+/// The header fields of a packet that is to be sent now. Its bytes are in the payload that `next_due` wrote.
 #[derive(Clone, Copy, Debug, PartialEq, Eq)]
 pub struct Out {
-    /// Its sequence number.
+    /// Its sequence number (section 3.1).
     pub number: Seq31,
-    /// Its message number.
+    /// Its message number (section 3.1).
     pub msg: Msg26,
-    /// Whether it was sent before: the packet carries R.
+    /// Whether it was sent before, so that the packet has the flag R (section 3.1).
     pub again: bool,
-    /// When its payload was queued.
+    /// The time that `queue` was given with its payload, in microseconds.
     pub origin: u64,
 }
 
-/// Numbers that are asked for and gone: the first, the last, and the message number of the first
-/// (section 3.2.9).
+/// The contents of a drop request (section 3.2.9): all sequence numbers from the base up to the front, which are
+/// expired and not acknowledged. `SendBuf::lose` returns it if a loss list names any of them.
 #[derive(Clone, Copy, Debug, PartialEq, Eq)]
 pub struct DropRun {
-    /// The first of them.
+    /// The first number.
     pub first: Seq31,
-    /// The last of them.
+    /// The last number, which belongs to the run.
     pub last: Seq31,
-    /// The message number of the first.
+    /// The message number of the first number.
     pub msg: Msg26,
 }
 
-/// No place is free.
+/// `queue` refused a payload: all places are taken.
 #[derive(Clone, Copy, Debug, PartialEq, Eq)]
 pub struct Full;
 
-/// The message number of the packet so many packets on.
+/// The message number `steps` packets later. O(steps).
 fn message_after(message: Msg26, steps: usize) -> Msg26
     ensures { (k : ℕ) → message_of message ≡ message_number k → message_of result ≡ message_number (k + steps) }
 {
@@ -61,24 +60,29 @@ fn message_after(message: Msg26, steps: usize) -> Msg26
     reached
 }
 
-/// What a sender keeps of one stream: a window of packets, of which the first stand for the numbers in
-/// flight and the others wait to be sent.
+/// The payloads of one stream that are queued and neither acknowledged nor expired, 8192 at most. The first of them
+/// are in flight, the others wait to be sent. The k-th payload that is queued, from 0, has the initial sequence
+/// number + k.
+///
+/// The *front* is the least number that is neither acknowledged nor expired; *next* is the first number not sent; an
+/// ACK may name the numbers from *base*, which is the least number not acknowledged but at most 8192 before the
+/// front, up to next. Times are microseconds of one clock that the caller chooses; they don't go back.
 #[derive(Drop)]
 pub struct SendBuf {
     ring: Ring,
-    /// The number of the first place.
+    /// The sequence number of the first place.
     front: Seq31,
-    /// How far the acknowledged number is behind the front, at most `BEHIND_END`.
+    /// The distance from the least number not acknowledged to the front, at most `BEHIND_END`.
     behind: usize,
-    /// How many are in flight: the places below this.
+    /// The number of packets in flight: the places below this one.
     sent: usize,
-    /// The lowest lost one, where `low` is below `high`.
+    /// The first lost place, if `low` is below `high`.
     low: usize,
-    /// No place from this on is lost.
+    /// No place from this one on is lost.
     high: usize,
-    /// The message number of the least number that an acknowledgement may bring.
+    /// The message number of the base.
     message: Msg26,
-    /// The message number of the packet that is queued next.
+    /// The message number of the payload that is queued next.
     next_message: Msg26,
     ghost queue_in: { length_of ring ≤ 8192 },
     ghost behind_in: { behind ≤ 16384 },
@@ -92,8 +96,8 @@ impl SendBuf {
     ghost use Rattle.srt_sendbuf.specs.Told.{told, told_by, gone, gone_for, gone_by};
     ghost use Rattle.srt_sendbuf.specs.Stands.{StandsFor, IsMoved};
 
-    /// An empty buffer of so many places, which has nothing of the stream with initial number 0. The only
-    /// call that takes memory.
+    /// An empty buffer of `width` packets, 32 to 8192, for a stream with the initial number 0; `start` begins any
+    /// other. The only call that takes memory; the error is a refused allocation. O(width).
     pub fn open(alloc: Global, width: u32) -> Result<SendBuf, AllocError>
         requires some { 32 ≤ width }
         requires narrow { width ≤ 8192 }
@@ -112,7 +116,8 @@ impl SendBuf {
         })
     }
 
-    /// Forgets all, and has nothing of the stream with this initial number.
+    /// Forgets everything and starts a stream whose first sequence number is `initial`. Linear in the packets that
+    /// were kept.
     pub fn start(&mut self, initial: Seq31)
         ensures { (width before : ℕ) (r : Sending) → StandsFor width before self.old r → StandsFor width (word_of initial) self.new nothing_yet }
     {
@@ -127,14 +132,16 @@ impl SendBuf {
         self.next_message = Msg26::first();
     }
 
-    /// How many more payloads find a place.
+    /// The number of payloads that can still be queued. O(1).
     pub fn room(&self) -> u32
         ensures { (width initial : ℕ) (r : Sending) → StandsFor width initial self.now r → result ≡ room width r }
     {
         (self.ring.width() - self.ring.len()) as u32
     }
 
-    /// Queues a payload; `now` is the time that comes back as `origin`. Full where there is no room.
+    /// Queues a payload, 0 to 1456 bytes, with the next sequence number. `now` is the current time in microseconds,
+    /// not before that of any earlier call; it comes back as `Out::origin`. `Full` if no place is free; then nothing
+    /// changes. O(1), one copy.
     pub fn queue(&mut self, payload: &Payload, now: u64) -> Result<(), Full>
         ensures stands { IfOk result (λ done. (width initial : ℕ) (r : Sending) → StandsFor width initial self.old r → IsTimely now r → StandsFor width initial self.new (queued now payload.now.items r)) }
         ensures full { (width initial : ℕ) (r : Sending) → StandsFor width initial self.old r → IsErr result ↔ (room width r ≡ 0) }
@@ -149,7 +156,7 @@ impl SendBuf {
         Ok(())
     }
 
-    /// How many are in flight: sent, and neither acknowledged nor expired.
+    /// The number of packets in flight: sent, and neither acknowledged nor expired. O(1).
     pub fn in_flight(&self) -> u32
         ensures { (width initial : ℕ) (r : Sending) → StandsFor width initial self.now r → result ≡ in_flight r }
     {
@@ -157,7 +164,7 @@ impl SendBuf {
         flying as u32
     }
 
-    /// Whether anything is lost.
+    /// Whether any packet in flight counts as lost. O(1).
     pub fn any_lost(&self) -> bool
         ensures { (width initial : ℕ) (r : Sending) → StandsFor width initial self.now r → result ≡ nat_lt 0 (length (lost r)) }
     {
@@ -165,14 +172,14 @@ impl SendBuf {
         span > 0
     }
 
-    /// How far the front is past the least number that an acknowledgement may bring.
+    /// The distance from the base to the front.
     fn back(&self) -> usize
         ensures value { result ≡ min self.now.behind 8192 }
     {
         self.behind.min(REACH)
     }
 
-    /// The number so far behind the front.
+    /// The sequence number `steps` before the front, 8192 at most.
     fn number_back(&self, steps: usize) -> Seq31
         requires { steps ≤ 8192 }
         ensures { (n : ℕ) → (n + steps) % 2 ^ 31 ≡ word_of self.now.front → word_of result ≡ n % 2 ^ 31 }
@@ -180,7 +187,8 @@ impl SendBuf {
         self.front.add((1 << 31) - steps as u32)
     }
 
-    /// The front moves on by so many packets.
+    /// Moves the front on by `count` packets. `behind` and `message` are the fields' values after that. O(count), and
+    /// the search for the next lost packet.
     fn move_front(&mut self, count: usize, behind: usize, message: Msg26)
         requires inside { count ≤ length_of self.old.ring }
         requires behind_in { behind ≤ 16384 }
@@ -197,7 +205,7 @@ impl SendBuf {
         self.high = high;
     }
 
-    /// How far past the least number that it may bring an acknowledgement's number stands.
+    /// The offset of an ACK's number from the base. None if it is outside base..=next.
     fn steps_of(&self, number: Seq31) -> Option<usize>
         ensures value { (width initial : ℕ) (r : Sending) → StandsFor width initial self.now r → option_map (λ d. base r + d) result ≡ acknowledged_by (counted_from initial (word_of number)) r }
         ensures below { IfSome result (λ d. d ≤ min self.now.behind 8192 + self.now.sent) }
@@ -209,8 +217,8 @@ impl SendBuf {
         }
     }
 
-    /// An acknowledgement of all numbers below this one. False where the number is outside the window of
-    /// acknowledgements; then nothing changed.
+    /// An ACK of all numbers below this one (section 3.2.4). False if the number is outside base..=next; then nothing
+    /// changes. Linear in the packets that it acknowledges.
     pub fn ack(&mut self, number: Seq31) -> bool
         ensures stands { (width initial : ℕ) (r : Sending) → StandsFor width initial self.old r → StandsFor width initial self.new (after_ack (acknowledged_by (counted_from initial (word_of number)) r) r) }
         ensures answer { (width initial : ℕ) (r : Sending) → StandsFor width initial self.old r → result ≡ is_some (acknowledged_by (counted_from initial (word_of number)) r) }
@@ -229,8 +237,8 @@ impl SendBuf {
         true
     }
 
-    /// Whether an acknowledgement of all numbers below this one would bring a greater number than all
-    /// before it.
+    /// Whether an ACK with this number acknowledges more than all before it. False if the number is outside
+    /// base..=next. O(1).
     pub fn grows(&self, number: Seq31) -> bool
         ensures { (width initial : ℕ) (r : Sending) → StandsFor width initial self.now r → result ≡ is_growth (acknowledged_by (counted_from initial (word_of number)) r) r }
     {
@@ -240,7 +248,9 @@ impl SendBuf {
         }
     }
 
-    /// Drops what was queued before a time, sent or not. Answers how many packets are gone by it.
+    /// Drops the packets that were queued before a time, in microseconds, sent or not (section 4.6). A time of 0 or
+    /// less drops nothing, and times don't go back. Returns the number of packets that it dropped. Linear in that
+    /// number.
     pub fn expire(&mut self, before: i64) -> u32
         ensures stands { (width initial : ℕ) (r : Sending) → StandsFor width initial self.old r → IsLater before r → StandsFor width initial self.new (expired_before before r) }
         ensures count { (width initial : ℕ) (r : Sending) → StandsFor width initial self.old r → IsLater before r → front r + result ≡ front (expired_before before r) }
@@ -253,8 +263,7 @@ impl SendBuf {
         count as u32
     }
 
-    /// Of the numbers in flight those that a range asks for are lost. Those of the run are passed over if
-    /// the range begins in it.
+    /// Marks the numbers of a range that are in flight as lost. Those in `run` are skipped if the range begins in it.
     fn lose_range(&mut self, run: &mut Marked, range: (Seq31, Seq31))
         requires short { span (range_of range) < 2 ^ 30 }
         requires marked { (d : ℕ) → run.old.from ≤ d → d < run.old.end → lost_at self.old.ring d ≡ true }
@@ -275,8 +284,8 @@ impl SendBuf {
         }
     }
 
-    /// Of the numbers in flight those that some ranges ask for are lost. In ascending order each is marked
-    /// once, whatever the ranges have in common.
+    /// Marks the numbers of some ranges that are in flight as lost. If the ranges are in ascending order, each number
+    /// is marked once, however much they overlap.
     fn lose_part(&mut self, part: &[(Seq31, Seq31)])
         requires { All (λ r. span (range_of r) < 2 ^ 30) part.now }
         ensures { (width initial : ℕ) (r : Sending) (taken : List Range) → StandsFor width initial self.old (asked taken r) → StandsFor width initial self.new (asked (ranges_from initial (map range_of part.now) ++ taken) r) }
@@ -289,8 +298,7 @@ impl SendBuf {
         }
     }
 
-    /// Of the numbers in flight those that the next ranges of a list ask for are lost. Returns false if
-    /// none are left.
+    /// Marks the numbers of a list's next ranges that are in flight as lost. Returns false if no range is left.
     fn lose_next(&mut self, ranges: &mut Ranges<'_>) -> bool
         ensures stands { (width initial : ℕ) (r : Sending) (taken : List Range) → StandsFor width initial self.old (asked taken r) → (more : List Range) × StandsFor width initial self.new (asked more r) × ((n : ℕ) → (is_asked taken n || is_asked (ranges_from initial ranges.old) n) ≡ (is_asked more n || is_asked (ranges_from initial ranges.new) n)) }
         ensures shorter { result ≡ true → length ranges.new < length ranges.old }
@@ -301,7 +309,7 @@ impl SendBuf {
         part.len() > 0
     }
 
-    /// Whether a range asks for a number that is gone, and that an acknowledgement may still bring.
+    /// Whether a range names a number from the base up to the front: one that is expired and not acknowledged.
     fn asks_gone(&self, range: (Seq31, Seq31)) -> bool
         requires short { span (range_of range) < 2 ^ 30 }
         ensures { (width initial : ℕ) (r : Sending) → StandsFor width initial self.now r → result ≡ list_any (is_in (range_from initial (range_of range))) (numbers_from (base r) (front r - base r)) }
@@ -313,7 +321,7 @@ impl SendBuf {
         }
     }
 
-    /// Whether one of a list's ranges does.
+    /// Whether any range of a list does. Linear in its ranges.
     fn asks_any_gone(&self, losses: &LossRef<'_>) -> bool
         ensures { (width initial : ℕ) (r : Sending) → StandsFor width initial self.now r → result ≡ asks_for_gone (ranges_from initial losses.now) r }
     {
@@ -326,7 +334,7 @@ impl SendBuf {
         false
     }
 
-    /// The numbers that are gone, and that an acknowledgement may still bring.
+    /// The numbers from the base up to the front. Only for a base below the front.
     fn gone(&self) -> DropRun
         ensures { (width initial : ℕ) (r : Sending) → StandsFor width initial self.now r → base r < front r → gone_by result ≡ gone initial r }
     {
@@ -337,9 +345,11 @@ impl SendBuf {
         }
     }
 
-    /// A loss list: of the numbers in flight those that it asks for are lost. Returns the numbers that
-    /// are gone if it asks for one of them. Costs by the list's ranges and by the numbers that are lost by
-    /// it, each of which is marked once, and not by the widths of its ranges.
+    /// A loss list (NAK, sections 3.2.5 and 4.8.2): marks the numbers in flight that it names as lost. If it names
+    /// any number from the base up to the front, which are expired and not acknowledged, returns the run of all of
+    /// these, for a drop request (this profile). Linear in the list's ranges and in the numbers in flight that they
+    /// name. If the ranges name more than 8192 numbers in all, they are sorted first, so that each number is marked
+    /// once. Takes no memory.
     pub fn lose(&mut self, losses: &LossRef<'_>) -> Option<DropRun>
         ensures stands { (width initial : ℕ) (r : Sending) → StandsFor width initial self.old r → StandsFor width initial self.new (asked (ranges_from initial losses.now) r) }
         ensures answer { (width initial : ℕ) (r : Sending) → StandsFor width initial self.old r → option_map gone_by result ≡ gone_for initial (ranges_from initial losses.now) r }
@@ -350,7 +360,7 @@ impl SendBuf {
         if gone { Some(self.gone()) } else { None }
     }
 
-    /// All numbers in flight are lost.
+    /// Marks all numbers in flight as lost. Linear in their number.
     pub fn lose_all(&mut self)
         ensures { (width initial : ℕ) (r : Sending) → StandsFor width initial self.old r → StandsFor width initial self.new (all_lost r) }
     {
@@ -359,7 +369,7 @@ impl SendBuf {
         self.high = self.sent;
     }
 
-    /// The packet at a place; its bytes go into the payload.
+    /// The packet of a place; its bytes replace those of `payload`.
     fn out(&self, at: usize, again: bool, payload: &mut Payload) -> Option<Out>
         requires { at < length_of self.now.ring }
         ensures answer { (width initial : ℕ) (r : Sending) → StandsFor width initial self.now r → option_map (λ o. told_by o payload.new.items) result ≡ option_map (told initial) (due_of (front r + at) again (slice_get r.queue (front r + at))) }
@@ -375,7 +385,7 @@ impl SendBuf {
         })
     }
 
-    /// The lowest lost one was sent.
+    /// Notes that the lowest lost packet was sent again.
     fn sent_again(&mut self)
         requires { self.old.low < self.old.high }
         ensures { (width initial : ℕ) (r : Sending) → StandsFor width initial self.old r → StandsFor width initial self.new (sent (front r + self.old.low) r) }
@@ -384,7 +394,7 @@ impl SendBuf {
         self.low = self.ring.find_lost(self.low + 1, self.high);
     }
 
-    /// The first one that was not in flight was sent.
+    /// Notes that the first packet not in flight was sent.
     fn sent_new(&mut self)
         requires { self.old.sent < length_of self.old.ring }
         ensures { (width initial : ℕ) (r : Sending) → StandsFor width initial self.old r → StandsFor width initial self.new (sent (front r + self.old.sent) r) }
@@ -393,7 +403,8 @@ impl SendBuf {
         self.sent += 1;
     }
 
-    /// Whether a packet is due: one is lost, or a new one waits and fewer than `window` are in flight.
+    /// Whether `next_due` would return a packet: one is lost, or a new one waits and fewer than `window` (the flow
+    /// window, in packets) are in flight. O(1).
     pub fn is_due(&self, window: u32) -> bool
         ensures { (width initial : ℕ) (r : Sending) → StandsFor width initial self.now r → result ≡ is_some (due_number window (lost r) r) }
     {
@@ -406,8 +417,10 @@ impl SendBuf {
         self.sent < self.ring.len()
     }
 
-    /// The packet that is due, which counts as sent: the lowest lost one, and where there is none the next
-    /// new one, if fewer than `window` are in flight. Its bytes go into the payload, over what it held.
+    /// Takes the next packet to be sent, which then counts as sent: the lowest lost one (section 4.8.2), or if none
+    /// is lost, the next new one if fewer than `window` (the flow window, in packets) are in flight (section 3.2.4).
+    /// Its bytes replace those of `payload`, one copy. None if no packet is due; then `payload` is unchanged. The
+    /// cost is that of the search for the next lost packet, see `Ring::find_lost`.
     pub fn next_due(&mut self, window: u32, payload: &mut Payload) -> Option<Out>
         ensures stands { (width initial : ℕ) (r : Sending) → StandsFor width initial self.old r → StandsFor width initial self.new (after_due window r) }
         ensures answer { (width initial : ℕ) (r : Sending) → StandsFor width initial self.old r → option_map (λ o. told_by o payload.new.items) result ≡ option_map (told initial) (due window r) }

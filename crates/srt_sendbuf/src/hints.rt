@@ -1,14 +1,14 @@
-//! Which blocks of slots may have a lost place.
+//! Hints that let the search for lost packets skip blocks of slots.
 
 ghost use Rattle.std.specs.Prelude.{◌≡◌, ℕ, ◌<◌, ◌≤◌, ◌/◌, ◌==◌, true, false, if◌then◌else◌};
 
-/// How many slots a block has.
+/// The number of slots in a block.
 pub const BLOCK: usize = 64;
 
-/// How many blocks there may be.
+/// The number of blocks: 8192 slots in all.
 const BLOCKS: usize = 128;
 
-/// A hint for each block of 64 slots. A block without one has no lost place; one with a hint may have.
+/// A flag for each block of 64 slots. If it is off, no packet of the block is lost; if it is on, some may be.
 #[derive(Drop)]
 pub struct Hints {
     blocks: [bool; BLOCKS],
@@ -17,7 +17,7 @@ pub struct Hints {
 impl Hints {
     ghost use Rattle.srt_sendbuf.specs.Hints.{hint_at};
 
-    /// No hint at all.
+    /// All flags off.
     pub fn new() -> Hints
         ensures { (slot : ℕ) → hint_at result slot ≡ false }
     {
@@ -26,7 +26,7 @@ impl Hints {
         }
     }
 
-    /// The hint of a slot's block.
+    /// The flag of a slot's block. The slot is below 8192. O(1).
     pub fn get(&self, slot: usize) -> bool
         requires { slot < 8192 }
         ensures { result ≡ hint_at self.now slot }
@@ -34,8 +34,8 @@ impl Hints {
         self.blocks[slot / BLOCK]
     }
 
-    /// The first slot after this one, and before the end, whose block has a hint; the end where there is
-    /// none.
+    /// The first slot after `slot` and before `end` whose block's flag is on; `end` if there is none. Linear in the
+    /// blocks that it passes.
     pub fn skip(&self, slot: usize, end: usize) -> usize
         requires order { slot < end }
         requires inside { end ≤ 8192 }
@@ -55,7 +55,7 @@ impl Hints {
         end
     }
 
-    /// A slot's block gets a hint, or loses it.
+    /// Sets the flag of a slot's block. O(1).
     pub fn set(&mut self, slot: usize, hint: bool)
         requires { slot < 8192 }
         ensures { (other : ℕ) → hint_at self.new other ≡ (if other / 64 == slot / 64 then hint else hint_at self.old other) }

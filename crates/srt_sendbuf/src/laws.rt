@@ -1,14 +1,14 @@
-//! Laws of the definitions.
+//! Facts about the definitions. Each function has an empty body: its contract is the fact.
 
 ghost use Rattle.srt_sendbuf.specs.OneByOne.{ExpiryGoesOn, LostOneByOne, NewOneByOne, TimesGoOn};
 
-/// What queueing and expiry ask of their times holds on and on where times don't go back.
+/// The conditions on the times of `queue` and `expire` keep holding, as long as time doesn't go back.
 pub fn times()
     ensures queueing { TimesGoOn }
     ensures expiry { ExpiryGoesOn }
 {}
 
-/// Packets may be sent one by one.
+/// Sending packets one by one, each by `next_due`, sends the lost numbers in order and then the new ones.
 pub fn one_by_one()
     ensures lost_ones { LostOneByOne }
     ensures new_ones { NewOneByOne }

@@ -1,4 +1,4 @@
-//! Parts of a loss list, each in ascending order.
+//! Loss lists in parts, each in an order in which few numbers are marked twice.
 
 ghost use Rattle.std.specs.Prelude.{◌≡◌, ◌+◌, ◌^◌, ◌<◌, ◌||◌, ◌∷◌, Bool, List, [], All, IfSome, IfNone, length, map};
 ghost use Rattle.std.specs.List.{list_any};
@@ -10,17 +10,18 @@ use arrayvec::ArrayVec;
 use srt_loss::Ranges;
 use srt_seq::Seq31;
 
-/// As many ranges as the loss list of one datagram has at most, in 1456 bytes.
+/// The most ranges of a part: as many as one datagram's loss list has in 1456 bytes.
 pub const PART: usize = 364;
 
-/// Where a range begins, counted from 2^30 behind the front: none that reaches the front begins before.
+/// The key by which ranges are sorted: the range's first number, counted from 2^30 before the front. No range that
+/// reaches the front begins earlier.
 fn beginning(range: &(Seq31, Seq31), front: u32) -> u32
     ensures { result < 2 ^ 31 }
 {
     range.0.get().wrapping_sub(front).wrapping_add(1 << 30) & 0x7fff_ffff
 }
 
-/// Takes the first ranges of a list.
+/// Takes the next ranges off a list, at most `PART`.
 fn first_ranges(ranges: &mut Ranges<'_>) -> ArrayVec<(Seq31, Seq31), PART>
     ensures same { (test : Range → Bool) → list_any test ranges.old ≡ (list_any test (map range_of result.items) || list_any test ranges.new) }
     ensures near { All (λ r. span (range_of r) < 2 ^ 30) result.items }
@@ -37,7 +38,7 @@ fn first_ranges(ranges: &mut Ranges<'_>) -> ArrayVec<(Seq31, Seq31), PART>
     part
 }
 
-/// Whether ranges ask for more numbers than there are in flight, so that they have some in common.
+/// Whether the ranges name more than 8192 numbers in all, more than can be in flight: ranges that overlap much do.
 fn are_wide(part: &[(Seq31, Seq31)]) -> bool {
     let mut count = 0u32;
     for (first, last) in part {
@@ -47,7 +48,7 @@ fn are_wide(part: &[(Seq31, Seq31)]) -> bool {
     count > 8192
 }
 
-/// Puts ranges that have much in common in the order in which they begin; others stay as they are.
+/// Sorts ranges by their first numbers if they name more numbers than can be in flight; else leaves them as they are.
 fn sort(part: &mut ArrayVec<(Seq31, Seq31), PART>, front: Seq31)
     ensures { IsPermutation part.old.items part.new.items }
 {
@@ -59,7 +60,8 @@ fn sort(part: &mut ArrayVec<(Seq31, Seq31), PART>, front: Seq31)
         .sort_unstable_by_key(|range| beginning(range, front));
 }
 
-/// Takes the first ranges of a list, in an order in which few numbers are marked twice.
+/// Takes the next ranges off a list, at most `PART`, in an order in which few numbers are marked twice. Empty once
+/// the list is read. O(n log n) in the ranges of a part, at most; takes no memory.
 pub fn next_part(ranges: &mut Ranges<'_>, front: Seq31) -> ArrayVec<(Seq31, Seq31), PART>
     ensures same { (test : Range → Bool) → list_any test ranges.old ≡ (list_any test (map range_of result.items) || list_any test ranges.new) }
     ensures near { All (λ r. span (range_of r) < 2 ^ 30) result.items }
@@ -71,16 +73,16 @@ pub fn next_part(ranges: &mut Ranges<'_>, front: Seq31) -> ArrayVec<(Seq31, Seq3
     part
 }
 
-/// A part without its first range.
+/// A part, split after its first range.
 #[derive(Clone, Copy)]
 pub struct Rest<'a> {
-    /// The first range.
+    /// The first range, as its first and its last number.
     pub range: (Seq31, Seq31),
-    /// Those after it.
+    /// The ranges after it.
     pub more: &'a [(Seq31, Seq31)],
 }
 
-/// The first range of a part, and those after it. None if the part is empty.
+/// Splits a part after its first range. None if the part is empty.
 pub fn split(part: &[(Seq31, Seq31)]) -> Option<Rest<'_>>
     ensures some { IfSome result (λ r. part.now ≡ r.range ∷ r.more.now) }
     ensures none { IfNone result (part.now ≡ []) }

@@ -1,4 +1,4 @@
-//! Places in a ring, as many as are taken, and their payloads.
+//! The ring of packets that are kept, with their payloads.
 
 ghost use Rattle.std.specs.Prelude.{◌≡◌, ℕ, ◌+◌, ◌-◌, ◌<◌, ◌≤◌, ◌/◌, length, IfOk, vec_len, slice_get, nat_le, nat_lt, ◌==◌, ◌&&◌, true, false, Some, None, if◌then◌else◌};
 ghost use Rattle.srt_seq.specs.Counts.{message_of};
@@ -13,30 +13,33 @@ use srt_ring::PayloadRing;
 use srt_seq::{Msg26, Payload};
 use std::alloc::{AllocError, Global};
 
-/// What is kept of a packet beside its bytes.
+/// What is kept of a packet beside its payload.
 #[derive(Clone, Copy, Debug, PartialEq, Eq)]
 pub struct Place {
+    /// When its payload was queued, in microseconds.
     pub origin: u64,
+    /// Its message number.
     pub message: Msg26,
-    /// Whether it is to be sent again.
+    /// Whether it counts as lost, so that it is sent again.
     pub lost: bool,
 }
 
-/// Places in a row that are to be sent again.
+/// A half-open interval of places that are all lost.
 #[derive(Clone, Copy, Debug)]
 pub struct Marked {
-    /// The first of them.
+    /// The first place.
     pub from: usize,
-    /// The place after the last of them.
+    /// The place after the last.
     pub end: usize,
 }
 
-/// The places of the packets that are kept, and a payload for each place that there may be.
+/// The packets that are kept, oldest first, and a payload for each place of the width. A *place* is a distance from
+/// the oldest packet.
 #[derive(Drop)]
 pub struct Ring {
     places: HeapCircularBuffer<Place>,
     payloads: PayloadRing,
-    /// Which blocks of slots the search for lost ones may pass over.
+    /// Which blocks of slots the search for lost packets can skip.
     hints: Hints,
     ghost fits: { length places.items ≤ places.capacity },
     ghost as_many: { width_in payloads ≡ places.capacity },
@@ -48,7 +51,7 @@ impl Ring {
     ghost use Rattle.srt_ring.specs.Ring.{payload_at};
     ghost use Rattle.srt_sendbuf.specs.Places.{kept_at, kept_of, lost_at, length_of, width_of, is_old};
 
-    /// No packets. The only call that takes memory.
+    /// An empty ring of `width` places. The only call that takes memory; the error is a refused allocation. O(width).
     pub fn open(alloc: Global, width: usize) -> Result<Ring, AllocError>
         requires some { 0 < width }
         requires narrow { width ≤ 8192 }
@@ -61,7 +64,7 @@ impl Ring {
         })
     }
 
-    /// How many places are taken.
+    /// The number of packets that are kept.
     pub fn len(&self) -> usize
         ensures value { result ≡ length_of self.now }
         ensures fits { result ≤ width_of self.now }
@@ -70,7 +73,7 @@ impl Ring {
         self.places.len()
     }
 
-    /// How many places there may be.
+    /// The number of places, 1 to 8192.
     pub fn width(&self) -> usize
         ensures value { result ≡ width_of self.now }
         ensures some { 0 < result }
@@ -79,7 +82,7 @@ impl Ring {
         self.places.capacity()
     }
 
-    /// Copies the bytes of a packet out, over what the payload held.
+    /// Replaces the bytes of `payload` by those of a place. One copy.
     pub fn copy_to(&self, at: usize, payload: &mut Payload)
         requires { at < width_of self.now }
         ensures { payload.new.items ≡ payload_at self.now.payloads at }
@@ -87,7 +90,7 @@ impl Ring {
         self.payloads.copy_to(at, payload);
     }
 
-    /// A packet comes after the last.
+    /// Appends a packet that isn't lost. The ring must have a free place. One copy.
     pub fn put(&mut self, origin: u64, message: Msg26, payload: &Payload)
         requires room { length_of self.old < width_of self.old }
         ensures width { width_of self.new ≡ width_of self.old }
@@ -99,7 +102,7 @@ impl Ring {
         self.push(origin, message, payload);
     }
 
-    /// The first free place gets the payload buffer of the first of the warm ones.
+    /// Gives the first free place a warm buffer, if there is one. See `PayloadRing`.
     fn warm_up(&mut self)
         requires room { length_of self.old < width_of self.old }
         ensures width { width_of self.new ≡ width_of self.old }
@@ -115,7 +118,7 @@ impl Ring {
         }
     }
 
-    /// A packet comes after the last, and fills the payload buffer of its place.
+    /// Appends a packet, and copies its payload into the buffer of its place.
     fn push(&mut self, origin: u64, message: Msg26, payload: &Payload)
         requires room { warm_of self.old.payloads + length_of self.old < width_of self.old }
         ensures width { width_of self.new ≡ width_of self.old }
@@ -131,7 +134,7 @@ impl Ring {
         });
     }
 
-    /// The first place goes.
+    /// Removes the oldest packet, if there is one. O(1).
     pub fn slide(&mut self)
         ensures width { width_of self.new ≡ width_of self.old }
         ensures length { length_of self.new ≡ length_of self.old - 1 }
@@ -143,7 +146,7 @@ impl Ring {
             .advance(self.places.capacity() - self.places.len());
     }
 
-    /// The first places go, so many of them.
+    /// Removes the `count` oldest packets. O(count).
     pub fn slide_by(&mut self, count: usize)
         ensures width { width_of self.new ≡ width_of self.old }
         ensures length { length_of self.new ≡ length_of self.old - count }
@@ -155,7 +158,7 @@ impl Ring {
         }
     }
 
-    /// A packet is to be sent again, or no longer.
+    /// Sets whether the packet of a place is lost. O(1).
     pub fn mark(&mut self, at: usize, lost: bool)
         requires { at < length_of self.old }
         ensures width { width_of self.new ≡ width_of self.old }
@@ -172,7 +175,7 @@ impl Ring {
         }
     }
 
-    /// Whether a packet is to be sent again.
+    /// Whether the packet of a place is lost; false past the last. O(1).
     pub fn is_lost(&self, at: usize) -> bool
         ensures { result ≡ lost_at self.now at }
     {
@@ -182,7 +185,7 @@ impl Ring {
         }
     }
 
-    /// The first lost one from here on and before the end; the end where there is none.
+    /// The first lost place from `from` on and before `end`; `end` if there is none. Looks at each place.
     fn walk(&self, from: usize, end: usize) -> usize
         requires { from ≤ end }
         ensures low { from ≤ result }
@@ -198,7 +201,7 @@ impl Ring {
         end
     }
 
-    /// How far the places go whose slots follow this place's in its block.
+    /// The place after the last one whose slot is in the same block, before the ring's slots wrap.
     fn block_end(&self, at: usize) -> usize
         requires { at < width_of self.now }
         ensures { at < result }
@@ -208,7 +211,7 @@ impl Ring {
         at + left.min(self.places.capacity() - slot)
     }
 
-    /// Whether no place of the block of a slot is lost.
+    /// Whether no place of a slot's block is lost. Looks at each of its 64 slots.
     fn is_free(&self, slot: usize) -> bool
         requires { slot < width_of self.now }
         ensures { result ≡ true → (d : ℕ) → d < width_of self.now → slot_of (width_of self.now) (first_of self.now.payloads) d / 64 ≡ slot / 64 → lost_at self.now d ≡ false }
@@ -223,7 +226,7 @@ impl Ring {
         true
     }
 
-    /// A place's block loses its hint where nothing of it is lost.
+    /// Turns off the flag of a place's block if none of its places is lost.
     fn settle(&mut self, at: usize)
         requires { at < width_of self.old }
         ensures width { width_of self.new ≡ width_of self.old }
@@ -237,7 +240,8 @@ impl Ring {
         }
     }
 
-    /// How far the places go from one on whose blocks have no hint, before the end or the last slot.
+    /// The next place after `at` whose block's flag is on; at most `end`, or the place where the ring's slots wrap.
+    /// Nothing before it is lost.
     fn skip(&self, at: usize, end: usize) -> usize
         requires order { at < end }
         requires inside { end ≤ width_of self.now }
@@ -251,8 +255,8 @@ impl Ring {
         at + (self.hints.skip(slot, last) - slot)
     }
 
-    /// A place from which on the search for a lost one goes on, past one that isn't lost: none before it
-    /// is lost. Blocks without a hint are passed over, and one that was searched in vain loses its hint.
+    /// For a place that isn't lost: the next place at which the search for a lost one continues. Nothing before it is
+    /// lost. Skips blocks whose flag is off, and turns off the flag of a block that it searched in vain.
     fn pass(&mut self, at: usize, end: usize) -> usize
         requires order { at < end }
         requires inside { end ≤ length_of self.old }
@@ -276,9 +280,8 @@ impl Ring {
         found
     }
 
-    /// The first lost one from here on and before the end; the end where there is none. Costs by the
-    /// blocks that are passed over, and by the places of those that had a lost one since a search came
-    /// through them.
+    /// The first lost place from `from` on and before `end`; `end` if there is none. Linear in the blocks that it
+    /// skips, and in the places of blocks that had a lost place since a search last went through them.
     pub fn find_lost(&mut self, from: usize, end: usize) -> usize
         requires order { from ≤ end }
         requires inside { end ≤ length_of self.old }
@@ -301,7 +304,7 @@ impl Ring {
         end
     }
 
-    /// All from here on and before the end are to be sent again.
+    /// Marks the places from `from` on and before `end` as lost. Linear in their number.
     pub fn mark_all(&mut self, from: usize, end: usize)
         requires order { from ≤ end }
         requires inside { end ≤ length_of self.old }
@@ -315,9 +318,9 @@ impl Ring {
         }
     }
 
-    /// All from here on and before the end are to be sent again. Those that stand in the run, which are
-    /// marked, are passed over if these begin in it; then it goes on to their end, and else they are the
-    /// run.
+    /// Marks the places from `from` on and before `end` as lost. `run` is an interval that is marked already: if the
+    /// new one begins in it or just after it, only places past its end are marked, and it grows to the greater end;
+    /// else `run` becomes the new interval.
     pub fn mark_past(&mut self, run: &mut Marked, from: usize, end: usize)
         requires order { from ≤ end }
         requires inside { end ≤ length_of self.old }
@@ -338,7 +341,8 @@ impl Ring {
         }
     }
 
-    /// Whether a packet was queued before a time.
+    /// Whether the packet of a place was queued before a time, in microseconds; false past the last, and for a time
+    /// of 0 or less.
     pub fn is_before(&self, at: usize, before: i64) -> bool
         ensures { result ≡ is_old before (kept_at self.now at) }
     {
@@ -348,7 +352,8 @@ impl Ring {
         }
     }
 
-    /// How many of the first were queued before a time.
+    /// The number of oldest packets that were queued before a time, in microseconds, up to the first that wasn't.
+    /// Linear in the result.
     pub fn count_before(&self, before: i64) -> usize
         ensures fits { result ≤ length_of self.now }
         ensures before { (d : ℕ) → d < result → is_old before (kept_at self.now d) ≡ true }
@@ -363,7 +368,7 @@ impl Ring {
         end
     }
 
-    /// The packet at a place.
+    /// The record of the packet of a place. None past the last.
     pub fn place(&self, at: usize) -> Option<Place>
         ensures { result ≡ slice_get self.now.places.items at }
     {

@@ -1,4 +1,4 @@
-//! Rows of what is queued, sent, lost and gone.
+//! Worked examples of queueing, sending, loss, acknowledgement and expiry.
 
 mod plain;
 mod random;
@@ -31,9 +31,9 @@ enum Answer {
     Full,
     Count(u32),
     Is(bool),
-    /// Its number, its message number, whether it is sent again, its time, and its one byte.
+    /// Its sequence number, its message number, whether it is sent again, its time, and its one byte.
     Packet(u32, u32, bool, u64, u8),
-    /// The first number, the last, and the message number.
+    /// A drop request: the first number, the last, and the message number.
     Gone(u32, u32, u32),
 }
 
@@ -53,7 +53,7 @@ fn queued(buffer: &mut SendBuf, byte: u8, now: u64) -> Answer {
     }
 }
 
-/// What is due, over a payload that held more.
+/// The packet that is due, written over a payload that held more.
 fn due(buffer: &mut SendBuf, window: u32) -> Result<Answer, Fail> {
     let mut payload = Payload::new();
     let _ = payload.try_extend_from_slice(&[0x7a, 0x7a]);
@@ -109,7 +109,7 @@ fn taken(buffer: &mut SendBuf, step: Step) -> Result<Answer, Fail> {
     }
 }
 
-/// The first row of which the answer is another one.
+/// The index of the first row whose result differs from the expected one.
 fn other(buffer: &mut SendBuf, rows: &[(Step, Answer)]) -> Result<Option<usize>, Fail> {
     for at in 0..rows.len() {
         let (step, expected) = rows[at];
@@ -138,7 +138,7 @@ fn one_packet(rt: HostRuntime) -> Result<(), Fail> {
         (Step::Due(8192), Answer::Nothing),
         (Step::Lose(9, 9), Answer::Nothing),
         (Step::AnyLost, Answer::Is(true)),
-        // The flow window holds new packets alone.
+        // The flow window holds back only new packets.
         (Step::Due(0), Answer::Packet(9, 1, true, 1_000_000, 0x61)),
         (Step::AnyLost, Answer::Is(false)),
         (Step::Expire(1_000_000), Answer::Count(0)),
@@ -147,7 +147,7 @@ fn one_packet(rt: HostRuntime) -> Result<(), Fail> {
         (Step::AnyLost, Answer::Is(false)),
         (Step::Room, Answer::Count(32)),
         (Step::Lose(9, 9), Answer::Gone(9, 9, 1)),
-        // Once it is acknowledged, it is not told any more.
+        // Once it is acknowledged, no drop request names it.
         (Step::Grows(10), Answer::Is(true)),
         (Step::Ack(10), Answer::Is(true)),
         (Step::Lose(9, 9), Answer::Nothing),
@@ -169,13 +169,13 @@ fn acknowledgements_and_losses(rt: HostRuntime) -> Result<(), Fail> {
         (Step::Due(2), Answer::Packet(10, 2, false, 5, 2)),
         (Step::Due(2), Answer::Nothing),
         (Step::Due(3), Answer::Packet(11, 3, false, 6, 3)),
-        // 9 to 11 are in flight: 9 to 12 may come.
+        // 9 to 11 are in flight: an ACK may name 9 to 12.
         (Step::Ack(8), Answer::Is(false)),
         (Step::Ack(13), Answer::Is(false)),
         (Step::Grows(13), Answer::Is(false)),
         (Step::Grows(9), Answer::Is(false)),
         (Step::Ack(9), Answer::Is(true)),
-        // The list names the greater one first.
+        // The list has the greater number first.
         (Step::Lose(11, 10), Answer::Nothing),
         (Step::Due(0), Answer::Packet(10, 2, true, 5, 2)),
         (Step::Due(0), Answer::Packet(11, 3, true, 6, 3)),
@@ -212,11 +212,11 @@ fn unsent_packets_expire(rt: HostRuntime) -> Result<(), Fail> {
         (Step::Expire(-1), Answer::Count(0)),
         (Step::Expire(13), Answer::Count(3)),
         (Step::InFlight, Answer::Count(0)),
-        // 0 was never sent; all that are gone are told.
+        // 0 was never sent; the drop request names all expired numbers.
         (Step::Lose(0, 0), Answer::Gone(0x7fff_ffff, 1, 1)),
         (Step::Lose(2, 2), Answer::Nothing),
         (Step::Due(8192), Answer::Packet(2, 4, false, 13, 4)),
-        // An acknowledgement that stays below the front still grows.
+        // An ACK below the front still acknowledges more.
         (Step::Grows(1), Answer::Is(true)),
         (Step::Ack(1), Answer::Is(true)),
         (Step::Ack(0), Answer::Is(false)),

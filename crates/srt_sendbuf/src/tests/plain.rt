@@ -1,13 +1,13 @@
-//! The sender as a slow program over a plain list: numbers count on past 2^31, all that was queued is kept, and each
-//! question goes over it anew.
+//! The reference: a slow sender over a plain list. Its numbers count on past 2^31, it keeps all that was queued, and
+//! it computes each result from the whole list.
 
 use srt_seq::Seq31;
 use std::alloc::{AllocError, Global};
 
-/// How many numbers go round the circle.
+/// The number of sequence numbers before they wrap.
 const CIRCLE: u64 = 1 << 31;
 
-/// How far back an acknowledgement may lie.
+/// How many packets before the front an ACK's number may be.
 const REACH: u64 = 8192;
 
 /// A payload of one byte.
@@ -18,7 +18,7 @@ struct Queued {
     lost: bool,
 }
 
-/// What is to be sent.
+/// A packet to be sent.
 #[derive(Clone, Copy, PartialEq, Eq)]
 pub(super) struct Due {
     pub number: Seq31,
@@ -28,7 +28,7 @@ pub(super) struct Due {
     pub byte: u8,
 }
 
-/// What is gone.
+/// The contents of a drop request.
 #[derive(Clone, Copy, PartialEq, Eq)]
 pub(super) struct Gone {
     pub first: Seq31,
@@ -36,14 +36,14 @@ pub(super) struct Gone {
     pub message: u64,
 }
 
-/// The wire's numbers from the first on to the last.
+/// The sequence numbers from the first to the last.
 #[derive(Clone, Copy)]
 pub(super) struct Asked {
     pub first: Seq31,
     pub last: Seq31,
 }
 
-/// The k-th that was queued has the number k on from the initial one.
+/// The k-th payload that was queued has the initial number + k.
 #[derive(Drop)]
 pub(super) struct Plain {
     width: u64,
@@ -70,7 +70,7 @@ impl Plain {
         }
     }
 
-    /// The wire's number of the k-th.
+    /// The sequence number of the k-th.
     pub(super) fn wire(&self, k: u64) -> Seq31 {
         Seq31::ZERO.add((self.initial.wrapping_add(k) % CIRCLE) as u32)
     }
@@ -111,7 +111,7 @@ impl Plain {
         self.first_lost().is_some()
     }
 
-    /// False where there is no room.
+    /// False if there is no room.
     pub(super) fn push(&mut self, origin: u64, byte: u8) -> Result<bool, AllocError> {
         if self.room() == 0 {
             return Ok(false);
@@ -124,7 +124,7 @@ impl Plain {
         Ok(true)
     }
 
-    /// The number that an acknowledgement brings.
+    /// The number that an ACK names.
     fn acknowledged(&self, number: Seq31) -> Option<u64> {
         for k in self.base()..self.next().wrapping_add(1) {
             if self.wire(k) == number {
@@ -151,7 +151,7 @@ impl Plain {
         }
     }
 
-    /// How many more are gone.
+    /// The number of packets that this expires.
     pub(super) fn expire(&mut self, before: i64) -> u64 {
         let front = self.front();
         let mut expired = 0u64;

@@ -1,4 +1,4 @@
-//! Random operations on the buffer and on the plain program beside it.
+//! Random operations on the buffer and on the reference program, which must agree.
 
 ghost use Rattle.std.specs.Prelude.{◌≤◌};
 
@@ -13,7 +13,7 @@ use std::test::Fail;
 #[derive(Clone, Copy, PartialEq, Eq)]
 enum Peer {
     Acknowledges,
-    /// It says nothing for a long time, and all expires.
+    /// It sends nothing for a long time, and everything expires.
     Sleeps,
 }
 
@@ -24,7 +24,7 @@ struct Dice {
 }
 
 impl Dice {
-    /// A number below a count; 0 where that is 0.
+    /// A number below a count; 0 if the count is 0.
     fn below(&mut self, count: u32) -> u32 {
         self.state = self
             .state
@@ -35,7 +35,7 @@ impl Dice {
     }
 }
 
-/// A stream in both.
+/// One stream in both programs.
 #[derive(Drop)]
 struct Both {
     alloc: Global,
@@ -45,7 +45,7 @@ struct Both {
     now: u32,
     before: i64,
     ours: SendBuf,
-    /// Where what is due is written.
+    /// The payload that `next_due` writes.
     payload: Payload,
     plain: Plain,
 }
@@ -99,14 +99,14 @@ impl Both {
         })
     }
 
-    /// A stream that begins up to a window before the numbers go round.
+    /// Starts a stream up to a window before the sequence numbers wrap.
     fn start(&mut self) {
         let initial = 0x7fff_ffffu32.wrapping_sub(self.dice.below(self.width));
         self.plain = Plain::new(self.alloc, self.width, initial);
         self.ours.start(self.plain.wire(0));
     }
 
-    /// A number near those in flight, one that is gone, or anywhere.
+    /// A sequence number near those in flight, an expired one, or any other.
     fn number(&mut self) -> Seq31 {
         let plain = &self.plain;
         let flying = (plain.in_flight() & 0xffff) as u32;
@@ -127,7 +127,7 @@ impl Both {
         }
     }
 
-    /// Numbers near those in flight, few or many.
+    /// A range near the numbers in flight, narrow or wide.
     fn asked(&mut self) -> Asked {
         let first = self.number();
         let few = self.dice.below(5);
@@ -152,7 +152,7 @@ impl Both {
         Ok(ours == self.plain.push(origin, byte)?)
     }
 
-    /// So many payloads, as far as there is room.
+    /// Queues a random number of payloads, as long as there is room.
     fn fill(&mut self) -> Result<bool, AllocError> {
         for _ in 0..self.dice.below(self.width) {
             if !self.queue()? {
@@ -162,7 +162,7 @@ impl Both {
         Ok(true)
     }
 
-    /// The peer sleeps on: much is queued, and nothing of it is acknowledged.
+    /// The peer stays silent: much is queued, and nothing of it is acknowledged.
     fn sleep(&mut self) -> Result<bool, AllocError> {
         for _ in 0..32 {
             if !self.fill()? || !self.expire() {
@@ -202,7 +202,7 @@ impl Both {
         self.ours.ack(number) == self.plain.ack(number)
     }
 
-    /// Expires what was queued before a time that doesn't go back.
+    /// Expires what was queued before a time; these times don't go back.
     fn expire(&mut self) -> bool {
         let late = match self.peer {
             Peer::Acknowledges => 40,
@@ -228,7 +228,7 @@ impl Both {
         ours == self.plain.lose(&[one, two])
     }
 
-    /// One operation. Whether both answer the same.
+    /// Does one operation. Returns whether both programs gave the same result.
     fn step(&mut self) -> Result<bool, AllocError> {
         match self.dice.below(40) {
             0 if self.dice.below(40) == 0 => {
@@ -257,7 +257,7 @@ impl Both {
             && self.ours.any_lost() == self.plain.any_lost()
     }
 
-    /// The first step after which the two differ.
+    /// The index of the first step after which the two differ.
     fn difference(&mut self, steps: u32) -> Result<Option<u32>, AllocError> {
         self.start();
         for step in 0..steps {

@@ -5,7 +5,7 @@ use Rattle.srt_seq.specs.Runs.{Range, span}
 use Rattle.srt_loss.specs.Text.{range_of}
 use Rattle.srt_sendbuf.proofs.parts.first_ranges.Given as goal
 
--- the ranges of the part were the first
+-- the part has the first ranges of the list
 abbrev pub invariant-loop-ranges : goal.invariant-loop-ranges
 invariant-loop-ranges l =
     record {

@@ -4,7 +4,7 @@ use Rattle.srt_sendbuf.specs.Sending.{Sending, asks_for_gone}
 use Rattle.srt_sendbuf.specs.Stands.{StandsFor}
 use Rattle.srt_sendbuf.proofs.buffer.SendBuf.asks_any_gone.Given as goal
 
--- the ranges that were looked at ask for nothing that is gone
+-- the ranges that were read name no number from the base up to the front
 abbrev pub invariant-loop-range : goal.invariant-loop-range
 invariant-loop-range l = (width initial : ℕ) (r : Sending) → StandsFor width initial l.fn.self r → asks_for_gone (ranges_from initial l.losses) r ≡ asks_for_gone (ranges_from initial l.ranges) r
 

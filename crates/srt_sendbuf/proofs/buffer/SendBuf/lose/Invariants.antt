@@ -4,7 +4,7 @@ use Rattle.srt_sendbuf.specs.Sending.{Sending, asked}
 use Rattle.srt_sendbuf.specs.Stands.{StandsFor}
 use Rattle.srt_sendbuf.proofs.buffer.SendBuf.lose.Given as goal
 
--- the ranges that were taken count as asked for
+-- the ranges that were read count as asked for
 abbrev pub invariant-loop-ranges : goal.invariant-loop-ranges
 invariant-loop-ranges l =
     (width initial : ℕ) (r : Sending) → StandsFor width initial l.fn.self r

@@ -7,7 +7,7 @@ use Rattle.srt_sendbuf.specs.Sending.{Sending, asked}
 use Rattle.srt_sendbuf.specs.Stands.{StandsFor}
 use Rattle.srt_sendbuf.proofs.buffer.SendBuf.lose_part.Given as goal
 
--- the ranges that were gone through count as asked for
+-- the ranges that were read count as asked for
 abbrev pub invariant-loop-next : goal.invariant-loop-next
 invariant-loop-next l =
     record {
