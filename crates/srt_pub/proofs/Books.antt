@@ -1,4 +1,4 @@
--- The book of the Full ACKs that the notes have.
+-- The book of the Full ACKs in the notes.
 use Rattle.std.proofs.Common.{◌≡◌, ℕ, suc, zero, ◌+◌, ◌<◌, Bool, true, false, cond, not, if◌then◌else◌, ◌||◌, Option, Some, None, List, [], ◌∷◌, length, map, take, refl, sym, ap, ◌∙◌, arith}
 use Rattle.std.specs.Prelude.{◌==◌, slice_get, option_map}
 use Rattle.std.specs.List.{find, position, position_or_len}
@@ -51,7 +51,7 @@ place_mapped g p (x ∷ xs) = on_step (p (g x)) _ _ (place_mapped g p xs)
     on_step true m n e = refl
     on_step false m n e = ap (λ k. 1 + k) e
 
--- what a number confirms is the same in both
+-- a number confirms the same Full ACK in the book and in the notes
 pub same_waiting : (number : ℕ) (notes : List Note) → book.waiting number (book_of notes) ≡ option_map (noted_of notes) (confirmed_by number notes)
 unfolding book_of confirmed_by
 same_waiting number notes =
@@ -62,7 +62,7 @@ no_option : (g : Full → book.Noted) (o : Option Full) → None ≡ option_map 
 no_option g None e = refl
 no_option g (Some f) e = cc
 
--- a number that has no place confirms nothing
+-- a number without a place in the book confirms nothing
 pub confirms_none : (number : ℕ) (notes : List Note) → book.waiting_place number (book_of notes) ≡ None → confirmed_by number notes ≡ None
 confirms_none number notes e = no_option (noted_of notes) (confirmed_by number notes) (sym (not_found (book_of notes) number e) ∙ same_waiting number notes)
 

@@ -1,4 +1,4 @@
--- The bytes of what is sent.
+-- The bytes of the packets that a session sends.
 use Rattle.std.proofs.Common.{◌≡◌, ◌≢◌, ℕ, ◌%◌, ◌^◌, ◌<◌, Bool, true, false, cond, List, [], ◌∷◌, ◌++◌, length, map, refl, ap, ◌∙◌, arith}
 use Rattle.srt_seq.specs.Window.{word_of, number_word}
 use Rattle.srt_seq.specs.Counts.{ack_number}
@@ -44,7 +44,7 @@ of_runs : (initial : ℕ) (rs : List Run) → map range_pair (map (run_words ini
 of_runs initial [] = refl
 of_runs initial (r ∷ rs) = ap (λ qs. range_said initial r ∷ qs) (of_runs initial rs)
 
--- the words of runs that a buffer says
+-- the sequence numbers of a buffer's runs
 pub same_losses : (initial : ℕ) (pairs : List (Seq31 × Seq31)) (rs : List Run) → words_of pairs ≡ map (run_words initial) rs → loss_words (map range_of pairs) ≡ losses_said initial rs
 same_losses initial pairs rs e = ap loss_words (of_pairs pairs ∙ ap (map range_pair) e ∙ of_runs initial rs)
 
@@ -52,7 +52,7 @@ some_words : (b : Bool) (x y z : ℕ) (more : List ℕ) → 0 < length (cond b (
 some_words true x y z more = omega arith
 some_words false x y z more = omega arith
 
--- runs have words
+-- each run has sequence numbers
 pub have_words : (initial : ℕ) (rs : List Run) → rs ≢ [] → 0 < length (losses_said initial rs)
 have_words initial [] ne = absurd (ne refl)
 have_words initial (r ∷ rs) ne = some_words _ _ _ _ _
@@ -67,7 +67,7 @@ some_some initial [] rs e p = absurd (p refl)
 some_some initial (x ∷ pairs) [] e p = cc
 some_some initial (x ∷ pairs) (r ∷ rs) e p = λ q. cc
 
--- one report, where there are runs
+-- one packet, if there are runs
 pub nak_some : (all : Bool) (rs : List Run) → rs ≢ [] → nak_with all rs ≡ nak_report all rs ∷ []
 nak_some all [] ne = absurd (ne refl)
 nak_some all (r ∷ rs) ne = refl

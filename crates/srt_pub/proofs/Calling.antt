@@ -1,4 +1,4 @@
--- Payloads may be delivered one by one.
+-- Delivering payloads one by one is the same as delivering them together.
 use Rattle.std.proofs.Common.{◌≡◌, inl, inr, ℕ, suc, zero, ◌+◌, ◌-◌, ◌<◌, min, pos, Bool, true, false, cond, Option, Some, None, List, [], ◌∷◌, length, take, refl, sym, ap, subst, ◌∙◌, arith}
 use Rattle.std.specs.Prelude.{int_le, filter_map}
 use Rattle.srt_seq.specs.Runs.{numbers_from}
@@ -21,7 +21,7 @@ pub record IsGood (terms : Terms) (m : Publishing) : Type 0 where
   pub orderly : IsOrderly terms.mode terms.width m.receiving
   pub beyond : NothingBeyond terms.width m.receiving
 
--- one call, where so many payloads are left
+-- one call, with this list of payloads left
 pub data Step (terms : Terms) (time room : ℕ) (m : Publishing) (left : List Arrival) (rest : Publishing → List Arrival) : Type 0 where
   Nothing : next_delivery terms time room m ≡ None → left ≡ [] → Step terms time room m left rest
   One : (a : Arrival) (more : List Arrival) → next_delivery terms time room m ≡ Some a → waiting m.receiving ≡ a ∷ more → left ≡ a ∷ rest (after_delivery terms (Some a) m) → Step terms time room m left rest
@@ -47,7 +47,7 @@ pub record GivesAll (terms : Terms) (time room calls : ℕ) (m : Publishing) (xs
 nothing_passed : (terms : Terms) (m : Publishing) → IsGood terms m → m ≡ record m { receiving = passed terms.width [] m.receiving }
 nothing_passed terms m g = ap (λ (r : Receiving). record m { receiving = r }) (sym (settled_already terms.width m.receiving g.orderly.settled))
 
--- so many calls, where each is such a step
+-- n calls, if each is such a step
 by_steps : (terms : Terms) (time : ℕ) (left : (calls room : ℕ) → Publishing → List Arrival) → ((room : ℕ) (m : Publishing) → left 0 room m ≡ []) → ((calls room : ℕ) (m : Publishing) → IsGood terms m → Step terms time room m (left (suc calls) room m) (left calls (room_after terms.mode room))) → (calls room : ℕ) (m : Publishing) → IsGood terms m → GivesAll terms time room calls m (left calls room m)
 by_steps terms time left none step zero room m g = record {
   given = sym (none room m);
@@ -114,7 +114,7 @@ live_step terms time live calls room m g = by (waiting m.receiving) refl
     by [] w = Nothing (next ∙ ap (first_due time) w) (ap whole w)
     by (a ∷ more) w = by_due a more w (int_le a.due (pos time)) refl
 
--- buffer mode: those without a gap, where there is room
+-- buffer mode: the payloads without a gap, as long as there is room
 pub buffer_step : (terms : Terms) (time : ℕ) → terms.mode ≡ Buffer → (calls room : ℕ) (m : Publishing) → IsGood terms m → Step terms time room m (take (min (suc calls) room) (unbroken terms.width m.receiving)) (λ p. take (min calls (room_after terms.mode room)) (unbroken terms.width p.receiving))
 buffer_step terms time buffer calls room m g = elim (cases_lt m.receiving.position (ack_point terms.width m.receiving)) [
   | inl lt ↦ by (unbroken_one_by_one terms.width m.receiving in_buffer.0 g.beyond lt)

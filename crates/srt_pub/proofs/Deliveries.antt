@@ -1,4 +1,4 @@
--- What is delivered next.
+-- The payload that is delivered next.
 use Rattle.std.proofs.Common.{◌≡◌, ℕ, suc, zero, ◌+◌, ◌-◌, ◌<◌, min, ℤ, pos, Bool, true, false, cond, Some, None, List, [], ◌∷◌, take, refl, sym, ap, ◌∙◌, inl, inr, arith}
 use Rattle.std.specs.Prelude.{int_le, filter_map}
 use Rattle.std.specs.List.{take_while, prefix_len}

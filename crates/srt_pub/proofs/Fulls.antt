@@ -1,4 +1,4 @@
--- What is kept of ACKs stays right.
+-- The fields of ACKs keep representing the notes.
 use Rattle.std.proofs.Common.{◌≡◌, ◌⊎◌, inl, inr, ℕ, suc, zero, ◌+◌, ◌-◌, ◌<◌, ◌≤◌, min, Bool, true, false, cond, not, ◌||◌, ◌&&◌, Option, Some, None, List, [], ◌∷◌, length, refl, sym, ap, subst, ◌∙◌, arith}
 use Rattle.std.specs.Prelude.{nat_lt, nat_le, ◌==◌, slice_get}
 use Rattle.std.proofs.lemmas.Bool.{cases_lt, lt-ltb, le-ltb}
@@ -77,7 +77,7 @@ acks_other width position point time r notes known same last came n h =
       came_is = h.came_is ∙ sym (ap (λ k. min k 64) n.came_is);
     }
 
--- the front or the acknowledgement point moves on: none of the Full ACKs says the new pair
+-- the front or the acknowledgement point moves on: none of the Full ACKs reported the new pair
 no_pair : (width position a front point fp fa : ℕ) → 0 < front + point → a + point ≤ position + front + width → fp ≤ a → fp + fa ≤ position + width → ((a + point == fp) && (position + front + width - (a + point) == fa)) ≡ false
 no_pair width position a front point fp fa more inside le up = grind (arith, nat_tests)
 
@@ -109,7 +109,7 @@ acks_moved width position a front point notes known same last came more inside h
       came_is = h.came_is;
     }
 
--- a Full ACK is sent, which says the pair
+-- a Full ACK is sent, which reports the current pair
 reads : (d : ℕ) (x f : Full) (fs : List Full) → slice_get (x ∷ fs) d ≡ Some f → ((d ≡ 0) × (x ≡ f)) ⊎ ((e : ℕ) × (d ≡ e + 1) × (slice_get fs e ≡ Some f))
 reads zero x f fs e = inl (refl, same_full x f e)
 reads (suc d) x f fs e = inr (d, omega arith, e)

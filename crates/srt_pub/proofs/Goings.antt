@@ -1,4 +1,4 @@
--- A receiver goes on, and stays orderly.
+-- A receiver moves on, and stays orderly.
 use Rattle.std.proofs.Common.{◌≡◌, ◌⊎◌, inl, inr, ℕ, suc, zero, ◌+◌, ◌-◌, ◌*◌, ◌^◌, ◌<◌, ◌≤◌, max, Bool, true, false, not, cond, ◌||◌, ◌&&◌, Option, Some, None, List, [], ◌∷◌, length, refl, sym, ap, subst, ◌∙◌, arith, ℤ, pos}
 use Rattle.std.specs.Prelude.{nat_lt, nat_le, ◌==◌, is_some, filter_map, int_le, option_map}
 use Rattle.std.specs.List.{cons_option}
@@ -32,7 +32,7 @@ least_of test from (suc places) = by (test from) refl (least_of test (from + 1) 
     by true is h = is_least test from (suc places) _ from (found test from places true is) (record { low = omega arith; high = omega arith; here = λ lt. is })
     by false is h = is_least test from (suc places) _ _ (found test from places false is) (record { low = omega (arith, h.low); high = omega (arith, h.high); here = λ lt. h.here (omega (arith, lt)) })
 
--- what was missing may come, and nothing gets missing
+-- a missing number can be received, and no number becomes missing
 pub goes : (width : ℕ) (r s : Receiving) → r.position ≤ s.position → s.position ≤ r.position + 2 ^ 30 → ((n : ℕ) → is_missing width r n ≡ false → is_missing width s n ≡ false) → end_of r.arrivals ≤ end_of s.arrivals → GoesOn width r s
 goes width r s on near kept ends =
     let h = ack_points width r in
@@ -80,7 +80,7 @@ pub fronts_on : (a b : ℕ) (qs : List Request) → a ≤ b → Each (λ (q : Re
 fronts_on a b [] le all = tt
 fronts_on a b (q ∷ qs) le all = (omega (arith, le, all.0), fronts_on a b qs le all.1)
 
--- after settling, the number at the position wasn't given up
+-- after settling, the number at the position isn't dropped
 pub settled_stays : (width : ℕ) (r : Receiving) → Each (λ (q : Request). q.front ≤ r.position) r.requests → is_dropped width (settled width r) (settled width r).position ≡ false
 settled_stays width r fronts =
     let h = least_of (λ n. not (is_dropped width r n)) r.position width in
@@ -114,7 +114,7 @@ orderly_passed mode width r a le h =
 pub goes_passed : (width : ℕ) (r : Receiving) (a : Arrival) → width ≤ 8192 → r.position ≤ a.number → a.number ≤ r.position + width → GoesOn width r (passed width (a ∷ []) r)
 goes_passed width r a narrow low high = goes_settled width r (moved_to (a.number + 1) r) narrow (omega (arith, low)) (omega (arith, high, narrow)) (λ n e. e) (omega arith)
 
--- numbers are given up
+-- numbers are dropped
 with_range : Range → Receiving → Receiving
 with_range q r = record r { requests = record { front = r.position; range = q } ∷ r.requests }
 
@@ -144,7 +144,7 @@ by_test width q r false narrow h = record { orderly = h; goes_on = stays_put wid
 pub after_request : (width : ℕ) (q : Range) (r : Receiving) → width ≤ 8192 → IsOrderly Live width r → IsAfterRequest width r (requested width q r)
 after_request width q r narrow h = by_test width q r _ narrow h
 
--- words with their top bit set give nothing up
+-- words with their top bit set drop nothing
 pub no_request : (width : ℕ) (q : Range) (r : Receiving) → (2 ^ 31 ≤ q.first) ⊎ (2 ^ 31 ≤ q.last) → requested width q r ≡ r
 no_request width q r (inl e) = ap (λ (b : Bool). cond (b && nat_lt q.last (2 ^ 31) && nat_lt (span q) (2 ^ 30)) (settled width (record r { requests = record { front = r.position; range = q } ∷ r.requests })) r) (le-ltb q.first (2 ^ 31) e)
 no_request width q r (inr e) =
@@ -208,7 +208,7 @@ by_number mode width (Some n) payload due r some d h = by_received mode width n 
 pub after_data : (mode : Mode) (width word : ℕ) (payload : List ℕ) (due : ℤ) (r : Receiving) → 0 < length payload → (mode ≡ Buffer → due ≡ pos 0) → IsOrderly mode width r → IsAfterData mode width r (received width word payload due r)
 after_data mode width word payload due r some d h = by_number mode width (in_window word r.position width) payload due r some d h
 
--- what was received ends within the window
+-- the received numbers end within the window
 ends_below : (bound : ℕ) (xs : List Arrival) → ((n : ℕ) → bound ≤ n → is_some (arrival_of xs n) ≡ false) → end_of xs ≤ bound
 ends_below bound [] none = omega arith
 ends_below bound (a ∷ xs) none =
@@ -227,7 +227,7 @@ ends_below bound (a ∷ xs) none =
 pub end_within : (width : ℕ) (r : Receiving) → NothingBeyond width r → end_of r.arrivals ≤ r.position + width
 end_within width r beyond = ends_below (r.position + width) r.arrivals (λ n le. beyond n le)
 
--- the first that waits is one that was received, of a number from the position on and below the end
+-- the first waiting packet was received, and its number is from the position on and below the end
 pub record IsOneOf (P : Arrival → Type 0) (from end : ℕ) (a : Arrival) : Type 0 where
   pub low : from ≤ a.number
   pub high : a.number < end
@@ -289,7 +289,7 @@ after_one mode width time room r (Some a) e narrow ends h =
     let k = first_waiting (λ (x : Arrival). 0 < length x.payload) r a w.0 h.filled w.1 in
     record { orderly = orderly_passed mode width r a k.low h; goes_on = goes_passed width r a narrow k.low (omega (arith, k.high, ends)) }
 
--- a payload that is given isn't empty
+-- a delivered payload isn't empty
 pub given_some : (time room : ℕ) (r : Receiving) (is_due : Bool) (payload : List ℕ) → Each (λ (a : Arrival). 0 < length a.payload) r.arrivals → given is_due payload ≡ option_map (λ (a : Arrival). a.payload) (next_due time room r) → is_due ≡ true → 0 < length payload
 given_some time room r false payload filled e t = cc
 given_some time room r true payload filled e t = by (next_due time room r) refl e

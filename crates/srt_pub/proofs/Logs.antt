@@ -1,4 +1,4 @@
--- What is kept of all that happened stays right.
+-- The fields keep representing the notes.
 use Rattle.std.proofs.Common.{◌≡◌, ℕ, Bool, true, false, if◌then◌else◌, List, ◌∷◌, length, refl, sym, subst, ◌∙◌, arith}
 use Rattle.srt_rtt.specs.Book as book
 use Rattle.srt_seq.specs.Runs.{Run}
@@ -9,7 +9,7 @@ use Rattle.srt_pub.specs.declared.log.Log.{Log}
 use Rattle.srt_pub.proofs.Books.{book_sent}
 use Rattle.srt_pub.proofs.Fulls.{acks_other, IsNoAck}
 
--- what an ACK leaves
+-- the fields after an ACK
 pub record IsAfterAcks (time : ℕ) (rs : List Report) (notes : List Note) : Type 0 where
   pub samples_are : samples (noted time rs notes) ≡ samples notes
   pub nak_is : last_nak_of_all (noted time rs notes) ≡ last_nak_of_all notes

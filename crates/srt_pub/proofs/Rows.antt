@@ -1,4 +1,4 @@
--- What a session delivers and sends, worked out from the definitions.
+-- What a session delivers and sends, computed from the definitions.
 use Rattle.std.proofs.Common.{◌≡◌, ℕ, zero, suc, ◌+◌, true, false, Option, None, Some, List, [], ◌∷◌, length, refl}
 use Rattle.std.specs.Prelude.{map, option_map}
 use Rattle.srt_seq.specs.declared.shared.Mode.TheVariants.{Live, Buffer}
@@ -13,7 +13,8 @@ use Rattle.srt_pub.specs.Publishing.{Terms, Publishing, opened, took, deliveries
 use Rattle.srt_pub.specs.Calls.{ended}
 use Rattle.srt_pub.specs.Says.{says}
 
--- an event of a session that was opened with the stamp 0: its time, counted from the opening, what came, and the subscribers' least room
+-- an event of a session that was opened with the timestamp 0: its time since the opening, what came, and the
+-- subscribers' least room
 record Event : Type 0 where
   time : ℕ
   stamp : ℕ
@@ -58,7 +59,7 @@ confirms time number = record { time = time; stamp = 0; body = AckAck number; ro
 abbrev gives_up : (time first last : ℕ) → Event
 gives_up time first last = record { time = time; stamp = 0; body = DropRequest 0 first last; room = None }
 
--- so many numbers from this one on come at 9 ms
+-- n numbers from this one on come at 9 ms
 abbrev many : (first count : ℕ) → List Event
 many first zero = []
 many first (suc n) = comes 9_000 9_000 (first + n) 0x61 ∷ many first n
@@ -99,7 +100,7 @@ in_time : sends (live 1024 1_000_000) 7 (still 310_000 ∷ still 309_999 ∷ con
 unfolding in_window lift confirmed_by is_full_due acks_at naks reports deliveries says
 in_time = refl
 
--- of two packets behind one another the second is delivered at its moment, though one between them is missing
+-- of two packets the later one is delivered when it is due, though a number between them is missing
 abbrev waits : List Event
 waits = comes 1_000 1_000 9 0x62 ∷ comes 1_000 500 7 0x61 ∷ []
 
@@ -119,7 +120,7 @@ passed_the_gap : ((after (live 1024 100_000) 7 (still 101_000 ∷ waits)).receiv
 unfolding in_window lift confirmed_by is_full_due acks_at naks reports deliveries says
 passed_the_gap = (refl, refl)
 
--- a number that was given up is delivered if it comes
+-- a dropped number is delivered if it comes
 abbrev comes_late : List Event
 comes_late = comes 3_000 900 8 0x63 ∷ gives_up 2_000 8 8 ∷ waits
 
@@ -140,7 +141,7 @@ light_ack : sends (live 1024 120_000) 0 (many 0 64) ≡ (0x80 ∷ 2 ∷ 0 ∷ 0 
 unfolding in_window lift confirmed_by is_full_due acks_at naks reports deliveries says
 light_ack = refl
 
--- numbers go round
+-- sequence numbers wrap
 round_ack : sends (live 32 120_000) 0x7fff_ffff (still 10_000 ∷ comes 1_000 1_000 0 0x61 ∷ comes 1_000 1_000 0x7fff_ffff 0x61 ∷ []) ≡ (0x80 ∷ 2 ∷ 0 ∷ 0 ∷ 0 ∷ 0 ∷ 0 ∷ 1 ∷ 0 ∷ 0 ∷ 0x27 ∷ 0x10 ∷ 0 ∷ 0 ∷ 0 ∷ 1 ∷ 0 ∷ 0 ∷ 0 ∷ 1 ∷ 0 ∷ 1 ∷ 0x86 ∷ 0xa0 ∷ 0 ∷ 0 ∷ 0xc3 ∷ 0x50 ∷ 0 ∷ 0 ∷ 0 ∷ 0x1e ∷ 0 ∷ 0 ∷ 0 ∷ 0 ∷ 0 ∷ 0 ∷ 0 ∷ 0 ∷ 0 ∷ 0 ∷ 0 ∷ 0 ∷ []) ∷ []
 unfolding in_window lift confirmed_by is_full_due acks_at naks reports deliveries says
 round_ack = refl
@@ -157,7 +158,7 @@ past_ignored : (after (live 32 120_000) 0 (comes 0 0 32 0x61 ∷ comes 0 0 31 0x
 unfolding in_window lift confirmed_by is_full_due acks_at naks reports deliveries says
 past_ignored = refl
 
--- a window that nobody takes is full
+-- a window without a subscriber fills up
 full_window : (delivers (in_buffer 32) 100 (still 10_000 ∷ many 100 32) ≡ []) × (sends (in_buffer 32) 100 (still 10_000 ∷ many 100 32) ≡ (0x80 ∷ 2 ∷ 0 ∷ 0 ∷ 0 ∷ 0 ∷ 0 ∷ 1 ∷ 0 ∷ 0 ∷ 0x27 ∷ 0x10 ∷ 0 ∷ 0 ∷ 0 ∷ 1 ∷ 0 ∷ 0 ∷ 0 ∷ 0x84 ∷ 0 ∷ 1 ∷ 0x86 ∷ 0xa0 ∷ 0 ∷ 0 ∷ 0xc3 ∷ 0x50 ∷ 0 ∷ 0 ∷ 0 ∷ 0 ∷ 0 ∷ 0 ∷ 0 ∷ 0 ∷ 0 ∷ 0 ∷ 0 ∷ 0 ∷ 0 ∷ 0 ∷ 0 ∷ 0 ∷ []) ∷ [])
 unfolding in_window lift confirmed_by is_full_due acks_at naks reports deliveries says
 full_window = (refl, refl)
@@ -180,7 +181,7 @@ sixty_four : (length (delivers (in_buffer 128) 0 (takes 10_000 ∷ many 0 66)) �
 unfolding in_window lift confirmed_by is_full_due acks_at naks reports deliveries says
 sixty_four = (refl, refl)
 
--- of two Full ACKs the later is the last confirmed, though the earlier is confirmed after it
+-- of two Full ACKs the later one is the latest confirmed, though the earlier is confirmed after it
 abbrev two_acked : List Event
 two_acked = still 170_000 ∷ comes 160_000 1_000 8 0x63 ∷ still 150_000 ∷ two
 

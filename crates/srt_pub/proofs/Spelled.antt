@@ -1,4 +1,4 @@
--- What is decoded can be told to a session.
+-- A decoded data packet has a payload of 1 to 1456 bytes.
 use Rattle.std.proofs.Common.{ℕ, ◌<◌, ◌≤◌, List, length, drop, ap, arith, length-drop}
 use Rattle.srt_packet.specs.Grammar.{Body, Data, Packet, SpellsBody, Spells}
 use Rattle.srt_pub.specs.Calls.{payload_length}

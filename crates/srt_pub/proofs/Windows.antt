@@ -1,4 +1,4 @@
--- Words of numbers at a session's window.
+-- The sequence numbers of a session's window.
 use Rattle.std.proofs.Common.{◌≡◌, inl, inr, ℕ, ◌+◌, ◌%◌, ◌^◌, ◌<◌, ◌≤◌, Bool, true, false, not, ◌&&◌, Option, Some, None, refl, sym, ap, ◌∙◌, arith}
 use Rattle.std.specs.Prelude.{is_some, is_none, option_map}
 use Rattle.std.proofs.lemmas.Bool.{cases_lt}
@@ -14,7 +14,7 @@ use Rattle.srt_pub.specs.Publishing.{is_past_window}
 pub beyond : (width initial origin : ℕ) (b : RecvBuf) (r : Receiving) → buffers.StandsFor width initial origin b r → NothingBeyond width r
 beyond width initial origin b r h = window_ends width initial origin b r h
 
--- a word with its top bit set is no number
+-- a word with its top bit set is no sequence number
 pub no_number : (initial word position width : ℕ) → 2 ^ 31 ≤ word → in_window (counted_from initial word) position width ≡ None
 unfolding in_window
 no_number initial word position width le = grind (arith, nat_tests)

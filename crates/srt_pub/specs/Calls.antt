@@ -1,4 +1,4 @@
--- What one call of a publisher says, and what calls one after another say.
+-- What one call of a publisher gives, and what calls one after another give.
 use Rattle.std.specs.Prelude.{ℕ, zero, suc, ◌-◌, Option, None, Some, List, [], ◌∷◌, map, length, Bool, true, false, nat_le}
 use Rattle.srt_seq.specs.declared.shared.Mode.{Mode}
 use Rattle.srt_seq.specs.declared.shared.Mode.TheVariants.{Live, Buffer}
@@ -11,20 +11,22 @@ use Rattle.srt_pub.specs.Publishing.{Terms, Publishing, deliveries, loses_window
 use Rattle.srt_pub.specs.declared.ends.PubEnd.{PubEnd}
 use Rattle.srt_pub.specs.declared.ends.PubEnd.TheVariants as ends
 
--- the length of a data packet's payload; of the other kinds 1, which is in any limits
+-- the length of a data packet's payload; 1 for the other kinds, which is within all limits
 abbrev pub payload_length : Body → ℕ
 payload_length (Data number encryption payload) = length payload
 payload_length _ = 1
 
+-- the end of a session whose window is lost
 abbrev pub lost_if : Bool → Option PubEnd
 lost_if true = Some ends.WindowLost
 lost_if false = None
 
--- whether a packet ends the session, and why
+-- why a packet ends the session; None if it goes on
 abbrev pub ended : Terms → (initial : ℕ) → Body → Publishing → Option PubEnd
 ended terms initial Shutdown p = Some ends.Shutdown
 ended terms initial body p = lost_if (loses_window terms.mode terms (heard_from initial body) p)
 
+-- the first of a list, if there is one
 abbrev pub first_of : List Arrival → Option Arrival
 first_of [] = None
 first_of (a ∷ arrivals) = Some a
@@ -33,17 +35,17 @@ first_of (a ∷ arrivals) = Some a
 abbrev pub next_delivery : Terms → (time room : ℕ) → Publishing → Option Arrival
 next_delivery terms time room p = first_of (deliveries terms.mode terms time (Some room) p)
 
--- after that one
+-- the session after that payload was delivered
 abbrev pub after_delivery : Terms → Option Arrival → Publishing → Publishing
 after_delivery terms None p = p
 after_delivery terms (Some a) p = record p { receiving = passed terms.width (a ∷ []) p.receiving }
 
--- a payload takes a place of each subscriber
+-- the room after a payload was delivered: in buffer mode it takes a place of each subscriber
 abbrev pub room_after : Mode → (room : ℕ) → ℕ
 room_after Live room = room
 room_after Buffer room = room - 1
 
--- what so many calls give, as far as the first that gives nothing
+-- the payloads that n calls give, up to the first call that gives nothing
 abbrev pub gives : Terms → (time room calls : ℕ) → Publishing → List Arrival
 gives terms time room zero p = []
 gives terms time room (suc calls) p = elim (next_delivery terms time room p) [
@@ -51,7 +53,7 @@ gives terms time room (suc calls) p = elim (next_delivery terms time room p) [
   | Some a ↦ a ∷ gives terms time (room_after terms.mode room) calls (after_delivery terms (Some a) p)
 ]
 
--- and what they leave
+-- the session after these calls
 abbrev pub leaves : Terms → (time room calls : ℕ) → Publishing → Publishing
 leaves terms time room zero p = p
 leaves terms time room (suc calls) p = elim (next_delivery terms time room p) [
@@ -59,15 +61,16 @@ leaves terms time room (suc calls) p = elim (next_delivery terms time room p) [
   | Some a ↦ leaves terms time (room_after terms.mode room) calls (after_delivery terms (Some a) p)
 ]
 
--- the bytes of packets
+-- the bytes of each packet
 abbrev pub texts : List Packet → List (List ℕ)
 texts packets = map text packets
 
+-- a list of the value, or an empty one
 abbrev pub listed : {A : Type 0} → Option A → List A
 listed None = []
 listed (Some a) = a ∷ []
 
--- a KEEPALIVE is due only where neither an ACK nor a NAK is sent
+-- a KEEPALIVE is due only if neither an ACK nor a NAK is sent
 abbrev pub keep_alive_after : (ack nak : Bool) → (time : ℕ) → List Note → List Report
 keep_alive_after true nak time notes = []
 keep_alive_after false true time notes = []

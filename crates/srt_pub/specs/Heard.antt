@@ -1,14 +1,15 @@
--- What a publisher's session hears of a packet, its numbers counted from the session's initial one.
+-- A packet as a publisher's session takes it, its sequence numbers counted from the session's initial one.
 use Rattle.std.specs.Prelude.{ℕ, List}
 use Rattle.srt_seq.specs.Window.{counted_from}
 use Rattle.srt_seq.specs.Runs.{Range, range_from}
 use Rattle.srt_packet.specs.Grammar as grammar
 
+-- a data packet, an ACKACK, a drop request, or another kind
 pub data Heard : Type 0 where
   Data : (number encryption : ℕ) (payload : List ℕ) → Heard
   AckAck : (number : ℕ) → Heard
   DropRequest : (range : Range) → Heard
-  -- of the other kinds it takes nothing
+  -- all other kinds, which change nothing
   Other : Heard
 
 abbrev pub heard_from : (initial : ℕ) → grammar.Body → Heard

@@ -1,4 +1,4 @@
--- What is kept of the notes: of ACKs, of NAKs, and of the rest.
+-- What a session's fields keep of its notes: of ACKs, of NAKs, and of the rest.
 use Rattle.std.specs.Prelude.{◌≡◌, ℕ, ◌+◌, ◌-◌, ◌<◌, ◌≤◌, min, Bool, false, nat_lt, Some, List, length, map, slice_get}
 use Rattle.srt_rtt.specs.Book as book
 use Rattle.srt_rtt.specs.RoundTrip as times
@@ -6,32 +6,33 @@ use Rattle.srt_pub.specs.Publishing.{Full, Note, fulls, is_confirmed, latest_con
 use Rattle.srt_pub.specs.declared.acknowledgements.Acks.{Acks}
 use Rattle.srt_pub.specs.declared.log.Log.{Log}
 
--- the Full ACKs as a book has them
+-- a Full ACK as an entry of the book of sent Full ACKs
 abbrev pub noted_of : List Note → Full → book.Noted
 noted_of notes f = record { index = f.index; moment = f.time; is_confirmed = is_confirmed notes f.index }
 
+-- the book of all Full ACKs that were sent
 unfoldable pub book_of : List Note → List book.Noted
 book_of notes = map (noted_of notes) (fulls notes)
 
--- one Full ACK's acknowledgement point and window's end are no further than another's
+-- the acknowledgement point and the window's end of the first Full ACK aren't past those of the second
 pub record IsNotPast (f g : Full) : Type 0 where
   pub point : f.point ≤ g.point
   pub window : f.point + f.available ≤ g.point + g.available
 
--- Full ACKs are numbered, what they say never goes back, and it isn't past what would be said now
+-- Full ACKs are numbered in order, what they report never goes back, and it isn't past the current state
 pub record AreFulls (width position point : ℕ) (fs : List Full) : Type 0 where
   pub numbered : (d : ℕ) (f : Full) → slice_get fs d ≡ Some f → f.index + (d + 1) ≡ length fs
   pub rising : (d e : ℕ) (f g : Full) → d ≤ e → slice_get fs d ≡ Some f → slice_get fs e ≡ Some g → IsNotPast g f
   pub low : (d : ℕ) (f : Full) → slice_get fs d ≡ Some f → width ≤ f.point + f.available
   pub high : (d : ℕ) (f : Full) → slice_get fs d ≡ Some f → (f.point ≤ point) × (f.point + f.available ≤ position + width)
 
--- only Full ACKs are confirmed
+-- only Full ACKs that were sent are confirmed
 pub record AreConfirmed (notes : List Note) : Type 0 where
   pub latest : (f : Full) → latest_confirmed notes ≡ Some f → (d : ℕ) × (slice_get (fulls notes) d ≡ Some f)
   pub below : (index : ℕ) → length (fulls notes) ≤ index → is_confirmed notes index ≡ false
 
--- these fields have the values that the definitions give: whether the publisher knows what would be said now, how many of the last 64
--- Full ACKs said it, when the last one was sent, and how many data packets came since an ACK, where that is at most 64
+-- these fields have the values that the definitions give: whether the current pair is confirmed, how many of the last
+-- 64 Full ACKs reported it, when the last one was sent, and the number of data packets since an ACK, at most 64
 pub record AreAcks (width position point : ℕ) (notes : List Note) (known : Bool) (same last came : ℕ) : Type 0 where
   pub inside : point ≤ position + width
   pub sent : AreFulls width position point (fulls notes)
@@ -41,11 +42,12 @@ pub record AreAcks (width position point : ℕ) (notes : List Note) (known : Boo
   pub last_is : last ≡ time_of (fulls notes)
   pub came_is : came ≡ min (came_since_ack notes) 64
 
+-- the fields represent the ACKs of these notes, for a window of this width at this position and acknowledgement point
 abbrev pub AcksStandFor : (width position point : ℕ) → Acks → List Note → Type 0
 AcksStandFor width position point a notes = book.StandsFor a.book (book_of notes) × AreAcks width position point notes a.known a.same a.last a.came
 
--- what happened, as far as it counts: the ACKs, the round trips, the last NAK of all gaps and the last packet, and how far past the
--- position the received numbers reached when the event before this one was over
+-- the fields represent these notes: the ACKs, the round trips, the times of the last NAK of all gaps and of the last
+-- packet, and how far past the position the received numbers ended at the end of the event before this one
 pub record LogStandsFor (width position point : ℕ) (log : Log) (notes : List Note) (seen : ℕ) : Type 0 where
   pub acks : AcksStandFor width position point log.acks notes
   pub times : times.StandsFor log.rtt (samples notes)

@@ -1,17 +1,17 @@
--- Payloads may be delivered one by one.
+-- Delivering payloads one by one is the same as delivering them together.
 use Rattle.std.specs.Prelude.{◌≡◌, ℕ, false, Some}
 use Rattle.srt_recvbuf.specs.Receiving.{is_dropped}
 use Rattle.srt_recvbuf.specs.OneByOne.{NothingBeyond, NothingDroppedBeyond}
 use Rattle.srt_pub.specs.Publishing.{Terms, Publishing, deliveries, delivered}
 use Rattle.srt_pub.specs.Calls.{gives, leaves}
 
--- 64 calls, as far as the first that gives nothing, give what an event delivers, and leave what it leaves
+-- 64 calls, up to the first that gives nothing, give what an event delivers, and leave the session that it leaves
 abbrev pub DeliversOneByOne : Terms → Publishing → Type 0
 DeliversOneByOne terms p = (time room : ℕ) →
     (gives terms time room 64 p ≡ deliveries terms.mode terms time (Some room) p) ×
     (leaves terms time room 64 p ≡ delivered terms time (Some room) p)
 
--- after each event the position is no dropped number, and past the window nothing was received or is dropped
+-- the position isn't a dropped number, and no number past the window is received or dropped
 pub record IsSettled (terms : Terms) (p : Publishing) : Type 0 where
   pub position : is_dropped terms.width p.receiving p.receiving.position ≡ false
   pub received : NothingBeyond terms.width p.receiving

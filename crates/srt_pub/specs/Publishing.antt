@@ -1,5 +1,6 @@
--- A publisher's session, from all that it heard and sent. It counts from its own beginning: times from its opening, numbers from its
--- initial number, stamps from its conclusion's. Lists have the newest first.
+-- A publisher's session, defined by all that it received and sent. It counts from its own beginning: times in
+-- microseconds from its opening, numbers from its initial number, timestamps from its conclusion's. Lists have the
+-- newest first.
 use Rattle.std.specs.Prelude.{ℕ, ◌+◌, ◌-◌, ◌^◌, ℤ, pos, Bool, true, false, Option, None, Some, List, [], ◌∷◌, ◌++◌, find, take, max, min, length, not, is_none, is_some, nat_lt, nat_le, ◌==◌, ◌&&◌, ◌||◌, if◌then◌else◌}
 use Rattle.srt_seq.specs.declared.shared.Mode.{Mode}
 use Rattle.srt_seq.specs.declared.shared.Mode.TheVariants.{Live, Buffer}
@@ -11,13 +12,14 @@ use Rattle.srt_rtt.specs.RoundTrip.{RoundTrip, after_samples, nak_interval}
 use Rattle.srt_recvbuf.specs.Receiving.{Arrival, Receiving, nothing_yet, end_of, gaps, gaps_from, ack_point, available, is_waiting, deliverable, in_order, passed, received, requested}
 use Rattle.srt_pub.specs.Heard.{Heard, Data, AckAck, DropRequest, Other}
 
--- what was agreed: the mode, the packets of the window, and the delay in microseconds
+-- what was agreed: the mode, the window's width in packets, and the delay in microseconds
 pub record Terms : Type 0 where
   pub mode : Mode
   pub width : ℕ
   pub delay : ℕ
 
--- a Full ACK: how many were sent before it, when, and what it said
+-- a Full ACK: the number of Full ACKs before it, when it was sent, and the acknowledgement point and available buffer
+-- size that it reported
 pub record Full : Type 0 where
   pub index : ℕ
   pub time : ℕ
@@ -34,24 +36,27 @@ pub data Report : Type 0 where
   NakOfNew : List Run → Report
   KeepAlive : Report
 
+-- an event that the session remembers
 pub data Note : Type 0 where
   -- an unencrypted data packet came, of whatever number
   Came : Note
-  -- a report was sent
+  -- a packet was sent
   Sent : (time : ℕ) (report : Report) → Note
-  -- a Full ACK was confirmed, which gave a sample of the round-trip time
+  -- a Full ACK was confirmed, with this sample of the round-trip time
   Confirmed : (full : Full) (sample : ℕ) → Note
 
--- all that was received, all that happened, and where the received numbers ended when the event before this one was over
+-- all that was received, all that happened, and the end of the received numbers at the end of the event before this
+-- one
 pub record Publishing : Type 0 where
   pub receiving : Receiving
   pub notes : List Note
   pub seen : ℕ
 
+-- a session that was just opened
 abbrev pub opened : Publishing
 opened = record { receiving = nothing_yet; notes = []; seen = 0 }
 
--- when a packet of this stamp is due: in buffer mode at once
+-- when a packet with this timestamp is due: in buffer mode at once
 abbrev pub due_in : Mode → Terms → (time stamp : ℕ) → ℤ
 due_in Live terms time stamp = due_time terms.delay time stamp
 due_in Buffer terms time stamp = pos 0
@@ -63,6 +68,7 @@ samples (Came ∷ notes) = samples notes
 samples (Sent time report ∷ notes) = samples notes
 samples (Confirmed full sample ∷ notes) = sample ∷ samples notes
 
+-- the smoothed round-trip time and its variance (section 4.10)
 abbrev pub round_trip : List Note → RoundTrip
 round_trip notes = after_samples (samples notes)
 
@@ -83,30 +89,33 @@ is_confirmed (Came ∷ notes) index = is_confirmed notes index
 is_confirmed (Sent time report ∷ notes) index = is_confirmed notes index
 is_confirmed (Confirmed full sample ∷ notes) index = full.index == index || is_confirmed notes index
 
--- whether an ACKACK with this number can confirm a Full ACK
+-- whether an ACKACK with this number confirms this Full ACK: it has this number and isn't confirmed yet
 abbrev pub answers : (number : ℕ) → List Note → Full → Bool
 answers number notes f = (ack_number f.index == number) && not (is_confirmed notes f.index)
 
--- the one of the last 64 Full ACKs that has this number and isn't confirmed (section 3.2.8; 64 is this profile)
+-- the Full ACK that an ACKACK with this number confirms: one of the last 64, not confirmed yet (section 3.2.8; 64 is
+-- this profile)
 unfoldable pub confirmed_by : (number : ℕ) → List Note → Option Full
 confirmed_by number notes = find (answers number notes) (take 64 (fulls notes))
 
--- of two confirmed Full ACKs the one that was sent later
+-- of two confirmed Full ACKs, the one that was sent later
 abbrev pub later_of : Full → Option Full → Option Full
 later_of full None = Some full
 later_of full (Some other) = if nat_lt full.index other.index then Some other else Some full
 
+-- of all confirmed Full ACKs, the one that was sent last
 abbrev pub latest_confirmed : List Note → Option Full
 latest_confirmed [] = None
 latest_confirmed (Came ∷ notes) = latest_confirmed notes
 latest_confirmed (Sent time report ∷ notes) = latest_confirmed notes
 latest_confirmed (Confirmed full sample ∷ notes) = later_of full (latest_confirmed notes)
 
--- whether a Full ACK said this acknowledgement point and this room
+-- whether a Full ACK reported this acknowledgement point and this available buffer size
 abbrev pub says_pair : (point room : ℕ) → Full → Bool
 says_pair point room f = (point == f.point) && (room == f.available)
 
--- whether the publisher knows this acknowledgement point and this room; at first it knows 0 and the width
+-- whether this pair is confirmed: the latest confirmed Full ACK reported it; before the first confirmation, that is
+-- the pair of 0 and the width
 abbrev pub is_known : (width point room : ℕ) → Option Full → Bool
 is_known width point room None = (point == 0) && (room == width)
 is_known width point room (Some full) = says_pair point room full
@@ -116,14 +125,14 @@ is_ack (FullAck index point rtt variance available) = true
 is_ack (LightAck point) = true
 is_ack _ = false
 
--- data packets since the last ACK of either kind (section 4.8.1)
+-- the number of data packets since the last ACK of either kind (section 4.8.1)
 abbrev pub came_since_ack : List Note → ℕ
 came_since_ack [] = 0
 came_since_ack (Came ∷ notes) = came_since_ack notes + 1
 came_since_ack (Sent time report ∷ notes) = if is_ack report then 0 else came_since_ack notes
 came_since_ack (Confirmed full sample ∷ notes) = came_since_ack notes
 
--- the time of the last Full ACK; the opening counts as one
+-- when the last Full ACK was sent; the opening counts as one
 abbrev pub time_of : List Full → ℕ
 time_of [] = 0
 time_of (f ∷ fs) = f.time
@@ -132,7 +141,7 @@ abbrev pub is_nak_of_all : Report → Bool
 is_nak_of_all (NakOfAll rs) = true
 is_nak_of_all _ = false
 
--- the times of the last report, and of the last NAK of all gaps; the opening counts as both
+-- when the last packet was sent, and the last NAK of all gaps; the opening counts as both
 abbrev pub last_sent : List Note → ℕ
 last_sent [] = 0
 last_sent (Came ∷ notes) = last_sent notes
@@ -145,19 +154,20 @@ last_nak_of_all (Came ∷ notes) = last_nak_of_all notes
 last_nak_of_all (Sent time report ∷ notes) = if is_nak_of_all report then time else last_nak_of_all notes
 last_nak_of_all (Confirmed full sample ∷ notes) = last_nak_of_all notes
 
--- a Full ACK is due every 10 ms while the publisher doesn't know the state (section 4.8.1; that it counts only what was confirmed is
--- this profile)
+-- whether a Full ACK is due: 10 ms after the last one, as long as the current pair isn't confirmed (section 4.8.1;
+-- that a confirmed pair isn't sent again is this profile)
 unfoldable pub is_full_due : (width point room time : ℕ) → List Note → Bool
 is_full_due width point room time notes = nat_le 10_000 (time - time_of (fulls notes)) && not (is_known width point room (latest_confirmed notes))
 
--- a Light ACK after 64 data packets (section 4.8.1)
+-- whether a Light ACK is due: after 64 data packets (section 4.8.1)
 abbrev pub is_light_due : List Note → Bool
 is_light_due notes = nat_le 64 (came_since_ack notes)
 
+-- the Full ACK of the current state
 abbrev pub full_ack : (point room : ℕ) → List Note → Report
 full_ack point room notes = FullAck (length (fulls notes)) point (round_trip notes).time (round_trip notes).variance room
 
--- the ACK that is due: at most one, a full one first
+-- the ACK that is due: one at most, and a Full ACK before a Light one
 abbrev pub ack_of : (full light : Bool) → (full_one light_one : Report) → List Report
 ack_of true light full_one light_one = full_one ∷ []
 ack_of false true full_one light_one = light_one ∷ []
@@ -169,7 +179,7 @@ acks_at width point room time notes = ack_of (is_full_due width point room time 
 abbrev pub acks : Terms → (time : ℕ) → Publishing → List Report
 acks terms time p = acks_at terms.width (ack_point terms.width p.receiving) (available terms.width p.receiving) time p.notes
 
--- the first 32 runs (section 4.8.2; 32 is this profile)
+-- the runs that a NAK reports: the first 32 (section 4.8.2; 32 is this profile)
 abbrev pub runs_said : List ℕ → List Run
 runs_said ns = take 32 (runs ns)
 
@@ -181,11 +191,12 @@ abbrev pub nak_with : (all : Bool) → List Run → List Report
 nak_with all [] = []
 nak_with all (r ∷ rs) = nak_report all (r ∷ rs) ∷ []
 
--- whether it is time for a NAK of all gaps
+-- whether a NAK of all gaps is due (section 4.8.2)
 abbrev pub is_nak_due : (time : ℕ) → List Note → Bool
 is_nak_due time notes = nat_le (nak_interval (round_trip notes)) (time - last_nak_of_all notes)
 
--- all gaps at each interval, else those above the greatest number that was received before this event (section 4.8.2)
+-- the gaps that a NAK reports: all of them at each interval, else those above the numbers received before this event
+-- (section 4.8.2)
 abbrev pub gaps_told : (all : Bool) → (width seen : ℕ) → Receiving → List ℕ
 gaps_told true width seen r = gaps width r
 gaps_told false width seen r = gaps_from width (max seen r.position) r
@@ -196,40 +207,43 @@ naks_of all width seen r = nak_with all (runs_said (gaps_told all width seen r))
 unfoldable pub naks : Terms → (time : ℕ) → Publishing → List Report
 naks terms time p = naks_of (is_nak_due time p.notes) terms.width p.seen p.receiving
 
--- after 1 s without a packet (section 3.2.3)
+-- a KEEPALIVE, 1 s after the last packet (section 3.2.3)
 abbrev pub keep_alive_if : Bool → List Report
 keep_alive_if true = KeepAlive ∷ []
 keep_alive_if false = []
 
+-- a KEEPALIVE only if nothing else is sent
 abbrev pub keep_alives : (time : ℕ) → List Report → List Note → List Report
 keep_alives time (r ∷ rs) notes = []
 keep_alives time [] notes = keep_alive_if (nat_le 1_000_000 (time - last_sent notes))
 
--- what an event sends at its end
+-- the packets that an event sends at its end, in order
 unfoldable pub reports : Terms → (time : ℕ) → Publishing → List Report
 reports terms time p =
     let due = acks terms time p ++ naks terms time p in
     due ++ keep_alives time due p.notes
 
+-- with these packets sent, the first of them first
 abbrev pub noted : (time : ℕ) → List Report → List Note → List Note
 noted time [] notes = notes
 noted time (r ∷ rs) notes = noted time rs (Sent time r ∷ notes)
 
--- the end of an event
+-- the session after an event's end
 abbrev pub reported : Terms → (time : ℕ) → Publishing → Publishing
 reported terms time p = record { receiving = p.receiving; notes = noted time (reports terms time p) p.notes; seen = end_of p.receiving.arrivals }
 
--- the payloads that an event delivers; room is the least of the open subscribers', none without a subscriber, and counts in buffer mode
--- alone (sections 4.2 and 4.6)
+-- the payloads that an event delivers. `room` is the least room of the open subscribers, None without a subscriber;
+-- it counts in buffer mode only (sections 4.2 and 4.6)
 unfoldable pub deliveries : Mode → Terms → (time : ℕ) → (room : Option ℕ) → Publishing → List Arrival
 deliveries Live terms time room p = deliverable time p.receiving
 deliveries Buffer terms time None p = []
 deliveries Buffer terms time (Some room) p = in_order terms.width room p.receiving
 
+-- the session after these payloads were delivered
 abbrev pub delivered : Terms → (time : ℕ) → (room : Option ℕ) → Publishing → Publishing
 delivered terms time room p = record p { receiving = passed terms.width (deliveries terms.mode terms time room p) p.receiving }
 
--- the sample is the time since the Full ACK, at most 10 s (this profile)
+-- the sample of the round-trip time: the time since the Full ACK, at most 10 s (this profile)
 abbrev pub sample_of : (time : ℕ) → Full → ℕ
 sample_of time full = min (time - full.time) 10_000_000
 
@@ -240,27 +254,28 @@ confirmed_notes time (Some full) notes = Confirmed full (sample_of time full) �
 abbrev pub confirmed_at : (time : ℕ) → Option Full → Publishing → Publishing
 confirmed_at time full p = record p { notes = confirmed_notes time full p.notes }
 
+-- after an unencrypted data packet
 abbrev pub with_data : Terms → (time stamp number : ℕ) → List ℕ → Publishing → Publishing
 with_data terms time stamp number payload p =
     record { receiving = received terms.width number payload (due_in terms.mode terms time stamp) p.receiving; notes = Came ∷ p.notes; seen = p.seen }
 
--- numbers are given up in live mode alone (this profile)
+-- after a drop request, which counts in live mode only (this profile)
 abbrev pub with_request : Mode → Terms → Range → Publishing → Publishing
 with_request Live terms range p = record p { receiving = requested terms.width range p.receiving }
 with_request Buffer terms range p = p
 
--- a packet comes; an encrypted one isn't received
+-- after a packet; an encrypted one changes nothing
 abbrev pub took : Terms → (time stamp : ℕ) → Heard → Publishing → Publishing
 took terms time stamp (Data number encryption payload) p = if encryption == 0 then with_data terms time stamp number payload p else p
 took terms time stamp (AckAck number) p = confirmed_at time (confirmed_by number p.notes) p
 took terms time stamp (DropRequest range) p = with_request terms.mode terms range p
 took terms time stamp Other p = p
 
--- nothing received waits, and a number is past the window (this profile)
+-- whether no received packet waits, and a number is past the window by fewer than 2^30 (this profile)
 abbrev pub is_past_window : (width number : ℕ) → Receiving → Bool
 is_past_window width number r = is_none (in_window number r.position width) && not (is_waiting r) && is_some (in_window number (r.position + width) (2 ^ 30))
 
--- this ends a live session (this profile)
+-- whether a packet ends the session because the window is lost: in live mode only (this profile)
 abbrev pub loses_window : Mode → Terms → Heard → Publishing → Bool
 loses_window Live terms (Data number encryption payload) p = (encryption == 0) && is_past_window terms.width number p.receiving
 loses_window Live terms _ p = false

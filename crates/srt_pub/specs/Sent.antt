@@ -5,6 +5,6 @@ use Rattle.srt_packet.specs.declared.writing.Packet.{Packet}
 use Rattle.srt_pub.specs.Calls.{listed}
 use Rattle.srt_pub.specs.declared.reports.Reports.{Reports}
 
--- what stands in the places that were written
+-- the packets that were written
 abbrev pub packets_of : Reports → (ack nak keep_alive : Packet) → List Packet
 packets_of r ack nak keep_alive = listed (given r.ack ack) ++ listed (given r.nak nak) ++ listed (given r.keep_alive keep_alive)

@@ -1,4 +1,4 @@
--- What a publisher stands for.
+-- What a publisher's fields represent.
 use Rattle.std.specs.Prelude.{◌≡◌, ℕ, ◌+◌, ◌^◌, ◌<◌, ◌≤◌, ⊤, pos, false, List, [], ◌∷◌, length}
 use Rattle.srt_seq.specs.declared.shared.Mode.{Mode}
 use Rattle.srt_seq.specs.declared.shared.Mode.TheVariants.{Live, Buffer}
@@ -13,10 +13,11 @@ use Rattle.srt_pub.specs.declared.session.Publisher.{Publisher}
 abbrev pub opening_of : Publisher → ℕ
 opening_of p = p.agreed.opening
 
--- how many packets its window has
+-- the number of packets of its window
 abbrev pub width_of : Publisher → ℕ
 width_of p = buffers.places_of p.buffer
 
+-- the fields of what was agreed have these values
 pub record AreTerms (terms : Terms) (opening stamp caller : ℕ) (a : Agreed) : Type 0 where
   pub mode_is : a.mode ≡ terms.mode
   pub delay_is : a.delay ≡ terms.delay
@@ -24,24 +25,26 @@ pub record AreTerms (terms : Terms) (opening stamp caller : ℕ) (a : Agreed) : 
   pub stamp_is : a.first.word ≡ stamp
   pub caller_is : a.caller ≡ caller
 
+-- P holds for each of a list
 abbrev pub Each : {X : Type 0} → (X → Type 0) → List X → Type 0
 Each P [] = ⊤
 Each P (x ∷ xs) = P x × Each P xs
 
--- in buffer mode nothing is given up, and all is due at once
+-- in buffer mode nothing is dropped, and all packets are due at once
 abbrev pub IsInMode : Mode → Receiving → Type 0
 IsInMode Live r = ⊤
 IsInMode Buffer r = (r.requests ≡ []) × Each (λ (a : Arrival). a.due ≡ pos 0) r.arrivals
 
--- what holds of all that a session receives
+-- what always holds of what a session received: drop requests came at an earlier position or this one, the position
+-- isn't dropped, and no payload is empty
 pub record IsOrderly (mode : Mode) (width : ℕ) (r : Receiving) : Type 0 where
   pub fronts : Each (λ (q : Request). q.front ≤ r.position) r.requests
   pub settled : is_dropped width r r.position ≡ false
   pub filled : Each (λ (a : Arrival). 0 < length a.payload) r.arrivals
   pub in_mode : IsInMode mode r
 
--- a session of these terms, whose caller has this socket ID, which was opened at a moment by a conclusion with this stamp and this initial
--- number; the record counts from these
+-- the fields represent a session of these terms, whose caller has this socket ID, and which was opened at a moment by
+-- a conclusion with this timestamp and this initial number; the record counts from these
 pub record StandsFor (terms : Terms) (initial opening stamp caller : ℕ) (p : Publisher) (m : Publishing) : Type 0 where
   pub agreed : AreTerms terms opening stamp caller p.agreed
   pub buffer : buffers.StandsFor terms.width initial opening p.buffer m.receiving
@@ -50,14 +53,14 @@ pub record StandsFor (terms : Terms) (initial opening stamp caller : ℕ) (p : P
   pub seen : m.seen ≤ end_of m.receiving.arrivals
   pub narrow : terms.width ≤ 8192
 
--- a receiver goes on: its position, its acknowledgement point and the end of what was received don't go back
+-- a receiver moves on: its position, its acknowledgement point and the end of the received numbers don't go back
 pub record GoesOn (width : ℕ) (r s : Receiving) : Type 0 where
   pub position : r.position ≤ s.position
   pub near : s.position ≤ r.position + 2 ^ 30
   pub point : ack_point width r ≤ ack_point width s
   pub end : end_of r.arrivals ≤ end_of s.arrivals
 
--- the buffer has gone on already to another record, and the rest is still for this one
+-- the buffer represents `r` already, and the other fields still represent `m`
 pub record IsAhead (terms : Terms) (initial opening stamp caller : ℕ) (p : Publisher) (m : Publishing) (r : Receiving) : Type 0 where
   pub agreed : AreTerms terms opening stamp caller p.agreed
   pub buffer : buffers.StandsFor terms.width initial opening p.buffer r

@@ -1,4 +1,4 @@
-//! Acknowledgements (draft-sharabayko-srt-01, sections 3.2.4, 3.2.8 and 4.8.1).
+//! Full ACKs, Light ACKs and their confirmation (draft-sharabayko-srt-01, sections 3.2.4, 3.2.8 and 4.8.1).
 
 ghost use Rattle.std.specs.Prelude.{◌≡◌, ℕ, ◌+◌, ◌-◌, ◌≤◌, ◌==◌, List, [], ◌∷◌, map, length, nat_le, nat_lt, ◌||◌, ◌&&◌, not, true, false, Option, option_map, IfOk, IfSome};
 ghost use Rattle.srt_seq.specs.Given.{given};
@@ -15,35 +15,39 @@ use srt_rtt::{AckBook, Rtt};
 use srt_seq::Seq31;
 use std::alloc::{AllocError, Global};
 
-/// The time between two Full ACKs, in microseconds.
+/// The least time between two Full ACKs, in microseconds.
 const FULL_INTERVAL: u64 = 10_000;
 
-/// How many data packets call for a Light ACK.
+/// The number of data packets after which a Light ACK is sent.
 const LIGHT_COUNT: u32 = 64;
 
-/// How many Full ACKs can still be confirmed.
+/// The number of newest Full ACKs that can still be confirmed (this profile).
 const PLACES: usize = 64;
 
-/// Which Full ACKs were sent, and what the publisher knows. What a Full ACK says never goes back; so one
-/// that said something else than what would be said now never says it again, and it is enough to count
-/// those since the last change.
+/// Which Full ACKs were sent, and whether the current state is confirmed. The state is the pair of acknowledgement
+/// point and available buffer size that a Full ACK reports.
+///
+/// The acknowledgement point and the window's end only grow. So a Full ACK that reported another pair can never match
+/// the current one again, and it is enough to count the Full ACKs since the pair last changed. Times are microseconds
+/// since the opening.
 #[derive(Drop)]
 pub struct Acks {
     book: AckBook,
-    /// Whether the confirmed Full ACK that was sent last, or the opening, said what would be said now.
+    /// Whether the current pair is confirmed: the latest confirmed Full ACK, or the opening if there is none,
+    /// reported it.
     known: bool,
-    /// How many of the newest Full ACKs said what would be said now. It stops at 64.
+    /// The number of newest Full ACKs that reported the current pair; it stops at 64.
     same: usize,
-    /// When the last Full ACK was sent.
+    /// When the last Full ACK was sent; 0 at first.
     last: u64,
-    /// How many data packets came since the last ACK. It stops at 64.
+    /// The number of data packets since the last ACK of either kind; it stops at 64.
     came: u32,
 }
 
 impl Acks {
     ghost use Rattle.srt_pub.specs.Kept.{AcksStandFor};
 
-    /// No ACK yet. The only call that takes memory.
+    /// No ACK was sent yet. The only call that takes memory; the error is a refused allocation.
     pub fn open(alloc: Global) -> Result<Acks, AllocError>
         ensures { IfOk result (λ a. (width : ℕ) → AcksStandFor width 0 0 a []) }
     {
@@ -56,7 +60,7 @@ impl Acks {
         })
     }
 
-    /// Forgets everything.
+    /// Forgets everything, as at an opening.
     pub fn clear(&mut self)
         ensures { (width : ℕ) → AcksStandFor width 0 0 self.new [] }
     {
@@ -67,14 +71,15 @@ impl Acks {
         self.came = 0;
     }
 
-    /// A data packet came.
+    /// Counts an unencrypted data packet, whatever its number.
     pub fn came(&mut self)
         ensures { (width position point : ℕ) (notes : List Note) → AcksStandFor width position point self.old notes → AcksStandFor width position point self.new (Came ∷ notes) }
     {
         self.came = self.came.saturating_add(1).min(LIGHT_COUNT);
     }
 
-    /// The front and the acknowledgement point move on by so many packets.
+    /// Notes that the front and the acknowledgement point moved on by these numbers of packets. If either moved, the
+    /// pair is a new one.
     pub fn moves(&mut self, front: u32, point: u32)
         ensures { (width position a : ℕ) (notes : List Note) → a + point ≤ position + front + width → AcksStandFor width position a self.old notes → AcksStandFor width (position + front) (a + point) self.new notes }
     {
@@ -85,8 +90,9 @@ impl Acks {
         self.same = 0;
     }
 
-    /// An ACKACK with this number comes, so long after the opening. Gives the sample of the round-trip
-    /// time, where it confirms a Full ACK.
+    /// Notes an ACKACK with this number, at a time in microseconds since the opening (section 3.2.8). Returns the
+    /// sample of the round-trip time, in microseconds, at most 10 seconds. None if it confirms none of the last 64
+    /// Full ACKs, or one that was confirmed before.
     pub fn confirm(&mut self, number: u32, time: u64) -> Option<u64>
         ensures sample { (width position point : ℕ) (notes : List Note) → AcksStandFor width position point self.old notes → result ≡ option_map (sample_of time) (confirmed_by number notes) }
         ensures stands { (width position point : ℕ) (notes : List Note) → AcksStandFor width position point self.old notes → AcksStandFor width position point self.new (confirmed_notes time (confirmed_by number notes) notes) }
@@ -97,7 +103,7 @@ impl Acks {
         self.book.confirm(number, time)
     }
 
-    /// Whether a Full ACK is due.
+    /// Whether a Full ACK is due: the current pair isn't confirmed, and the last Full ACK is at least 10 ms ago.
     fn is_full_due(&self, time: u64) -> bool
         ensures { (width position point : ℕ) (notes : List Note) → AcksStandFor width position point self.now notes → result ≡ is_full_due width point (position + width - point) time notes }
     {
@@ -107,14 +113,14 @@ impl Acks {
         time.saturating_sub(self.last) >= FULL_INTERVAL
     }
 
-    /// Whether a Light ACK is due, where no Full ACK is.
+    /// Whether a Light ACK is due if no Full ACK is: 64 data packets came since the last ACK.
     fn is_light_due(&self) -> bool
         ensures { (width position point : ℕ) (notes : List Note) → AcksStandFor width position point self.now notes → result ≡ is_light_due notes }
     {
         self.came >= LIGHT_COUNT
     }
 
-    /// Sends a Full ACK.
+    /// Writes a Full ACK and notes that it is sent.
     fn full(&mut self, time: u64, point: Seq31, available: u32, rtt: Rtt, body: &mut Body)
         ensures stands { (width position a : ℕ) (notes : List Note) → times.StandsFor rtt (samples notes) → available ≡ position + width - a → AcksStandFor width position a self.old notes → AcksStandFor width position a self.new (noted time (full_ack a available notes ∷ []) notes) }
         ensures bytes { (width position a initial caller : ℕ) (notes : List Note) → times.StandsFor rtt (samples notes) → word_of point ≡ number_word initial a → AcksStandFor width position a self.old notes → body_bytes caller time body.new ≡ says caller initial time (full_ack a available notes) }
@@ -132,7 +138,7 @@ impl Acks {
         };
     }
 
-    /// Sends a Light ACK.
+    /// Writes a Light ACK and notes that it is sent.
     fn light(&mut self, time: u64, point: Seq31, body: &mut Body)
         ensures stands { (width position a : ℕ) (notes : List Note) → AcksStandFor width position a self.old notes → AcksStandFor width position a self.new (noted time (TheLightAck a ∷ []) notes) }
         ensures bytes { (a initial caller : ℕ) → word_of point ≡ number_word initial a → body_bytes caller time body.new ≡ says caller initial time (TheLightAck a) }
@@ -142,8 +148,9 @@ impl Acks {
         *body = Body::LightAck { point };
     }
 
-    /// Writes the ACK that is due so long after the opening, where the acknowledgement point stands at
-    /// `point` and so many packets have room from there on. Answers whether one is due.
+    /// Writes the body of the ACK that is due at a time in microseconds since the opening: a Full ACK, or else a
+    /// Light one. `point` is the acknowledgement point, and `available` is the buffer size from there on, in packets.
+    /// Returns whether one is due; if not, `body` is unchanged and nothing is noted. O(1).
     pub fn report(
         &mut self,
         time: u64,
@@ -170,8 +177,8 @@ impl Acks {
     }
 }
 
-/// Whether the publisher knows what would be said now, after the Full ACK was confirmed that stands at a
-/// place, where so many of the newest said it.
+/// Whether the current pair is confirmed once the Full ACK `place` positions before the newest one is confirmed;
+/// `same` is the number of newest Full ACKs that reported this pair.
 fn is_known_after(known: bool, place: usize, same: usize) -> bool
     ensures { result ≡ (known || nat_lt place same) }
 {

@@ -1,11 +1,12 @@
-//! How a publisher's session ends.
+//! The reasons why a packet ends a publisher's session.
 
-/// Why a packet ends a publisher's session.
+/// Why a packet ends a publisher's session. A session also ends if nothing is heard for five seconds; that is in
+/// `srt_route`.
 #[derive(Clone, Copy, Debug, PartialEq, Eq)]
 pub enum PubEnd {
-    /// The publisher says so (section 3.2.7).
+    /// The publisher sent a SHUTDOWN (section 3.2.7).
     Shutdown,
-    /// Its numbers are past the window, and nothing received waits there: they won't be received any
-    /// more (this profile).
+    /// Live mode only: a data packet's number is past the window, by fewer than 2^30, while no received packet waits
+    /// for delivery. The sender has moved on, and the window can't follow it (this profile).
     WindowLost,
 }

@@ -1,4 +1,4 @@
-//! Laws of the definitions.
+//! Facts about the definitions. Each function has an empty body: its contract is the fact.
 
 ghost use Rattle.std.specs.Prelude.{ℕ};
 ghost use Rattle.srt_pub.specs.Publishing.{Terms, Publishing};
@@ -7,14 +7,13 @@ ghost use Rattle.srt_pub.specs.Stands.{StandsFor};
 
 use crate::Publisher;
 
-/// Payloads may be delivered one by one: 64 calls, as far as the first that gives nothing, give what an
-/// event delivers.
+/// Payloads can be delivered one by one: 64 calls of `deliver`, up to the first that returns false, deliver what the
+/// definition of an event delivers together.
 pub fn deliveries(publisher: &Publisher)
     ensures { (terms : Terms) (initial opening stamp caller : ℕ) (m : Publishing) → StandsFor terms initial opening stamp caller publisher.now m → DeliversOneByOne terms m }
 {}
 
-/// After each event the position of what is received is no dropped number, and past the window nothing was
-/// received or is dropped.
+/// After each call the position isn't a dropped number, and no number past the window is received or dropped.
 pub fn positions(publisher: &Publisher)
     ensures { (terms : Terms) (initial opening stamp caller : ℕ) (m : Publishing) → StandsFor terms initial opening stamp caller publisher.now m → IsSettled terms m }
 {}

@@ -1,4 +1,4 @@
-//! What is kept of all that happened in a session.
+//! What a session remembers of its events: acknowledgements, round trips and the times of its last packets.
 
 ghost use Rattle.std.specs.Prelude.{◌≡◌, ℕ, ◌+◌, ◌-◌, ◌≤◌, List, [], ◌∷◌, map, IfOk, true, false, nat_le, if◌then◌else◌};
 ghost use Rattle.srt_seq.specs.Given.{given};
@@ -17,26 +17,31 @@ use srt_rtt::Rtt;
 use srt_seq::Seq31;
 use std::alloc::{AllocError, Global};
 
-/// The time without a packet after which a KEEPALIVE is sent, in microseconds.
+/// The time without a packet sent after which a KEEPALIVE is sent, in microseconds (section 3.2.3).
 const SILENCE: u64 = 1_000_000;
 
-/// What is kept of all that happened in a session. Times are microseconds since the opening.
+/// What a session remembers of its events. All times are microseconds since the opening, which counts as the last NAK
+/// and as the last packet at first.
 #[derive(Drop)]
 pub struct Log {
+    /// The ACKs that were sent, and which are due.
     pub acks: Acks,
+    /// The smoothed round-trip time and its variance (section 4.10).
     pub rtt: Rtt,
     /// When the last NAK of all gaps was sent.
     pub nak: u64,
-    /// When the last packet was sent.
+    /// When the last ACK, NAK or KEEPALIVE was sent.
     pub sent: u64,
-    /// How many packets past the front the received numbers reached at the end of the last event.
+    /// The distance from the front to the end of the received numbers, in packets, at the end of the last event. A
+    /// NAK of new gaps starts there.
     pub seen: u32,
 }
 
 impl Log {
     ghost use Rattle.srt_pub.specs.Kept.{LogStandsFor};
 
-    /// Nothing happened yet. The only call that takes memory.
+    /// A session in which nothing has happened yet. The only call that takes memory; the error is a refused
+    /// allocation.
     pub fn open(alloc: Global) -> Result<Log, AllocError>
         ensures { IfOk result (λ log. (width : ℕ) → LogStandsFor width 0 0 log [] 0) }
     {
@@ -49,7 +54,7 @@ impl Log {
         })
     }
 
-    /// Forgets everything.
+    /// Forgets everything, as at an opening.
     pub fn clear(&mut self)
         ensures { (width : ℕ) → LogStandsFor width 0 0 self.new [] 0 }
     {
@@ -60,14 +65,14 @@ impl Log {
         self.seen = 0;
     }
 
-    /// A data packet came.
+    /// Counts an unencrypted data packet, whatever its number.
     pub fn came(&mut self)
         ensures { (width position point seen : ℕ) (notes : List Note) → LogStandsFor width position point self.old notes seen → LogStandsFor width position point self.new (Came ∷ notes) seen }
     {
         self.acks.came();
     }
 
-    /// The front and the acknowledgement point move on by so many packets.
+    /// Notes that the front and the acknowledgement point moved on by these numbers of packets.
     pub fn moves(&mut self, front: u32, point: u32)
         ensures { (width position a seen : ℕ) (notes : List Note) → a + point ≤ position + front + width → LogStandsFor width position a self.old notes seen → LogStandsFor width (position + front) (a + point) self.new notes seen }
     {
@@ -75,7 +80,8 @@ impl Log {
         self.seen = self.seen.saturating_sub(front);
     }
 
-    /// An ACKACK comes.
+    /// Notes an ACKACK with this number. If it confirms one of the last 64 Full ACKs for the first time, that gives a
+    /// sample of the round-trip time (section 3.2.8).
     pub fn confirm(&mut self, number: u32, time: u64)
         ensures { (width position point seen : ℕ) (notes : List Note) → LogStandsFor width position point self.old notes seen → LogStandsFor width position point self.new (confirmed_notes time (confirmed_by number notes) notes) seen }
     {
@@ -84,7 +90,8 @@ impl Log {
         }
     }
 
-    /// Writes the ACK that is due. Answers whether one is.
+    /// Writes the body of the ACK that is due, Full or Light. Returns whether one is due; if not, `body` is
+    /// unchanged.
     pub fn ack(&mut self, time: u64, point: Seq31, available: u32, body: &mut Body) -> bool
         ensures stands { (width position a seen : ℕ) (notes : List Note) → available ≡ position + width - a → LogStandsFor width position a self.old notes seen → LogStandsFor width position a self.new (noted time (acks_at width a available time notes) notes) seen }
         ensures bytes { (width position a seen initial caller : ℕ) (notes : List Note) → available ≡ position + width - a → word_of point ≡ number_word initial a → LogStandsFor width position a self.old notes seen → map (body_bytes caller time) (listed (given result body.new)) ≡ map (says caller initial time) (acks_at width a available time notes) }
@@ -98,14 +105,14 @@ impl Log {
         false
     }
 
-    /// Whether it is time for a NAK of all gaps.
+    /// Whether a NAK of all gaps is due: the last one is at least the NAK interval ago (section 4.8.2).
     pub fn is_nak_due(&self, time: u64) -> bool
         ensures { (width position point seen : ℕ) (notes : List Note) → LogStandsFor width position point self.now notes seen → result ≡ is_nak_due time notes }
     {
         time.saturating_sub(self.nak) >= self.rtt.nak_interval()
     }
 
-    /// A NAK is sent: of all gaps, or of new ones.
+    /// Notes that a NAK is sent, of all gaps or of new ones only.
     pub fn nak(&mut self, time: u64, all: bool)
         ensures { (width position point seen : ℕ) (notes : List Note) (rs : List Run) → LogStandsFor width position point self.old notes seen → LogStandsFor width position point self.new (Sent time (nak_report all rs) ∷ notes) seen }
     {
@@ -113,21 +120,21 @@ impl Log {
         self.sent = time;
     }
 
-    /// Whether nothing was sent for so long that a KEEPALIVE is due.
+    /// Whether nothing was sent for a second, so that a KEEPALIVE is due.
     pub fn is_silent(&self, time: u64) -> bool
         ensures { (width position point seen : ℕ) (notes : List Note) → LogStandsFor width position point self.now notes seen → result ≡ nat_le 1_000_000 (time - last_sent notes) }
     {
         time.saturating_sub(self.sent) >= SILENCE
     }
 
-    /// A KEEPALIVE is sent.
+    /// Notes that a KEEPALIVE is sent.
     pub fn keep_alive(&mut self, time: u64)
         ensures { (width position point seen : ℕ) (notes : List Note) → LogStandsFor width position point self.old notes seen → LogStandsFor width position point self.new (Sent time TheKeepAlive ∷ notes) seen }
     {
         self.sent = time;
     }
 
-    /// An event is over, and the received numbers reach so many packets past the front.
+    /// Notes the end of an event, at which the received numbers end `seen` packets past the front.
     pub fn see(&mut self, seen: u32)
         ensures { (width position point before end : ℕ) (notes : List Note) → seen ≡ end - position → LogStandsFor width position point self.old notes before → LogStandsFor width position point self.new notes end }
     {
@@ -135,7 +142,7 @@ impl Log {
     }
 }
 
-/// One of two moments.
+/// `time` if `all`, else `before`.
 fn later_if(all: bool, time: u64, before: u64) -> u64
     ensures { result ≡ (if all then time else before) }
 {

@@ -1,13 +1,13 @@
-//! What a publisher's session sends at the end of an event.
+//! Which packets a publisher's session sends at the end of an event.
 
-/// Which of the places for packets were written at the end of an event: those packets are sent, in this
-/// order.
+/// Which of the packets given to `Publisher::tick` were written. Those are sent, in the order of the fields; the
+/// others are unchanged.
 #[derive(Clone, Copy)]
 pub struct Reports {
-    /// A Full or a Light ACK.
+    /// A Full ACK or a Light ACK (section 3.2.4).
     pub ack: bool,
-    /// A NAK.
+    /// A NAK (section 3.2.5).
     pub nak: bool,
-    /// A KEEPALIVE, where nothing else is sent.
+    /// A KEEPALIVE (section 3.2.3). Only if neither an ACK nor a NAK is sent.
     pub keep_alive: bool,
 }

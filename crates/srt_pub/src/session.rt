@@ -1,4 +1,4 @@
-//! The session of a publisher.
+//! A publisher's session: data, drop requests, delivery, and the packets that it sends.
 
 ghost use Rattle.std.specs.Prelude.{◌≡◌, ℕ, ◌+◌, ◌-◌, ◌*◌, ◌%◌, ◌^◌, ◌<◌, ◌≤◌, List, [], ◌∷◌, ◌++◌, map, length, true, false, Option, option_map, IfOk, nat_lt, if◌then◌else◌};
 ghost use Rattle.srt_seq.specs.Given.{given};
@@ -26,7 +26,7 @@ use srt_recvbuf::RecvBuf;
 use srt_seq::{Mode, Payload, PayloadRef, Seq31, Stamp32};
 use std::alloc::{AllocError, Global};
 
-/// A publisher's session.
+/// A publisher's session. Moments are microseconds of the route's clock, which doesn't go back; they are below 2^62.
 #[derive(Drop)]
 pub struct Publisher {
     agreed: Agreed,
@@ -38,7 +38,8 @@ impl Publisher {
     ghost use Rattle.srt_pub.specs.Stands.{StandsFor, IsAhead, opening_of, width_of};
     ghost use Rattle.srt_pub.specs.Sent.{packets_of};
 
-    /// Places for a window of so many packets, 32 to 8192. The only call that takes memory.
+    /// A session with a window of `width` packets, 32 to 8192, which `start` begins. The only call that takes memory;
+    /// the error is a refused allocation. O(width).
     pub fn open(alloc: Global, width: u32) -> Result<Publisher, AllocError>
         requires least { 32 ≤ width }
         requires most { width ≤ 8192 }
@@ -57,8 +58,10 @@ impl Publisher {
         })
     }
 
-    /// A session is opened now, in microseconds, by a conclusion with this timestamp, this initial number
-    /// and this caller's socket ID. The delay is in microseconds too. What stood here is forgotten.
+    /// Begins a session and forgets the one before. `now` is the moment of the opening, in microseconds; `stamp`,
+    /// `initial` and `caller` are the timestamp, the initial sequence number and the socket ID of the caller's
+    /// conclusion; `delay` is the agreed receiver's delay, in microseconds (section 4.4), and counts in live mode
+    /// only. O(width).
     pub fn start(
         &mut self,
         now: u64,
@@ -82,7 +85,9 @@ impl Publisher {
         self.log.clear();
     }
 
-    /// A packet comes now, in microseconds. Answers how it ends the session, where it does.
+    /// Takes a packet from the caller that comes at `now`: a data packet, an ACKACK, a drop request or a SHUTDOWN;
+    /// other kinds change nothing here. Returns why it ends the session, or None if the session goes on. Its payload
+    /// is copied once.
     pub fn datagram(&mut self, packet: &PacketRef<'_>, now: u64) -> Option<PubEnd>
         requires { now < 2 ^ 62 }
         ensures stands { (terms : Terms) (initial opening stamp caller time : ℕ) (m : Publishing) → now ≡ opening + time → StandsFor terms initial opening stamp caller self.old m → StandsFor terms initial opening stamp caller self.new (took terms time (stamped_from stamp packet.now.stamp) (heard_from initial (body_of packet.now.kind)) m) }
@@ -112,7 +117,7 @@ impl Publisher {
         }
     }
 
-    /// A data packet comes.
+    /// Takes a data packet (section 3.1). An encrypted one changes nothing (this profile).
     fn data(
         &mut self,
         word: u32,
@@ -134,7 +139,7 @@ impl Publisher {
         if lost { Some(PubEnd::WindowLost) } else { None }
     }
 
-    /// Whether an unencrypted data packet with this number ends the session.
+    /// Whether an unencrypted data packet with this number ends the session. Never in buffer mode.
     fn loses_window(&self, word: u32) -> bool
         ensures { (terms : Terms) (initial opening first caller : ℕ) (m : Publishing) (payload : List ℕ) → StandsFor terms initial opening first caller self.now m → result ≡ loses_window terms.mode terms (Data (counted_from initial word) 0 payload) m }
     {
@@ -144,7 +149,7 @@ impl Publisher {
         }
     }
 
-    /// Whether nothing waits in the window, and a number is past it.
+    /// Whether no received packet waits for delivery, and a number is past the window by fewer than 2^30.
     fn is_past(&self, word: u32) -> bool
         ensures { (terms : Terms) (initial opening first caller : ℕ) (m : Publishing) → StandsFor terms initial opening first caller self.now m → result ≡ is_past_window terms.width (counted_from initial word) m.receiving }
     {
@@ -158,7 +163,7 @@ impl Publisher {
         number.offset_in(end, 1 << 30).is_some()
     }
 
-    /// An unencrypted data packet comes.
+    /// Takes an unencrypted data packet. One whose number has its top bit set is counted and not stored.
     fn receive(&mut self, word: u32, payload: PayloadRef<'_>, stamp: u32, now: u64)
         requires { now < 2 ^ 62 }
         ensures stands { (terms : Terms) (initial opening first caller time : ℕ) (m : Publishing) → now ≡ opening + time → StandsFor terms initial opening first caller self.old m → StandsFor terms initial opening first caller self.new (with_data terms time (stamped_from first stamp) (counted_from initial word) payload.entry.bytes.now m) }
@@ -175,7 +180,7 @@ impl Publisher {
         self.follow(front, point);
     }
 
-    /// The buffer went on from this front and this acknowledgement point, and the rest follows.
+    /// Notes how far the front and the acknowledgement point moved from these to the buffer's current ones.
     fn follow(&mut self, front: Seq31, point: Seq31)
         ensures stands { (terms : Terms) (initial opening first caller : ℕ) (m : Publishing) (r : Receiving) → word_of front ≡ number_word initial m.receiving.position → word_of point ≡ number_word initial (ack_point terms.width m.receiving) → IsAhead terms initial opening first caller self.old m r → StandsFor terms initial opening first caller self.new (record m { receiving = r }) }
         ensures opening { opening_of self.new ≡ opening_of self.old }
@@ -185,7 +190,7 @@ impl Publisher {
         self.log.moves(front_steps, point_steps);
     }
 
-    /// An ACKACK comes.
+    /// Takes an ACKACK (section 3.2.8).
     fn ack_ack(&mut self, number: u32, now: u64)
         ensures stands { (terms : Terms) (initial opening first caller time : ℕ) (m : Publishing) → now ≡ opening + time → StandsFor terms initial opening first caller self.old m → StandsFor terms initial opening first caller self.new (confirmed_at time (confirmed_by number m.notes) m) }
         ensures opening { opening_of self.new ≡ opening_of self.old }
@@ -194,7 +199,7 @@ impl Publisher {
             .confirm(number, now.saturating_sub(self.agreed.opening));
     }
 
-    /// The publisher gives numbers up.
+    /// Takes a drop request (section 3.2.9). In buffer mode it changes nothing (this profile).
     fn drop_request(&mut self, first: u32, last: u32)
         ensures stands { (terms : Terms) (initial opening stamp caller : ℕ) (m : Publishing) → StandsFor terms initial opening stamp caller self.old m → StandsFor terms initial opening stamp caller self.new (with_request terms.mode terms (range_from initial (record { first = first; last = last })) m) }
         ensures opening { opening_of self.new ≡ opening_of self.old }
@@ -205,7 +210,7 @@ impl Publisher {
         }
     }
 
-    /// The numbers from one to another are given up, where both are numbers.
+    /// Drops the numbers from `first` to `last`, both in. Nothing changes if one of them has its top bit set.
     fn give_up(&mut self, first: u32, last: u32)
         ensures stands { (terms : Terms) (initial opening stamp caller : ℕ) (m : Publishing) → terms.mode ≡ Mode.Live → StandsFor terms initial opening stamp caller self.old m → StandsFor terms initial opening stamp caller self.new (record m { receiving = requested terms.width (range_from initial (record { first = first; last = last })) m.receiving }) }
         ensures opening { opening_of self.new ≡ opening_of self.old }
@@ -222,7 +227,7 @@ impl Publisher {
         self.follow(front, point);
     }
 
-    /// Delivers the first payload that waits, where it is due and there is room.
+    /// Delivers the payload of the first packet, if it is due and `room` isn't 0.
     fn advance(&mut self, now: u64, room: u32, payload: &mut Payload) -> bool
         requires early { now < 2 ^ 62 }
         ensures stands { (terms : Terms) (initial opening stamp caller time : ℕ) (m : Publishing) → now ≡ opening + time → StandsFor terms initial opening stamp caller self.old m → StandsFor terms initial opening stamp caller self.new (after_delivery terms (next_due time room m.receiving) m) }
@@ -238,7 +243,7 @@ impl Publisher {
         is_due
     }
 
-    /// Delivers the payload at the front, where there is room.
+    /// Delivers the payload of the front's number, if it is received and `room` isn't 0.
     fn deliver_in_order(&mut self, now: u64, room: u32, payload: &mut Payload) -> bool
         requires early { now < 2 ^ 62 }
         ensures stands { (terms : Terms) (initial opening stamp caller time : ℕ) (m : Publishing) → terms.mode ≡ Mode.Buffer → now ≡ opening + time → StandsFor terms initial opening stamp caller self.old m → StandsFor terms initial opening stamp caller self.new (after_delivery terms (next_delivery terms time room m) m) }
@@ -253,7 +258,7 @@ impl Publisher {
         self.advance(now, room, payload)
     }
 
-    /// A packet with its body goes to the caller, stamped with this time.
+    /// Gives a packet with this body its timestamp, modulo 2^32, and its destination.
     fn address(&self, time: u64, packet: &mut Packet)
         ensures bytes { (caller : ℕ) → self.now.agreed.caller ≡ caller → text packet.new ≡ body_bytes caller time packet.old.body }
         ensures body { packet.new.body ≡ packet.old.body }
@@ -262,7 +267,7 @@ impl Publisher {
         packet.dest = self.agreed.caller;
     }
 
-    /// Writes the ACK that is due. Answers whether one is.
+    /// Writes the ACK that is due. Returns whether one is; if not, `packet` is unchanged.
     fn ack(&mut self, time: u64, packet: &mut Packet) -> bool
         ensures stands { (terms : Terms) (initial opening stamp caller : ℕ) (m : Publishing) → StandsFor terms initial opening stamp caller self.old m → StandsFor terms initial opening stamp caller self.new (record m { notes = noted time (acks terms time m) m.notes }) }
         ensures opening { opening_of self.new ≡ opening_of self.old }
@@ -279,7 +284,7 @@ impl Publisher {
         false
     }
 
-    /// The runs that a NAK tells: of all gaps, or of those above what the last event saw.
+    /// The runs that a NAK reports: of all gaps, or of those above the numbers received before this event.
     fn runs(&self, all: bool) -> ArrayVec<(Seq31, Seq31), 32>
         ensures { (terms : Terms) (initial opening stamp caller : ℕ) (m : Publishing) → StandsFor terms initial opening stamp caller self.now m → words_of result.items ≡ map (run_words initial) (runs_said (gaps_told all terms.width m.seen m.receiving)) }
     {
@@ -291,7 +296,8 @@ impl Publisher {
         }
     }
 
-    /// Writes the NAK that is due. Answers whether one is.
+    /// Writes the NAK that is due: of all gaps at each NAK interval, else of the new gaps (section 4.8.2). Returns
+    /// whether one is; if not, `packet` is unchanged.
     fn nak(&mut self, time: u64, packet: &mut Packet) -> bool
         ensures stands { (terms : Terms) (initial opening stamp caller : ℕ) (m : Publishing) → StandsFor terms initial opening stamp caller self.old m → StandsFor terms initial opening stamp caller self.new (record m { notes = noted time (naks terms time m) m.notes }) }
         ensures opening { opening_of self.new ≡ opening_of self.old }
@@ -312,7 +318,8 @@ impl Publisher {
         true
     }
 
-    /// Writes a KEEPALIVE, where one is due and nothing else is sent. Answers whether there is one.
+    /// Writes a KEEPALIVE, if one is due and neither an ACK nor a NAK is sent. Returns whether there is one; if not,
+    /// `packet` is unchanged.
     fn keep_alive(&mut self, time: u64, ack: bool, nak: bool, packet: &mut Packet) -> bool
         ensures stands { (terms : Terms) (initial opening stamp caller : ℕ) (m : Publishing) → StandsFor terms initial opening stamp caller self.old m → StandsFor terms initial opening stamp caller self.new (record m { notes = noted time (keep_alive_after ack nak time m.notes) m.notes }) }
         ensures opening { opening_of self.new ≡ opening_of self.old }
@@ -335,7 +342,7 @@ impl Publisher {
         false
     }
 
-    /// The event is over.
+    /// Ends the event: the received numbers of now count as known for the next NAK of new gaps.
     fn see(&mut self)
         ensures stands { (terms : Terms) (initial opening stamp caller : ℕ) (m : Publishing) → StandsFor terms initial opening stamp caller self.old m → StandsFor terms initial opening stamp caller self.new (record m { seen = end_of m.receiving.arrivals }) }
         ensures opening { opening_of self.new ≡ opening_of self.old }
@@ -344,10 +351,14 @@ impl Publisher {
         self.log.see(seen);
     }
 
-    /// Delivers one payload, of 1 to 1456 bytes, where one is due now, in microseconds, and in buffer mode
-    /// there is room for so many with each subscriber (none without one); in live mode `room` doesn't
-    /// count. It is written into the place, and the answer is whether there is one. An event delivers 64
-    /// at most: the caller stops then.
+    /// Delivers the next payload, 1 to 1456 bytes, if one is due at `now` (sections 4.5 and 4.6). Returns whether
+    /// there is one; if so, `payload` is replaced by its bytes, one copy, and else unchanged. In live mode a missing
+    /// packet is given up once a later one is due, and `room` doesn't count. In buffer mode payloads come without
+    /// gaps, and none if `room` is 0: it is the number of payloads that every subscriber can still take, and 0
+    /// without a subscriber (section 4.2.2 and this profile).
+    ///
+    /// An event delivers at most 64 payloads (this profile): that limit is the caller's, who calls until it returns
+    /// false or 64 are delivered.
     pub fn deliver(&mut self, now: u64, room: u32, payload: &mut Payload) -> bool
         requires early { now < 2 ^ 62 }
         ensures stands { (terms : Terms) (initial opening stamp caller time : ℕ) (m : Publishing) → now ≡ opening + time → StandsFor terms initial opening stamp caller self.old m → StandsFor terms initial opening stamp caller self.new (after_delivery terms (next_delivery terms time room m) m) }
@@ -362,8 +373,9 @@ impl Publisher {
         }
     }
 
-    /// Ends an event: writes the ACK, the NAK and the KEEPALIVE that are due now, in microseconds, each
-    /// into its place, and answers which. They are sent in this order.
+    /// Ends an event. Writes the ACK, the NAK and the KEEPALIVE that are due at `now`, each into its place, and
+    /// returns which were written. They are sent in this order, and the other places are unchanged. Linear in the
+    /// distance from the first missing to the highest received number at most; takes no memory.
     pub fn tick(
         &mut self,
         now: u64,
@@ -391,7 +403,7 @@ impl Publisher {
     }
 }
 
-/// How many packets one number stands past another.
+/// The number of packets from `from` on to `to`; 0 if that is 2^31 or more.
 fn steps(from: Seq31, to: Seq31) -> u32
     ensures { (a b : ℕ) → a ≤ b → b < a + 2 ^ 31 → word_of from ≡ a % 2 ^ 31 → word_of to ≡ b % 2 ^ 31 → result ≡ b - a }
 {

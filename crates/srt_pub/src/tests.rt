@@ -1,4 +1,4 @@
-//! Sessions told by bytes. Each was opened at one second by the caller 1.
+//! Sessions as the bytes that they receive and send. Each was opened at one second by a caller with the socket ID 1.
 
 ghost use Rattle.std.specs.Prelude.{◌≡◌, ◌≤◌, true};
 ghost use Rattle.srt_packet.specs.Text.{IsWritable};
@@ -10,7 +10,7 @@ use std::alloc::Global;
 use std::process::Abort;
 use std::test::Fail;
 
-/// When a session was opened, in microseconds.
+/// When each session was opened, in microseconds.
 const OPENING: u64 = 1_000_000;
 
 fn session(
@@ -31,16 +31,16 @@ fn session(
     Ok(publisher)
 }
 
-/// What happens so many microseconds after the opening.
+/// An event and its expected result. The first field is its time, in microseconds since the opening.
 #[derive(Clone, Copy)]
 enum Event {
     /// A packet comes and doesn't end the session.
     Comes(u32, &'static str),
     /// A packet comes and ends the session.
     Ends(u32, &'static str, PubEnd),
-    /// With room for so many this payload is delivered; no digits where none is.
+    /// With this room, this payload is delivered; no digits if none is.
     Delivers(u32, u32, &'static str),
-    /// An ACK, a NAK and a KEEPALIVE are sent; no digits for those that aren't.
+    /// An ACK, a NAK and a KEEPALIVE are sent; no digits for one that isn't.
     Sends(u32, &'static str, &'static str, &'static str),
     /// Nothing is sent.
     SendsNothing(u32),
@@ -53,7 +53,7 @@ fn hear(publisher: &mut Publisher, bytes: &[u8], time: u32) -> Result<Option<Pub
     Ok(publisher.datagram(&packet, OPENING + u64::from(time)))
 }
 
-/// A place for a packet.
+/// A packet to be overwritten.
 fn place() -> Packet {
     Packet {
         stamp: 0,
@@ -62,7 +62,7 @@ fn place() -> Packet {
     }
 }
 
-/// Asserts the bytes of a place that was written; no digits where it wasn't.
+/// Asserts the bytes of a packet that was written; no digits if it wasn't.
 fn assert_bytes(
     rt: &(impl AllocGlobal + Abort),
     written: bool,
@@ -78,7 +78,7 @@ fn assert_bytes(
     Ok(())
 }
 
-/// Asserts what an event sends at its end.
+/// Asserts the packets that an event sends at its end.
 fn assert_sent(
     rt: &(impl AllocGlobal + Abort),
     publisher: &mut Publisher,
@@ -99,7 +99,7 @@ fn assert_sent(
     assert_bytes(rt, sent.keep_alive, &keep_alive, digits[2])
 }
 
-/// Asserts how a packet ends the session.
+/// Asserts whether a packet ends the session, and why.
 fn assert_heard(
     rt: &(impl AllocGlobal + Abort),
     publisher: &mut Publisher,
@@ -147,7 +147,7 @@ fn assert_event(
     }
 }
 
-/// Asserts these events one after another.
+/// Asserts these events in order.
 fn assert_events(
     rt: &(impl AllocGlobal + Abort),
     publisher: &mut Publisher,
@@ -159,7 +159,7 @@ fn assert_events(
     Ok(())
 }
 
-/// A data packet of one byte with this number below 256 comes 9 ms after the opening, by its timestamp too.
+/// A data packet of one byte, with this number below 256, comes 9 ms after the opening. Its timestamp is 9 ms too.
 fn hear_number(
     alloc: Global,
     publisher: &mut Publisher,
@@ -223,7 +223,7 @@ fn a_light_ack_after_64_packets(rt: HostRuntime) -> Result<(), Fail> {
     )
 }
 
-/// Number 2 and each second one up to 66 come: the last of 33 runs isn't told.
+/// Number 2 and every second one up to 66 come: there are 33 runs, and the NAK leaves out the last.
 #[test]
 fn a_nak_of_32_runs(rt: HostRuntime) -> Result<(), Fail> {
     let mut publisher = session(rt.alloc(), 128, 0, Mode::Live, 1_000_000)?;
