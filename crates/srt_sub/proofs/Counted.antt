@@ -1,4 +1,4 @@
--- How many packets an event sends.
+-- The number of packets that an event sends.
 use Rattle.std.proofs.Common.{◌≡◌, ℕ, zero, suc, ◌+◌, ◌-◌, ◌≤◌, ◌==◌, min, Bool, true, false, if◌then◌else◌, Option, None, Some, List, [], ◌∷◌, ◌++◌, length, refl, ap, arith, length-append, length-take}
 use Rattle.std.specs.Prelude.{slice_get, nat_le}
 use Rattle.srt_seq.specs.Runs.{Run, numbers_from}

@@ -10,7 +10,7 @@ use Rattle.srt_sendbuf.specs.declared.buffer.SendBuf.{SendBuf}
 use Rattle.srt_sendbuf.proofs.OneByOne.{lost_one_by_one}
 use Rattle.srt_sub.proofs.Turns.{there_is, some_there}
 
--- what was sent was queued
+-- a number that was sent was queued
 pub sent_in_queue : (width initial : ℕ) (b : SendBuf) (r : Sending) → places.StandsFor width initial b r → next r ≤ length r.queue
 sent_in_queue width initial b r h = let i = b.sent_in in let q = h.fields.queued_is in let n = h.fields.flying_is in omega (arith, i, q, n)
 
@@ -25,7 +25,7 @@ no_told_due initial (Some d) e = absurd cc
 abbrev number : Sending → Bool → Option (ℕ × Bool)
 number s b = if b then Some (next s, false) else None
 
--- where nothing is due, no number is
+-- if no packet is due, no number is
 pub number_none : (w : ℕ) (s : Sending) → next s ≤ length s.queue → due w s ≡ None → due_number w (lost s) s ≡ None
 number_none w s le e = among (lost s) refl
   where
@@ -56,7 +56,7 @@ got s n again (Some q) d g e =
     let same : x ≡ d = cc in
     (ap (λ y. y.number) same, (q, g, ap (λ y. y.payload) same))
 
--- what is due was queued, and counts as sent
+-- the next packet was queued, and counts as sent
 pub due_sent : (w : ℕ) (s : Sending) (d : Due) → due w s ≡ Some d → after_due w s ≡ sent d.number s
 due_sent w s d e = by (due_number w (lost s) s) e
   where

@@ -1,4 +1,4 @@
--- A payload is queued, or isn't for this subscriber.
+-- A payload is queued, or this subscriber doesn't get it.
 use Rattle.std.proofs.Common.{◌≡◌, ℕ, ◌<◌, true, false, List, refl, arith}
 use Rattle.srt_seq.specs.declared.shared.Mode.{Mode}
 use Rattle.srt_seq.specs.declared.shared.Mode.TheVariants.{Live, Buffer}
@@ -6,12 +6,12 @@ use Rattle.srt_sendbuf.specs.Sending.{Sending, room, queued}
 use Rattle.srt_sub.specs.Subscribing.{Terms, Subscribing, expired_in, fits, fed}
 use Rattle.srt_sub.proofs.Sound.{has_no_room}
 
--- where there was room, what is too old dropped leaves room too, in buffer mode
+-- in buffer mode, if there was room, there still is after expiry
 roomy : (mode : Mode) (terms : Terms) (time : ℕ) (s : Sending) → mode ≡ Buffer → 0 < room terms.width s → 0 < room terms.width (expired_in mode terms time s)
 roomy Live terms time s e some = absurd cc
 roomy Buffer terms time s e some = some
 
--- in buffer mode nothing is too old, so where there was none there is none
+-- in buffer mode nothing is too late, so if there was no room, there is none after expiry
 pub still_full : (mode : Mode) (terms : Terms) (time : ℕ) (s : Sending) → mode ≡ Buffer → room terms.width s ≡ 0 → room terms.width (expired_in mode terms time s) ≡ 0
 still_full Live terms time s e none = absurd cc
 still_full Buffer terms time s e none = none

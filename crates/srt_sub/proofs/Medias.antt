@@ -1,4 +1,4 @@
--- A data packet, and what it says.
+-- The bytes of a data packet.
 use Rattle.std.proofs.Common.{◌≡◌, ℕ, ◌+◌, ◌%◌, ◌^◌, Bool, true, false, if◌then◌else◌, Option, None, Some, List, refl, ap, ◌∙◌}
 use Rattle.std.specs.Prelude.{is_some}
 use Rattle.srt_packet.specs.Text.{text}
@@ -25,7 +25,7 @@ as_told (bodies.AckAck number) origin caller e = absurd cc
 as_told (bodies.DropRequest message first last) origin caller e = absurd cc
 as_told bodies.Shutdown origin caller e = absurd cc
 
--- a data packet with what is due says it
+-- a data packet that was written from the next packet has its bytes
 pub media_text : (b : Body) (stamp origin caller initial time : ℕ) (d : Due) → is_media_body b ≡ true → told_in b origin ≡ told initial d → stamp ≡ origin % 2 ^ 32 → text (record { stamp = stamp; dest = caller; body = b }) ≡ says caller initial time (Media d.number d.again d.origin d.payload)
 media_text b stamp origin caller initial time d m e at =
     ap (λ s. text (record { stamp = s; dest = caller; body = b })) at ∙ as_told b origin caller m ∙ ap (told_text caller) e

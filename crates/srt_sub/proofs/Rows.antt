@@ -1,4 +1,4 @@
--- What a session sends, worked out from bytes.
+-- What a session sends, computed from bytes.
 use Rattle.std.proofs.Common.{◌≡◌, ℕ, List, [], ◌∷◌, ◌++◌, refl}
 use Rattle.std.specs.Prelude.{map}
 use Rattle.srt_seq.specs.declared.shared.Mode.TheVariants.{Live}
@@ -9,7 +9,7 @@ use Rattle.srt_sub.specs.Heard.{heard_from}
 use Rattle.srt_sub.specs.Subscribing.{Terms, Subscribing, opened, expired, took, answers, fed_all, reports, reported}
 use Rattle.srt_sub.specs.Says.{says}
 
--- an event: its time, counted from the opening, what came, and what is fed
+-- an event: its time since the opening, what came, and what is fed
 record Event : Type 0 where
   time : ℕ
   body : Body
@@ -49,12 +49,12 @@ resent_packet : sends (live 120_000) 9 2 (asks 2_000_000 ∷ feeds 1_000_000 ∷
 unfolding in_window
 resent_packet = refl
 
--- a microsecond later it is gone
+-- a microsecond later it is expired
 gone_packet : sends (live 120_000) 9 2 (asks 2_000_001 ∷ asks 2_000_000 ∷ feeds 1_000_000 ∷ []) ≡ (0x80 ∷ 7 ∷ 0 ∷ 0 ∷ 0 ∷ 0 ∷ 0 ∷ 1 ∷ 0 ∷ 0x1e ∷ 0x84 ∷ 0x81 ∷ 0 ∷ 0 ∷ 0 ∷ 2 ∷ 0 ∷ 0 ∷ 0 ∷ 9 ∷ 0 ∷ 0 ∷ 0 ∷ 9 ∷ []) ∷ []
 unfolding in_window
 gone_packet = refl
 
--- the first moments at which it is kept and gone, with a delay of 2 s
+-- the last moment at which it is kept and the first at which it is expired, with a delay of 2 s
 kept_then_gone : (front (after (live 2_000_000) 9 (still 3_500_000 ∷ feeds 1_000_000 ∷ [])).sending ≡ 0) × (front (after (live 2_000_000) 9 (still 3_500_001 ∷ feeds 1_000_000 ∷ [])).sending ≡ 1)
 unfolding in_window
 kept_then_gone = (refl, refl)
@@ -65,7 +65,7 @@ full_ack time mark number = record { time = time; body = Ack mark (0 ∷ 0 ∷ 0
 abbrev acknowledged : List Event
 acknowledged = full_ack 1_020_000 1 10 ∷ feeds 1_000_000 ∷ []
 
--- Full ACKs are answered, also where their number is outside the window and sets nothing
+-- Full ACKs are answered, even if their number is outside the range that an ACK may name and they change nothing
 answered : sends (live 120_000) 9 2 acknowledged ≡ (0x80 ∷ 6 ∷ 0 ∷ 0 ∷ 0 ∷ 0 ∷ 0 ∷ 1 ∷ 0 ∷ 0xf ∷ 0x90 ∷ 0x60 ∷ 0 ∷ 0 ∷ 0 ∷ 2 ∷ []) ∷ []
 unfolding in_window
 answered = refl
@@ -84,7 +84,7 @@ second_packet : sends (live 120_000) 9 2 second ≡ (0 ∷ 0 ∷ 0 ∷ 10 ∷ 0x
 unfolding in_window
 second_packet = refl
 
--- the acknowledgement's round-trip time says when all is sent again
+-- the round-trip time of an ACK determines when all is sent again
 too_early : sends (live 120_000) 9 2 (still 1_109_999 ∷ second) ≡ []
 unfolding in_window
 too_early = refl
@@ -93,7 +93,7 @@ in_time : sends (live 120_000) 9 2 (still 1_110_000 ∷ still 1_109_999 ∷ seco
 unfolding in_window
 in_time = refl
 
--- with no acknowledgement at all
+-- without any ACK
 not_yet : sends (live 120_000) 9 2 (still 319_999 ∷ feeds 0 ∷ []) ≡ []
 unfolding in_window
 not_yet = refl
@@ -102,12 +102,12 @@ all_again : sends (live 120_000) 9 2 (still 320_000 ∷ still 319_999 ∷ feeds 
 unfolding in_window
 all_again = refl
 
--- a keep-alive after a second
+-- a KEEPALIVE after a second
 alive : sends (live 120_000) 9 2 (still 1_000_000 ∷ still 999_999 ∷ []) ≡ (0x80 ∷ 1 ∷ 0 ∷ 0 ∷ 0 ∷ 0 ∷ 0 ∷ 0 ∷ 0 ∷ 0xf ∷ 0x42 ∷ 0x40 ∷ 0 ∷ 0 ∷ 0 ∷ 2 ∷ []) ∷ []
 unfolding in_window
 alive = refl
 
--- a loss list of 2^30 numbers asks for it, and one of more doesn't read
+-- a loss list of 2^30 numbers asks for it, and one of more has a fault
 abbrev asks_many : (last : ℕ) → Event
 asks_many last = record { time = 1_100_000; body = Nak (0x80 ∷ 0 ∷ 0 ∷ 9 ∷ 0x40 ∷ 0 ∷ 0 ∷ last ∷ []); payloads = [] }
 
@@ -119,7 +119,8 @@ too_many_asked : sends (live 120_000) 9 2 (asks_many 9 ∷ feeds 1_000_000 ∷ [
 unfolding in_window
 too_many_asked = refl
 
--- an acknowledgement that brings a greater number puts off that all is sent again, also where what it acknowledges is gone already
+-- an ACK that acknowledges more puts off the resending of all, even if the numbers that it acknowledges are expired
+-- already
 abbrev gone_first : List Event
 gone_first = still 2_000_001 ∷ feeds 1_900_000 ∷ feeds 1_000_000 ∷ []
 

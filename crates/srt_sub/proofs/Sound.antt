@@ -1,4 +1,4 @@
--- What holds of each session goes on.
+-- What always holds of a session keeps holding.
 use Rattle.std.proofs.Common.{◌≡◌, ℕ, ◌-◌, ◌^◌, ◌<◌, ◌≤◌, Bool, true, false, Option, None, Some, List, length, refl, arith}
 use Rattle.std.specs.Prelude.{◌≤ℤ◌, nat_lt}
 use Rattle.std.proofs.lemmas.Bool.{lt-ltb}
@@ -24,7 +24,7 @@ use Rattle.srt_seq.specs.Runs.{Run}
 use Rattle.std.specs.Prelude.{is_some, option_map, if◌then◌else◌, ◌&&◌}
 use Rattle.srt_sendbuf.specs.Sending.{room}
 
--- a word with its top bit set is no number
+-- a word with its top bit set is no sequence number
 pub no_number : (initial word base width : ℕ) → 2 ^ 31 ≤ word → in_window (counted_from initial word) base width ≡ None
 unfolding in_window
 no_number initial word base width le = let e : nat_lt word (2 ^ 31) ≡ false = grind (arith, nat_tests, le) in rw e refl
@@ -48,7 +48,7 @@ sound_at_first terms time =
       some = All-nil (λ (q : Queued). 0 < length q.payload);
     }
 
--- what changes neither the queue nor what is gone
+-- a change that affects neither the queue nor the number of expired payloads
 pub sound_marked : (terms : Terms) (time : ℕ) (s t : Sending) → t.queue ≡ s.queue → t.expired ≡ s.expired → IsSound terms time s → IsSound terms time t
 sound_marked terms time s t q e h =
     record {
@@ -82,7 +82,7 @@ pub some_is : (o : Option ℕ) → is_some o ≡ true → (n : ℕ) × (o ≡ So
 some_is None e = absurd cc
 some_is (Some n) e = (n, refl)
 
--- whether a loss list asks for what is gone, and what it is told
+-- whether a loss list asks for expired numbers, and the drop request for it
 pub is_gone : (b : Bool) (g x : Gone) → Some g ≡ (if b then Some x else None) → (b ≡ true) × (g ≡ x)
 is_gone true g x e = (refl, cc)
 is_gone false g x e = absurd cc
@@ -95,7 +95,7 @@ pub told_run : (initial : ℕ) (g : Gone) (o : Option Run) → Some g ≡ option
 told_run initial g None e = absurd cc
 told_run initial g (Some r) e = (r, refl, cc)
 
--- what may change of a session
+-- the parts of a session that may change
 pub changed : (terms : Terms) (initial opening caller time given : ℕ) (s : Subscriber) (m : Subscribing) → StandsIn terms initial opening caller time given s m → (later count g : ℕ) (b : SendBuf) (x : History) (n : Subscribing) → g ≡ count → places.StandsFor terms.width initial b n.sending → IsHistory initial terms.window x n.notes → IsSound terms later n.sending → StandsIn terms initial opening caller later count (record s { buffer = b; history = x; given = g }) n
 changed terms initial opening caller time given s m h later count g b x n given_is buffer history sound =
     record {

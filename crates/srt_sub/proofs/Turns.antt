@@ -20,7 +20,7 @@ use Rattle.srt_sub.specs.Stands.{StandsIn}
 use Rattle.srt_sub.specs.Emission.{IsLeft, IsNextAt}
 use Rattle.srt_sub.specs.declared.session.Subscriber.{Subscriber}
 
--- after a packet of this time no keep-alive is due
+-- after a packet of this time no KEEPALIVE is due
 pub quiet : (time : ℕ) (due : List Report) (r : Report) (notes : List Note) → keep_alives time due (Sent time r ∷ notes) ≡ []
 quiet time (d ∷ due) r notes = refl
 quiet time [] r notes = let e : nat_le 1_000_000 (time - time) ≡ false = grind (arith, nat_tests) in rw e refl
@@ -33,7 +33,7 @@ pub record Parts (p q : ℕ) (terms : Terms) (time : ℕ) (s t : Subscribing) (r
   pub reports_are : reports_of p terms time s ≡ r ∷ reports_of q terms time t
   pub end_is : sent_of p terms time s ≡ sent_of q terms time t
 
--- what is sent beside keep-alives, in order
+-- all packets but KEEPALIVEs, in order
 abbrev row : List Queued → Option Run → List ℕ → List ℕ → List Report
 row queue run again new = drops_of run ++ media true again queue ++ media false new queue
 
@@ -226,7 +226,7 @@ nothing_sent : (p : ℕ) (terms : Terms) (s : Subscribing) → IsNone p terms s 
 nothing_sent p terms s h =
     ap (λ a. sent_each (a ++ new_of p (flow_window terms.window s.notes) s.sending) s.sending) h.old ∙ ap (λ a. sent_each a s.sending) h.new
 
--- a keep-alive
+-- a KEEPALIVE
 pub a_keep_alive : (p : ℕ) (terms : Terms) (time : ℕ) (s : Subscribing) → untold s.notes ≡ None → IsNone p terms s → keep_alives time [] s.notes ≡ KeepAlive ∷ [] → Parts p p terms time s (record s { notes = Sent time KeepAlive ∷ s.notes }) KeepAlive
 unfolding made
 a_keep_alive p terms time s u h k =
@@ -254,7 +254,7 @@ over p terms time s u h k =
     ap (λ rs. made sending (noted time rs s.notes)) none ∙ ap (λ x. made x s.notes) (nothing_sent p terms s h) in
     record { reports_are = none; end_is = whole }
 
--- what is too old is gone, and what is stale is presumed lost
+-- after what is too late was dropped, and after what is stale was presumed lost
 pub record IsSettled (terms : Terms) (time : ℕ) (s : Subscribing) : Type 0 where
   pub fresh : expired_in terms.mode terms time s.sending ≡ s.sending
   pub calm : is_stale time s ≡ false
@@ -364,7 +364,7 @@ pub wrote_none : (b : Bool) (p : Packet) (ts : List (List ℕ)) → b ≡ false 
 wrote_none false p ts b e = e
 wrote_none true p ts b e = absurd cc
 
--- what a packet says of what was due
+-- the bytes of a packet that was due
 pub drop_said : (o : Option Run) (f : Report → List ℕ) (t : List ℕ) → t ∷ [] ≡ map f (drops_of o) → (run : Run) × (o ≡ Some run) × (t ≡ f (Dropped run))
 drop_said None f t e = absurd cc
 drop_said (Some run) f t e = (run, refl, cc)
@@ -381,7 +381,7 @@ pub no_media_said : (o : Option Due) (f : Due → List ℕ) → [] ≡ map f (op
 no_media_said None f e = refl
 no_media_said (Some d) f e = absurd cc
 
--- the one report, where there is one
+-- the one packet, if there is one
 pub one_said : (rs : List Report) (f : Report → List ℕ) (t : List ℕ) (r : Report) → (rs ≡ []) ⊎ (rs ≡ r ∷ []) → t ∷ [] ≡ map f rs → (rs ≡ r ∷ []) × (t ≡ f r)
 one_said rs f t r (inl none) e = let n : t ∷ [] ≡ map f [] = e ∙ ap (map f) none in absurd cc
 one_said rs f t r (inr one) e = let n : t ∷ [] ≡ map f (r ∷ []) = e ∙ ap (map f) one in (one, cc)
@@ -397,7 +397,7 @@ at_most_one time notes = by (nat_le 1_000_000 (time - last_sent notes))
     by true = inr refl
     by false = inl refl
 
--- a data packet is due only where there is a place for it
+-- a data packet is due only if one more may be sent
 pub due_there : (p : ℕ) (terms : Terms) (s : Subscribing) (d : Due) → due_in p terms s ≡ Some d → (0 < p) × (due (flow_window terms.window s.notes) s.sending ≡ Some d)
 due_there zero terms s d e = absurd cc
 due_there (suc p) terms s d e = let b : (suc p == 0) ≡ false = ne_eqb _ _ (λ x. omega (arith, x)) in (omega arith, rw b at e)

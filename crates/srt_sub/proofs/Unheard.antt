@@ -1,4 +1,4 @@
--- Kinds of packets that a session hears nothing of.
+-- Kinds of packets that change nothing for a session.
 use Rattle.std.proofs.Common.{◌≡◌, ℕ, ◌≤◌, ◌<◌, true, false, List, length, refl, arith}
 use Rattle.std.specs.Prelude.{nat_le}
 use Rattle.std.specs.Borrow.{Bor}
@@ -28,7 +28,7 @@ unheard initial (kinds.DropRequest message first last) a n s = record { heard = 
 unheard initial kinds.PeerError a n s = record { heard = refl; ends = refl }
 unheard initial kinds.UserDefined a n s = record { heard = refl; ends = refl }
 
--- an acknowledgement with and without a first word
+-- an ACK with and without a whole first word
 pub heard_ack : (initial number : ℕ) (info : Bor (List ℕ)) → 4 ≤ length info.now → heard_from initial (body_of (kinds.Ack number info)) ≡ Ack number (counted_from initial (word_at info.now 0)) (more_of info.now)
 heard_ack initial number info le = let b : nat_le 4 (length info.now) ≡ true = grind (arith, nat_tests, le) in rw b refl
 

@@ -7,25 +7,25 @@ use Rattle.srt_sub.specs.Says.{says}
 use Rattle.srt_sub.specs.Stands.{StandsIn, StandsFor}
 use Rattle.srt_sub.specs.declared.session.Subscriber.{Subscriber}
 
--- after so many data packets of an event these reports are left, and with them the event ends as it does without a stop in the
--- middle; m is what the session was before the first of them
+-- after `given` data packets of an event these reports are left, and sending them ends the event with the same result
+-- as sending all at once; m is the session before the first of them
 pub record IsLeft (terms : Terms) (time given : ℕ) (middle m : Subscribing) (left : List Report) : Type 0 where
   pub few : given ≤ most
   pub left_is : reports_of (most - given) terms time (presumed time middle) ≡ left
   pub end_is : sent_of (most - given) terms time (presumed time middle) ≡ reported terms time (expired terms time m)
 
--- the session gives the packets of an event's end, at its own time; these are left
+-- the session writes the packets of an event's end, at a time since its opening; these are left
 pub record EmittingAt (terms : Terms) (initial opening caller time : ℕ) (s : Subscriber) (m : Subscribing) (left : List Report) : Type 0 where
   pub given : ℕ
   pub middle : Subscribing
   pub stands : StandsIn terms initial opening caller time given s middle
   pub left_is : IsLeft terms time given (expired terms time middle) m left
 
--- likewise at a moment
+-- the same at a moment
 abbrev pub Emitting : (terms : Terms) (initial opening caller now : ℕ) → Subscriber → Subscribing → (left : List Report) → Type 0
 Emitting terms initial opening caller now s m left = EmittingAt terms initial opening caller (now - opening) s m left
 
--- a packet is the first of those that are left, and the session goes on with the others
+-- a packet is the first of those that are left, and the others are left after it
 pub record IsNextAt (terms : Terms) (initial opening caller time : ℕ) (p : Packet) (s : Subscriber) (m : Subscribing) (left : List Report) : Type 0 where
   pub report : Report
   pub rest : List Report
@@ -33,6 +33,7 @@ pub record IsNextAt (terms : Terms) (initial opening caller time : ℕ) (p : Pac
   pub text_is : text p ≡ says caller initial time report
   pub goes_on : EmittingAt terms initial opening caller time s m rest
 
+-- the same at a moment
 abbrev pub IsNext : (terms : Terms) (initial opening caller now : ℕ) → Packet → Subscriber → Subscribing → (left : List Report) → Type 0
 IsNext terms initial opening caller now p s m left = IsNextAt terms initial opening caller (now - opening) p s m left
 
@@ -41,14 +42,14 @@ pub record IsOverAt (terms : Terms) (initial opening caller time : ℕ) (s : Sub
   pub left_is : left ≡ []
   pub stands : StandsIn terms initial opening caller time 0 s (reported terms time (expired terms time m))
 
--- an event's end begins with all its packets
+-- at the beginning of an event's end, all its packets are left
 abbrev pub EmissionBegins : Type 0
 EmissionBegins =
     (terms : Terms) (initial opening caller last now : ℕ) (s : Subscriber) (m : Subscribing)
     → StandsFor terms initial opening caller last s m → last ≤ now
     → Emitting terms initial opening caller now s m (reports terms (now - opening) (expired terms (now - opening) m))
 
--- nothing changes by it that time goes by
+-- a session that represents a record at one moment represents it at later ones
 abbrev pub StandsLater : Type 0
 StandsLater =
     (terms : Terms) (initial opening caller last later : ℕ) (s : Subscriber) (m : Subscribing)

@@ -1,4 +1,4 @@
--- What a subscriber's session hears of a packet. Numbers count from its initial one.
+-- A packet as a subscriber's session takes it. Its sequence numbers count from the session's initial one.
 use Rattle.std.specs.Prelude.{ℕ, Option, None, Some, Result, Ok, Err, List, [], ◌∷◌, length, nat_le, if◌then◌else◌}
 use Rattle.srt_seq.specs.Words.{word_at}
 use Rattle.srt_seq.specs.Window.{counted_from}
@@ -7,26 +7,29 @@ use Rattle.srt_packet.specs.Grammar as grammar
 use Rattle.srt_loss.specs.Reading.{losses_in}
 use Rattle.srt_loss.specs.declared.reading.LossFault.{LossFault}
 
+-- an ACK, a NAK, or another kind
 pub data Heard : Type 0 where
-  -- an acknowledgement: its own number, the number that it brings, and what it tells beside
+  -- an ACK: its own number (0 in a Light ACK), the sequence number that it names, and the words after that
   Ack : (mark number : ℕ) (more : List ℕ) → Heard
-  -- a loss report, and what it asks for where its list reads
+  -- a NAK: the ranges of its loss list; None if the list has a fault
   Nak : (asked : Option (List Range)) → Heard
+  -- all other kinds, which change nothing
   Other : Heard
 
--- the words after the first: from 12 bytes on a round-trip time and its variance, from 16 on a flow window (section 3.2.4).
--- What follows them isn't looked at, nor whether the last word is whole (this profile)
+-- what an ACK's body has after its first word: from 12 bytes on a round-trip time and its variance, from 16 on a flow
+-- window (section 3.2.4). The bytes after these aren't read, and the last word needn't be whole (this profile)
 abbrev pub more_of : List ℕ → List ℕ
 more_of info =
     if nat_le 16 (length info) then word_at info 4 ∷ word_at info 8 ∷ word_at info 12 ∷ []
     else if nat_le 12 (length info) then word_at info 4 ∷ word_at info 8 ∷ []
     else []
 
+-- the ranges of a loss list, counted from the initial number
 abbrev pub asked_from : (initial : ℕ) → Result (List Range) LossFault → Option (List Range)
 asked_from initial (Ok ranges) = Some (ranges_from initial ranges)
 asked_from initial (Err fault) = None
 
--- an acknowledgement has a first word: no packet is read without one
+-- an ACK without a whole first word changes nothing; but no packet without one is decoded
 abbrev pub heard_from : (initial : ℕ) → grammar.Body → Heard
 heard_from initial (grammar.Ack mark info) =
     if nat_le 4 (length info) then Ack mark (counted_from initial (word_at info 0)) (more_of info) else Other

@@ -1,4 +1,4 @@
--- The bytes of what a subscriber's session sends (section 3).
+-- The bytes of the packets that a subscriber's session sends (section 3).
 use Rattle.std.specs.Prelude.{ℕ, ◌+◌, ◌%◌, ◌^◌, List, [], ◌∷◌, ◌++◌, if◌then◌else◌}
 use Rattle.srt_seq.specs.Words.{word, words}
 use Rattle.srt_seq.specs.Counts.{message_number}
@@ -9,8 +9,9 @@ use Rattle.srt_sub.specs.Subscribing.{Report, Acked, Dropped, Media, KeepAlive}
 abbrev pub packet_text : (word0 word1 stamp caller : ℕ) → List ℕ → List ℕ
 packet_text word0 word1 stamp caller rest = word word0 ++ word word1 ++ word stamp ++ word caller ++ rest
 
--- the datagram to a caller, of a session with this initial number, at this time. A data packet has the time when it was queued,
--- and is a packet alone, in order and unencrypted, with R where it was sent before
+-- the bytes of a packet to a caller's socket ID, of a session with this initial number, at a time since its opening.
+-- A data packet has the time when its payload was queued as its timestamp; it is a message of its own, in order and
+-- unencrypted, with R if it was sent before
 abbrev pub says : (caller initial time : ℕ) → Report → List ℕ
 says d i t (Acked mark) = packet_text 0x8006_0000 mark (t % 2 ^ 32) d []
 says d i t (Dropped run) = packet_text 0x8007_0000 (message_number run.low) (t % 2 ^ 32) d (words (number_word i run.low ∷ number_word i run.high ∷ []))

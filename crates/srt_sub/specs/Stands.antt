@@ -1,4 +1,4 @@
--- What the fields of a subscriber's session stand for.
+-- What the fields of a subscriber's session represent.
 use Rattle.std.specs.Prelude.{◌≡◌, ℕ, ◌-◌, ◌<◌, option_map, List, [], ◌∷◌, All, length}
 use Rattle.srt_seq.specs.Counts.{message_number}
 use Rattle.srt_seq.specs.Runs.{Run}
@@ -16,11 +16,12 @@ use Rattle.srt_sub.specs.declared.session.Subscriber.{Subscriber}
 use Rattle.srt_sub.specs.declared.hearing.Took.{Took}
 use Rattle.srt_sub.specs.declared.hearing.Took.TheVariants.{Nothing, Answer, Ended}
 
--- a run in words of the wire
+-- a run as the contents of a drop request, in sequence numbers
 abbrev pub run_gone : (initial : ℕ) → Run → Gone
 run_gone initial run = record { first = number_word initial run.low; last = number_word initial run.high; message = message_number run.low }
 
--- what is kept of these notes, of a session with this initial number and this flow window agreed
+-- the fields keep of these notes what the definitions give, in a session with this initial number and this agreed
+-- flow window
 pub record IsHistory (initial agreed : ℕ) (h : History) (notes : List Note) : Type 0 where
   pub window_is : h.window ≡ flow_window agreed notes
   pub round_trip_is : round_trip_of h.round_trip ≡ round_trip notes
@@ -29,14 +30,15 @@ pub record IsHistory (initial agreed : ℕ) (h : History) (notes : List Note) : 
   pub growth_is : h.growth ≡ last_growth notes
   pub missed_is : option_map gone_by h.missed ≡ option_map (run_gone initial) (untold notes)
 
--- what holds of each session: all was queued by this time, what is gone was too old by then, and no payload is empty
+-- what always holds of a session: no payload was queued later than this time, all expired payloads are too late at
+-- it, and no payload is empty
 pub record IsSound (terms : Terms) (time : ℕ) (s : Sending) : Type 0 where
   pub timely : IsTimely time s
   pub later : IsLater (too_late_at time terms.delay) s
   pub some : All (λ q. 0 < length q.payload) s.queue
 
--- the session of these terms, with this initial number, which was opened then by this caller; it is told times up to this one,
--- its own, and gave so many data packets in this event
+-- the fields represent a session of these terms, with this initial number, opened at a moment by a caller with this
+-- socket ID; its last call was at this time since the opening, and `given` data packets were sent in this event
 pub record StandsIn (terms : Terms) (initial opening caller time given : ℕ) (s : Subscriber) (m : Subscribing) : Type 0 where
   pub buffer_is : places.StandsFor terms.width initial s.buffer m.sending
   pub history_is : IsHistory initial terms.window s.history m.notes
@@ -48,15 +50,15 @@ pub record StandsIn (terms : Terms) (initial opening caller time given : ℕ) (s
   pub given_is : s.given ≡ given
   pub sound : IsSound terms time m.sending
 
--- between two events. It was told moments up to this last one
+-- the same between two events; `last` is the moment of the last call
 abbrev pub StandsFor : (terms : Terms) (initial opening caller last : ℕ) → Subscriber → Subscribing → Type 0
 StandsFor terms initial opening caller last s m = StandsIn terms initial opening caller (last - opening) 0 s m
 
--- it has places for so many packets, whatever it stands for
+-- it has places for `width` packets, whatever it represents
 abbrev pub IsWide : (width : ℕ) → Subscriber → Type 0
 IsWide width s = (initial : ℕ) × (kept : Sending) × places.StandsFor width initial s.buffer kept
 
--- the datagrams of an answer, of which this packet was written
+-- the bytes of the packets that are sent at once, if this packet was written
 abbrev pub texts_of : Took → Packet → List (List ℕ)
 texts_of Answer packet = text packet ∷ []
 texts_of Nothing packet = []

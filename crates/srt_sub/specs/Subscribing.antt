@@ -1,5 +1,5 @@
--- A subscriber's session: what it was fed, what it heard and what it sent. It counts from its own beginning: times from its
--- opening, in microseconds, and numbers from its initial number.
+-- A subscriber's session, defined by what it was fed, what it received and what it sent. It counts from its own
+-- beginning: times in microseconds from its opening, and numbers from its initial number.
 use Rattle.std.specs.Prelude.{ℕ, ◌-◌, Bool, true, false, Option, None, Some, List, [], ◌∷◌, ◌++◌, take, min, max, length, slice_get, nat_lt, nat_le, ◌==◌, ◌&&◌, if◌then◌else◌}
 use Rattle.srt_seq.specs.declared.shared.Mode.{Mode}
 use Rattle.srt_seq.specs.declared.shared.Mode.TheVariants.{Live, Buffer}
@@ -9,8 +9,8 @@ use Rattle.srt_tsbpd.specs.Deadline.{too_late_at}
 use Rattle.srt_sendbuf.specs.Sending.{Queued, Sending, nothing_yet, front, base, next, room, lost, acknowledged_by, acknowledged, asked, asks_for_gone, all_lost, queued, expired_before, sent}
 use Rattle.srt_sub.specs.Heard.{Heard, Ack, Nak, Other}
 
--- what was agreed: how the route hands payloads on, the packets of a window, the delay in microseconds, the greatest packet in
--- bytes with all headers, and the flow window in packets
+-- what was agreed: the mode, the window's width in packets, the delay in microseconds, the most bytes of a packet
+-- with all headers (the MTU), and the flow window in packets
 pub record Terms : Type 0 where
   pub mode : Mode
   pub width : ℕ
@@ -18,36 +18,40 @@ pub record Terms : Type 0 where
   pub mtu : ℕ
   pub window : ℕ
 
--- what a session sends
+-- a packet that a session sends
 pub data Report : Type 0 where
-  -- the answer to a Full ACK
+  -- an ACKACK, with the number of the Full ACK
   Acked : (mark : ℕ) → Report
-  -- numbers that are gone
+  -- a drop request for expired numbers
   Dropped : (run : Run) → Report
-  -- a payload, the time when it was queued, and whether it was sent before
+  -- a data packet: its number, whether it was sent before, when its payload was queued, and the payload
   Media : (number : ℕ) (again : Bool) (origin : ℕ) (payload : List ℕ) → Report
   KeepAlive : Report
 
+-- an event that the session remembers
 pub data Note : Type 0 where
   -- a packet was sent
   Sent : (time : ℕ) (report : Report) → Note
-  -- an acknowledgement brought a greater number
+  -- an ACK acknowledged more than those before
   Grew : (time : ℕ) → Note
-  -- an acknowledgement told a round-trip time, and a flow window
+  -- an ACK reported a round-trip time and its variance
   Told : (round_trip : RoundTrip) → Note
+  -- an ACK reported a flow window
   Opened : (window : ℕ) → Note
-  -- a NAK asked for numbers that are gone
+  -- a NAK asked for expired numbers
   Missed : (run : Run) → Note
 
--- all that was fed and all that happened, the newest note first
+-- all that was queued and all that happened, the newest note first
 pub record Subscribing : Type 0 where
   pub sending : Sending
   pub notes : List Note
 
+-- a session that was just opened
 abbrev pub opened : Subscribing
 opened = record { sending = nothing_yet; notes = [] }
 
--- times of the last packet, of the last data packet, and of the last growth; the opening counts as each
+-- when the last packet was sent, the last data packet, and when an ACK last acknowledged more; the opening counts as
+-- each
 abbrev pub last_sent : List Note → ℕ
 last_sent [] = 0
 last_sent (Sent time report ∷ notes) = time
@@ -76,7 +80,7 @@ last_growth (Told r ∷ notes) = last_growth notes
 last_growth (Opened w ∷ notes) = last_growth notes
 last_growth (Missed run ∷ notes) = last_growth notes
 
--- as the last acknowledgement told it (section 4.10)
+-- the round-trip time and its variance, as the last ACK reported them (section 4.10)
 abbrev pub round_trip : List Note → RoundTrip
 round_trip [] = start
 round_trip (Sent time report ∷ notes) = round_trip notes
@@ -85,7 +89,7 @@ round_trip (Told r ∷ notes) = r
 round_trip (Opened w ∷ notes) = round_trip notes
 round_trip (Missed run ∷ notes) = round_trip notes
 
--- the available buffer size, as the last acknowledgement told it (section 3.2.4)
+-- the flow window: the available buffer size that the last ACK reported, or the agreed one (section 3.2.4)
 abbrev pub flow_window : (agreed : ℕ) → List Note → ℕ
 flow_window agreed [] = agreed
 flow_window agreed (Sent time report ∷ notes) = flow_window agreed notes
@@ -94,51 +98,53 @@ flow_window agreed (Told r ∷ notes) = flow_window agreed notes
 flow_window agreed (Opened w ∷ notes) = w
 flow_window agreed (Missed run ∷ notes) = flow_window agreed notes
 
--- what is older than the threshold is gone; in buffer mode nothing is (section 4.6)
+-- after what is older than the threshold was dropped; in buffer mode nothing is (section 4.6)
 abbrev pub expired_in : Mode → Terms → (time : ℕ) → Sending → Sending
 expired_in Live terms time s = expired_before (too_late_at time terms.delay) s
 expired_in Buffer terms time s = s
 
--- the beginning of an event
+-- the session after that, as at the beginning of an event
 abbrev pub expired : Terms → (time : ℕ) → Subscribing → Subscribing
 expired terms time s = record s { sending = expired_in terms.mode terms time s.sending }
 
--- what an acknowledgement tells beside its number
+-- the notes of what an ACK reports besides its number
 abbrev pub told : List ℕ → List Note
 told (rtt ∷ variance ∷ window ∷ more) = Opened window ∷ Told (record { time = rtt; variance = variance }) ∷ []
 told (rtt ∷ variance ∷ []) = Told (record { time = rtt; variance = variance }) ∷ []
 told _ = []
 
+-- the note of an ACK that acknowledged more
 abbrev pub grown : (time : ℕ) → Bool → List Note
 grown time grows = if grows then Grew time ∷ [] else []
 
 abbrev pub growth : (time n : ℕ) → Sending → List Note
 growth time n s = grown time (nat_lt s.acked n)
 
--- an acknowledgement whose number stands in its window; without one nothing is set
+-- after an ACK; if its number is outside the range that an ACK may name, nothing changes
 abbrev pub with_ack : (time : ℕ) → List ℕ → Option ℕ → Subscribing → Subscribing
 with_ack time more None s = s
 with_ack time more (Some n) s = record { sending = acknowledged n s.sending; notes = told more ++ (growth time n s.sending ++ s.notes) }
 
--- a Full ACK has a number of its own, and is answered with it (section 3.2.8)
+-- the ACKACK for an ACK with a number of its own, as a Full ACK has (section 3.2.8)
 abbrev pub ack_reports : (mark : ℕ) → List Report
 ack_reports mark = if mark == 0 then [] else Acked mark ∷ []
 
--- these were sent, the first of them first
+-- with these packets sent, the first of them first
 abbrev pub noted : (time : ℕ) → List Report → List Note → List Note
 noted time [] notes = notes
 noted time (r ∷ rs) notes = noted time rs (Sent time r ∷ notes)
 
--- what is gone, and can still be acknowledged
+-- all numbers from the base up to the front: expired and not acknowledged
 abbrev pub gone : Sending → Run
 gone s = record { low = base s; high = front s - 1 }
 
+-- after a NAK; one whose loss list has a fault changes nothing
 abbrev pub with_nak : Option (List Range) → Subscribing → Subscribing
 with_nak None s = s
 with_nak (Some ranges) s =
     record { sending = asked ranges s.sending; notes = if asks_for_gone ranges s.sending then Missed (gone s.sending) ∷ s.notes else s.notes }
 
--- a packet comes
+-- after a packet
 abbrev pub took : (time : ℕ) → Heard → Subscribing → Subscribing
 took time (Ack mark number more) s =
     let heard = with_ack time more (acknowledged_by number s.sending) s in
@@ -146,17 +152,18 @@ took time (Ack mark number more) s =
 took time (Nak ranges) s = with_nak ranges s
 took time Other s = s
 
--- what is answered to it at once
+-- the packets that are sent at once
 abbrev pub answers : Heard → List Report
 answers (Ack mark number more) = ack_reports mark
 answers _ = []
 
--- whether a payload is for this subscriber: in live mode there is a place for it, and with its headers it is no greater than was
--- agreed
+-- whether a subscriber gets a payload: in live mode if a place is free, and with its headers it fits in the agreed
+-- MTU
 abbrev pub fits : Mode → Terms → List ℕ → Sending → Bool
 fits Live terms payload s = nat_lt 0 (room terms.width s) && nat_le (length payload) (terms.mtu - 44)
 fits Buffer terms payload s = true
 
+-- after a payload of the route
 abbrev pub fed : Terms → (time : ℕ) → List ℕ → Subscribing → Subscribing
 fed terms time payload s = if fits terms.mode terms payload s.sending then record s { sending = queued time payload s.sending } else s
 
@@ -168,7 +175,7 @@ abbrev pub is_drop : Report → Bool
 is_drop (Dropped run) = true
 is_drop _ = false
 
--- what a NAK asked for in vain, and no packet said since
+-- the drop request that is still to be sent: a NAK asked for expired numbers, and no drop request was sent since
 abbrev pub untold : List Note → Option Run
 untold [] = None
 untold (Sent time report ∷ notes) = if is_drop report then None else untold notes
@@ -177,7 +184,7 @@ untold (Told r ∷ notes) = untold notes
 untold (Opened w ∷ notes) = untold notes
 untold (Missed run ∷ notes) = Some run
 
--- the answer to a NAK that asked for what is gone (section 3.2.9)
+-- the drop request for a NAK that asked for expired numbers (section 3.2.9)
 abbrev pub drops_of : Option Run → List Report
 drops_of None = []
 drops_of (Some run) = Dropped run ∷ []
@@ -185,29 +192,29 @@ drops_of (Some run) = Dropped run ∷ []
 abbrev pub drops : List Note → List Report
 drops notes = drops_of (untold notes)
 
--- numbers are in flight, none of them is lost, and neither was a data packet sent nor anything acknowledged for so long (this
--- profile)
+-- whether it is time to resend all: packets are in flight, none of them is lost, and both the last data packet and
+-- the last growth are long ago (this profile)
 abbrev pub is_stale : (time : ℕ) → Subscribing → Bool
 is_stale time s =
     nat_lt (front s.sending) (next s.sending) && (length (lost s.sending) == 0)
     && nat_le (resend_after (round_trip s.notes)) (time - max (last_media s.notes) (last_growth s.notes))
 
--- then all in flight count as lost
+-- all in flight count as lost then
 abbrev pub presumed : (time : ℕ) → Subscribing → Subscribing
 presumed time s = if is_stale time s then record s { sending = all_lost s.sending } else s
 
--- how many data packets an event sends at most (this profile)
+-- the most data packets that an event sends (this profile)
 abbrev pub most : ℕ
 most = 64
 
--- of the lost numbers, the lowest ones, as many as there are places for (section 4.8.2)
+-- the numbers that are sent again: the lowest lost ones, at most `places` (section 4.8.2)
 abbrev pub again_of : (places : ℕ) → Sending → List ℕ
 again_of places s = take places (lost s)
 
 abbrev pub again : Sending → List ℕ
 again s = again_of most s
 
--- as many new ones as the places that are left, the flow window and the queue have (section 3.2.4)
+-- the new numbers that are sent: as many as the places left, the flow window and the queue allow (section 3.2.4)
 abbrev pub new_of : (places window : ℕ) → Sending → List ℕ
 new_of places window s = numbers_from (next s) (min (places - length (again_of places s)) (min (window - (next s - front s)) (length s.queue - next s)))
 
@@ -222,12 +229,12 @@ abbrev pub media : Bool → List ℕ → List Queued → List Report
 media repeat [] queue = []
 media repeat (n ∷ ns) queue = media_of repeat n (slice_get queue n) ++ media repeat ns queue
 
--- where nothing else is sent, and nothing was for a second (section 3.2.3)
+-- a KEEPALIVE, if nothing else is sent and nothing was for a second (section 3.2.3)
 abbrev pub keep_alives : (time : ℕ) → List Report → List Note → List Report
 keep_alives time (r ∷ rs) notes = []
 keep_alives time [] notes = if nat_le 1_000_000 (time - last_sent notes) then KeepAlive ∷ [] else []
 
--- all but the keep-alive, where there are places for so many data packets
+-- all packets but the KEEPALIVE, with at most `places` data packets: a drop request, those sent again, new ones
 abbrev pub due_of : (places : ℕ) → Terms → Subscribing → List Report
 due_of places terms s =
     drops s.notes ++ media true (again_of places s.sending) s.sending.queue ++ media false (new_of places (flow_window terms.window s.notes) s.sending) s.sending.queue
@@ -235,11 +242,12 @@ due_of places terms s =
 abbrev pub reports_of : (places : ℕ) → Terms → (time : ℕ) → Subscribing → List Report
 reports_of places terms time s = due_of places terms s ++ keep_alives time (due_of places terms s) s.notes
 
--- what an event sends at its end, in order, once what is stale is presumed lost
+-- the packets that an event sends at its end, in order; if it is time to resend all, all in flight count as lost
+-- first
 abbrev pub reports : Terms → (time : ℕ) → Subscribing → List Report
 reports terms time s = reports_of most terms time (presumed time s)
 
--- these numbers were sent, the first of them first
+-- after these numbers were sent, the first of them first
 abbrev pub sent_each : List ℕ → Sending → Sending
 sent_each [] s = s
 sent_each (n ∷ ns) s = sent_each ns (sent n s)
@@ -248,5 +256,6 @@ abbrev pub sent_of : (places : ℕ) → Terms → (time : ℕ) → Subscribing �
 sent_of places terms time s =
     record { sending = sent_each (again_of places s.sending ++ new_of places (flow_window terms.window s.notes) s.sending) s.sending; notes = noted time (reports_of places terms time s) s.notes }
 
+-- the session after an event's end
 abbrev pub reported : Terms → (time : ℕ) → Subscribing → Subscribing
 reported terms time s = sent_of most terms time (presumed time s)

@@ -10,7 +10,7 @@ use Rattle.srt_sendbuf.specs.Told.{Told}
 use Rattle.srt_sendbuf.specs.Sending.{Due, due, sent}
 use Rattle.srt_sub.specs.Subscribing.{Terms, Subscribing, Media, Sent, flow_window}
 
--- the data packet that is due, where there are places for so many
+-- the next data packet, if at most `places` more may be sent
 abbrev pub due_in : (places : ℕ) → Terms → Subscribing → Option Due
 due_in places terms s = if places == 0 then None else due (flow_window terms.window s.notes) s.sending
 
@@ -19,6 +19,7 @@ abbrev pub with_due : (time : ℕ) → Option Due → Subscribing → Subscribin
 with_due time None s = s
 with_due time (Some d) s = record { sending = sent d.number s.sending; notes = Sent time (Media d.number d.again d.origin d.payload) ∷ s.notes }
 
+-- the number of data packets that were sent, counting it
 abbrev pub given_with : Option Due → ℕ → ℕ
 given_with None given = given
 given_with (Some d) given = given + 1
@@ -28,12 +29,12 @@ abbrev pub is_media_body : Body → Bool
 is_media_body (bodies.Media number message again payload) = true
 is_media_body _ = false
 
--- a data packet's body, in words, with the time when its payload was queued
+-- the fields of a data packet's body, in numbers, with the time when its payload was queued
 abbrev pub told_in : Body → (origin : ℕ) → Told
 told_in (bodies.Media number message again payload) origin = record { number = word_of number; message = message_of message; again = again; origin = origin; payload = payload.items }
 told_in _ origin = record { number = 0; message = 0; again = false; origin = origin; payload = [] }
 
--- the datagrams of at most one packet
+-- the bytes of a packet, if there is one
 abbrev pub texts : Option Packet → List (List ℕ)
 texts None = []
 texts (Some p) = text p ∷ []

@@ -1,4 +1,4 @@
-//! What a session sends at the end of an event, packet by packet.
+//! The packets that a session sends at the end of an event, one by one.
 
 ghost use Rattle.std.specs.Prelude.{◌≡◌, ℕ, ◌+◌, ◌-◌, ◌^◌, ◌<◌, ◌≤◌, List, [], ◌∷◌, map, true, false};
 ghost use Rattle.std.specs.Option.{option_to_list};
@@ -11,7 +11,7 @@ use crate::packets::{dropped, keep_alive, media};
 use crate::session::Subscriber;
 use srt_packet::Packet;
 
-/// How many data packets an event sends at most (this profile).
+/// The most data packets that one event sends (this profile).
 const MOST: u32 = 64;
 
 impl Subscriber {
@@ -19,7 +19,8 @@ impl Subscriber {
     ghost use Rattle.srt_sub.specs.Emission.{Emitting, IsNext, IsLeft, IsNextAt, IsOverAt};
     ghost use Rattle.srt_sub.specs.Turns.{due_in, with_due, given_with, texts};
 
-    /// All in flight are lost where nothing was heard for too long, at the session's own time.
+    /// Marks all packets in flight as lost if none of them is yet and it is time to resend all; `time` is in
+    /// microseconds since the opening.
     fn presume(&mut self, time: u64)
         ensures { (terms : Terms) (initial opening caller given : ℕ) (m : Subscribing) → StandsIn terms initial opening caller time given self.old m → StandsIn terms initial opening caller time given self.new (presumed time m) }
     {
@@ -34,7 +35,7 @@ impl Subscriber {
         }
     }
 
-    /// The drop request that is due.
+    /// Writes the drop request that is to be sent. Returns whether there is one; if not, `packet` is unchanged.
     fn next_drop(&mut self, time: u64, packet: &mut Packet) -> bool
         ensures stands { (terms : Terms) (initial opening caller given : ℕ) (m : Subscribing) → StandsIn terms initial opening caller time given self.old m → StandsIn terms initial opening caller time given self.new (record m { notes = noted time (drops m.notes) m.notes }) }
         ensures answer { (terms : Terms) (initial opening caller given : ℕ) (m : Subscribing) → StandsIn terms initial opening caller time given self.old m → texts (written result packet.new) ≡ map (says caller initial time) (drops m.notes) }
@@ -48,7 +49,7 @@ impl Subscriber {
         true
     }
 
-    /// The data packet that is due.
+    /// Writes the data packet that is due, as long as the event has sent fewer than 64. Returns whether there is one.
     fn next_media(&mut self, time: u64, packet: &mut Packet) -> bool
         ensures stands { (terms : Terms) (initial opening caller given : ℕ) (m : Subscribing) → StandsIn terms initial opening caller time given self.old m → given ≤ 64 → StandsIn terms initial opening caller time (given_with (due_in (64 - given) terms m) given) self.new (with_due time (due_in (64 - given) terms m) m) }
         ensures answer { (terms : Terms) (initial opening caller given : ℕ) (m : Subscribing) → StandsIn terms initial opening caller time given self.old m → given ≤ 64 → texts (written result packet.new) ≡ map (λ d. says caller initial time (Media d.number d.again d.origin d.payload)) (option_to_list (due_in (64 - given) terms m)) }
@@ -67,7 +68,7 @@ impl Subscriber {
         true
     }
 
-    /// The keep-alive that is due where nothing was sent for a second.
+    /// Writes a KEEPALIVE if nothing was sent for a second. Returns whether it does; if not, `packet` is unchanged.
     fn next_keep_alive(&mut self, time: u64, packet: &mut Packet) -> bool
         ensures stands { (terms : Terms) (initial opening caller given : ℕ) (m : Subscribing) → StandsIn terms initial opening caller time given self.old m → StandsIn terms initial opening caller time given self.new (record m { notes = noted time (keep_alives time [] m.notes) m.notes }) }
         ensures answer { (terms : Terms) (initial opening caller given : ℕ) (m : Subscribing) → StandsIn terms initial opening caller time given self.old m → texts (written result packet.new) ≡ map (says caller initial time) (keep_alives time [] m.notes) }
@@ -82,7 +83,8 @@ impl Subscriber {
         true
     }
 
-    /// The next packet at the session's own time, once what is too old is dropped.
+    /// Writes the next packet of the event's end, after what is too late was dropped. `time` is in microseconds since
+    /// the opening.
     fn turn(&mut self, time: u64, packet: &mut Packet) -> bool
         ensures some { result ≡ true → (terms : Terms) (initial opening caller given : ℕ) (middle m : Subscribing) (left : List Report) → StandsIn terms initial opening caller time given self.old (expired terms time middle) → IsLeft terms time given (expired terms time middle) m left → IsNextAt terms initial opening caller time packet.new self.new m left }
         ensures none { result ≡ false → (terms : Terms) (initial opening caller given : ℕ) (middle m : Subscribing) (left : List Report) → StandsIn terms initial opening caller time given self.old (expired terms time middle) → IsLeft terms time given (expired terms time middle) m left → IsOverAt terms initial opening caller time self.new m left }
@@ -104,10 +106,14 @@ impl Subscriber {
         false
     }
 
-    /// Writes the packets of an event's end one by one into the place that is lent, each call the next,
-    /// after dropping what is too old: a drop request, what is sent again, what is sent first, and a
-    /// keep-alive where there is nothing else; at most 65. Returns false once all are given; then the event
-    /// is over, and the place is as it was.
+    /// Writes the next packet that the session sends at the end of an event, and returns true; returns false once all
+    /// are written. That ends the event, and `packet` is unchanged then. Drops first what is too late; calls for one
+    /// event have the same `now`.
+    ///
+    /// The order is: a drop request (section 3.2.9), lost packets with the lowest number first (section 4.8.2), new
+    /// packets as the flow window allows (section 3.2.4), or a KEEPALIVE if there is none of these and nothing was
+    /// sent for a second (section 3.2.3). At most 64 data packets an event, and 65 packets (this profile). If nothing
+    /// was sent or acknowledged for long, all packets in flight count as lost first (this profile).
     pub fn emit(&mut self, now: u64, packet: &mut Packet) -> bool
         requires { now < 2 ^ 62 }
         ensures some { result ≡ true → (terms : Terms) (initial opening caller : ℕ) (m : Subscribing) (left : List Report) → Emitting terms initial opening caller now self.old m left → IsNext terms initial opening caller now packet.new self.new m left }

@@ -1,4 +1,4 @@
-//! What a session hears, and answers at once.
+//! What a session takes from its caller: ACK, NAK and SHUTDOWN.
 
 ghost use Rattle.std.specs.Prelude.{◌≡◌, ℕ, ◌-◌, ◌^◌, ◌<◌, ◌≤◌, List, map, length, false};
 ghost use Rattle.srt_seq.specs.Window.{counted_from};
@@ -16,14 +16,14 @@ use crate::session::Subscriber;
 use srt_packet::{Kind, Packet, PacketRef};
 use srt_seq::{Seq31, read_word};
 
-/// What comes of a packet at once.
+/// What a packet from the caller leads to at once.
 #[derive(Clone, Copy, Debug, PartialEq, Eq)]
 pub enum Took {
-    /// Nothing.
+    /// There is nothing to send.
     Nothing,
-    /// The packet that was written is to be sent.
+    /// The packet that was written into `answer`, an ACKACK, is to be sent.
     Answer,
-    /// The caller ended the session.
+    /// The caller ended the session by a SHUTDOWN (section 3.2.7).
     Ended,
 }
 
@@ -32,8 +32,8 @@ impl Subscriber {
     ghost use Rattle.srt_sub.specs.declared.hearing.Took.TheVariants.{Answer};
     ghost use Rattle.srt_sub.specs.Endings.{is_ended, is_shutdown};
 
-    /// An acknowledgement, at the session's own time. Nothing is set where its number is outside the
-    /// window of acknowledgements.
+    /// Takes the body of an ACK (section 3.2.4); `time` is in microseconds since the opening. If its number is
+    /// outside the range that an ACK may name, nothing changes.
     fn acknowledge(&mut self, info: &[u8], time: u64)
         requires { 4 ≤ length info.now }
         ensures { (terms : Terms) (initial opening caller given : ℕ) (m : Subscribing) → StandsIn terms initial opening caller time given self.old m → StandsIn terms initial opening caller time given self.new (with_ack time (more_of info.now) (acknowledged_by (counted_from initial (word_at info.now 0)) m.sending) m) }
@@ -48,7 +48,8 @@ impl Subscriber {
         self.history.acknowledge(grows, info, time);
     }
 
-    /// Answers a Full ACK, which has a number of its own, at the session's own time.
+    /// Answers an ACK by an ACKACK with its number, `mark`, at a time in microseconds since the opening (section
+    /// 3.2.8). One with the number 0, a Light or Small ACK, isn't answered.
     fn answer(&mut self, mark: u32, time: u64, answer: &mut Packet) -> Took
         ensures stands { (terms : Terms) (initial opening caller given : ℕ) (m : Subscribing) → StandsIn terms initial opening caller time given self.old m → StandsIn terms initial opening caller time given self.new (record m { notes = noted time (ack_reports mark) m.notes }) }
         ensures answer { (terms : Terms) (initial opening caller given : ℕ) (m : Subscribing) → StandsIn terms initial opening caller time given self.old m → texts_of result answer.new ≡ map (says caller initial time) (ack_reports mark) }
@@ -64,7 +65,7 @@ impl Subscriber {
         Took::Answer
     }
 
-    /// A loss list.
+    /// Takes the body of a NAK, a loss list (section 3.2.5). One that has a fault changes nothing.
     fn miss(&mut self, info: &[u8])
         ensures { (terms : Terms) (initial opening caller time given : ℕ) (m : Subscribing) → StandsIn terms initial opening caller time given self.old m → StandsIn terms initial opening caller time given self.new (with_nak (asked_from initial (losses_in info.now)) m) }
     {
@@ -76,9 +77,11 @@ impl Subscriber {
         }
     }
 
-    /// Takes a packet of the session's caller, after dropping what is too old. An ACK is answered where it
-    /// has a number of its own, also where it sets nothing; the answer is written into the place that is
-    /// lent.
+    /// Takes a packet from the caller, after dropping what is too late: an ACK, a NAK or a SHUTDOWN; other kinds
+    /// change nothing. An ACK whose second header word isn't 0 is answered by an ACKACK with that word, even if its
+    /// number is outside the range that an ACK may name (section 3.2.8). The answer is written into `answer`, which
+    /// is otherwise unchanged. Linear in the packets that it acknowledges, or in the loss list and the numbers in
+    /// flight that it names; takes no memory.
     pub fn datagram(&mut self, packet: &PacketRef<'_>, now: u64, answer: &mut Packet) -> Took
         requires { now < 2 ^ 62 }
         ensures stands { (terms : Terms) (initial opening caller last : ℕ) (m : Subscribing) → StandsFor terms initial opening caller last self.old m → last ≤ now → StandsFor terms initial opening caller now self.new (took (now - opening) (heard_from initial (body_of packet.now.kind)) (expired terms (now - opening) m)) }

@@ -1,4 +1,4 @@
-//! What a session keeps of what happened in it. Times are microseconds since its opening.
+//! What a session remembers of its events. Times are microseconds since the opening.
 
 ghost use Rattle.std.specs.Prelude.{◌≡◌, ℕ, ◌-◌, ◌≤◌, List, [], ◌∷◌, ◌++◌, max, nat_le, option_map, None, IfSome, IfNone, true, false, Bool};
 ghost use Rattle.srt_rtt.specs.RoundTrip.{resend_after, round_trip_of};
@@ -11,30 +11,33 @@ use srt_rtt::Rtt;
 use srt_sendbuf::DropRun;
 use srt_seq::read_word;
 
-/// After so many microseconds without a packet the caller is sent a keep-alive (section 3.2.3).
+/// The time without a packet sent after which a KEEPALIVE is sent, in microseconds (section 3.2.3).
 const QUIET: u64 = 1_000_000;
 
-/// The round-trip time and the flow window that the last acknowledgement told, and when what was last
-/// sent.
+/// What the last ACKs reported, and when packets were last sent. Times are microseconds since the opening, which
+/// counts as the last packet, data packet and growth at first.
 #[derive(Drop)]
 pub struct History {
-    /// The flow window, in packets.
+    /// The flow window, in packets: the agreed one, or the available buffer size of the last ACK that had one
+    /// (section 3.2.4).
     pub window: u32,
+    /// The round-trip time and its variance, in microseconds, as the last ACK reported them (section 4.10).
     pub round_trip: Rtt,
-    /// When a packet was last sent.
+    /// When a packet of any kind was last sent.
     pub sent: u64,
     /// When a data packet was last sent.
     pub media: u64,
-    /// When an acknowledgement last brought a greater number.
+    /// When an ACK last acknowledged more than those before.
     pub growth: u64,
-    /// What a NAK asked for in vain, and no packet said since.
+    /// The drop request that is still to be sent: a NAK asked for expired numbers, and no drop request was sent
+    /// since.
     pub missed: Option<DropRun>,
 }
 
 impl History {
     ghost use Rattle.srt_sub.specs.Stands.{IsHistory, run_gone};
 
-    /// Nothing happened yet.
+    /// A session in which nothing has happened yet, with the agreed flow window in packets.
     pub fn start(window: u32) -> History
         ensures { (initial : ℕ) → IsHistory initial window result [] }
     {
@@ -48,14 +51,14 @@ impl History {
         }
     }
 
-    /// A packet was sent that is neither data nor a drop request.
+    /// Notes that a packet was sent that is neither a data packet nor a drop request.
     pub fn say(&mut self, time: u64)
         ensures { (initial agreed : ℕ) (notes : List Note) (r : Report) → is_media r ≡ false → is_drop r ≡ false → IsHistory initial agreed self.old notes → IsHistory initial agreed self.new (Sent time r ∷ notes) }
     {
         self.sent = time;
     }
 
-    /// A data packet was sent.
+    /// Notes that a data packet was sent.
     pub fn give(&mut self, time: u64)
         ensures { (initial agreed : ℕ) (notes : List Note) (r : Report) → is_media r ≡ true → is_drop r ≡ false → IsHistory initial agreed self.old notes → IsHistory initial agreed self.new (Sent time r ∷ notes) }
     {
@@ -63,7 +66,8 @@ impl History {
         self.media = time;
     }
 
-    /// What a NAK asked for in vain, which a packet is to say now.
+    /// Takes the drop request that is to be sent, and notes that it is sent. None if there is none; then nothing
+    /// changes.
     pub fn take_missed(&mut self, time: u64) -> Option<DropRun>
         ensures answer { (initial agreed : ℕ) (notes : List Note) → IsHistory initial agreed self.old notes → option_map gone_by result ≡ option_map (run_gone initial) (untold notes) }
         ensures some { IfSome result (λ run. (initial agreed : ℕ) (notes : List Note) (r : Report) → is_media r ≡ false → is_drop r ≡ true → IsHistory initial agreed self.old notes → IsHistory initial agreed self.new (Sent time r ∷ notes)) }
@@ -75,14 +79,15 @@ impl History {
         Some(run)
     }
 
-    /// A NAK asked in vain for what is gone.
+    /// Notes that a NAK asked for expired numbers; `run` is the drop request for them. It replaces one that wasn't
+    /// sent yet.
     pub fn miss(&mut self, run: DropRun)
         ensures { (initial agreed : ℕ) (notes : List Note) (r : Run) → gone_by run ≡ run_gone initial r → IsHistory initial agreed self.old notes → IsHistory initial agreed self.new (Missed r ∷ notes) }
     {
         self.missed = Some(run);
     }
 
-    /// An acknowledgement brought a greater number, or it didn't.
+    /// Notes whether an ACK acknowledged more than those before.
     fn grow(&mut self, grows: bool, time: u64)
         ensures { (initial agreed : ℕ) (notes : List Note) → IsHistory initial agreed self.old notes → IsHistory initial agreed self.new (grown time grows ++ notes) }
     {
@@ -91,8 +96,9 @@ impl History {
         }
     }
 
-    /// What an acknowledgement tells beside its number: from 12 bytes on the round-trip time and its
-    /// variance, from 16 on the flow window (section 3.2.4).
+    /// Takes what an ACK reports besides its number. `info` is its body: from 12 bytes on it has a round-trip time
+    /// and its variance, from 16 on an available buffer size, which becomes the flow window (section 3.2.4). The
+    /// bytes after these aren't read.
     fn hear(&mut self, info: &[u8])
         ensures { (initial agreed : ℕ) (notes : List Note) → IsHistory initial agreed self.old notes → IsHistory initial agreed self.new (told (more_of info.now) ++ notes) }
     {
@@ -104,7 +110,8 @@ impl History {
         }
     }
 
-    /// An acknowledgement came, whether or not with a greater number than those before.
+    /// Notes an ACK whose number is in the window; `grows` if it acknowledged more than those before. `info` is its
+    /// body, `time` is in microseconds since the opening.
     pub fn acknowledge(&mut self, grows: bool, info: &[u8], time: u64)
         ensures { (initial agreed : ℕ) (notes : List Note) → IsHistory initial agreed self.old notes → IsHistory initial agreed self.new (told (more_of info.now) ++ (grown time grows ++ notes)) }
     {
@@ -112,14 +119,15 @@ impl History {
         self.hear(info);
     }
 
-    /// Whether neither a data packet was sent nor anything acknowledged for too long.
+    /// Whether it is time to resend all: the last data packet sent and the last growth are both RTT + 4 x variance +
+    /// 20 ms ago, or longer (this profile).
     pub fn is_silent(&self, time: u64) -> bool
         ensures { (initial agreed : ℕ) (notes : List Note) → IsHistory initial agreed self.now notes → result ≡ nat_le (resend_after (round_trip notes)) (time - max (last_media notes) (last_growth notes)) }
     {
         self.round_trip.resend_after() <= time.saturating_sub(self.media.max(self.growth))
     }
 
-    /// Whether nothing was sent for so long that a keep-alive is due.
+    /// Whether nothing was sent for a second, so that a KEEPALIVE is due.
     pub fn is_quiet(&self, time: u64) -> bool
         ensures { (initial agreed : ℕ) (notes : List Note) → IsHistory initial agreed self.now notes → result ≡ nat_le 1_000_000 (time - last_sent notes) }
     {

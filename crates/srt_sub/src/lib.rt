@@ -1,5 +1,19 @@
-//! A subscriber's session: what it is sent of a route's payloads, and what it asks for again
+//! A subscriber's session: the payloads that it is sent, what it asks for again, and what is too late for it
 //! (draft-sharabayko-srt-01, sections 3.2.4 to 3.2.9, 4.6, 4.8 and 4.10).
+//!
+//! It starts after the handshake and has no clock and no socket: moments come in as arguments, and packets are
+//! written into a place of the caller. The handshake is `srt_hs`; the five seconds after which a silent peer is given
+//! up are in `srt_route`; the queue of packets is `srt_sendbuf`.
+//!
+//! Types: [`Subscriber`], the session; [`Took`], what a packet from the caller leads to.
+//!
+//! Calls: `Subscriber::open` once; `start` for each session; then for each event `expire`, `datagram` if a packet
+//! came, `feed` for each payload of the route, and `emit` until it returns false, which writes one packet each time.
+//!
+//! `session.rt` has the rules of feeding and expiry; `hearing.rt` of ACK, NAK and SHUTDOWN; `emission.rt` of the
+//! packets at an event's end and of resending all; `history.rt` of the times and of the flow window; `packets.rt`
+//! writes packets. `specs/Subscribing.antt` defines what a session sends, `specs/Says.antt` its bytes; `laws.rt` has
+//! facts about these.
 #![tactic(auto)]
 
 mod emission;

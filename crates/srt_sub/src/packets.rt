@@ -1,4 +1,4 @@
-//! The packets that a session sends.
+//! Writing the packets that a session sends. Times are microseconds since the opening.
 
 ghost use Rattle.std.specs.Prelude.{◌≡◌, ℕ, ◌%◌, ◌^◌, ◌<◌, All, IfSome, map, option_map, length, true, false};
 ghost use Rattle.std.specs.Option.{option_to_list};
@@ -18,14 +18,15 @@ use srt_packet::{Body, Packet};
 use srt_sendbuf::{DropRun, SendBuf};
 use srt_seq::{Msg26, Payload, Seq31};
 
-/// A time as a timestamp.
+/// The packet timestamp of a time: the time modulo 2^32.
 fn stamp(time: u64) -> u32
     ensures { result ≡ time % 2 ^ 32 }
 {
     (time % (1 << 32)) as u32
 }
 
-/// The answer to a Full ACK.
+/// Writes an ACKACK, which answers the Full ACK with the number `mark` (section 3.2.8). `caller` is the destination's
+/// socket ID.
 pub fn acked(mark: u32, time: u64, caller: u32, packet: &mut Packet)
     ensures text { (initial : ℕ) → text packet.new ≡ says caller initial time (Acked mark) }
     ensures writable { IsWritable packet.new.body }
@@ -35,7 +36,7 @@ pub fn acked(mark: u32, time: u64, caller: u32, packet: &mut Packet)
     packet.body = Body::AckAck { number: mark };
 }
 
-/// A keep-alive.
+/// Writes a KEEPALIVE (section 3.2.3). `caller` is the destination's socket ID.
 pub fn keep_alive(time: u64, caller: u32, packet: &mut Packet)
     ensures text { (initial : ℕ) → text packet.new ≡ says caller initial time KeepAlive }
     ensures writable { IsWritable packet.new.body }
@@ -45,7 +46,7 @@ pub fn keep_alive(time: u64, caller: u32, packet: &mut Packet)
     packet.body = Body::KeepAlive;
 }
 
-/// A drop request.
+/// Writes a DROPREQ for these numbers (section 3.2.9). `caller` is the destination's socket ID.
 pub fn dropped(run: DropRun, time: u64, caller: u32, packet: &mut Packet)
     ensures text { (initial : ℕ) (r : Run) → gone_by run ≡ run_gone initial r → text packet.new ≡ says caller initial time (Dropped r) }
     ensures writable { IsWritable packet.new.body }
@@ -59,7 +60,7 @@ pub fn dropped(run: DropRun, time: u64, caller: u32, packet: &mut Packet)
     };
 }
 
-/// A body that isn't a data packet's becomes one, with no bytes.
+/// Makes a body that isn't a data packet's into one with an empty payload.
 fn become_media(body: &mut Body)
     ensures { is_media_body body.new ≡ true }
 {
@@ -76,8 +77,8 @@ fn become_media(body: &mut Body)
     }
 }
 
-/// Writes what is due into a data packet's body, its bytes over those that stood there. Answers when these
-/// were queued.
+/// Writes the next packet to be sent into the body of a data packet, and its bytes over those in it. Returns when its
+/// payload was queued. None if no packet is due.
 fn fill(body: &mut Body, buffer: &mut SendBuf, window: u32) -> Option<u64>
     requires { is_media_body body.old ≡ true }
     ensures stands { (width initial : ℕ) (r : Sending) → StandsFor width initial buffer.old r → StandsFor width initial buffer.new (after_due window r) }
@@ -105,8 +106,9 @@ fn fill(body: &mut Body, buffer: &mut SendBuf, window: u32) -> Option<u64>
     }
 }
 
-/// The data packet that is due. Its bytes are written once, into the packet, where that was a data packet
-/// of the same length before.
+/// Writes the data packet that is due, for this flow window in packets; it then counts as sent (section 3.1). Its
+/// timestamp is the time when its payload was queued. Returns false, with `packet` unchanged, if none is due. One
+/// copy of the payload, and the fastest if `packet` was a data packet of the same length before.
 pub fn media(packet: &mut Packet, buffer: &mut SendBuf, window: u32, caller: u32) -> bool
     ensures stands { (width initial : ℕ) (r : Sending) → StandsFor width initial buffer.old r → StandsFor width initial buffer.new (after_due window r) }
     ensures answer { (width initial time : ℕ) (r : Sending) → StandsFor width initial buffer.old r → All (λ q. 0 < length q.payload) r.queue → texts (given result packet.new) ≡ map (λ d. says caller initial time (Media d.number d.again d.origin d.payload)) (option_to_list (due window r)) }
@@ -119,7 +121,7 @@ pub fn media(packet: &mut Packet, buffer: &mut SendBuf, window: u32, caller: u32
     }
     become_media(&mut packet.body);
     let Some(origin) = fill(&mut packet.body, buffer, window) else {
-        // Never so: a packet is due, and no payload that was fed is empty.
+        // Can't happen: a packet is due, and no payload that was fed is empty.
         packet.body = Body::KeepAlive;
         return false;
     };

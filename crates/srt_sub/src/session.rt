@@ -1,4 +1,4 @@
-//! A subscriber's session: what it is given, and what it keeps.
+//! A subscriber's session: what is agreed, feeding and expiry.
 
 ghost use Rattle.std.specs.Prelude.{◌≡◌, ℕ, ◌-◌, ◌^◌, ◌<◌, ◌≤◌, length, IfOk, false};
 ghost use Rattle.srt_seq.specs.Window.{word_of};
@@ -12,25 +12,28 @@ use srt_seq::{Mode, Payload, Seq31};
 use srt_tsbpd::too_late_before;
 use std::alloc::{AllocError, Global};
 
-/// The bytes of the headers that stand before a payload in a packet of the agreed size: IP, UDP and SRT.
+/// The bytes of the IP, UDP and SRT headers before a payload; the agreed MTU counts them too.
 const HEADERS: usize = 44;
 
-/// A subscriber's session. All moments are microseconds of the route's clock, which doesn't go back; the
-/// session itself counts from its opening.
+/// A subscriber's session. Moments are microseconds of the route's clock, below 2^62, and don't go back. A *time* of
+/// the session is microseconds since its opening.
 #[derive(Drop)]
 pub struct Subscriber {
+    /// The payloads that are queued and neither acknowledged nor expired.
     pub(crate) buffer: SendBuf,
+    /// What the caller reported, and when packets were sent.
     pub(crate) history: History,
+    /// Live or buffer mode.
     pub(crate) mode: Mode,
-    /// In microseconds.
+    /// The agreed delay from which the threshold of expiry is computed, in microseconds; live mode only.
     pub(crate) delay: u32,
-    /// The bytes of the greatest packet, with all headers.
+    /// The agreed MTU: the most bytes of a packet with its IP, UDP and SRT headers.
     pub(crate) mtu: u32,
-    /// The moment of the opening.
+    /// The moment of the opening, in microseconds of the route's clock.
     pub(crate) opening: u64,
-    /// The caller's socket ID.
+    /// The caller's socket ID: the destination of all packets that are sent.
     pub(crate) caller: u32,
-    /// The data packets of this event.
+    /// The number of data packets that this event has sent so far, at most 64.
     pub(crate) given: u32,
 }
 
@@ -38,7 +41,8 @@ impl Subscriber {
     ghost use Rattle.srt_sub.specs.Stands.{StandsIn, StandsFor, IsWide};
     ghost use Rattle.srt_sub.specs.Endings.{is_short};
 
-    /// A session with so many places, which is to be started. The only call that takes memory.
+    /// A session with places for `width` packets, 32 to 8192, which `start` begins. The only call that takes memory;
+    /// the error is a refused allocation. O(width).
     pub fn open(alloc: Global, width: u32) -> Result<Subscriber, AllocError>
         requires some { 32 ≤ width }
         requires narrow { width ≤ 8192 }
@@ -58,8 +62,10 @@ impl Subscriber {
         })
     }
 
-    /// Forgets all, and begins a session: opened now by this caller, with this initial number, a delay in
-    /// microseconds, the greatest packet in bytes with all its headers, and a flow window in packets.
+    /// Begins a session and forgets the one before. `now` is the moment of the opening, in microseconds; `initial`
+    /// and `caller` are the initial sequence number and the caller's socket ID; `delay` is the agreed delay in
+    /// microseconds; `mtu` is the most bytes of a packet with its IP, UDP and SRT headers; `window` is the caller's
+    /// flow window, in packets, until an ACK reports another. Linear in the packets that were kept.
     pub fn start(
         &mut self,
         now: u64,
@@ -82,14 +88,14 @@ impl Subscriber {
         self.given = 0;
     }
 
-    /// How many more payloads find a place.
+    /// The number of payloads that can still be queued. O(1).
     pub fn room(&self) -> u32
         ensures { (terms : Terms) (initial opening caller last : ℕ) (m : Subscribing) → StandsFor terms initial opening caller last self.now m → result ≡ room terms.width m.sending }
     {
         self.buffer.room()
     }
 
-    /// The session's own time at a moment.
+    /// The session's time at a moment: microseconds since the opening.
     pub(crate) fn time(&self, now: u64) -> u64
         ensures value { result ≡ now - self.now.opening }
         ensures within { result ≤ now }
@@ -97,7 +103,7 @@ impl Subscriber {
         now.saturating_sub(self.opening)
     }
 
-    /// Drops what is too old at a moment.
+    /// Drops the packets that are too late at a moment; in buffer mode none are.
     pub(crate) fn drop_old(&mut self, now: u64)
         requires { now < 2 ^ 62 }
         ensures { (terms : Terms) (initial opening caller time given : ℕ) (m : Subscribing) → StandsIn terms initial opening caller time given self.old m → time ≤ now - opening → StandsIn terms initial opening caller (now - opening) given self.new (expired terms (now - opening) m) }
@@ -111,8 +117,9 @@ impl Subscriber {
         }
     }
 
-    /// Drops the packets that are too old, sent or not, in live mode (section 4.6). Twice at one moment is
-    /// once.
+    /// Drops the packets that are too late, sent or not: in live mode those queued longer ago than the greater of
+    /// 1.25 times the delay and one second (too-late packet drop, section 4.6). A second call at the same moment
+    /// changes nothing. Linear in the packets that it drops.
     pub fn expire(&mut self, now: u64)
         requires { now < 2 ^ 62 }
         ensures { (terms : Terms) (initial opening caller last : ℕ) (m : Subscribing) → StandsFor terms initial opening caller last self.old m → last ≤ now → StandsFor terms initial opening caller now self.new (expired terms (now - opening) m) }
@@ -120,8 +127,8 @@ impl Subscriber {
         self.drop_old(now);
     }
 
-    /// Whether a payload is no greater than a packet of this session may be. In buffer mode it always is:
-    /// no smaller packets are agreed there.
+    /// Whether a payload fits in a packet of the agreed MTU. In buffer mode it always does: a smaller MTU than 1500
+    /// isn't accepted there.
     fn is_short(&self, payload: &Payload) -> bool
         ensures { result ≡ is_short self.now.mode self.now.mtu payload.now.items }
     {
@@ -131,9 +138,10 @@ impl Subscriber {
         }
     }
 
-    /// Queues a payload, after dropping what is too old. Returns false if it isn't for this subscriber: in
-    /// live mode if there is no place for it or it is too long. In buffer mode the caller asks for `room`
-    /// first; without room it returns false there too, and the session is as after `expire`.
+    /// Queues a payload, 1 to 1456 bytes, after dropping what is too late. Returns false if this subscriber doesn't
+    /// get it: in live mode if no place is free, or if it is longer than the agreed MTU less 44. In buffer mode the
+    /// caller asks for `room` first; without room it returns false there too. If false, the session is as after
+    /// `expire`. One copy.
     pub fn feed(&mut self, payload: &Payload, now: u64) -> bool
         requires { now < 2 ^ 62 }
         ensures stands { (terms : Terms) (initial opening caller last : ℕ) (m : Subscribing) → StandsFor terms initial opening caller last self.old m → last ≤ now → 0 < length payload.now.items → (terms.mode ≡ Buffer → 0 < room terms.width m.sending) → StandsFor terms initial opening caller now self.new (fed terms (now - opening) payload.now.items (expired terms (now - opening) m)) }

@@ -1,4 +1,4 @@
-//! Rows of what a session is told and sends, as bytes.
+//! Worked examples of a session, as the bytes that it receives and sends.
 
 ghost use Rattle.std.specs.Prelude.{◌^◌, ◌<◌};
 ghost use Rattle.srt_packet.specs.Text.{IsWritable};
@@ -11,18 +11,18 @@ use std::test::Fail;
 
 #[derive(Clone, Copy)]
 enum Step {
-    /// Opened now, with this initial number, delay and MTU; the caller is 2 and the flow window 8192.
+    /// Opened now, with this initial number, delay and MTU. The caller's socket ID is 2 and the flow window 8192.
     Start(u64, u32, u32, u32),
     /// The same in buffer mode.
     StartBuffer(u64, u32),
-    /// A payload of so many bytes `61`.
+    /// A payload of this many bytes `61`.
     Feed(usize),
-    /// A datagram.
+    /// A datagram comes.
     Hear(&'static str),
     Emit,
     Expire,
     Room,
-    /// All packets that are left.
+    /// Emits until nothing is left, and counts the packets.
     Drain,
 }
 
@@ -50,7 +50,7 @@ fn payload(bytes: usize) -> Payload {
     payload
 }
 
-/// A place for what is sent.
+/// A packet to be overwritten.
 fn blank() -> Packet {
     Packet {
         stamp: 0,
@@ -160,7 +160,8 @@ fn agrees(
     }
 }
 
-/// The first row, each a moment, a step and its answer, that a session of width 128 answers otherwise.
+/// The index of the first row, of a moment, a step and its expected result, for which a session of width 128 gives
+/// another result.
 fn other(alloc: Global, rows: &[(u64, Step, Answer)]) -> Result<Option<usize>, Fail> {
     let mut session = Subscriber::open(alloc, 128)?;
     let mut place = blank();
@@ -218,7 +219,7 @@ fn a_packet_again_and_gone(rt: HostRuntime) -> Result<(), Fail> {
             Step::Hear("80050000000000000000000000100000"),
             Answer::Ends,
         ),
-        // In buffer mode nothing is ever too old, and the numbers go round.
+        // In buffer mode nothing is ever too late, and sequence numbers wrap.
         (
             0,
             Step::StartBuffer(4_000_000, 0x7fff_ffff),
@@ -256,7 +257,7 @@ fn acknowledgements(rt: HostRuntime) -> Result<(), Fail> {
             ),
             Answer::Sends("8006000000000001000f906000000002"),
         ),
-        // Outside its window; it is answered, and sets nothing.
+        // A number that no ACK may name: it is answered, and nothing changes.
         (
             5_020_000,
             Step::Hear(
@@ -283,7 +284,7 @@ fn acknowledgements(rt: HostRuntime) -> Result<(), Fail> {
             Step::Emit,
             Answer::Sends("0000000ae4000002000fb7700000000261"),
         ),
-        // One of 16 bytes: a round-trip time of 0, and no flow window.
+        // An ACK of 16 bytes: a round-trip time of 0, and a flow window of 0.
         (
             5_110_000,
             Step::Hear("800200000000000000000000001000000000000a000000000000000000000000"),
@@ -297,7 +298,7 @@ fn acknowledgements(rt: HostRuntime) -> Result<(), Fail> {
             Answer::Sends("0000000ae4000002000fb7700000000261"),
         ),
         (5_130_000, Step::Emit, Answer::Nothing),
-        // One of 13 bytes tells a round-trip time, and one of 8 doesn't.
+        // An ACK of 13 bytes has a round-trip time, and one of 8 doesn't.
         (
             5_130_000,
             Step::Hear("800200000000000000000000001000000000000a000027100000000000"),
@@ -392,7 +393,7 @@ fn hostile_loss_lists(rt: HostRuntime) -> Result<(), Fail> {
             Answer::Nothing,
         ),
         (5_100_000, Step::Drain, Answer::Count(1)),
-        // Kinds that say nothing to a subscriber.
+        // Kinds that change nothing for a subscriber.
         (
             5_100_000,
             Step::Hear("8006000000000001000000000010000000000009"),
@@ -414,7 +415,7 @@ fn many_packets(rt: HostRuntime) -> Result<(), Fail> {
     let mut session = Subscriber::open(rt.alloc(), 128)?;
     let mut place = blank();
     session.start(1_000_000, number(9)?, 2, 120_000, Mode::Live, 76, 100);
-    // With all its headers a packet has at most 76 bytes.
+    // The MTU of 76 bytes counts all headers.
     assert!(rt; !session.feed(&payload(33), 1_000_000));
     for _ in 0..70 {
         assert!(rt; session.feed(&payload(32), 1_000_000));
@@ -430,7 +431,7 @@ fn many_packets(rt: HostRuntime) -> Result<(), Fail> {
         ),
         (Step::Feed(32), Answer::Is(true)),
         (Step::Drain, Answer::Count(64)),
-        // What is lost goes on before anything new.
+        // Lost packets are sent before new ones.
         (Step::Drain, Answer::Count(7)),
         (Step::Drain, Answer::Count(0)),
     ];

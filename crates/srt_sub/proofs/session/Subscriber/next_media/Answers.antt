@@ -13,7 +13,7 @@ use Rattle.srt_sub.proofs.Dues.{sent_in_queue, nothing_due_sent, due_sent}
 use Rattle.srt_sub.proofs.Turns.{wrote, wrote_none, media_said, no_media_said}
 use Rattle.srt_sub.proofs.session.Subscriber.next_media.Goals as goal
 
--- where there is a place, what is due is the buffer's
+-- if one more may be sent, the next packet is the buffer's
 there : (given held : ℕ) (terms : Terms) (m : Subscribing) (o : Option Due) → given < 64 → held ≡ flow_window terms.window m.notes → due held m.sending ≡ o → due_in (64 - given) terms m ≡ o
 there given held terms m o lt w e =
     let b : ((64 - given) == 0) ≡ false = ne_eqb _ _ (λ x. omega (arith, x, lt)) in
