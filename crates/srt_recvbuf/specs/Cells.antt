@@ -14,11 +14,13 @@ pub data Cell : Type 0 where
   GivenUp : Cell
   Got : (due : ℤ) (payload : List ℕ) → Cell
 
+-- the state of a place, from its record and its payload
 abbrev pub cell_of : Place → List ℕ → Cell
 cell_of Missing payload = Empty
 cell_of Dropped payload = GivenUp
 cell_of (Received due) payload = Got due payload
 
+-- the state of the place `at`, from all records and payloads
 abbrev pub cell_in : (places : List Place) (payloads : PayloadRing) (at : ℕ) → Cell
 cell_in places payloads at = cell_of (slice_index_or places at Missing) (payload_at payloads at)
 
@@ -30,16 +32,19 @@ cell_at w at = cell_in w.places.items w.payloads at
 abbrev pub width_of : Window → ℕ
 width_of w = length w.places.items
 
+-- missing: neither received nor dropped
 abbrev pub is_empty : Cell → Bool
 is_empty Empty = true
 is_empty GivenUp = false
 is_empty (Got due payload) = false
 
+-- received
 abbrev pub is_got : Cell → Bool
 is_got Empty = false
 is_got GivenUp = false
 is_got (Got due payload) = true
 
+-- dropped and not received
 abbrev pub is_given_up : Cell → Bool
 is_given_up Empty = false
 is_given_up GivenUp = true
@@ -58,11 +63,13 @@ given_up Empty = GivenUp
 given_up GivenUp = GivenUp
 given_up (Got due payload) = Got due payload
 
+-- when a received packet is due
 abbrev pub due_of : Cell → Option ℤ
 due_of Empty = None
 due_of GivenUp = None
 due_of (Got due payload) = Some due
 
+-- a received packet's payload; else empty
 abbrev pub payload_of : Cell → List ℕ
 payload_of Empty = []
 payload_of GivenUp = []

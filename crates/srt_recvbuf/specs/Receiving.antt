@@ -31,6 +31,7 @@ nothing_yet = record { arrivals = []; requests = []; position = 0 }
 abbrev pub arrival_of : List Arrival → ℕ → Option Arrival
 arrival_of arrivals n = find (λ a. a.number == n) arrivals
 
+-- whether a number was received
 abbrev pub is_received : Receiving → ℕ → Bool
 is_received r n = is_some (arrival_of r.arrivals n)
 
@@ -38,6 +39,7 @@ is_received r n = is_some (arrival_of r.arrivals n)
 abbrev pub names : (width : ℕ) → Request → ℕ → Bool
 names width q n = nat_le q.front n && nat_lt n (q.front + width) && is_in q.range n
 
+-- whether any drop request names a number
 abbrev pub is_requested : (width : ℕ) → List Request → ℕ → Bool
 is_requested width [] n = false
 is_requested width (q ∷ qs) n = names width q n || is_requested width qs n
@@ -132,8 +134,8 @@ abbrev pub put_of : Option ℕ → Receiving → Put
 put_of None r = Outside
 put_of (Some n) r = if is_received r n then Repeat else New
 
--- after a drop request; one with a top bit set, or of 2^30 numbers or more, changes nothing (section 3.2.9, this
--- profile)
+-- after a drop request; one with a top bit set, or whose last number is 2^30 or more past its first, changes nothing
+-- (section 3.2.9, this profile)
 abbrev pub requested : (width : ℕ) → Range → Receiving → Receiving
 requested width q r =
     if nat_lt q.first (2 ^ 31) && nat_lt q.last (2 ^ 31) && nat_lt (span q) (2 ^ 30)

@@ -14,7 +14,7 @@ use std::alloc::{AllocError, Global};
 /// The most runs that one NAK reports.
 const MOST_RUNS: usize = 32;
 
-/// What became of a data packet (section 3.1).
+/// What became of a data packet that was given to `RecvBuf::put` (section 3.1).
 #[derive(Clone, Copy, Debug, PartialEq, Eq)]
 pub enum Put {
     /// The first copy of its number; it was stored.
@@ -221,8 +221,9 @@ impl RecvBuf {
     }
 
     /// A drop request for the numbers `first` to `last`, both in (section 3.2.9). Those of the window that aren't
-    /// received count as dropped, and the front moves past dropped numbers. Received packets stay. A range of 2^30
-    /// numbers or more, as a backward one is, changes nothing. Linear in the numbers of the window that it names.
+    /// received count as dropped, and the front moves past dropped numbers. Received packets stay. If `last` is 2^30
+    /// or more past `first`, as it is in a backward range, nothing changes. Linear in the numbers of the window that
+    /// it names; takes no memory.
     pub fn dropped(&mut self, first: Seq31, last: Seq31)
         ensures { (width initial origin : ℕ) (r : Receiving) → StandsFor width initial origin self.old r → StandsFor width initial origin self.new (requested width (own_range initial first last) r) }
     {
@@ -288,8 +289,8 @@ impl RecvBuf {
     }
 }
 
-/// The places of a window that start at `front` and lie in the range of `span` + 1 numbers from `first` on, as a
-/// half-open interval. (0, 0) if there are none.
+/// The places of the window from `front` on whose numbers are in the range of `span` + 1 numbers from `first` on:
+/// from the first result on and before the second. (0, 0) if there are none.
 fn overlap(front: Seq31, first: Seq31, span: u32, width: u32) -> (u32, u32)
     requires short { span < 2 ^ 30 }
     requires narrow { width ≤ 8192 }

@@ -168,7 +168,7 @@ fn what_is_dropped_may_still_come(rt: HostRuntime) -> Result<(), Fail> {
     assert_eq!(rt; buffer.front().get(), 12);
     buffer.dropped(number(5)?, number(12)?);
     assert_eq!(rt; buffer.front().get(), 13);
-    // of 2^30 numbers or more, and behind the window
+    // a range whose last number is 2^30 past its first, and one after the window
     buffer.dropped(number(13)?, number(13 + (1 << 30))?);
     buffer.dropped(number(45)?, number(46)?);
     assert_eq!(rt; buffer.front().get(), 13);
