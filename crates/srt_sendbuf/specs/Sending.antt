@@ -58,6 +58,7 @@ room width s = width - (length s.queue - front s)
 abbrev pub in_flight : Sending → ℕ
 in_flight s = next s - front s
 
+-- from low on and before high
 abbrev pub is_between : (low high n : ℕ) → Bool
 is_between low high n = nat_le low n && nat_lt n high
 
@@ -81,9 +82,11 @@ queued origin payload s = record s { queue = s.queue ++ record { origin = origin
 abbrev pub acknowledged_by : (word : ℕ) → Sending → Option ℕ
 acknowledged_by word s = in_window word (base s) (next s - base s + 1)
 
+-- after all numbers below n were acknowledged
 abbrev pub acknowledged : ℕ → Sending → Sending
 acknowledged n s = record s { acked = max s.acked n }
 
+-- after an ACK; nothing changes if its number is outside base..=next
 abbrev pub after_ack : Option ℕ → Sending → Sending
 after_ack None s = s
 after_ack (Some n) s = acknowledged n s

@@ -19,6 +19,7 @@ pub record Told : Type 0 where
 abbrev pub told : (initial : ℕ) → Due → Told
 told initial d = record { number = number_word initial d.number; message = message_number d.number; again = d.again; origin = d.origin; payload = d.payload }
 
+-- a result of `next_due` with the payload that it wrote
 abbrev pub told_by : Out → (payload : List ℕ) → Told
 told_by o payload = record { number = word_of o.number; message = message_of o.msg; again = o.again; origin = o.origin; payload = payload }
 
@@ -37,5 +38,6 @@ gone initial s = record { first = number_word initial (base s); last = number_wo
 abbrev pub gone_for : (initial : ℕ) → List Range → Sending → Option Gone
 gone_for initial ranges s = if asks_for_gone ranges s then Some (gone initial s) else None
 
+-- a result of `lose`
 abbrev pub gone_by : DropRun → Gone
 gone_by d = record { first = word_of d.first; last = word_of d.last; message = message_of d.msg }

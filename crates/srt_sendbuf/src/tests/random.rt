@@ -218,7 +218,7 @@ impl Both {
         let two = self.asked();
         let ours = match read(&bytes_of(one, two)) {
             Ok(losses) => self.ours.lose(&losses),
-            // One of them is of 2^30 numbers or more.
+            // In one of them the last number is 2^30 or more past the first.
             Err(_) => return true,
         };
         let ours = match ours {
