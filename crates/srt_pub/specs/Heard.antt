@@ -12,6 +12,7 @@ pub data Heard : Type 0 where
   -- all other kinds, which change nothing
   Other : Heard
 
+-- the same, from a decoded packet body
 abbrev pub heard_from : (initial : ℕ) → grammar.Body → Heard
 heard_from initial (grammar.Data number encryption payload) = Data (counted_from initial number) encryption payload
 heard_from initial (grammar.AckAck number) = AckAck number

@@ -83,6 +83,7 @@ fulls (Came ∷ notes) = fulls notes
 fulls (Sent time report ∷ notes) = full_of time report ++ fulls notes
 fulls (Confirmed full sample ∷ notes) = fulls notes
 
+-- whether the Full ACK with this index was confirmed
 abbrev pub is_confirmed : List Note → (index : ℕ) → Bool
 is_confirmed [] index = false
 is_confirmed (Came ∷ notes) index = is_confirmed notes index
@@ -176,6 +177,7 @@ ack_of false false full_one light_one = []
 unfoldable pub acks_at : (width point room time : ℕ) → List Note → List Report
 acks_at width point room time notes = ack_of (is_full_due width point room time notes) (is_light_due notes) (full_ack point room notes) (LightAck point)
 
+-- the ACK that is due in a session, if one is
 abbrev pub acks : Terms → (time : ℕ) → Publishing → List Report
 acks terms time p = acks_at terms.width (ack_point terms.width p.receiving) (available terms.width p.receiving) time p.notes
 
@@ -204,6 +206,7 @@ gaps_told false width seen r = gaps_from width (max seen r.position) r
 abbrev pub naks_of : (all : Bool) → (width seen : ℕ) → Receiving → List Report
 naks_of all width seen r = nak_with all (runs_said (gaps_told all width seen r))
 
+-- the NAK that is due in a session, if one is
 unfoldable pub naks : Terms → (time : ℕ) → Publishing → List Report
 naks terms time p = naks_of (is_nak_due time p.notes) terms.width p.seen p.receiving
 
@@ -251,6 +254,7 @@ abbrev pub confirmed_notes : (time : ℕ) → Option Full → List Note → List
 confirmed_notes time None notes = notes
 confirmed_notes time (Some full) notes = Confirmed full (sample_of time full) ∷ notes
 
+-- after an ACKACK; None if it confirms no Full ACK
 abbrev pub confirmed_at : (time : ℕ) → Option Full → Publishing → Publishing
 confirmed_at time full p = record p { notes = confirmed_notes time full p.notes }
 

@@ -38,7 +38,7 @@ impl Publisher {
     ghost use Rattle.srt_pub.specs.Stands.{StandsFor, IsAhead, opening_of, width_of};
     ghost use Rattle.srt_pub.specs.Sent.{packets_of};
 
-    /// A session with a window of `width` packets, 32 to 8192, which `start` begins. The only call that takes memory;
+    /// A session with a window of `width` packets, 32 to 8192; `start` begins it. The only call that takes memory;
     /// the error is a refused allocation. O(width).
     pub fn open(alloc: Global, width: u32) -> Result<Publisher, AllocError>
         requires least { 32 ≤ width }
@@ -86,8 +86,9 @@ impl Publisher {
     }
 
     /// Takes a packet from the caller that comes at `now`: a data packet, an ACKACK, a drop request or a SHUTDOWN;
-    /// other kinds change nothing here. Returns why it ends the session, or None if the session goes on. Its payload
-    /// is copied once.
+    /// other kinds change nothing here. Returns why it ends the session, or None if the session goes on. Takes no
+    /// memory; a payload is copied once. A drop request is linear in the numbers of the window that it names, other
+    /// kinds are O(1) on average.
     pub fn datagram(&mut self, packet: &PacketRef<'_>, now: u64) -> Option<PubEnd>
         requires { now < 2 ^ 62 }
         ensures stands { (terms : Terms) (initial opening stamp caller time : ℕ) (m : Publishing) → now ≡ opening + time → StandsFor terms initial opening stamp caller self.old m → StandsFor terms initial opening stamp caller self.new (took terms time (stamped_from stamp packet.now.stamp) (heard_from initial (body_of packet.now.kind)) m) }
