@@ -167,6 +167,7 @@ fits Buffer terms payload s = true
 abbrev pub fed : Terms → (time : ℕ) → List ℕ → Subscribing → Subscribing
 fed terms time payload s = if fits terms.mode terms payload s.sending then record s { sending = queued time payload s.sending } else s
 
+-- after these payloads, in order
 abbrev pub fed_all : Terms → (time : ℕ) → List (List ℕ) → Subscribing → Subscribing
 fed_all terms time [] s = s
 fed_all terms time (x ∷ xs) s = fed_all terms time xs (fed terms time x s)
@@ -239,6 +240,7 @@ abbrev pub due_of : (places : ℕ) → Terms → Subscribing → List Report
 due_of places terms s =
     drops s.notes ++ media true (again_of places s.sending) s.sending.queue ++ media false (new_of places (flow_window terms.window s.notes) s.sending) s.sending.queue
 
+-- all packets, with at most `places` data packets
 abbrev pub reports_of : (places : ℕ) → Terms → (time : ℕ) → Subscribing → List Report
 reports_of places terms time s = due_of places terms s ++ keep_alives time (due_of places terms s) s.notes
 
@@ -252,6 +254,7 @@ abbrev pub sent_each : List ℕ → Sending → Sending
 sent_each [] s = s
 sent_each (n ∷ ns) s = sent_each ns (sent n s)
 
+-- the session after these packets were sent
 abbrev pub sent_of : (places : ℕ) → Terms → (time : ℕ) → Subscribing → Subscribing
 sent_of places terms time s =
     record { sending = sent_each (again_of places s.sending ++ new_of places (flow_window terms.window s.notes) s.sending) s.sending; notes = noted time (reports_of places terms time s) s.notes }

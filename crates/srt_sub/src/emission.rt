@@ -107,13 +107,15 @@ impl Subscriber {
     }
 
     /// Writes the next packet that the session sends at the end of an event, and returns true; returns false once all
-    /// are written. That ends the event, and `packet` is unchanged then. Drops first what is too late; calls for one
-    /// event have the same `now`.
+    /// are written. That ends the event, and `packet` is unchanged then. Drops first what is too late; all calls for
+    /// one event have the same `now`.
     ///
     /// The order is: a drop request (section 3.2.9), lost packets with the lowest number first (section 4.8.2), new
     /// packets as the flow window allows (section 3.2.4), or a KEEPALIVE if there is none of these and nothing was
-    /// sent for a second (section 3.2.3). At most 64 data packets an event, and 65 packets (this profile). If nothing
-    /// was sent or acknowledged for long, all packets in flight count as lost first (this profile).
+    /// sent for a second (section 3.2.3). There are at most 64 data packets, and 65 packets in all (this profile).
+    /// All packets in flight count as lost first if none of them is lost, and both the last data packet and the last
+    /// ACK that acknowledged more are RTT + 4 x variance + 20 ms ago (this profile). Takes no memory; a payload is
+    /// copied once.
     pub fn emit(&mut self, now: u64, packet: &mut Packet) -> bool
         requires { now < 2 ^ 62 }
         ensures some { result ≡ true → (terms : Terms) (initial opening caller : ℕ) (m : Subscribing) (left : List Report) → Emitting terms initial opening caller now self.old m left → IsNext terms initial opening caller now packet.new self.new m left }

@@ -1,4 +1,4 @@
-//! A subscriber's session: the payloads that it is sent, what it asks for again, and what is too late for it
+//! A subscriber's session: which payloads it is sent, which are sent again, and which are too late
 //! (draft-sharabayko-srt-01, sections 3.2.4 to 3.2.9, 4.6, 4.8 and 4.10).
 //!
 //! It starts after the handshake and has no clock and no socket: moments come in as arguments, and packets are

@@ -25,7 +25,8 @@ pub struct Subscriber {
     pub(crate) history: History,
     /// Live or buffer mode.
     pub(crate) mode: Mode,
-    /// The agreed delay from which the threshold of expiry is computed, in microseconds; live mode only.
+    /// The agreed delay of what the caller is sent, in microseconds. In live mode the threshold of expiry follows
+    /// from it.
     pub(crate) delay: u32,
     /// The agreed MTU: the most bytes of a packet with its IP, UDP and SRT headers.
     pub(crate) mtu: u32,
@@ -41,8 +42,8 @@ impl Subscriber {
     ghost use Rattle.srt_sub.specs.Stands.{StandsIn, StandsFor, IsWide};
     ghost use Rattle.srt_sub.specs.Endings.{is_short};
 
-    /// A session with places for `width` packets, 32 to 8192, which `start` begins. The only call that takes memory;
-    /// the error is a refused allocation. O(width).
+    /// A session with places for `width` packets, 32 to 8192; `start` begins it. The only call that takes memory; the
+    /// error is a refused allocation. O(width).
     pub fn open(alloc: Global, width: u32) -> Result<Subscriber, AllocError>
         requires some { 32 ≤ width }
         requires narrow { width ≤ 8192 }
@@ -63,9 +64,10 @@ impl Subscriber {
     }
 
     /// Begins a session and forgets the one before. `now` is the moment of the opening, in microseconds; `initial`
-    /// and `caller` are the initial sequence number and the caller's socket ID; `delay` is the agreed delay in
-    /// microseconds; `mtu` is the most bytes of a packet with its IP, UDP and SRT headers; `window` is the caller's
-    /// flow window, in packets, until an ACK reports another. Linear in the packets that were kept.
+    /// and `caller` are the initial sequence number and the caller's socket ID; `delay` is the agreed delay of what
+    /// the caller is sent, in microseconds (section 4.4); `mtu` is the most bytes of a packet with its IP, UDP and
+    /// SRT headers; `window` is the caller's flow window, in packets, until an ACK reports another. Linear in the
+    /// packets that were kept.
     pub fn start(
         &mut self,
         now: u64,
