@@ -29,11 +29,10 @@ pub enum Put {
 /// The packets of one stream that are received and not yet delivered: a window of 32 to 8192 sequence numbers from
 /// the front on, each of which is received, dropped by the sender, or missing.
 ///
-/// The highest received number, the acknowledgement point and a lower bound of the first packet are kept up to date,
-/// so that the work per packet is constant on average and doesn't depend on the width. Linear are only `start` (in
-/// the width), `dropped` (in the numbers of the window that it names) and `runs` (from the first missing number to
-/// the highest received). Times are microseconds of one clock that the caller chooses, the same for `put` and
-/// `advance`.
+/// The end of the received numbers, the acknowledgement point and a place before which no packet is are kept up to
+/// date, so that in a stream with few losses the work per packet is constant, whatever the width. At worst `put` and
+/// `advance` are linear in the places that they search, as each of their comments says. `start` is linear in the
+/// width. Times are microseconds of one clock that the caller chooses, the same for `put` and `advance`.
 #[derive(Drop)]
 pub struct RecvBuf {
     front: Seq31,
@@ -83,7 +82,7 @@ impl RecvBuf {
 
     /// Stores a data packet that is due at `due`, in microseconds; it may be in the past, or negative. The payload is
     /// at most 1456 bytes and is copied once. A number that was dropped and comes later is received all the same.
-    /// O(1) on average.
+    /// O(1), but for a packet that fills the first gap: it is linear in the distance to the next missing number.
     pub fn put(&mut self, number: Seq31, due: i64, payload: PayloadRef<'_>) -> Put
         ensures stands { (width initial origin : ℕ) (r : Receiving) (time : ℤ) → due ≡ pos origin +ℤ time → StandsFor width initial origin self.old r → StandsFor width initial origin self.new (received width (counted_from initial (word_of number)) payload.entry.bytes.now time r) }
         ensures answer { (width initial origin : ℕ) (r : Receiving) → StandsFor width initial origin self.old r → result ≡ put_of (in_window (counted_from initial (word_of number)) r.position width) r }
@@ -170,7 +169,9 @@ impl RecvBuf {
     ///
     /// Returns whether there was one. If so, `payload` is replaced by its bytes, one copy; if not, `payload` is
     /// unchanged. `room` only counts as 0 or not. In buffer mode call it only if the acknowledgement point is past
-    /// the front; else a gap would be skipped. O(1), besides the places that the front passes.
+    /// the front; else a gap would be skipped. O(1) if the front's number is received or nothing came since the last
+    /// search; else linear in the distance to the first packet. Linear also in the places that the front and the
+    /// acknowledgement point pass.
     pub fn advance(&mut self, now: u64, room: u32, payload: &mut Payload) -> bool
         requires { now < 2 ^ 62 }
         ensures stands { (width initial origin time : ℕ) (r : Receiving) → now ≡ origin + time → StandsFor width initial origin self.old r → StandsFor width initial origin self.new (after_next width (next_due time room r) r) }
@@ -205,7 +206,8 @@ impl RecvBuf {
         if due <= now as i64 { Some(at) } else { None }
     }
 
-    /// The place of the first packet, or `end` if there is none. The search resumes where the last one ended.
+    /// The place of the first packet, or `end` if there is none. The search resumes at `next`, before which there is
+    /// no packet but at the front.
     fn find_first(&mut self) -> usize
         ensures stands { (width initial origin : ℕ) (r : Receiving) → StandsFor width initial origin self.old r → StandsFor width initial origin self.new r }
         ensures high { result ≤ self.new.end }
