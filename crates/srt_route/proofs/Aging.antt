@@ -25,7 +25,7 @@ not_true : (b : Bool) → not b ≡ true → b ≡ false
 not_true true h = absurd (let bad : false ≡ true = h in cc)
 not_true false h = refl
 
--- time keeps a session's place and caller
+-- time keeps a session's slot and caller
 pub ages : (e : Terms) (clock : ℕ) → Keeps (aged e clock)
 ages e clock = record { slot = λ s. slot_of s (s.is_open && not (is_idle s clock)); peer = λ s. peer_of s (s.is_open && not (is_idle s clock)); conclusion = λ s. conclusion_of s (s.is_open && not (is_idle s clock)); opens_none = λ s h. opens_of s (s.is_open && not (is_idle s clock)) h }
   where
@@ -86,7 +86,7 @@ all_aged e index clock slots new ss are same_length are_aged =
         (subst (λ (o : Option TheSession). IsStored e index o (changed (aged e clock) (find (is_open_in k) ss))) (sym (ap (λ (x : Slot). x.session) now_is))
         (aged_stored e index clock (get_or slots k d).session (find (is_open_in k) ss) (λ s h. (open_parts k s (found_passes (is_open_in k) ss s h)).0) is.session_is)) is
 
--- a session that lives on is not stale where it is stored
+-- a session that stays open isn't stale in its slot
 pub kept_is : (e : Terms) (index clock : ℕ) (o : Option TheSession) (s : Session) → s.is_open ≡ true → IsStored e index o (Some s) → (aged e clock s).is_open ≡ true → publishes s.conclusion.role ≡ false → session_passes (is_kept_subscriber clock) o ≡ true
 kept_is e index clock None s o is h role = absurd is
 kept_is e index clock (Some t) s o is h role = by (is_idle s clock) (stale_is e index clock t s is) h
@@ -95,11 +95,11 @@ kept_is e index clock (Some t) s o is h role = by (is_idle s clock) (stale_is e 
     by true same k = absurd (let closed : (aged_at e (s.is_open && not true) (time_in s clock) s).is_open ≡ false = rw (o) refl in cc)
     by false same k = rw (← same, is.role_is, role) refl
 
--- what time does to the buffers of a place
+-- what time does to the buffers of a slot
 abbrev pub HasAged : (clock : ℕ) → Option TheSession → (old new : Subscriber) → Type 0
 HasAged clock o x y = (session_passes (is_kept_subscriber clock) o ≡ true → ExpiresTo clock x y) × (session_passes (is_kept_subscriber clock) o ≡ false → y ≡ x)
 
--- so many places have aged
+-- the slots below this one have aged
 pub record AgedUpTo (clock at : ℕ) (slots new : List Slot) (seats after : List Subscriber) : Type 0 where
   pub slots_length : length new ≡ length slots
   pub seats_length : length after ≡ length seats
@@ -111,7 +111,7 @@ pub record AgedUpTo (clock at : ℕ) (slots new : List Slot) (seats after : List
 pub none_aged : (clock : ℕ) (slots : List Slot) (seats : List Subscriber) → AgedUpTo clock 0 slots slots seats seats
 none_aged clock slots seats = record { slots_length = refl; seats_length = refl; aged = λ k d lt. absurd (omega (arith, lt)); ahead = λ k d le. refl; expired = λ k d x lt. absurd (omega (arith, lt)); waiting = λ k x le. refl }
 
--- one place more
+-- one slot more
 pub one_aged : (clock at : ℕ) (slots new : List Slot) (seats after : List Subscriber) (slot slot_new : Slot) (x y : Subscriber) → AgedUpTo clock at slots new seats after → at < length slots → at < length seats → slot ≡ get_or new at slot → x ≡ get_or after at x → slot_new ≡ record { generation = slot.generation; session = stored_aged clock slot.session } → HasAged clock slot.session x y → AgedUpTo clock (at + 1) slots (set new at slot_new) seats (set after at y)
 one_aged clock at slots new seats after slot slot_new x y is in_slots in_seats there seat_there slot_is seat_is =
     record {

@@ -48,7 +48,7 @@ keeps_changed g =
       opens_none = λ s h. sym (same_open s.is_open (g s) s) ∙ h;
     }
 
--- the session of a place after the change
+-- the session of a slot after the change
 pub find_changed : (g : Session → Past) (at : ℕ) (ss : List Session) → find (is_open_in at) (map (changed g) ss) ≡ option_map (changed g) (find (is_open_in at) ss)
 find_changed g at ss = find_through (changed g) (is_open_in at) (is_open_in at) (λ s. same_place at s.is_open (g s) s) ss
 

@@ -1,4 +1,4 @@
--- What a place's subscriber has room for, and what it is fed.
+-- What a slot's subscriber has room for, and what it is fed.
 use Rattle.std.proofs.Common.{◌≡◌, ℕ, suc, ◌+◌, ◌-◌, ◌<◌, ◌≤◌, Bool, true, false, not, cond, Option, None, Some, List, length, find, get_or, refl, sym, ap, subst, ◌∙◌, arith}
 use Rattle.std.specs.Prelude.{nat_lt, filter_map, fold}
 use Rattle.std.specs.Option.{IsSome}
@@ -31,7 +31,7 @@ subscribes o = session_passes (λ t. not (publishes t.role)) o
 pub changed_is : (s : Session) (g : Session → Past) (past : Past) → s.is_open ≡ true → g s ≡ past → changed g s ≡ record s { past = past }
 changed_is s g past o is = ap (λ (b : Bool). cond b (record s { past = g s }) s) o ∙ ap (λ (p : Past). record s { past = p }) is
 
--- a changed session is seated where its new past stands
+-- the buffers stand for a changed session if they stand for its new past
 pub seated_with : (e : Terms) (clock : ℕ) (p : Publisher) (y : Subscriber) (s : Session) (g : Session → Past) (past : Past) → s.is_open ≡ true → g s ≡ past → IsPast e clock p y s past → s.opening ≤ clock → IsSeated e clock p y (changed g s)
 seated_with e clock p y s g past o is h opened = subst (λ (t : Session). IsSeated e clock p y t) (sym (changed_is s g past o is)) (record { past_is = h; opened = opened })
 
@@ -41,7 +41,7 @@ publisher_subscribes e index t s is h = rw (is.role_is, h) refl
 subscriber_subscribes : (e : Terms) (index : ℕ) (t : TheSession) (s : Session) → IsSession e index t s → publishes s.conclusion.role ≡ false → subscribes (Some t) ≡ true
 subscriber_subscribes e index t s is h = rw (is.role_is, h) refl
 
--- what a call does to a place's subscriber
+-- what a call does to a slot's subscriber
 abbrev pub Stays : Option TheSession → (x y : Subscriber) → Type 0
 Stays o x y = subscribes o ≡ false → y ≡ x
 
@@ -79,7 +79,7 @@ fed_seat e index clock p x y (Some t) s payload is seat opened wide some has sta
               (h.0, now, expires_once.fed terms (clock - s.opening) payload m h.2) seat.opened;
         }
 
--- the room of a place's subscriber
+-- the room of a slot's subscriber
 abbrev pub Tells : Option TheSession → (x : Subscriber) → Option ℕ → Type 0
 Tells o x result =
     subscribes o ≡ true → (terms : subscribing.Terms) (initial opening caller last : ℕ) (m : subscribing.Subscribing) → subscribers.StandsFor terms initial opening caller last x m → result ≡ Some (room terms.width m.sending)
@@ -99,7 +99,7 @@ vacant_subscribes e index (Some t) is = absurd is
 pub stays_vacant : (e : Terms) (index : ℕ) (o : Option TheSession) (x y : Subscriber) → IsStored e index o None → Stays o x y → y ≡ x
 stays_vacant e index o x y is stays = stays (vacant_subscribes e index o is)
 
--- one place more of those whose least room is looked for
+-- one slot more of those whose least room is looked for
 abbrev pub least_from : Terms → List Session → (found : Option ℕ) → (from count : ℕ) → Option ℕ
 least_from e ss found from count = fold (λ found (s : Session). least_with e.buffer found s.past) found (filter_map (λ slot. find (is_open_in slot) ss) (numbers_from from count))
 
@@ -107,7 +107,7 @@ pub least_more : (e : Terms) (ss : List Session) (found result : Option ℕ) (fr
 least_more e ss found result from count None is none some = let r = none refl in rw (is, r) refl
 least_more e ss found result from count (Some s) is none some = rw (is) (ap (λ (d : Option ℕ). least_from e ss d (from + 1) count) (some s refl))
 
--- a place of those whose least room is looked for
+-- a slot of those whose least room is looked for
 pub least_step : (e : Terms) (index clock : ℕ) (table : Table) (media : Media) (ss : List Session) (found result total : Option ℕ) (at : ℕ) (slot : Slot) (x : Subscriber) → IsBody e index clock table media ss → at < e.sessions → slot ≡ get_or table.slots.items at slot → x ≡ get_or media.subscribers.items at x → (has_subscriber slot ≡ false → result ≡ None) → Tells slot.session x result → least_from e ss found at (e.sessions - at) ≡ total → least_from e ss (lesser found result) (at + 1) (e.sessions - (at + 1)) ≡ total
 least_step e index clock table media ss found result total at slot x body below slot_is x_is none tells h =
     let more : e.sessions - at ≡ suc (e.sessions - (at + 1)) = omega (arith, below) in
@@ -122,7 +122,7 @@ least_step e index clock table media ss found result total at slot x body below 
     seated : (s : Session) → find (is_open_in at) ss ≡ Some s → IsSeated e clock media.publisher x s
     seated s is = subst (λ (z : Subscriber). IsSeated e clock media.publisher z s) (sym x_is) (body.media_is.seated at x s below is)
 
--- a place that is fed
+-- a slot that is fed
 pub feed_step : (e : Terms) (index clock : ℕ) (table : Table) (first media later : Media) (ss : List Session) (at : ℕ) (slot : Slot) (x y : Subscriber) (payload : List ℕ) → IsBody e index clock table first ss → at < e.sessions → slot ≡ get_or table.slots.items at slot → x ≡ get_or media.subscribers.items at x → 0 < length payload → HaveRoom e 1 ss → Stays slot.session x y → Feeds clock payload slot.session x y → later ≡ record { publisher = media.publisher; subscribers = with_item media.subscribers at y } → IsHalf e clock at (changed (fed e clock payload)) media ss → IsHalf e clock (at + 1) (changed (fed e clock payload)) later ss
 feed_step e index clock table first media later ss at slot x y payload body below slot_is x_is some has stays feeds later_is h =
     half_goes_on e clock at (changed (fed e clock payload)) media later ss y h (ap (λ (m : Media). m.publisher) later_is) (ap (λ (m : Media). m.subscribers.items) later_is)

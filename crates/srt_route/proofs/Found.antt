@@ -1,4 +1,4 @@
--- What is found among the sessions, and what stays so where each of them is changed.
+-- What is found among the sessions, and what stays so if each of them is changed.
 use Rattle.std.proofs.Common.{◌≡◌, ℕ, ◌<◌, ◌==◌, Bool, true, false, ◌&&◌, ◌||◌, cond, Option, None, Some, List, [], ◌∷◌, map, find, refl, sym, ap, subst, ◌∙◌}
 use Rattle.std.specs.Option.{is_some}
 use Rattle.std.specs.List.{list_any}
@@ -18,7 +18,7 @@ found_passes p (y ∷ ys) x h = at_head (p y) refl (λ later. found_passes p ys 
     at_head true e rest h = let same : y ≡ x = cc in rw (← same) e
     at_head false e rest h = rest h
 
--- something passes where something is found
+-- something passes if something is found
 pub any_is : {A : Type 0} (p : A → Bool) (xs : List A) → list_any p xs ≡ is_some (find p xs)
 any_is p [] = refl
 any_is p (y ∷ ys) = at_head (p y) (any_is p ys)
@@ -27,7 +27,7 @@ any_is p (y ∷ ys) = at_head (p y) (any_is p ys)
     at_head true rest = refl
     at_head false rest = rest
 
--- nothing is found among those that were changed, where a changed one passes only if it did before
+-- nothing is found among the changed ones, if a changed one passes only if it did before
 pub none_kept : {A : Type 0} (p : A → Bool) (f : A → A) → ((x : A) → p (f x) ≡ true → p x ≡ true) → (xs : List A) → find p xs ≡ None → find p (map f xs) ≡ None
 none_kept p f keeps [] h = refl
 none_kept p f keeps (y ∷ ys) h = at_head (p y) refl (p (f y)) refl (λ later. none_kept p f keeps ys later) h
@@ -57,7 +57,7 @@ of_parts peer caller s h =
     let more = and_parts s.is_open (is_same_peer s.peer peer) parts.0 in
     (more.0, same_peer_is s.peer peer more.1, eqb-true s.conclusion.caller caller parts.1)
 
--- an open session that is found by any test is the one of its place
+-- an open session that is found by any test is the one of its slot
 pub found_in_place : (test : Session → Bool) → ((s : Session) → test s ≡ true → s.is_open ≡ true) → (places : ℕ) (ss : List Session) → AreAlone places ss → (t : Session) → find test ss ≡ Some t → (t.slot < places) × (find (is_open_in t.slot) ss ≡ Some t)
 found_in_place test opens places [] alone t h = absurd (let bad : None ≡ Some t = h in cc)
 found_in_place test opens places (s ∷ ss) alone t h = at_head (test s) refl (λ later. found_in_place test opens places ss alone.1 t later) h
@@ -78,7 +78,7 @@ found_in_place test opens places (s ∷ ss) alone t h = at_head (test s) refl (�
         let later = rest h in
         (later.0, goes_on (is_open_in t.slot s) refl later)
 
--- the session of a place that is of this caller is the one that is found for the caller
+-- the session of a slot that is of this caller is the one that is found for the caller
 pub found_of_caller : (peer : Peer) (caller at places : ℕ) (ss : List Session) → AreAlone places ss → (t : Session) → find (is_open_in at) ss ≡ Some t → is_of peer caller t ≡ true → find (is_of peer caller) ss ≡ Some t
 found_of_caller peer caller at places [] alone t h mine = absurd (let bad : None ≡ Some t = h in cc)
 found_of_caller peer caller at places (s ∷ ss) alone t h mine = at_head (is_open_in at s) refl (λ later. found_of_caller peer caller at places ss alone.1 t later mine) h
@@ -99,7 +99,7 @@ found_of_caller peer caller at places (s ∷ ss) alone t h mine = at_head (is_op
 pub for_open : (index : ℕ) (peer : Peer) (dest : ℕ) (s : Session) → is_for index peer dest s ≡ true → s.is_open ≡ true
 for_open index peer dest s h = (and_parts s.is_open (is_same_peer s.peer peer) (and_parts (s.is_open && is_same_peer s.peer peer) (session_id index s == dest) h).0).0
 
--- what one test finds is what a narrower one finds, where it passes that too
+-- what one test finds is what a narrower one finds, if it passes that too
 pub found_narrower : (p q : Session → Bool) → ((u : Session) → q u ≡ true → u.is_open ≡ true) → (places : ℕ) → ((u : Session) → q u ≡ true → u.slot < places → p u ≡ true) → (ss : List Session) → AreAlone places ss → (t : Session) → find p ss ≡ Some t → q t ≡ true → find q ss ≡ Some t
 found_narrower p q opens places inside [] alone t h mine = absurd (let bad : None ≡ Some t = h in cc)
 found_narrower p q opens places inside (s ∷ ss) alone t h mine = at_head (p s) refl (q s) refl (λ later. found_narrower p q opens places inside ss alone.1 t later mine) h
@@ -110,7 +110,7 @@ found_narrower p q opens places inside (s ∷ ss) alone t h mine = at_head (p s)
     at_head false a true b rest h = absurd (let passes : p s ≡ true = inside s b (alone.0 (opens s b)).inside in cc)
     at_head false a false b rest h = rest h
 
--- a change that keeps a session's place and caller, and opens none
+-- a change that keeps a session's slot and caller, and opens none
 pub record Keeps (f : Session → Session) : Type 0 where
   pub slot : (s : Session) → (f s).slot ≡ s.slot
   pub peer : (s : Session) → (f s).peer ≡ s.peer
@@ -155,7 +155,7 @@ abbrev pub changed : (f : Session → Session) → Option Session → Option Ses
 changed f None = None
 changed f (Some s) = while_open (f s)
 
--- the session of a place after the change
+-- the session of a slot after the change
 pub place_kept : (f : Session → Session) → Keeps f → (at places : ℕ) (ss : List Session) → AreAlone places ss → find (is_open_in at) (map f ss) ≡ changed f (find (is_open_in at) ss)
 place_kept f keeps at places [] alone = refl
 place_kept f keeps at places (s ∷ ss) alone = at_head (is_open_in at s) refl (is_open_in at (f s)) refl (place_kept f keeps at places ss alone.1)
@@ -171,7 +171,7 @@ place_kept f keeps at places (s ∷ ss) alone = at_head (is_open_in at s) refl (
     at_head false e true g rest = absurd (let was : is_open_in at s ≡ true = open_kept f keeps at s g in cc)
     at_head false e false g rest = rest
 
--- where the session of a place comes from
+-- where the session of a slot comes from
 pub changed_from : (f : Session → Session) → Keeps f → (at places : ℕ) (ss : List Session) → AreAlone places ss → (t : Session) → find (is_open_in at) (map f ss) ≡ Some t → (s : Session) × (find (is_open_in at) ss ≡ Some s) × ((f s).is_open ≡ true) × (f s ≡ t)
 changed_from f keeps at places ss alone t h = from (find (is_open_in at) ss) refl (sym (place_kept f keeps at places ss alone) ∙ h)
   where

@@ -45,7 +45,7 @@ pub compose_all : (f g h : Session → Past) → ((s : Session) → f (record s 
 compose_all f g h same [] = refl
 compose_all f g h same (s ∷ ss) = ap (λ (t : Session). t ∷ map (changed f) (map (changed g) ss)) (compose f g h s (λ o. same s)) ∙ ap (λ (ts : List Session). changed h s ∷ ts) (compose_all f g h same ss)
 
--- a place of an open session is one of the places
+-- a slot of an open session is one of the slots
 pub inside : (e : Terms) (index clock : ℕ) (table : Table) (media : Media) (ss : List Session) → IsBody e index clock table media ss → (at : ℕ) (s : Session) → find (is_open_in at) ss ≡ Some s → at < e.sessions
 inside e index clock table media ss body at s is =
     let there = found_in_place (is_open_in at) (λ t h. (open_parts at t h).0) e.sessions ss body.table_is.stored.alone s is in
@@ -55,7 +55,7 @@ some_of : {A : Type 0} (xs : List A) (at : ℕ) → at < length xs → A
 some_of [] at below = absurd (omega (arith, below))
 some_of (x ∷ xs) at below = x
 
--- the seat of a place's open session
+-- the seat of a slot's open session
 pub seat_of : (e : Terms) (index clock : ℕ) (table : Table) (media : Media) (ss : List Session) → IsBody e index clock table media ss → (at : ℕ) (s : Session) → find (is_open_in at) ss ≡ Some s → (x : Subscriber) × IsSeated e clock media.publisher x s
 seat_of e index clock table media ss body at s is =
     let below = inside e index clock table media ss body at s is in
@@ -109,7 +109,7 @@ gone_on e index clock table media later ss at s q r body here same stands =
         by (Subscribes m) e1 h =
             seated_with e clock later.publisher (get_or media.subscribers.items k x) t (amid e clock r []) (Subscribes m) opens (ap (amid_past (terms_of e t) (time_in t clock) r []) e1) h seat.opened
 
--- a payload is one of buffer mode only where there is room
+-- in buffer mode a payload is delivered only if there is room
 nothing_without_room : (mode : Mode) (terms : publishing.Terms) (time room : ℕ) (q : Publishing) (a : Arrival) → first_of (deliveries mode terms time (Some room) q) ≡ Some a → mode ≡ Buffer → 0 < room
 unfolding deliveries
 nothing_without_room Live terms time room q a is m = absurd (let bad : Live ≡ Buffer = m in cc)

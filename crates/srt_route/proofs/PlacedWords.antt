@@ -1,4 +1,4 @@
--- What stands in bytes with another word at one place.
+-- Bytes with another word at one offset.
 use Rattle.std.proofs.Common.{◌≡◌, ℕ, ◌+◌, ◌-◌, ◌/◌, ◌%◌, ◌^◌, ◌<◌, ◌≤◌, List, [], ◌∷◌, ◌++◌, length, take, drop, get_or, refl, sym, ap, ◌∙◌, arith}
 use Rattle.std.proofs.lemmas.List.{length-append, length-take, length-drop, length-take-le, get_or_append_left, get_or-append_right, get_or-take, get_or-drop, ext_get_or, drop_at}
 use Rattle.srt_seq.specs.Words.{word_at}
@@ -14,7 +14,7 @@ byte_before : (at n i : ℕ) (bytes : List ℕ) → at ≤ length bytes → i < 
 byte_before at n i bytes h l =
     get_or_append_left (take at bytes) (four_bytes n ++ drop (at + 4) bytes) 0 i (omega (arith, length-take-le at bytes h)) ∙ get_or-take at bytes i 0 l
 
--- what stands from the place on
+-- the bytes from the offset on
 byte_from : (at n i k : ℕ) (bytes : List ℕ) → at ≤ length bytes → i ≡ at + k → get_or (with_word at n bytes) i 0 ≡ get_or (four_bytes n ++ drop (at + 4) bytes) k 0
 byte_from at n i k bytes h e =
     get_or-append_right (take at bytes) (four_bytes n ++ drop (at + 4) bytes) at i 0 (length-take-le at bytes h) (omega (arith, e))
@@ -52,7 +52,7 @@ rest_after at n m bytes h l =
     ext_get_or 0 (drop m (with_word at n bytes)) (drop m bytes) (omega (arith, same, length-drop m (with_word at n bytes), length-drop m bytes)) (λ i below.
     get_or-drop m (with_word at n bytes) i 0 ∙ byte_after at n (m + i) bytes (omega (arith, h)) (omega (arith, l)) ∙ sym (get_or-drop m bytes i 0))
 
--- a word of what stands behind a place
+-- a word of the bytes behind an offset
 byte_behind : (m i j : ℕ) (bytes : List ℕ) → j ≡ m + i → get_or (drop m bytes) i 0 ≡ get_or bytes j 0
 byte_behind m i j bytes e = get_or-drop m bytes i 0 ∙ ap (λ k. get_or bytes k 0) (sym e)
 

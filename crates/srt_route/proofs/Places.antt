@@ -1,4 +1,4 @@
--- The places, one after another.
+-- The slots, one after another.
 use Rattle.std.proofs.Common.{◌≡◌, ℕ, ◌+◌, ◌<◌, ◌≢◌, Bool, true, false, Some, List, length, map, find, get_or, set, refl, sym, ap, subst, ◌∙◌, inl, inr, arith}
 use Rattle.std.specs.Prelude.{nat_lt}
 use Rattle.std.proofs.lemmas.Bool.{cases_eq}
@@ -31,11 +31,11 @@ half_begins e clock change media ss h =
           subst (λ b. IsSeated e clock media.publisher (get_or media.subscribers.items at x) (at_place b change s)) (sym test) (h.seated at x s below found);
     }
 
--- a place's session, changed or not
+-- a slot's session, changed or not
 seat_is : (e : Terms) (clock : ℕ) (p : Publisher) (x y : Subscriber) (b d : Bool) (change : Session → Session) (s : Session) → x ≡ y → b ≡ d → IsSeated e clock p y (at_place d change s) → IsSeated e clock p x (at_place b change s)
 seat_is e clock p x y b d change s same test h = subst (λ (z : Subscriber). IsSeated e clock p z (at_place b change s)) (sym same) (subst (λ (c : Bool). IsSeated e clock p y (at_place c change s)) (sym test) h)
 
--- the next place is changed
+-- the next slot is changed
 pub half_goes_on : (e : Terms) (clock at : ℕ) (change : Session → Session) (media later : Media) (ss : List Session) (y : Subscriber) → IsHalf e clock at change media ss → later.publisher ≡ media.publisher → later.subscribers.items ≡ set media.subscribers.items at y → subscribers.IsWide e.buffer y → ((s : Session) → find (is_open_in at) ss ≡ Some s → IsSeated e clock media.publisher y (change s)) → IsHalf e clock (at + 1) change later ss
 half_goes_on e clock at change media later ss y h same others wide seat =
     record {
@@ -91,6 +91,6 @@ half_ends e index clock below g table media later ss body h all =
       };
     }
 
--- a place's slot has the place's session
+-- a slot's slot has the slot's session
 pub slot_stored : (e : Terms) (index : ℕ) (t : Table) (ss : List Session) (at : ℕ) (d : Slot) → IsTable e index t ss → at < length t.slots.items → IsStored e index (get_or t.slots.items at d).session (find (is_open_in at) ss)
 slot_stored e index t ss at d is below = (is.stored.slots_are at d below).session_is

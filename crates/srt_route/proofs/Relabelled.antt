@@ -1,4 +1,4 @@
--- A route that is told the same with other numbers, other timestamps and later.
+-- A route with the same items, with other sequence numbers, other timestamps or later moments.
 use Rattle.std.proofs.Common.{◌≡◌, ℕ, ◌+◌, ◌-◌, Bool, true, false, cond, ◌&&◌, ◌||◌, not, Option, None, Some, List, [], ◌∷◌, ◌++◌, map, max, Result, Ok, Err, refl, sym, ap, ◌∙◌, arith}
 use Rattle.std.specs.Prelude.{⊤, find, option_map, nat_le, fold, ◌==◌}
 use Rattle.std.specs.List.{list_any, flat_map}

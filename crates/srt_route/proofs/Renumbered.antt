@@ -1,4 +1,4 @@
--- A route that is told other bytes: with other sequence numbers, with other timestamps, later.
+-- A route with other items: other sequence numbers, other timestamps, or later moments.
 use Rattle.std.proofs.Common.{◌≡◌, ℕ, ◌+◌, ◌%◌, ◌^◌, Option, None, Some, List, [], ◌∷◌, ◌++◌, map, Result, Ok, Err, refl, sym, ap, subst, ◌∙◌, arith}
 use Rattle.std.specs.Prelude.{option_map}
 use Rattle.std.proofs.lemmas.List.{map-append}
@@ -133,7 +133,7 @@ all_changed : (r : Change) (change : Item → Item) → ((item : Item) → IsCha
 all_changed r change is [] = tt
 all_changed r change is (item ∷ items) = (is item, all_changed r change is items)
 
--- where no number changes, no reply does
+-- if no number changes, no reply does
 same_output : (r : Change) → ((n : ℕ) → r.initial n ≡ n) → (x : Output) → changed_output r x ≡ x
 same_output r numbers (Answers caller a) = ap (λ n. Answers caller (record a { initial = n })) (numbers a.initial)
 same_output r numbers (Says caller initial time report) = ap (λ n. Says caller n time report) (numbers initial)

@@ -95,7 +95,7 @@ packet_is_delivered : reply studio 0 (Tick 1_121_000 ∷ subscriber_comes) ≡ f
 unfolding handshake_in blocks_in with_first with_block answer_text ask_in list_in with_part conclusion_in conclusion_of is_utf8 chars encode in_window lift confirmed_by is_full_due acks_at naks reports deliveries says body_bytes
 packet_is_delivered = refl
 
--- the same where the numbers go round their end
+-- the same with numbers that go round their end
 abbrev numbers_end : List Item
 numbers_end = came 5000 1_002_000 (words (0x7fffffff ∷ 0xe0000001 ∷ 0x3e8 ∷ 0x100000 ∷ []) ++ 0x68 ∷ 0x69 ∷ []) ∷ opens_publisher 1_000_000 0x7fffffff ∷ []
 

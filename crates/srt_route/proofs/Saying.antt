@@ -75,7 +75,7 @@ three_said a b c d p q r s peer xs ys zs all is h k l =
     ∙ (sym (to_append peer (texts xs) (texts (ys ++ zs))) ∙ (ap (datagrams_to peer) (sym (map-append text xs (ys ++ zs))) ∙ ap (datagrams_to peer) (ap texts (sym (append_assoc xs ys zs)) ∙ is))))
     (said_then a b d p q s (datagrams_to peer (texts xs)) (datagrams_to peer (texts ys) ++ datagrams_to peer (texts zs)) h (said_then b c d q r s (datagrams_to peer (texts ys)) (datagrams_to peer (texts zs)) k l))
 
--- packets of places
+-- packets of slots
 abbrev pub said_from : Terms → (clock : ℕ) → (Session → Bool) → List Session → (from count : ℕ) → List Datagram
 said_from e clock test ss from count = map sent (flat_map (λ s. packets_at e (test s) (time_in s clock) s) (from_places ss from count))
 
@@ -165,7 +165,7 @@ no_publisher_gone e index clock table media ss body none =
 pub no_publisher_says : (e : Terms) (index clock : ℕ) (table : Table) (media : Media) (ss : List Session) → IsBody e index clock table media ss → position has_publisher table.slots.items ≡ None → map sent (packets_where e clock is_publisher ss) ≡ []
 no_publisher_says e index clock table media ss body none = none_said e clock is_publisher ss 0 e.sessions (λ k t is le. no_publisher e index clock table media ss body none k t is)
 
--- a place's slot has a session with its peer
+-- a slot's slot has a session with its peer
 slot_session : (e : Terms) (index : ℕ) (table : Table) (ss : List Session) (at : ℕ) (slot : Slot) (s : Session) → IsTable e index table ss → at < length table.slots.items → slot ≡ get_or table.slots.items at slot → find (is_open_in at) ss ≡ Some s → IsStored e index slot.session (Some s)
 slot_session e index table ss at slot s is below slot_is found =
     subst (λ (o : Option Session). IsStored e index slot.session o) found
@@ -210,7 +210,7 @@ reported_fresh terms time m e1 =
     let fresh = fresh_marks terms.mode terms time m.sending is.0 (ap (λ (x : subscribing.Subscribing). x.sending) e1) in
     ap (λ (x : Sending). record (subscribing.reported terms time m) { sending = x }) (ap (subscribing.expired_in terms.mode terms time) is.1 ∙ (fresh ∙ sym is.1))
 
--- what a call does to a place's subscriber at the end of an event
+-- what a call does to a slot's subscriber at the end of an event
 abbrev pub Tells : (clock : ℕ) → Option TheSession → (x y : Subscriber) → Type 0
 Tells clock o x y =
     subscribes o ≡ true → (terms : subscribing.Terms) (initial opening caller : ℕ) (m : subscribing.Subscribing) → subscribers.StandsFor terms initial opening caller clock x m → subscribing.expired terms (clock - opening) m ≡ m → subscribers.StandsFor terms initial opening caller clock y (subscribing.reported terms (clock - opening) m)
@@ -250,7 +250,7 @@ subscriber_bytes : (clock : ℕ) (s : Session) (rs : List subscribing.Report) �
 subscriber_bytes clock s [] = refl
 subscriber_bytes clock s (r ∷ rs) = ap (λ (ds : List Datagram). record { peer = s.peer; bytes = subscriber_text.says s.conclusion.caller s.conclusion.initial (time_in s clock) r } ∷ ds) (subscriber_bytes clock s rs)
 
--- the packets of a place
+-- the packets of a slot
 place_said : (e : Terms) (index clock : ℕ) (p : Publisher) (x : Subscriber) (o : Option TheSession) (s : Session) (before later : List Reply) (places more : ℕ) → IsStored e index o (Some s) → IsSeated e clock p x s → s.is_open ≡ true → (subscribes o ≡ false → AreSaid before later places more []) → Says clock o x before later places more → AreSaid before later places more (map sent (packets_at e (is_subscriber s) (time_in s clock) s))
 place_said e index clock p x None s before later places more is seat opens silent says = absurd is
 place_said e index clock p x (Some t) s before later places more is seat opens silent says = by s.past refl seat.past_is
@@ -275,14 +275,14 @@ vacant_subscribes : (e : Terms) (index : ℕ) (o : Option TheSession) → IsStor
 vacant_subscribes e index None is = refl
 vacant_subscribes e index (Some t) is = absurd is
 
--- so far those below a place are done, and what they sent and the others send is what all send
+-- the slots below this one are done, and what they sent and the others will send is what all send
 pub record IsTold (e : Terms) (clock at : ℕ) (media : Media) (ss : List Session) (before now : List Reply) (places more : ℕ) : Type 0 where
   pub half : IsHalf e clock at (changed (after_subscriber e clock)) media ss
   pub told : List Datagram
   pub said : AreSaid before now places more told
   pub whole : told ++ said_from e clock is_subscriber ss at (e.sessions - at) ≡ map sent (packets_where e clock is_subscriber ss)
 
--- one place more
+-- one slot more
 pub tell_step : (e : Terms) (index clock : ℕ) (table : Table) (first media later : Media) (ss : List Session) (at : ℕ) (slot : Slot) (x y : Subscriber) (before now then_ : List Reply) (places more most : ℕ) → IsBody e index clock table first ss → at < e.sessions → slot ≡ get_or table.slots.items at slot → x ≡ get_or media.subscribers.items at x → Stays slot.session x y → Tells clock slot.session x y → (subscribes slot.session ≡ false → AreSaid now then_ more most []) → Says clock slot.session x now then_ more most → later ≡ record { publisher = media.publisher; subscribers = with_item media.subscribers at y } → IsTold e clock at media ss before now places more → IsTold e clock (at + 1) later ss before then_ places most
 tell_step e index clock table first media later ss at slot x y before now then_ places more most body below slot_is x_is stays tells silent says later_is h =
     record {
@@ -328,7 +328,7 @@ tell_step e index clock table first media later ss at slot x y before now then_ 
     place None is = silent (vacant_subscribes e index slot.session (stored None is))
     place (Some s) is = place_said e index clock media.publisher x slot.session s now then_ more most (stored (Some s) is) (seated s is) (is_there at ss s is).0 silent says
 
--- so many packets of a subscriber wait, and these are left
+-- `turn` packets of a subscriber were queued, and these are left
 pub record IsTelling (terms : subscribing.Terms) (initial opening caller clock : ℕ) (peer : Peer) (x : Subscriber) (m : subscribing.Subscribing) (before now : List Reply) (places more turn : ℕ) : Type 0 where
   pub gone : List subscribing.Report
   pub left : List subscribing.Report

@@ -121,7 +121,7 @@ other_publisher e clock p q x u role is = record { past_is = by u.past is.past_i
     by (Publishes m) h = absurd (let bad : true ≡ false = sym h.0 ∙ role in cc)
     by (Subscribes m) h = h
 
--- a subscriber that was told the time is as wide as it was
+-- a subscriber whose time has advanced is as wide as before
 pub expired_wide : (e : Terms) (before clock : ℕ) (p : Publisher) (x y : Subscriber) (s : Session) → before ≤ clock → ExpiresTo clock x y → publishes s.conclusion.role ≡ false → IsSeated e before p x s → subscriber.IsWide e.buffer y
 expired_wide e before clock p x y s later expires role is = by s.past is.past_is
   where

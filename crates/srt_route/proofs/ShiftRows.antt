@@ -45,7 +45,7 @@ no_packet_stays : renumbered 1 (words (7 ∷ 0 ∷ 0 ∷ 0 ∷ [])) ≡ words (7
 unfolding renumbered
 no_packet_stays = refl
 
--- a timestamp goes round at 2^32, also of what is no packet, where there is a header
+-- a timestamp goes round at 2^32, also in bytes that aren't a packet but have a whole header
 stamp_goes_round : restamped 2 (words (7 ∷ 0 ∷ 0xffff_ffff ∷ 9 ∷ [])) ≡ words (7 ∷ 0 ∷ 1 ∷ 9 ∷ [])
 unfolding restamped
 stamp_goes_round = refl

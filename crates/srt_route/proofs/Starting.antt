@@ -28,7 +28,7 @@ use Rattle.srt_route.proofs.Found.{found_passes, open_parts}
 use Rattle.srt_route.proofs.Stored.{any_from}
 use Rattle.srt_route.proofs.Seats.{opened_kept, other_publisher}
 
--- what a place has after a session more
+-- what a slot has after a session more
 pub found_newest : (k : ℕ) (s : Session) (ss : List Session) (u : Session) → find (is_open_in k) (s ∷ ss) ≡ Some u → ((is_open_in k s ≡ true) × (s ≡ u)) ⊎ (find (is_open_in k) ss ≡ Some u)
 found_newest k s ss u h = by (is_open_in k s) refl h
   where

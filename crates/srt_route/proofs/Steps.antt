@@ -1,4 +1,4 @@
--- What a table answers to conclusions.
+-- The answers of a table to conclusions.
 use Rattle.std.proofs.Common.{◌≡◌, ℕ, ◌==◌, ◌&&◌, ◌||◌, Bool, true, false, not, cond, nat_lt, Option, None, Some, Ok, Err, List, [], ◌∷◌, map, find, get_or, refl, sym, ap, ◌∙◌}
 use Rattle.std.specs.List.{list_any, position}
 use Rattle.srt_seq.specs.declared.shared.Peer.{Peer}
@@ -50,7 +50,7 @@ not_admitted e index clock peer stamp c ss table media reply reason answer h is 
     by None None k = let same : codes.Resource ≡ reason = cc in rw (← same) (record { body_is = h; replies_are = refl })
     by None (Some at) k = absurd (let bad : Ok (record { at = at; agreement = agreement_of e c }) ≡ Err reason = k in cc)
 
--- where it is, no reason applies, and the slot is the least free one
+-- if it is admitted, no reason applies, and the slot is the least free one
 pub is_admitted : (e : Terms) (c : Conclusion) (ss : List Session) (a : Admission) → admitted e ss c ≡ Ok a → (refused e.mode (list_any is_publisher ss) c ≡ None) × (free_slot e ss ≡ Some a.at) × (a.agreement ≡ agreement_of e c)
 is_admitted e c ss a is = by (refused e.mode (list_any is_publisher ss) c) (free_slot e ss) is
   where
@@ -63,7 +63,7 @@ pub opened_taken : (e : Terms) (index clock : ℕ) (peer : Peer) (stamp : ℕ) (
 opened_taken e index clock peer stamp c ss table new media after reply o at h is free taken seated =
     rw (is, free) (record { body_is = record { limits = h.limits; early = h.early; table_is = taken.table_is; media_is = seated }; replies_are = taken.replies_are })
 
--- a publisher's session opens only where none has one
+-- a publisher's session opens only if none is open
 pub alone_opens : (e : Terms) (c : Conclusion) (ss : List Session) → refused e.mode (list_any is_publisher ss) c ≡ None → publishes c.role ≡ true → list_any is_publisher ss ≡ false
 alone_opens e c ss none role = by (list_any is_publisher ss) none
   where

@@ -19,7 +19,7 @@ use Rattle.srt_route.specs.Route.{is_of, is_for, heard_if, took_if}
 use Rattle.srt_route.specs.Tables.{IsSession, IsStored, IsSlot, AreSlots, AreAlone, AreStored, holds, has_publisher, is_vacant, session_passes, is_session_of, heard_at, is_stored_for, stored_after}
 use Rattle.srt_route.proofs.Found.{found_passes, any_is, found_in_place, found_of_caller, found_narrower, for_open, open_parts, open_from, of_parts, Keeps, alone_kept, counted_kept, place_kept, changed, while_open}
 
--- where nothing is found, nothing passes
+-- if nothing is found, nothing passes
 pub position_none : {A : Type 0} (p : A → Bool) (xs : List A) → position p xs ≡ None → (i : ℕ) (d : A) → i < length xs → p (get_or xs i d) ≡ false
 position_none p xs h i d below = elim (cases_lt (position_or_len p xs) (length xs)) [
   | inl inside ↦ absurd (let test = lt-ltb (position_or_len p xs) (length xs) inside in let bad : Some (position_or_len p xs) ≡ None = rw (test) at h in cc)
@@ -45,7 +45,7 @@ pub open_found : (at : ℕ) (ss : List Session) (found : Option Session) → fin
 open_found at ss None h = tt
 open_found at ss (Some s) h = (open_parts at s (found_passes (is_open_in at) ss s h)).0
 
--- a place's session is the one of this caller
+-- a slot's session is the one of this caller
 of_alike : (e : Terms) (index : ℕ) (peer : Peer) (caller : ℕ) (t : TheSession) (s : Session) → IsSession e index t s → s.is_open ≡ true → is_of peer caller s ≡ is_session_of peer caller t
 of_alike e index peer caller t s is o = rw (o, is.peer_is, is.caller_is) refl
 
@@ -97,7 +97,7 @@ any_from p q (y ∷ ys) x h passes = at_head (q y) refl (λ later. any_from p q 
     at_head true e rest h = let same : y ≡ x = cc in or_left (p y) (list_any p ys) (ap p same ∙ passes)
     at_head false e rest h = or_right (p y) (list_any p ys) (rest h)
 
--- a publisher has a session exactly where a slot has a publisher's
+-- a publisher has a session if and only if a slot has a publisher's
 pub publisher_among : (e : Terms) (index : ℕ) (slots : List Slot) (ss : List Session) → AreStored e index slots ss → (d : Slot) → list_any is_publisher ss ≡ list_any has_publisher slots
 publisher_among e index slots ss are d = elim (cases_Bool (list_any has_publisher slots)) [
   | inl some ↦
@@ -132,7 +132,7 @@ no_number p from (suc count) fails =
     let here : p from ≡ false = rw (← add-zero from) (fails 0 (omega arith)) in
     rw (here) (no_number p (from + 1) count (λ k lt. subst (λ (n : ℕ). p n ≡ false) (omega arith) (fails (suc k) (omega arith))))
 
--- a slot is free where it is vacant
+-- a slot is free if it is vacant
 free_is : (e : Terms) (index : ℕ) (at : ℕ) (slot : Slot) (ss : List Session) → IsSlot e index at slot ss → is_free ss at ≡ is_vacant slot
 free_is e index at slot ss is = ap not (any_is (is_open_in at) ss) ∙ both slot.session (find (is_open_in at) ss) is.session_is
   where
@@ -197,7 +197,7 @@ pub slots_stay : (e : Terms) (index : ℕ) (slots : List Slot) (ss after : List 
 slots_stay e index slots ss after are alone stay =
     record { places_are = are.places_are; alone = alone; slots_are = λ k d below. stay k below (get_or slots k d) (are.slots_are k d below) }
 
--- a change that leaves the session of a place as it was
+-- a change that leaves the session of a slot as it was
 pub slot_stays : (f : Session → Session) → Keeps f → (e : Terms) (index k : ℕ) (x : Slot) (ss : List Session) → AreAlone e.sessions ss → ((s : Session) → find (is_open_in k) ss ≡ Some s → f s ≡ s) → IsSlot e index k x ss → IsSlot e index k x (map f ss)
 slot_stays f keeps e index k x ss alone same is =
     record {
@@ -241,7 +241,7 @@ heard_stored : (e : Terms) (index clock : ℕ) (t : TheSession) (s : Session) �
 heard_stored e index clock t s is =
     record { peer_is = is.peer_is; caller_is = is.caller_is; id_is = is.id_is; role_is = is.role_is; heard_is = refl; answer_is = is.answer_is }
 
--- the slot that answers again
+-- the slot whose session gets its first answer again
 hear_one : (e : Terms) (index : ℕ) (slots : List Slot) (ss : List Session) (peer : Peer) (caller clock at count : ℕ) (t : TheSession) (s : Session) → AreStored e index slots ss → at < length slots → IsSlot e index at (record { generation = count; session = Some t }) ss → find (is_open_in at) ss ≡ Some s → IsSession e index t s → is_of peer caller s ≡ true → find (is_of peer caller) ss ≡ Some s → AreStored e index (set slots at (record { generation = count; session = Some (heard_at clock t) })) (map (λ s. heard_if (is_of peer caller s) clock s) ss)
 hear_one e index slots ss peer caller clock at count t s are below slot_is there is mine one =
     let f : Session → Session = λ s. heard_if (is_of peer caller s) clock s in
@@ -310,7 +310,7 @@ for_none_beyond index peer dest places ss few beyond k u below here =
 for_alike : (e : Terms) (index : ℕ) (peer : Peer) (dest : ℕ) (t : TheSession) (s : Session) → IsSession e index t s → s.is_open ≡ true → is_for index peer dest s ≡ is_stored_for peer dest t
 for_alike e index peer dest t s is o = rw (o, is.peer_is, is.id_is) refl
 
--- nor for any, where its place holds none that it is for
+-- nor for any session, if its slot holds none that it is for
 pub for_none_stored : (e : Terms) (index : ℕ) (slots : List Slot) (ss : List Session) (peer : Peer) (dest at : ℕ) (slot : Slot) → AreStored e index slots ss → length slots ≤ 17 → at ≡ dest % 256 → at < length slots → slot ≡ get_or slots at slot → session_passes (is_stored_for peer dest) slot.session ≡ false → IsForNone index peer dest e.sessions ss
 for_none_stored e index slots ss peer dest at slot are few place below there none k u in_it here = false_from_ne_true (is_for index peer dest u) (λ h.
     let same : k ≡ at = slot_of_id index k dest peer ss u (omega (arith, in_it, few, are.places_are)) here h ∙ sym place in
@@ -339,7 +339,7 @@ none_took e index slots ss peer clock packet are none =
     slots_stay e index slots ss (map f ss) are (alone_kept f keeps e.sessions ss are.alone)
     (λ k below x is. slot_stays f keeps e index k x ss are.alone (λ u here. none_changes e index clock peer packet u (none k u (omega (arith, below, are.places_are)) here)) is)
 
--- the session of a place that passes
+-- the session of a slot that passes
 pub passes_at : (e : Terms) (index : ℕ) (slots : List Slot) (ss : List Session) (stored : TheSession → Bool) (test : Session → Bool) (at : ℕ) (slot : Slot) → AreStored e index slots ss → ((t : TheSession) (s : Session) → IsSession e index t s → s.is_open ≡ true → test s ≡ stored t) → at < length slots → slot ≡ get_or slots at slot → session_passes stored slot.session ≡ true → (t : TheSession) × (s : Session) × (slot.session ≡ Some t) × (find (is_open_in at) ss ≡ Some s) × IsSession e index t s × (test s ≡ true)
 passes_at e index slots ss stored test at slot are alike below there passes =
     let slot_is : IsSlot e index at slot ss = subst (λ (x : Slot). IsSlot e index at x ss) (sym there) (are.slots_are at slot below) in
@@ -404,6 +404,6 @@ slot_took e index slots ss peer clock at packet ends slot new t s are there here
 pub heard_again_at : (e : Terms) (index : ℕ) (slots : List Slot) (ss : List Session) (peer : Peer) (caller clock at : ℕ) (slot new : Slot) → AreStored e index slots ss → position (holds peer caller) slots ≡ Some at → slot ≡ get_or slots at slot → new ≡ record { generation = slot.generation; session = option_map (heard_at clock) slot.session } → AreStored e index (set slots at new) (map (λ s. heard_if (is_of peer caller s) clock s) ss)
 heard_again_at e index slots ss peer caller clock at slot new are first there new_is = rw (new_is) (heard_again e index slots ss peer caller clock at slot are first there)
 
--- two reads of one place
+-- two reads at one index
 pub same_read : {A : Type 0} (xs : List A) (at : ℕ) (x y : A) → at < length xs → x ≡ get_or xs at x → y ≡ get_or xs at y → x ≡ y
 same_read xs at x y below one other = one ∙ (get_or_default xs at x y below ∙ sym other)

@@ -25,7 +25,7 @@ use Rattle.srt_route.proofs.Changes.{is_there, found_before, find_changed}
 use Rattle.srt_route.proofs.Feeding.{changed_is, least_from}
 use Rattle.srt_route.proofs.Passing.{amid_more, inside}
 
--- so many calls are left, and what they give and leave is what all give and leave
+-- `calls` calls are left; with them the delivery gives and leaves what all calls give and leave
 pub record IsPassing (e : Terms) (index clock : ℕ) (table : Table) (media : Media) (ss : List Session) (s : Session) (places calls : ℕ) (given : List (List ℕ)) (left : Publishing) : Type 0 where
   pub done : Publishing
   pub before : List (List ℕ)
@@ -46,7 +46,7 @@ publisher_amid e clock ss at s q done before here =
       past_is = refl;
     }
 
--- one payload takes one place at most
+-- one payload takes the room of at most one
 takes_one : (width time : ℕ) (x : List ℕ) (b : Bool) (m : subscribing.Subscribing) → room width m.sending ≤ room width (cond b (record m { sending = queued time x m.sending }) m).sending + 1
 takes_one width time x true m = omega (arith, length-append m.sending.queue (record { origin = time; payload = x } ∷ []))
 takes_one width time x false m = omega arith
@@ -117,7 +117,7 @@ ends e index clock table media ss s places given left h =
     subst (λ (xs : List (List ℕ)). IsBody e index clock table media (map (changed (amid e clock left xs)) ss)) (sym (append-nil h.before) ∙ h.given_is)
     (subst (λ (q : Publishing). IsBody e index clock table media (map (changed (amid e clock q h.before)) ss)) h.left_is h.body)
 
--- also where the next call gives nothing
+-- also if the next call gives nothing
 pub ends_early : (e : Terms) (index clock : ℕ) (table : Table) (media later : Media) (ss : List Session) (s : Session) (places more calls : ℕ) (given : List (List ℕ)) (left : Publishing) → (h : IsPassing e index clock table media ss s places more given left) → more ≡ suc calls → false ≡ is_given (next_delivery (terms_of e s).publisher (time_in s clock) places h.done) → IsBody e index clock table later (turned e clock (next_delivery (terms_of e s).publisher (time_in s clock) places h.done) (after_delivery (terms_of e s).publisher (next_delivery (terms_of e s).publisher (time_in s clock) places h.done) h.done) (map (changed (amid e clock h.done h.before)) ss)) → IsBody e index clock table later (map (changed (amid e clock left given)) ss)
 ends_early e index clock table media later ss s places more calls given left h one none body =
     let terms = (terms_of e s).publisher in

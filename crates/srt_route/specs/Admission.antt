@@ -1,4 +1,4 @@
--- What a conclusion is admitted with, and the first reason why it isn't.
+-- The agreement with which a conclusion is admitted, or the first reason to refuse it.
 use Rattle.std.specs.Prelude.{ℕ, Option, None, Some, Result, Ok, Err, List}
 use Rattle.std.specs.List.{list_any}
 use Rattle.srt_seq.specs.Terms.{Terms}
@@ -19,6 +19,6 @@ admitted_by e c (Some reason) free = Err reason
 admitted_by e c None None = Err codes.Resource
 admitted_by e c None (Some at) = Ok (record { at = at; agreement = agreement_of e c })
 
--- the reasons of the conclusion itself come before the one that no slot is free (this profile)
+-- the reasons in the conclusion itself come before the reason that no slot is free (this profile)
 abbrev pub admitted : Terms → List Session → Conclusion → Result Admission RefusalCode
 admitted e sessions c = admitted_by e c (refused e.mode (list_any is_publisher sessions) c) (free_slot e sessions)

@@ -1,5 +1,5 @@
--- What a route reads of a conclusion (sections 3.2.1 and 4.3.1.2). Its cookie, the route's name, and the blocks that
--- a caller is refused for at once are not looked at again.
+-- What a route reads from a conclusion (sections 3.2.1 and 4.3.1.2). The cookie, the route's name, and the blocks for
+-- which a caller is refused at once were checked before, and aren't read again.
 use Rattle.std.specs.Prelude.{ℕ, ◌/◌, ◌%◌, ◌^◌, Bool, true, false, Option, None, Some, option_map, List, Result, Ok, Err, nat_lt, ◌==◌, ◌&&◌, if◌then◌else◌}
 use Rattle.srt_seq.specs.declared.shared.Role.{Role}
 use Rattle.srt_hs.specs.declared.handshake.HsKind.{HsKind}
@@ -32,7 +32,7 @@ with_role hs req role =
       congestion = text_of hs.blocks.congestion;
     }
 
--- what a Stream ID asks for, where it reads (appendix B)
+-- the role that a Stream ID asks for, if it can be read (appendix B)
 abbrev pub role_in : Result Ask AskFault → Option Role
 role_in (Ok ask) = Some ask.role
 role_in (Err fault) = None
@@ -41,7 +41,7 @@ abbrev pub role_asked : Option (List ℕ) → Option Role
 role_asked None = None
 role_asked (Some bytes) = role_in (ask_in bytes)
 
--- with an HSREQ and a Stream ID that reads
+-- a conclusion needs an HSREQ and a Stream ID that can be read
 abbrev pub with_blocks : Handshake → Option HsReq → Option Role → Option Conclusion
 with_blocks hs (Some req) (Some role) = Some (with_role hs req role)
 with_blocks hs (Some req) None = None
@@ -51,7 +51,7 @@ abbrev pub is_conclusion : HsKind → Bool
 is_conclusion kinds.Conclusion = true
 is_conclusion _ = false
 
--- of version 5, with a sequence number to start from
+-- a conclusion has version 5 and an initial sequence number below 2^31
 unfoldable pub conclusion_of : Handshake → Option Conclusion
 conclusion_of hs =
     if is_conclusion hs.kind && hs.version == 5 && nat_lt hs.initial (2 ^ 31)
@@ -61,6 +61,6 @@ abbrev pub conclusion_read : Result Handshake HsFault → Option Conclusion
 conclusion_read (Ok hs) = conclusion_of hs
 conclusion_read (Err fault) = None
 
--- the conclusion that the bytes after a packet's header are
+-- the conclusion in the bytes after a packet's header
 unfoldable pub conclusion_in : List ℕ → Option Conclusion
 conclusion_in info = conclusion_read (handshake_in info)

@@ -1,4 +1,4 @@
--- The parts of a delivery and of what is sent at an event's end: payload by payload, and place by place.
+-- The parts of a delivery and of an event's output: payload by payload, and slot by slot.
 use Rattle.std.specs.Prelude.{◌≡◌, ℕ, ◌<◌, ◌≤◌, Bool, true, false, Option, None, Some, List, [], ◌∷◌, map, length, find, nat_lt, not, ⊤, if◌then◌else◌, slice_index_or}
 use Rattle.srt_seq.specs.declared.shared.Mode.TheVariants.{Buffer}
 use Rattle.srt_seq.specs.Terms.{Terms}
@@ -16,15 +16,15 @@ use Rattle.srt_route.specs.Sessions.{Session, terms_of, publishes, is_publisher,
 use Rattle.srt_route.specs.Tables.{session_passes}
 use Rattle.srt_route.specs.Media.{IsSeated}
 
--- a subscriber has this place
+-- a subscriber's session is open in this slot
 abbrev pub has_subscriber : Slot → Bool
 has_subscriber slot = session_passes (λ t. not (publishes t.role)) slot.session
 
--- an open session with another past
+-- a session, with another past if it is open
 abbrev pub changed : (Session → Past) → Session → Session
 changed past s = if s.is_open then record s { past = past s } else s
 
--- the publisher is so far, and the subscribers were fed these payloads
+-- the publisher's past is q, and the subscribers were fed these payloads
 abbrev pub amid_past : Agreed → (time : ℕ) → publisher.Publishing → List (List ℕ) → Past → Past
 amid_past terms time q payloads (Publishes p) = Publishes q
 amid_past terms time q payloads (Subscribes m) = Subscribes (subscriber.fed_all terms.subscriber time payloads m)
@@ -40,13 +40,13 @@ fed_past terms time payload (Subscribes m) = Subscribes (subscriber.fed terms.su
 abbrev pub fed : Terms → (clock : ℕ) → List ℕ → Session → Past
 fed e clock payload s = fed_past (terms_of e s) (time_in s clock) payload s.past
 
--- the open session of a place publishes, and is so far
+-- the open session of slot `at` publishes, and its past is q
 pub record IsPublisherAt (sessions : List Session) (at : ℕ) (s : Session) (q : publisher.Publishing) : Type 0 where
   pub found : find (is_open_in at) sessions ≡ Some s
   pub publishes : is_publisher s ≡ true
   pub past_is : s.past ≡ Publishes q
 
--- in buffer mode there are so many places for payloads
+-- in buffer mode the subscriber's send buffer has room for this number of payloads
 abbrev pub HasRoom : Terms → (places : ℕ) → Past → Type 0
 HasRoom e places (Publishes p) = ⊤
 HasRoom e places (Subscribes m) = e.mode ≡ Buffer → places ≤ room e.buffer m.sending
@@ -54,12 +54,12 @@ HasRoom e places (Subscribes m) = e.mode ≡ Buffer → places ≤ room e.buffer
 abbrev pub HaveRoom : Terms → (places : ℕ) → List Session → Type 0
 HaveRoom e places sessions = (at : ℕ) (s : Session) → find (is_open_in at) sessions ≡ Some s → HasRoom e places s.past
 
--- of a place's room and the least so far
+-- the lesser of a slot's room and the least room so far
 abbrev pub lesser : Option ℕ → Option ℕ → Option ℕ
 lesser found None = found
 lesser found (Some room) = Some (least found room)
 
--- the sessions after the publisher's next payload, where there is one
+-- the sessions after the publisher's next payload, if there is one
 abbrev pub turned : Terms → (clock : ℕ) → Option Arrival → publisher.Publishing → List Session → List Session
 turned e clock None q sessions = sessions
 turned e clock (Some a) q sessions = map (changed (amid e clock q (a.payload ∷ []))) sessions
@@ -68,7 +68,7 @@ abbrev pub is_given : Option Arrival → Bool
 is_given None = false
 is_given (Some a) = true
 
--- a part of the places has changed: those below this one
+-- only the slots below a bound have changed so far
 abbrev pub at_place : Bool → (Session → Session) → Session → Session
 at_place true change s = change s
 at_place false change s = s
@@ -80,7 +80,7 @@ pub record IsHalf (e : Terms) (clock below : ℕ) (change : Session → Session)
   pub seated : (at : ℕ) (x : Subscriber) (s : Session) → at < e.sessions → find (is_open_in at) sessions ≡ Some s
       → IsSeated e clock media.publisher (slice_index_or media.subscribers.items at x) (at_place (nat_lt at below) change s)
 
--- what the publisher sends, and what the subscribers do
+-- the pasts after the publisher's output, and after the subscribers' output
 abbrev pub publisher_reported : Agreed → (time : ℕ) → Past → Past
 publisher_reported terms time (Publishes p) = Publishes (publisher.reported terms.publisher time p)
 publisher_reported terms time (Subscribes m) = Subscribes m

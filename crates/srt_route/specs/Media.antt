@@ -16,7 +16,8 @@ use Rattle.srt_route.specs.Sessions.{Session, terms_of, publishes, is_publisher,
 use Rattle.srt_route.specs.Route.{Taken, sent}
 use Rattle.srt_route.specs.Tables.{IsTable}
 
--- the buffers of a session's place stand for its past, up to this clock; a subscriber has given up what is too old by then
+-- the buffers of a session's slot stand for its past at this clock; a subscriber has already dropped what is too late
+-- by then
 abbrev pub IsPast : Terms → (clock : ℕ) → Publisher → Subscriber → Session → Past → Type 0
 IsPast e clock p x s (Publishes m) =
     (publishes s.conclusion.role ≡ true)
@@ -30,19 +31,19 @@ pub record IsSeated (e : Terms) (clock : ℕ) (p : Publisher) (x : Subscriber) (
   pub past_is : IsPast e clock p x s s.past
   pub opened : s.opening ≤ clock
 
--- each open session of a place is seated there
+-- the buffers of each slot stand for the open session of the slot
 abbrev pub AreSeated : Terms → (clock : ℕ) → Media → List Session → Type 0
 AreSeated e clock media sessions =
     (at : ℕ) (x : Subscriber) (s : Session) → at < e.sessions → find (is_open_in at) sessions ≡ Some s
     → IsSeated e clock media.publisher (slice_index_or media.subscribers.items at x) s
 
--- one open session at most publishes
+-- at most one open session publishes
 abbrev pub PublishesAlone : List Session → Type 0
 PublishesAlone sessions =
     (at k : ℕ) (s t : Session) → find (is_open_in at) sessions ≡ Some s → find (is_open_in k) sessions ≡ Some t
     → is_publisher s ≡ true → is_publisher t ≡ true → at ≡ k
 
--- there is a place for each session, of the route's width
+-- there is a subscriber's buffer for each slot, and each buffer has the route's width
 pub record IsMedia (e : Terms) (clock : ℕ) (media : Media) (sessions : List Session) : Type 0 where
   pub as_many : length media.subscribers.items ≡ e.sessions
   pub wide : (at : ℕ) (x : Subscriber) → at < e.sessions → subscriber.IsWide e.buffer (slice_index_or media.subscribers.items at x)
@@ -57,18 +58,18 @@ pub record IsBody (e : Terms) (index clock : ℕ) (table : Table) (media : Media
   pub table_is : IsTable e index table sessions
   pub media_is : IsMedia e clock media sessions
 
--- a subscriber was told that it is this moment: whatever it stood for, what is too old by then is given up
+-- a subscriber's time has advanced to this clock: whatever it stood for, what is too late by then is dropped
 abbrev pub ExpiresTo : (clock : ℕ) → (old new : Subscriber) → Type 0
 ExpiresTo clock old new =
     (terms : subscribing.Terms) (initial opening caller last : ℕ) (m : subscribing.Subscribing)
     → subscriber.StandsFor terms initial opening caller last old m → last ≤ clock
     → subscriber.StandsFor terms initial opening caller clock new (subscribing.expired terms (clock - opening) m)
 
--- bytes to one peer
+-- datagrams with these bytes to one peer
 abbrev pub datagrams_to : Peer → List (List ℕ) → List Datagram
 datagrams_to peer texts = map (λ bytes. record { peer = peer; bytes = bytes }) texts
 
--- after an item they are these sessions', and the replies to it these
+-- after an item the table and the buffers are those of these sessions, and these are the replies to it
 pub record IsBodyTaken (e : Terms) (index clock : ℕ) (table : Table) (media : Media) (replies : List Datagram) (taken : Taken) : Type 0 where
   pub body_is : IsBody e index clock table media taken.sessions
   pub replies_are : replies ≡ map sent taken.answers

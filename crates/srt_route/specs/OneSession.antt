@@ -24,56 +24,56 @@ use Rattle.srt_route.specs.Tables.{stored_after}
 use Rattle.srt_route.specs.Media.{datagrams_to}
 use Rattle.srt_route.specs.Reports.{Queues}
 
--- a publisher's buffers took a packet
+-- a publisher's buffers after a packet
 abbrev pub PublisherTook : (clock : ℕ) → Packet → (old new : Publisher) → Type 0
 PublisherTook clock packet old new =
     (terms : publishing.Terms) (initial opening stamp caller time : ℕ) (m : publishing.Publishing) → clock ≡ opening + time
     → publisher.StandsFor terms initial opening stamp caller old m
     → publisher.StandsFor terms initial opening stamp caller new (publishing.took terms time (stamped_from stamp packet.stamp) (to_publisher.heard_from initial packet.body) m)
 
--- its slot
+-- the publisher's slot after the packet
 abbrev pub PublisherEnds : (clock : ℕ) → Packet → Publisher → (slot new : Slot) → Type 0
 PublisherEnds clock packet old slot new =
     (terms : publishing.Terms) (initial opening stamp caller : ℕ) (m : publishing.Publishing)
     → publisher.StandsFor terms initial opening stamp caller old m
     → new ≡ record { generation = slot.generation; session = stored_after (is_some (ended terms initial packet.body m)) clock slot.session }
 
--- a subscriber's
+-- a subscriber's buffers after a packet
 abbrev pub SubscriberTook : (clock : ℕ) → Packet → (old new : Subscriber) → Type 0
 SubscriberTook clock packet old new =
     (terms : subscribing.Terms) (initial opening caller last : ℕ) (m : subscribing.Subscribing)
     → subscriber.StandsFor terms initial opening caller last old m → last ≤ clock
     → subscriber.StandsFor terms initial opening caller clock new (subscribing.took (clock - opening) (to_subscriber.heard_from initial packet.body) (subscribing.expired terms (clock - opening) m))
 
--- and what it answers
+-- the datagrams that the subscriber answers at once
 abbrev pub SubscriberAnswers : (clock : ℕ) → Peer → Packet → Subscriber → List Datagram → Type 0
 SubscriberAnswers clock peer packet old replies =
     (terms : subscribing.Terms) (initial opening caller last : ℕ) (m : subscribing.Subscribing)
     → subscriber.StandsFor terms initial opening caller last old m → last ≤ clock
     → replies ≡ datagrams_to peer (map (subscriber_text.says caller initial (clock - opening)) (subscribing.answers (to_subscriber.heard_from initial packet.body)))
 
--- a subscriber was fed a payload, for which buffer mode has room
+-- a subscriber was fed a payload; in buffer mode only if it has room
 abbrev pub SubscriberFed : (clock : ℕ) → List ℕ → (old new : Subscriber) → Type 0
 SubscriberFed clock payload old new =
     (terms : subscribing.Terms) (initial opening caller : ℕ) (m : subscribing.Subscribing)
     → subscriber.StandsFor terms initial opening caller clock old m → 0 < length payload → (terms.mode ≡ Buffer → 0 < room terms.width m.sending)
     → subscriber.StandsFor terms initial opening caller clock new (subscribing.fed terms (clock - opening) payload (subscribing.expired terms (clock - opening) m))
 
--- a publisher sent what it sends at the end of an event
+-- a publisher's buffers after its output at the end of an event
 abbrev pub PublisherReported : (clock : ℕ) → (old new : Publisher) → Type 0
 PublisherReported clock old new =
     (terms : publishing.Terms) (initial opening stamp caller time : ℕ) (m : publishing.Publishing) → clock ≡ opening + time
     → publisher.StandsFor terms initial opening stamp caller old m
     → publisher.StandsFor terms initial opening stamp caller new (publishing.reported terms time m)
 
--- and it waits
+-- and that output was queued
 abbrev pub PublisherSaid : (clock : ℕ) → Peer → Publisher → (before after : ReplyQueue) → Type 0
 PublisherSaid clock peer old before after =
     (terms : publishing.Terms) (initial opening stamp caller time : ℕ) (m : publishing.Publishing) → clock ≡ opening + time
     → publisher.StandsFor terms initial opening stamp caller old m
     → Queues before after (datagrams_to peer (map (publisher_text.says caller initial time) (publishing.reports terms time m)))
 
--- a subscriber that has given up what is too old did
+-- the same of a subscriber that has already dropped what is too late
 abbrev pub SubscriberReported : (clock : ℕ) → (old new : Subscriber) → Type 0
 SubscriberReported clock old new =
     (terms : subscribing.Terms) (initial opening caller : ℕ) (m : subscribing.Subscribing)

@@ -5,6 +5,6 @@ use Rattle.srt_seq.specs.declared.shared.OpenFault.TheVariants.{Names, Limits}
 use Rattle.srt_seq.specs.Terms.{Terms}
 use Rattle.srt_seq.specs.Entries.{is_name, in_limits}
 
--- why a route of this index can't be opened, memory aside: the name comes first
+-- why a route with this index can't be opened, memory aside; a fault of the name comes first
 abbrev pub fault_of : Terms → (index : ℕ) → Option OpenFault
 fault_of e index = if is_name e.name then (if nat_lt index 511 && in_limits e then None else Some Limits) else Some Names

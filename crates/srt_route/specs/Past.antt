@@ -1,4 +1,4 @@
--- What a session has behind it, and what each part of an event makes of it. It counts from its own beginning.
+-- The past of a session, and what each part of an event does to it. Times count from the session's opening.
 use Rattle.std.specs.Prelude.{ℕ, Bool, true, false, Option, None, Some, List, [], map, min, ◌||◌}
 use Rattle.srt_seq.specs.declared.shared.Role.{Role}
 use Rattle.srt_seq.specs.declared.shared.Role.TheVariants.{Publish, Request}
@@ -12,7 +12,7 @@ use Rattle.srt_sub.specs.Heard as to_subscriber
 use Rattle.srt_sub.specs.Subscribing as subscriber
 use Rattle.srt_sub.specs.Says as subscriber_text
 
--- all that a publisher sent and was sent, or a subscriber
+-- all that a publisher or a subscriber received and was sent
 pub data Past : Type 0 where
   Publishes : publisher.Publishing → Past
   Subscribes : subscriber.Subscribing → Past
@@ -21,7 +21,7 @@ abbrev pub past_of : Role → Past
 past_of Publish = Publishes publisher.opened
 past_of Request = Subscribes subscriber.opened
 
--- what was agreed, for either role
+-- the agreed parameters, for either role
 pub record Agreed : Type 0 where
   pub publisher : publisher.Terms
   pub subscriber : subscriber.Terms
@@ -31,17 +31,17 @@ pub data Report : Type 0 where
   ToPublisher : publisher.Report → Report
   ToSubscriber : subscriber.Report → Report
 
--- its bytes, to the socket with this ID
+-- its bytes, addressed to the socket with this ID
 abbrev pub report_text : (caller initial time : ℕ) → Report → List ℕ
 report_text caller initial time (ToPublisher report) = publisher_text.says caller initial time report
 report_text caller initial time (ToSubscriber report) = subscriber_text.says caller initial time report
 
--- a subscriber gives up what is too old (section 4.6)
+-- a subscriber drops what is too late (section 4.6)
 abbrev pub expired_past : Agreed → (time : ℕ) → Past → Past
 expired_past terms time (Publishes p) = Publishes p
 expired_past terms time (Subscribes s) = Subscribes (subscriber.expired terms.subscriber time s)
 
--- a packet comes, to a session with this initial number; its stamp counts from the conclusion's
+-- the past after a packet; sequence numbers count from the session's initial number, timestamps from the conclusion's
 abbrev pub took_past : Agreed → (initial time stamp : ℕ) → Body → Past → Past
 took_past terms initial time stamp body (Publishes p) = Publishes (publisher.took terms.publisher time stamp (to_publisher.heard_from initial body) p)
 took_past terms initial time stamp body (Subscribes s) = Subscribes (subscriber.took time (to_subscriber.heard_from initial body) s)
@@ -51,7 +51,7 @@ abbrev pub is_shutdown : Body → Bool
 is_shutdown Shutdown = true
 is_shutdown _ = false
 
--- and a live publisher's ends where its window is lost (this profile)
+-- and a live publisher's session ends if its window is lost (this profile)
 abbrev pub loses_window : Agreed → (initial : ℕ) → Body → Past → Bool
 loses_window terms initial body (Publishes p) = publisher.loses_window terms.publisher.mode terms.publisher (to_publisher.heard_from initial body) p
 loses_window terms initial body (Subscribes s) = false
@@ -59,12 +59,12 @@ loses_window terms initial body (Subscribes s) = false
 abbrev pub ends_with : Agreed → (initial : ℕ) → Body → Past → Bool
 ends_with terms initial body past = is_shutdown body || loses_window terms initial body past
 
--- what is answered to a packet at once
+-- the packets that answer a packet at once
 abbrev pub answers_to : (initial : ℕ) → Body → Past → List Report
 answers_to initial body (Publishes p) = []
 answers_to initial body (Subscribes s) = map ToSubscriber (subscriber.answers (to_subscriber.heard_from initial body))
 
--- the least room of the subscribers so far, with one session more
+-- the least room of the subscribers so far, with the room of one more
 abbrev pub least : Option ℕ → ℕ → ℕ
 least None room = room
 least (Some other) room = min other room
@@ -81,12 +81,12 @@ abbrev pub payloads_of : Agreed → (time : ℕ) → (room : Option ℕ) → Pas
 payloads_of terms time room (Publishes p) = map payload_of (publisher.deliveries terms.publisher.mode terms.publisher time room p)
 payloads_of terms time room (Subscribes s) = []
 
--- a publisher has delivered, and a subscriber is fed
+-- the past after a delivery: a publisher has delivered, a subscriber was fed
 abbrev pub passed_past : Agreed → (time : ℕ) → (room : Option ℕ) → List (List ℕ) → Past → Past
 passed_past terms time room payloads (Publishes p) = Publishes (publisher.delivered terms.publisher time room p)
 passed_past terms time room payloads (Subscribes s) = Subscribes (subscriber.fed_all terms.subscriber time payloads s)
 
--- what is sent at the end of an event, and what is left then
+-- the packets that a session sends at the end of an event, and its past after them
 abbrev pub reports_of : Agreed → (time : ℕ) → Past → List Report
 reports_of terms time (Publishes p) = map ToPublisher (publisher.reports terms.publisher time p)
 reports_of terms time (Subscribes s) = map ToSubscriber (subscriber.reports terms.subscriber time s)

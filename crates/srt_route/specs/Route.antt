@@ -1,4 +1,5 @@
--- A route, from all that it was told. Lists of items and of sessions have the newest first, replies the oldest.
+-- A route as a function of all its items. Lists of items and of sessions have the newest first, lists of replies the
+-- oldest.
 use Rattle.std.specs.Prelude.{ℕ, ◌+◌, ◌*◌, ◌≤◌, Bool, true, false, Option, None, Some, Result, Ok, Err, List, [], ◌∷◌, ◌++◌, length, map, fold, max, find, not, nat_lt, ◌==◌, ◌&&◌, ◌||◌, if◌then◌else◌}
 use Rattle.std.specs.List.{list_any, flat_map}
 use Rattle.srt_seq.specs.declared.shared.Peer.{Peer}
@@ -21,7 +22,7 @@ use Rattle.srt_route.specs.Conclusions.{conclusion_in}
 use Rattle.srt_route.specs.Past.{Report, report_text, past_of, least_with}
 use Rattle.srt_route.specs.Sessions.{Session, is_same_peer, session_id, answer_of, publishes, is_publisher, is_subscriber, by_slot, free_slot, generation_of, time_in, aged, took, answered_at_once, payloads, passed, reports_at, reported}
 
--- every session that was ever opened, and the clock
+-- every session that was ever opened, and the clock in microseconds
 pub record Route : Type 0 where
   pub clock : ℕ
   pub sessions : List Session
@@ -29,8 +30,8 @@ pub record Route : Type 0 where
 abbrev pub opened : Route
 opened = record { clock = 0; sessions = [] }
 
--- what is sent to the socket with this ID: an answer to its handshake, or a report of a session with this initial number, so long after
--- its opening
+-- what is sent to the socket with this ID: an answer to its handshake, or a report of a session with this initial
+-- number, `time` microseconds after its opening
 pub data Output : Type 0 where
   Answers : (caller : ℕ) (answer : HsAnswer) → Output
   Says : (caller initial time : ℕ) (report : Report) → Output
@@ -39,7 +40,7 @@ pub record Reply : Type 0 where
   pub peer : Peer
   pub packet : Output
 
--- its bytes. The timestamp of a handshake is 0 (this profile)
+-- the bytes of an output; the timestamp of a handshake is 0 (this profile)
 abbrev pub output_text : Output → List ℕ
 output_text (Answers caller answer) = text (record { stamp = 0; dest = caller; body = out.Handshake (record { items = answer_text answer }) })
 output_text (Says caller initial time report) = report_text caller initial time report
@@ -55,7 +56,7 @@ pub record Taken : Type 0 where
 abbrev pub nothing_taken : List Session → Taken
 nothing_taken sessions = record { sessions = sessions; answers = [] }
 
--- time never goes back (this profile)
+-- the clock never goes back (this profile)
 abbrev pub clock_after : Item → Route → ℕ
 clock_after item route = max route.clock (moment_of item)
 
@@ -74,7 +75,7 @@ abbrev pub differ : Bool → Bool → Bool
 differ true b = not b
 differ false b = b
 
--- what keeps a conclusion from opening a session, the first that applies (this profile)
+-- the first reason to refuse a conclusion, free slots aside (this profile)
 abbrev pub refused : Mode → (has_publisher : Bool) → Conclusion → Option RefusalCode
 refused mode has_publisher c =
     if differ c.wants_stream (is_buffer mode) then Some codes.MessageApi
@@ -88,7 +89,7 @@ session_opened clock peer stamp c slot generation =
 abbrev pub with_session : Terms → (index : ℕ) → Session → List Session → Taken
 with_session e index s sessions = record { sessions = s ∷ sessions; answers = answered s.peer s.conclusion.caller (answer_of e index s) }
 
--- a session opens in the least free slot (this profile)
+-- a session opens in the least free slot; if none is free, the conclusion is refused (this profile)
 abbrev pub opens : Terms → (index clock : ℕ) → Peer → (stamp : ℕ) → Conclusion → List Session → Option ℕ → Taken
 opens e index clock peer stamp c sessions None = record { sessions = sessions; answers = answered peer c.caller (refusal c codes.Resource) }
 opens e index clock peer stamp c sessions (Some slot) = with_session e index (session_opened clock peer stamp c slot (generation_of sessions slot)) sessions
@@ -97,7 +98,7 @@ abbrev pub considered : Terms → (index clock : ℕ) → Peer → (stamp : ℕ)
 considered e index clock peer stamp c sessions (Some reason) = record { sessions = sessions; answers = answered peer c.caller (refusal c reason) }
 considered e index clock peer stamp c sessions None = opens e index clock peer stamp c sessions (free_slot e sessions)
 
--- an open session of this caller
+-- whether this is an open session of this caller
 abbrev pub is_of : Peer → (caller : ℕ) → Session → Bool
 is_of peer caller s = s.is_open && is_same_peer s.peer peer && s.conclusion.caller == caller
 
@@ -110,7 +111,8 @@ concluded e index clock peer stamp c sessions (Some s) =
     record { sessions = map (λ t. heard_if (is_of peer c.caller t) clock t) sessions; answers = answered peer c.caller (answer_of e index s) }
 concluded e index clock peer stamp c sessions None = considered e index clock peer stamp c sessions (refused e.mode (list_any is_publisher sessions) c)
 
--- a packet is the session's whose ID is its destination, if it is open and its peer is the sender (section 3)
+-- a packet belongs to the session whose ID is its destination, if that session is open and its peer is the sender
+-- (section 3)
 abbrev pub is_for : (index : ℕ) → Peer → (dest : ℕ) → Session → Bool
 is_for index peer dest s = s.is_open && is_same_peer s.peer peer && session_id index s == dest
 
@@ -132,12 +134,12 @@ arrived e index clock peer packet sessions =
       answers = answered_by clock packet.body (find (is_for index peer packet.dest) sessions);
     }
 
--- the conclusion that a packet is
+-- the conclusion in a packet, if it is one
 abbrev pub concludes : Body → Option Conclusion
 concludes (Handshake info) = conclusion_in info
 concludes _ = None
 
--- of packets to no socket, conclusions alone are taken
+-- of the packets with destination 0, only conclusions are taken
 abbrev pub without_destination : Terms → (index clock : ℕ) → Peer → (stamp : ℕ) → List Session → Option Conclusion → Taken
 without_destination e index clock peer stamp sessions None = nothing_taken sessions
 without_destination e index clock peer stamp sessions (Some c) = concluded e index clock peer stamp c sessions (find (is_of peer c.caller) sessions)
@@ -148,7 +150,7 @@ packet_taken e index clock peer packet sessions =
     then without_destination e index clock peer packet.stamp sessions (concludes packet.body)
     else arrived e index clock peer packet sessions
 
--- what doesn't read changes nothing
+-- a datagram that isn't a packet changes nothing
 abbrev pub read_taken : Terms → (index clock : ℕ) → Peer → Result Packet PacketFault → List Session → Taken
 read_taken e index clock peer (Ok packet) sessions = packet_taken e index clock peer packet sessions
 read_taken e index clock peer (Err fault) sessions = nothing_taken sessions
@@ -157,7 +159,7 @@ abbrev pub taken : Terms → (index clock : ℕ) → Item → List Session → T
 taken e index clock (Received datagram moment) sessions = read_taken e index clock datagram.peer (packet_in datagram.bytes) sessions
 taken e index clock (Tick moment) sessions = nothing_taken sessions
 
--- the least room of the open subscribers, none where none is open
+-- the least room of the open subscribers; None if none is open
 abbrev pub least_room : Terms → List Session → Option ℕ
 least_room e sessions = fold (λ found s. least_with e.buffer found s.past) None (by_slot e sessions)
 
@@ -169,35 +171,35 @@ delivery_of e clock room (Some s) = payloads e clock room s
 abbrev pub delivery : Terms → (clock : ℕ) → (room : Option ℕ) → List Session → List (List ℕ)
 delivery e clock room sessions = delivery_of e clock room (find is_publisher (by_slot e sessions))
 
--- and each open subscriber is fed
+-- the publisher delivers, and each open subscriber is fed
 abbrev pub delivered : Terms → (clock : ℕ) → List Session → List Session
 delivered e clock sessions =
     let room = least_room e sessions in
     map (passed e clock room (delivery e clock room sessions)) sessions
 
--- what sessions send at the end of an event, slots upwards
+-- the packets that sessions send at the end of an event, slots upwards
 abbrev pub packets_at : Terms → (here : Bool) → (time : ℕ) → Session → List Reply
 packets_at e here time s = map (said_by time s) (reports_at e here time s)
 
 abbrev pub packets_where : Terms → (clock : ℕ) → (Session → Bool) → List Session → List Reply
 packets_where e clock test sessions = flat_map (λ s. packets_at e (test s) (time_in s clock) s) (by_slot e sessions)
 
--- an event, in this profile's order: time goes on, sessions age, the datagram is taken
+-- an event, in this profile's order: the clock advances, sessions age, the datagram is taken
 abbrev pub taken_by : Terms → (index : ℕ) → Item → Route → Taken
 taken_by e index item route = let clock = clock_after item route in taken e index clock item (map (aged e clock) route.sessions)
 
--- the publisher delivers
+-- then the publisher delivers
 abbrev pub passed_by : Terms → (index : ℕ) → Item → Route → List Session
 passed_by e index item route = delivered e (clock_after item route) (taken_by e index item route).sessions
 
--- the publisher sends, and then the subscribers do
+-- then the publisher sends, and then the subscribers do
 abbrev pub replies_to : Terms → (index : ℕ) → Item → Route → List Reply
 replies_to e index item route =
     let clock = clock_after item route in
     let sessions = passed_by e index item route in
     (taken_by e index item route).answers ++ packets_where e clock is_publisher sessions ++ packets_where e clock is_subscriber sessions
 
--- the route after one item more
+-- the route after one more item
 abbrev pub told_more : Terms → (index : ℕ) → Item → Route → Route
 told_more e index item route =
     let clock = clock_after item route in
@@ -208,16 +210,16 @@ abbrev pub after : Terms → (index : ℕ) → List Item → Route
 after e index [] = opened
 after e index (item ∷ items) = told_more e index item (after e index items)
 
--- the datagrams that the newest item is answered with
+-- the replies to the newest item
 abbrev pub reply : Terms → (index : ℕ) → List Item → List Datagram
 reply e index [] = []
 reply e index (item ∷ items) = map sent (replies_to e index item (after e index items))
 
--- all that it ever replied, the oldest first
+-- all replies to these items, the oldest first
 abbrev pub solo : Terms → (index : ℕ) → List Item → List Datagram
 solo e index [] = []
 solo e index (item ∷ items) = solo e index items ++ reply e index (item ∷ items)
 
--- they are no more than a route has places for
+-- an item has no more replies than a route's queue holds: 66 for each session and 4 more
 abbrev pub RepliesHavePlaces : Type 0
 RepliesHavePlaces = (e : Terms) (index : ℕ) (items : List Item) → length (reply e index items) ≤ 4 + 66 * e.sessions

@@ -1,4 +1,4 @@
--- All that is replied is what packets that can be sent are written as, and reads back as they do.
+-- Each reply is the encoding of a packet that can be sent, and decodes to that packet.
 use Rattle.std.specs.Prelude.{◌≡◌, ℕ, List, All, Ok}
 use Rattle.srt_seq.specs.Terms.{Terms}
 use Rattle.srt_seq.specs.Items.{Item}
@@ -14,14 +14,14 @@ use Rattle.srt_sub.specs.Says as subscriber_text
 use Rattle.srt_route.specs.Route.{Answers, output_text, reply}
 use Rattle.srt_route.specs.ShiftLaws.{IsPublishersReport, IsSubscribersReport, IsReadable}
 
--- a packet that can be sent is written as these bytes, and they are read as it
+-- these bytes are the encoding of a packet that can be sent, and decode to it
 pub record IsSendable (bytes : List ℕ) : Type 0 where
   pub packet : Packet
   pub can_be_sent : CanBeSent packet
   pub text_is : bytes ≡ text packet
   pub read_is : packet_in bytes ≡ Ok (sent packet)
 
--- case by case
+-- the same for each kind of output
 abbrev pub PublishersSendPackets : Type 0
 PublishersSendPackets = (caller initial time : ℕ) (report : publisher.Report) → IsPublishersReport report → IsSendable (publisher_text.says caller initial time report)
 
@@ -31,6 +31,6 @@ SubscribersSendPackets = (caller initial time : ℕ) (report : subscriber.Report
 abbrev pub AnswersArePackets : Type 0
 AnswersArePackets = (caller : ℕ) (a : HsAnswer) → IsReadable a.what → IsSendable (output_text (Answers caller a))
 
--- whatever a route is told
+-- the same for all replies of a route, whatever its items are
 abbrev pub RepliesArePackets : Type 0
 RepliesArePackets = (e : Terms) (index : ℕ) (items : List Item) → All (λ d. IsSendable d.bytes) (reply e index items)

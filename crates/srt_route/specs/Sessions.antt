@@ -23,24 +23,24 @@ pub record Session : Type 0 where
   -- the timestamp of its conclusion
   pub stamp : ℕ
   pub conclusion : Conclusion
-  -- when it was opened, and when it was last heard of
+  -- the moments at which it was opened and at which its peer was last heard of, in microseconds
   pub opening : ℕ
   pub heard : ℕ
   pub is_open : Bool
-  -- what it was sent and has sent
+  -- what it received and sent
   pub past : Past
 
 abbrev pub is_same_peer : Peer → Peer → Bool
 is_same_peer p q = bytes_eq p.ip q.ip && p.port == q.port
 
--- a session's socket ID: the place of the route, the generation and the slot (this profile)
+-- a session's socket ID: the route's index, the generation and the slot (this profile)
 abbrev pub id_of : (index generation slot : ℕ) → ℕ
 id_of index generation slot = (index + 1) * 2 ^ 20 + generation % 4096 * 256 + slot
 
 abbrev pub session_id : (index : ℕ) → Session → ℕ
 session_id index s = id_of index s.generation s.slot
 
--- in live mode the greater of both sides' latencies, in buffer mode none (section 4.4)
+-- in live mode the greater of both sides' delays, in buffer mode 0 (section 4.4)
 abbrev pub agreed_ms : Mode → (ours theirs : ℕ) → ℕ
 agreed_ms Live ours theirs = max ours theirs
 agreed_ms Buffer ours theirs = 0
@@ -54,7 +54,7 @@ sender_ms e c = agreed_ms e.mode e.latency_ms c.receiver_ms
 abbrev pub agreed_mtu : Conclusion → ℕ
 agreed_mtu c = min 1500 c.mtu
 
--- the answer to a conclusion that has the session with this ID (section 4.3.1.2)
+-- the answer to a conclusion that opens the session with this ID (section 4.3.1.2)
 abbrev pub agreed : Terms → (id : ℕ) → Conclusion → HsAnswer
 agreed e id c =
     record {
@@ -65,7 +65,8 @@ agreed e id c =
 abbrev pub answer_of : Terms → (index : ℕ) → Session → HsAnswer
 answer_of e index s = agreed e (session_id index s) s.conclusion
 
--- what holds in its session, in microseconds, packets and bytes: of the two delays the first from a publisher and the second to a subscriber
+-- the parameters of the session, in microseconds, packets and bytes; of the two delays the first is for data from a
+-- publisher, the second for data to a subscriber
 abbrev pub agreed_terms : Terms → Conclusion → Agreed
 agreed_terms e c =
     record {
@@ -100,7 +101,7 @@ is_free sessions slot = not (list_any (is_open_in slot) sessions)
 abbrev pub free_slot : Terms → List Session → Option ℕ
 free_slot e sessions = find (is_free sessions) (numbers_from 0 e.sessions)
 
--- how many sessions the slot had
+-- the number of sessions that were opened in the slot
 abbrev pub generation_of : List Session → (slot : ℕ) → ℕ
 generation_of [] slot = 0
 generation_of (s ∷ sessions) slot = let earlier = generation_of sessions slot in if s.slot == slot then earlier + 1 else earlier
@@ -112,18 +113,18 @@ time_in s clock = clock - s.opening
 abbrev pub stamp_in : Session → (stamp : ℕ) → ℕ
 stamp_in s stamp = stamped_from s.stamp stamp
 
--- of which nothing was heard for 5 s (this profile)
+-- the peer sent nothing for 5 s (this profile)
 abbrev pub is_idle : Session → (clock : ℕ) → Bool
 is_idle s clock = nat_le 5_000_000 (clock - s.heard)
 
--- time goes on: an idle session ends, and one that lives gives up what is too old
+-- time advances: an idle session ends, and another one drops what is too late
 abbrev pub aged_at : Terms → (lives : Bool) → (time : ℕ) → Session → Session
 aged_at e lives time s = if lives then record s { past = expired_past (terms_of e s) time s.past } else record s { is_open = false }
 
 abbrev pub aged : Terms → (clock : ℕ) → Session → Session
 aged e clock s = aged_at e (s.is_open && not (is_idle s clock)) (time_in s clock) s
 
--- a packet comes
+-- a session after a packet
 abbrev pub took_at : Terms → (clock time stamp : ℕ) → Body → Session → Session
 took_at e clock time stamp body s =
     record s {
@@ -135,11 +136,11 @@ took_at e clock time stamp body s =
 abbrev pub took : Terms → (clock stamp : ℕ) → Body → Session → Session
 took e clock stamp body s = took_at e clock (time_in s clock) (stamp_in s stamp) body s
 
--- what it is answered with at once
+-- the packets that answer it at once
 abbrev pub answered_at_once : Body → Session → List Report
 answered_at_once body s = answers_to s.conclusion.initial body s.past
 
--- the payloads that it delivers, and the session after a delivery
+-- the payloads that a session delivers, and the session after a delivery
 abbrev pub payloads : Terms → (clock : ℕ) → (room : Option ℕ) → Session → List (List ℕ)
 payloads e clock room s = payloads_of (terms_of e s) (time_in s clock) room s.past
 
@@ -149,7 +150,7 @@ passed_at e here time room delivery s = if here then record s { past = passed_pa
 abbrev pub passed : Terms → (clock : ℕ) → (room : Option ℕ) → List (List ℕ) → Session → Session
 passed e clock room delivery s = passed_at e s.is_open (time_in s clock) room delivery s
 
--- what it sends at the end of an event, and the session then
+-- the packets that a session sends at the end of an event, and the session after them
 abbrev pub reports_at : Terms → (here : Bool) → (time : ℕ) → Session → List Report
 reports_at e here time s = if here then reports_of (terms_of e s) time s.past else []
 

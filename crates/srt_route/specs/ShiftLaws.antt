@@ -1,4 +1,4 @@
--- Bytes with other numbers and stamps read as the same with those.
+-- Bytes with other sequence numbers and timestamps decode to the same values with those numbers and timestamps.
 use Rattle.std.specs.Prelude.{◌≡◌, ℕ, ◌+◌, ◌%◌, ◌^◌, ◌<◌, ◌≤◌, List, length, map, Option, option_map, IfSome, Result, Ok, Err, ⊤}
 use Rattle.srt_seq.specs.Words.{word}
 use Rattle.srt_seq.specs.Window.{counted_from}
@@ -27,15 +27,15 @@ use Rattle.srt_sub.specs.Subscribing as subscriber
 use Rattle.srt_sub.specs.Says as subscriber_text
 use Rattle.srt_route.specs.Shifted.{shifted_body, shifted, four_bytes, shifted_words, shifted_handshake, shifted_reading, renumbered, restamped}
 
--- a number goes round the circle of 2^31, and a top bit stays
+-- a shift is modulo 2^31, and keeps a word's top bit
 abbrev pub ShiftGoesRound : Type 0
 ShiftGoesRound = (by n : ℕ) → n < 2 ^ 31 → (shifted by n ≡ (n + by) % 2 ^ 31) × (shifted by (2 ^ 31 + n) ≡ 2 ^ 31 + (n + by) % 2 ^ 31)
 
--- these are the bytes of a word
+-- four bytes and the word that they encode
 abbrev pub FourBytesAreTheWord : Type 0
 FourBytesAreTheWord = (n : ℕ) → n < 2 ^ 32 → four_bytes n ≡ word n
 
--- what is read of datagrams
+-- decoding of datagrams
 abbrev pub PacketsShift : Type 0
 PacketsShift = (by : ℕ) (bytes : List ℕ) → packet_in (renumbered by bytes) ≡ shifted_reading by (packet_in bytes)
 
@@ -52,7 +52,7 @@ restamped_reading by (Err fault) = Err fault
 abbrev pub PacketsRestamp : Type 0
 PacketsRestamp = (by : ℕ) (bytes : List ℕ) → packet_in (restamped by bytes) ≡ restamped_reading by (packet_in bytes)
 
--- what is read of loss lists
+-- decoding of loss lists
 abbrev pub shifted_range : (by : ℕ) → Range → Range
 shifted_range by r = record { first = shifted by r.first; last = shifted by r.last }
 
@@ -79,21 +79,21 @@ shifted_conclusion by c = record c { initial = shifted by c.initial }
 abbrev pub ConclusionsShift : Type 0
 ConclusionsShift = (by : ℕ) (info : List ℕ) → conclusion_in (shifted_handshake by info) ≡ option_map (shifted_conclusion by) (conclusion_in info)
 
--- what is counted from an initial number, and from a first timestamp, stays
+-- distances from an initial number and from a first timestamp stay the same
 abbrev pub CountsStay : Type 0
 CountsStay = (by initial word : ℕ) → counted_from (shifted by initial) (shifted by word) ≡ counted_from initial word
 
 abbrev pub StampsStay : Type 0
 StampsStay = (by first word : ℕ) → stamped_from ((first + by) % 2 ^ 32) ((word + by) % 2 ^ 32) ≡ stamped_from first word
 
--- what a session hears of a packet stays
+-- what a session takes from a packet stays the same
 abbrev pub PublishersHearTheSame : Type 0
 PublishersHearTheSame = (by initial : ℕ) (body : Body) → to_publisher.heard_from (shifted by initial) (shifted_body by body) ≡ to_publisher.heard_from initial body
 
 abbrev pub SubscribersHearTheSame : Type 0
 SubscribersHearTheSame = (by initial : ℕ) (body : Body) → to_subscriber.heard_from (shifted by initial) (shifted_body by body) ≡ to_subscriber.heard_from initial body
 
--- what is sent has other numbers. A loss list has runs, in no more words than a datagram takes
+-- the output has shifted numbers. A loss list has at least one run, and fits into a datagram
 abbrev pub IsLossList : List Run → Type 0
 IsLossList rs = (0 < length rs) × (length rs ≤ 182)
 
@@ -105,7 +105,7 @@ IsPublishersReport _ = ⊤
 abbrev pub PublishersSayOthers : Type 0
 PublishersSayOthers = (by caller initial time : ℕ) (report : publisher.Report) → IsPublishersReport report → renumbered by (publisher_text.says caller initial time report) ≡ publisher_text.says caller (shifted by initial) time report
 
--- and a payload 1 to 1456 bytes
+-- and a payload has 1 to 1456 bytes
 abbrev pub IsSubscribersReport : subscriber.Report → Type 0
 IsSubscribersReport (subscriber.Media number again origin payload) = (0 < length payload) × (length payload ≤ 1456)
 IsSubscribersReport _ = ⊤
@@ -113,7 +113,7 @@ IsSubscribersReport _ = ⊤
 abbrev pub SubscribersSayOthers : Type 0
 SubscribersSayOthers = (by caller initial time : ℕ) (report : subscriber.Report) → IsSubscribersReport report → renumbered by (subscriber_text.says caller initial time report) ≡ subscriber_text.says caller (shifted by initial) time report
 
--- an answer that is sent reads. Its congestion text has at most four words, as that of a conclusion
+-- an answer that is sent can be read. Its congestion control block has at most four words, as that of a conclusion
 abbrev pub HasFewWords : Option CongestionText → Type 0
 HasFewWords congestion = IfSome congestion (λ text. length text.others.items ≤ 3)
 

@@ -7,23 +7,23 @@ use Rattle.srt_packet.specs.Grammar.{Packet, Body, Data, Handshake, KeepAlive, A
 use Rattle.srt_packet.specs.Reading.{packet_in}
 use Rattle.srt_hs.specs.Reading.{handshake_in}
 
--- the low 31 bits of a word moved on, its top bit kept (section 3.1)
+-- a word with its low 31 bits shifted by `by`, modulo 2^31, and its top bit kept (section 3.1)
 abbrev pub shifted : (by word : ℕ) → ℕ
 shifted by word = word / 2 ^ 31 * 2 ^ 31 + (word + by) % 2 ^ 31
 
--- the four bytes of a word, the greatest first. What a word of 32 bits doesn't have, above these, stays in the first
+-- the four bytes of a word in network byte order; bits above the low 32 stay in the first byte
 abbrev pub four_bytes : ℕ → List ℕ
 four_bytes n = n / 2 ^ 24 ∷ n / 2 ^ 16 % 2 ^ 8 ∷ n / 2 ^ 8 % 2 ^ 8 ∷ n % 2 ^ 8 ∷ []
 
--- bytes with this word in place of the four from this place on
+-- bytes with the four from offset `at` replaced by this word
 abbrev pub with_word : (at n : ℕ) → List ℕ → List ℕ
 with_word at n bytes = take at bytes ++ (four_bytes n ++ drop (at + 4) bytes)
 
--- bytes with the word at this place shifted
+-- bytes with the word at offset `at` shifted
 abbrev pub shifted_at : (by at : ℕ) → List ℕ → List ℕ
 shifted_at by at bytes = with_word at (shifted by (word_at bytes at)) bytes
 
--- the first word shifted, where it is whole
+-- the first word shifted, if there are at least four bytes
 abbrev pub shifted_first : (by : ℕ) → List ℕ → List ℕ
 shifted_first by (a ∷ b ∷ c ∷ d ∷ bytes) = four_bytes (shifted by (word_at (a ∷ b ∷ c ∷ d ∷ []) 0)) ++ bytes
 shifted_first by bytes = bytes
@@ -33,11 +33,11 @@ abbrev pub shifted_words : (by : ℕ) → List ℕ → List ℕ
 shifted_words by (a ∷ b ∷ c ∷ d ∷ bytes) = four_bytes (shifted by (word_at (a ∷ b ∷ c ∷ d ∷ []) 0)) ++ shifted_words by bytes
 shifted_words by bytes = bytes
 
--- the initial sequence number of a handshake that reads (section 3.2.1)
+-- the bytes of a handshake with its initial sequence number shifted, if they can be read (section 3.2.1)
 unfoldable pub shifted_handshake : (by : ℕ) → List ℕ → List ℕ
 shifted_handshake by info = if is_ok (handshake_in info) then shifted_at by 8 info else info
 
--- the sequence numbers that a packet says
+-- a packet's body with its sequence numbers shifted
 abbrev pub shifted_body : (by : ℕ) → Body → Body
 shifted_body by (Data number encryption payload) = Data (shifted by number) encryption payload
 shifted_body by (Handshake info) = Handshake (shifted_handshake by info)
@@ -58,7 +58,7 @@ abbrev pub shifted_reading : (by : ℕ) → Result Packet PacketFault → Result
 shifted_reading by (Ok packet) = Ok (shifted_packet by packet)
 shifted_reading by (Err fault) = Err fault
 
--- bytes behind the header of these
+-- the 16-byte header of these bytes, and other bytes behind it
 abbrev pub with_rest : (bytes rest : List ℕ) → List ℕ
 with_rest bytes rest = take 16 bytes ++ rest
 
@@ -75,15 +75,15 @@ abbrev pub renumbered_read : (by : ℕ) → Result Packet PacketFault → List �
 renumbered_read by (Ok packet) bytes = renumbered_as by packet.body bytes
 renumbered_read by (Err fault) bytes = bytes
 
--- the bytes of a datagram with its sequence numbers shifted; those that are no packet stay
+-- the bytes of a datagram with its sequence numbers shifted; unchanged if they aren't a packet
 unfoldable pub renumbered : (by : ℕ) → List ℕ → List ℕ
 renumbered by bytes = renumbered_read by (packet_in bytes) bytes
 
--- the bytes of a datagram with another timestamp; those that are no header stay (section 3)
+-- the bytes of a datagram with its timestamp shifted; unchanged if they are shorter than a header (section 3)
 unfoldable pub restamped : (by : ℕ) → List ℕ → List ℕ
 restamped by bytes = if nat_lt (length bytes) 16 then bytes else with_word 8 ((word_at bytes 8 + by) % 2 ^ 32) bytes
 
--- datagrams, items and lists of them
+-- the same of datagrams, items and lists of them
 abbrev pub renumbered_datagram : (by : ℕ) → Datagram → Datagram
 renumbered_datagram by d = record { peer = d.peer; bytes = renumbered by d.bytes }
 
@@ -98,7 +98,7 @@ abbrev pub restamped_item : (by : ℕ) → Item → Item
 restamped_item by (Received datagram moment) = Received (restamped_datagram by datagram) moment
 restamped_item by (Tick moment) = Tick moment
 
--- the same item, so much later
+-- the same item, later by `by` microseconds
 abbrev pub moved_item : (by : ℕ) → Item → Item
 moved_item by (Received datagram moment) = Received datagram (moment + by)
 moved_item by (Tick moment) = Tick (moment + by)

@@ -12,16 +12,16 @@ use Rattle.srt_route.specs.Media.{IsBody}
 abbrev pub waiting : TheRoute → List Datagram
 waiting r = map written (replies_of r.waiting)
 
--- how many replies a route has places for
+-- the number of replies that a route's queue can hold
 abbrev pub places : TheRoute → ℕ
 places r = places_of r.waiting
 
--- the route of these sessions and this clock, the waiting replies aside. It has places for all replies to an item
+-- the route has these sessions and this clock, the waiting replies aside; its queue holds all replies to an item
 pub record IsRoute (e : Terms) (index : ℕ) (r : TheRoute) (m : Route) : Type 0 where
   pub clock_is : r.clock ≡ m.clock
   pub body_is : IsBody e index r.clock r.table r.media m.sessions
   pub room : 4 + 66 * e.sessions ≤ places r
 
--- it is what its terms, its index and the items that it was told make of it, the newest first
+-- the route's state is the one that its terms, its index and its items determine; the newest item comes first
 abbrev pub stands : TheRoute → Terms → (index : ℕ) → List Item → Type 0
 stands r e index items = IsRoute e index r (after e index items)

@@ -12,7 +12,7 @@ use Rattle.srt_route.specs.Written.{written}
 use Rattle.srt_route.specs.Sessions.{Session, is_same_peer, session_id, answer_of, publishes, is_open_in, generation_of}
 use Rattle.srt_route.specs.Route.{Taken, Answers, is_of, sent}
 
--- the stored session is this one, its end and its past aside
+-- the stored session is this one, except that its end and its past aren't stored
 pub record IsSession (e : Terms) (index : ℕ) (t : TheSession) (s : Session) : Type 0 where
   pub peer_is : t.peer ≡ s.peer
   pub caller_is : t.caller ≡ s.conclusion.caller
@@ -27,7 +27,7 @@ IsStored e index (Some t) (Some s) = IsSession e index t s
 IsStored e index None (Some s) = ⊥
 IsStored e index (Some t) None = ⊥
 
--- a slot has the open session of its place, and counts all sessions of it, in 16 bits
+-- a slot has the open session of its number, and the number of sessions that were opened in it, in 16 bits
 pub record IsSlot (e : Terms) (index at : ℕ) (slot : Slot) (sessions : List Session) : Type 0 where
   pub session_is : IsStored e index slot.session (find (is_open_in at) sessions)
   pub count_is : slot.generation ≡ generation_of sessions at % 65536
@@ -35,7 +35,7 @@ pub record IsSlot (e : Terms) (index at : ℕ) (slot : Slot) (sessions : List Se
 abbrev pub AreSlots : Terms → (index : ℕ) → List Slot → List Session → Type 0
 AreSlots e index slots sessions = (at : ℕ) (slot : Slot) → at < length slots → IsSlot e index at (slice_index_or slots at slot) sessions
 
--- an open session has a place, and no older one is open there or of the same caller
+-- an open session has a slot below the bound, and no older session is open in that slot or of the same caller
 pub record IsAlone (places : ℕ) (s : Session) (older : List Session) : Type 0 where
   pub inside : s.slot < places
   pub slot_alone : find (is_open_in s.slot) older ≡ None
@@ -45,13 +45,13 @@ abbrev pub AreAlone : (places : ℕ) → List Session → Type 0
 AreAlone places [] = ⊤
 AreAlone places (s ∷ older) = (s.is_open ≡ true → IsAlone places s older) × AreAlone places older
 
--- the slots of these sessions
+-- these are the slots of these sessions
 pub record AreStored (e : Terms) (index : ℕ) (slots : List Slot) (sessions : List Session) : Type 0 where
   pub places_are : length slots ≡ e.sessions
   pub slots_are : AreSlots e index slots sessions
   pub alone : AreAlone e.sessions sessions
 
--- the table of these sessions
+-- this is the table of these sessions
 pub record IsTable (e : Terms) (index : ℕ) (t : Table) (sessions : List Session) : Type 0 where
   pub index_is : t.index ≡ index
   pub mode_is : t.mode ≡ e.mode
@@ -59,7 +59,7 @@ pub record IsTable (e : Terms) (index : ℕ) (t : Table) (sessions : List Sessio
   pub buffer_is : t.buffer ≡ e.buffer
   pub stored : AreStored e index t.slots.items sessions
 
--- the datagrams of at most one reply
+-- the datagram of a reply, or none
 abbrev pub written_of : Option TheReply → List Datagram
 written_of r = map written (option_to_list r)
 
@@ -68,7 +68,7 @@ pub record IsTaken (e : Terms) (index : ℕ) (t : Table) (replies : List Datagra
   pub table_is : IsTable e index t taken.sessions
   pub replies_are : replies ≡ map sent taken.answers
 
--- how the stored sessions are looked for
+-- the tests by which a stored session is found
 abbrev pub is_session_of : Peer → (caller : ℕ) → TheSession → Bool
 is_session_of peer caller t = is_same_peer t.peer peer && t.caller == caller
 
@@ -89,11 +89,11 @@ is_vacant slot = no_session slot.session
     no_session None = true
     no_session (Some t) = false
 
--- a stored session that is heard of
+-- a stored session whose peer is heard of at this clock
 abbrev pub heard_at : (clock : ℕ) → TheSession → TheSession
 heard_at clock t = record t { heard = clock }
 
--- the answer to a conclusion that comes again
+-- the answer to a repeated conclusion
 abbrev pub again_of : Peer → Option TheSession → List Datagram
 again_of peer None = []
 again_of peer (Some t) = sent (record { peer = peer; packet = Answers t.caller t.answer }) ∷ []
@@ -102,20 +102,20 @@ again_of peer (Some t) = sent (record { peer = peer; packet = Answers t.caller t
 abbrev pub is_stored_for : Peer → (dest : ℕ) → TheSession → Bool
 is_stored_for peer dest t = is_same_peer t.peer peer && t.id == dest
 
--- what is left of it then
+-- the stored session after such a packet
 abbrev pub stored_after : (ends : Bool) → (clock : ℕ) → Option TheSession → Option TheSession
 stored_after ends clock None = None
 stored_after ends clock (Some t) = if ends then None else Some (heard_at clock t)
 
--- of which nothing was heard for 5 s (this profile)
+-- the session's peer sent nothing for 5 s (this profile)
 abbrev pub peer_idle : (clock : ℕ) → TheSession → Bool
 peer_idle clock t = nat_le 5_000_000 (clock - t.heard)
 
--- what is left of it as time goes on
+-- the stored session after time has advanced
 abbrev pub stored_aged : (clock : ℕ) → Option TheSession → Option TheSession
 stored_aged clock None = None
 stored_aged clock (Some t) = if peer_idle clock t then None else Some t
 
--- whether it is a subscriber's that lives on
+-- whether it is a subscriber's session that isn't idle
 abbrev pub is_kept_subscriber : (clock : ℕ) → TheSession → Bool
 is_kept_subscriber clock t = not (peer_idle clock t) && not (publishes t.role)

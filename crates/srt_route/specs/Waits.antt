@@ -1,4 +1,4 @@
--- What replies wait in.
+-- The queue of waiting replies.
 use Rattle.std.specs.Prelude.{ℕ, ◌+◌, List, map, length}
 use Rattle.srt_route.specs.declared.replies.Reply.{Reply}
 use Rattle.srt_route.specs.declared.reply_queue.ReplyQueue.{ReplyQueue}
@@ -7,6 +7,6 @@ use Rattle.srt_route.specs.declared.reply_queue.ReplyQueue.{ReplyQueue}
 abbrev pub replies_of : ReplyQueue → List Reply
 replies_of w = map (λ b. b.value) w.replies.items
 
--- how many boxes there are, with a reply or spare
+-- the number of boxes, those with a reply and spare ones
 abbrev pub places_of : ReplyQueue → ℕ
 places_of w = length w.replies.items + length w.spare.items

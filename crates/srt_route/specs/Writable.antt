@@ -1,4 +1,4 @@
--- Which packets may be written, as a test.
+-- Which packets can be written, as a test.
 use Rattle.std.specs.Prelude.{Bool, true, nat_lt, nat_le, ◌&&◌, length}
 use Rattle.srt_packet.specs.declared.writing.Body.{Body}
 use Rattle.srt_packet.specs.declared.writing.Body.TheVariants.{Media, Handshake, KeepAlive, FullAck, LightAck, Nak, AckAck, DropRequest, Shutdown}

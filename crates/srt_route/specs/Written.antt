@@ -1,4 +1,4 @@
--- What replies are sent as.
+-- The datagrams that replies are sent as.
 use Rattle.srt_seq.specs.Items.{Datagram}
 use Rattle.srt_packet.specs.Text.{text}
 use Rattle.srt_route.specs.declared.replies.Reply.{Reply}

@@ -25,22 +25,22 @@ use srt_seq::{Mode, Role};
 /// What both sides of a session agree on.
 #[derive(Clone, Copy)]
 pub struct Agreement {
-    /// How payloads are handed on.
+    /// The route's mode.
     pub mode: Mode,
-    /// The delay of what the caller sends, in milliseconds.
+    /// The TSBPD delay of data from the caller to the gateway, in milliseconds; 0 in buffer mode.
     pub receiver_ms: u16,
-    /// The delay of what the caller is sent, in milliseconds.
+    /// The TSBPD delay of data from the gateway to the caller, in milliseconds; 0 in buffer mode.
     pub sender_ms: u16,
-    /// The greatest packet, in bytes, with the headers of IP and UDP.
+    /// The MTU: the size of the largest packet in bytes, with the headers of IP and UDP, at most 1500.
     pub mtu: u32,
 }
 
 /// The slot in which a session opens, and what was agreed.
 #[derive(Clone, Copy)]
 pub struct Admission {
-    /// The slot.
+    /// The slot's number, from 0.
     pub at: usize,
-    /// What holds in the session.
+    /// The parameters of the session.
     pub agreement: Agreement,
 }
 
@@ -50,7 +50,8 @@ fn is_buffer(mode: Mode) -> bool
     matches!(mode, Mode::Buffer)
 }
 
-/// The delay of a session, in milliseconds, of what both sides ask for (section 4.4).
+/// A session's delay in milliseconds, from what both sides ask for: the greater one in live mode, 0 in buffer mode
+/// (section 4.4).
 fn agreed_ms(mode: Mode, ours: u16, theirs: u16) -> u16
     ensures { result ≡ agreed_ms mode ours theirs }
 {
@@ -72,7 +73,9 @@ fn agree(mode: Mode, latency_ms: u16, c: &Conclusion) -> Agreement
     }
 }
 
-/// The first reason that applies why a conclusion opens no session, whatever slots are free: 1012, 1004 or 1002.
+/// The first reason to refuse a conclusion, free slots aside. In order: 1012 (SRT_REJ_MESSAGEAPI) if the flag STREAM
+/// and the route's mode differ; 1004 (SRT_REJ_ROGUE) if the MTU is below 76, the flow window is 0, or a subscriber of
+/// buffer mode has an MTU below 1500; 1002 (SRT_REJ_PEER) if a second caller wants to publish.
 fn refused(mode: Mode, has_publisher: bool, c: &Conclusion) -> Option<RefusalCode>
     ensures { result ≡ refused mode has_publisher c.now }
 {
@@ -89,8 +92,8 @@ fn refused(mode: Mode, has_publisher: bool, c: &Conclusion) -> Option<RefusalCod
     None
 }
 
-/// The least free slot and what is agreed, or the first reason that applies why no session opens: 1012, 1004, 1002,
-/// and 1003 if no slot is free.
+/// The least free slot and the agreement, or the first reason to refuse: 1012, 1004, 1002, and then 1003
+/// (SRT_REJ_RESOURCE) if no slot is free.
 fn admit(table: &Table, c: &Conclusion) -> Result<Admission, RefusalCode>
     ensures inside { IfOk result (λ a. a.at < length table.now.slots.items) }
     ensures value { (e : Terms) (index : ℕ) (sessions : List TheSession) → IsTable e index table.now sessions → result ≡ admitted e sessions c.now }
@@ -107,7 +110,7 @@ fn admit(table: &Table, c: &Conclusion) -> Result<Admission, RefusalCode>
     }
 }
 
-/// The session gets its slot, and its answer is written.
+/// Opens the session in its slot, and writes the answer into `reply`.
 fn open_session(
     table: &mut Table,
     admission: Admission,
@@ -134,7 +137,7 @@ fn open_session(
     });
 }
 
-/// A conclusion of a caller that has no session is answered.
+/// Admits or refuses a conclusion of a caller without a session, and writes the answer into `reply`.
 fn consider(
     table: &mut Table,
     media: &mut Media,
@@ -156,8 +159,8 @@ fn consider(
     }
 }
 
-/// A conclusion comes. A caller that has a session gets its answer again; another is admitted or refused. True if it
-/// is answered.
+/// Applies a conclusion. A caller with an open session gets its first answer again; another one is admitted or refused.
+/// Returns true if `reply` has an answer.
 pub fn conclude(
     table: &mut Table,
     media: &mut Media,

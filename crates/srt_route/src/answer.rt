@@ -16,7 +16,7 @@ use srt_hs::{AnswerKind, HsAnswer, RefusalCode, write};
 use srt_packet::Body;
 use srt_seq::Peer;
 
-/// A conclusion is refused for this reason.
+/// The answer that refuses a conclusion for this reason, with the caller's initial sequence number.
 pub fn refusal(initial: u32, reason: RefusalCode) -> HsAnswer
     ensures { (c : TheConclusion) → c.initial ≡ initial → result ≡ refusal c reason }
 {
@@ -26,7 +26,7 @@ pub fn refusal(initial: u32, reason: RefusalCode) -> HsAnswer
     }
 }
 
-/// The answer to a conclusion that opens the session with this socket ID; the window is in packets.
+/// The answer to a conclusion that opens the session with this socket ID. The window is in packets.
 pub fn accepted(agreement: Agreement, window: u32, id: u32, c: Conclusion) -> HsAnswer
     ensures { (e : Terms) → agreement ≡ agreement_of e c → window ≡ e.buffer → result ≡ agreed e id c }
 {
@@ -44,7 +44,7 @@ pub fn accepted(agreement: Agreement, window: u32, id: u32, c: Conclusion) -> Hs
     }
 }
 
-/// Writes an answer to the handshake of the caller's socket with this ID. Its timestamp is 0 (this profile).
+/// Writes a handshake answer into `reply`, to the caller's socket with this ID. Its timestamp is 0 (this profile).
 pub fn answer_to(reply: &mut Reply, peer: Peer, caller: u32, answer: &HsAnswer)
     ensures { written reply.new ≡ sent (record { peer = peer; packet = Answers caller answer.now }) }
 {

@@ -7,7 +7,7 @@ use srt_seq::Peer;
 pub struct Arrival {
     /// The route's clock, in microseconds: below 2^62.
     pub clock: u64,
-    /// Who sent the packet.
+    /// The sender's address.
     pub peer: Peer,
     /// The packet's timestamp (section 3), in microseconds, modulo 2^32.
     pub stamp: u32,

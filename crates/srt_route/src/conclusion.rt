@@ -1,4 +1,4 @@
-//! What a conclusion says (draft-sharabayko-srt-01, sections 3.2.1 and 4.3.1.2).
+//! What a route reads from a conclusion handshake (draft-sharabayko-srt-01, sections 3.2.1 and 4.3.1.2).
 
 ghost use Rattle.std.specs.Prelude.{◌≡◌, ◌^◌, ◌<◌, IfSome};
 ghost use Rattle.srt_hs.specs.View.{handshake_of, text_of};
@@ -20,11 +20,11 @@ pub struct Conclusion {
     pub caller: u32,
     /// The flag STREAM: the caller wants buffer mode.
     pub wants_stream: bool,
-    /// The caller's delay as a receiver, in milliseconds.
+    /// The caller's delay as a receiver, in milliseconds (section 3.2.1.1).
     pub receiver_ms: u16,
-    /// The caller's delay as a sender, in milliseconds.
+    /// The caller's delay as a sender, in milliseconds (section 3.2.1.1).
     pub sender_ms: u16,
-    /// What the caller wants of the route.
+    /// Whether the caller wants to publish or to subscribe.
     pub role: Role,
     /// The words of the congestion control block as they came, 1 to 4.
     pub congestion: Option<CongestionText>,

@@ -40,7 +40,8 @@ pub fn has_subscriber(slot: &Slot) -> bool
     }
 }
 
-/// How many payloads the subscriber of a slot has room for.
+/// The number of payloads that fit into the subscriber's send buffer; None if no subscriber's session is open in the
+/// slot.
 fn room_of(slot: &Slot, subscriber: &Subscriber) -> Option<u32>
     ensures none { has_subscriber slot.now ≡ false → result ≡ None }
     ensures some { has_subscriber slot.now ≡ true → (terms : subscribing.Terms) (initial opening caller last : ℕ) (m : subscribing.Subscribing) → subscribers.StandsFor terms initial opening caller last subscriber.now m → result ≡ Some (room terms.width m.sending) }
@@ -64,7 +65,7 @@ fn lesser(found: Option<u32>, room: Option<u32>) -> Option<u32>
     }
 }
 
-/// The least room of the open subscribers, or None if none is open.
+/// The smallest free space of the open subscribers' send buffers, in payloads; None if no subscriber is open.
 fn least_room(table: &Table, media: &Media) -> Option<u32>
     ensures { (e : Terms) (index clock : ℕ) (sessions : List Session) → IsBody e index clock table.now media.now sessions → result ≡ least_room e sessions }
 {
@@ -77,7 +78,7 @@ fn least_room(table: &Table, media: &Media) -> Option<u32>
     found
 }
 
-/// The subscriber of a slot is fed.
+/// Queues a payload for the subscriber of a slot, if one is open.
 fn feed_slot(slot: &Slot, subscriber: &mut Subscriber, clock: u64, payload: &Payload)
     requires { clock < 2 ^ 62 }
     ensures none { has_subscriber slot.now ≡ false → subscriber.new ≡ subscriber.old }
@@ -88,7 +89,7 @@ fn feed_slot(slot: &Slot, subscriber: &mut Subscriber, clock: u64, payload: &Pay
     }
 }
 
-/// Each open subscriber is fed.
+/// Queues a payload for each open subscriber.
 fn feed(table: &Table, media: &mut Media, clock: u64, payload: &Payload)
     requires { clock < 2 ^ 62 }
     ensures { (e : Terms) (index : ℕ) (sessions : List Session) → IsBody e index clock table.now media.old sessions → 0 < length payload.now.items → HaveRoom e 1 sessions → IsBody e index clock table.now media.new (map (changed (fed e clock payload.now.items)) sessions) }
@@ -100,7 +101,7 @@ fn feed(table: &Table, media: &mut Media, clock: u64, payload: &Payload)
     }
 }
 
-/// The room that is left after a payload.
+/// The room that is left after a payload: one less in buffer mode, unchanged in live mode, which has no such limit.
 fn room_after(mode: Mode, room: u32) -> u32
     ensures { result ≡ room_after mode room }
 {
@@ -110,7 +111,8 @@ fn room_after(mode: Mode, room: u32) -> u32
     }
 }
 
-/// Writes the publisher's next payload into `payload` and feeds it to each open subscriber. False if none is due.
+/// Writes the publisher's next payload into `payload` and queues it for each open subscriber. Returns false if none is
+/// due.
 fn deliver_next(
     table: &Table,
     media: &mut Media,
@@ -129,7 +131,7 @@ fn deliver_next(
     true
 }
 
-/// Feeds the publisher's payloads to each open subscriber, one by one: at most 64.
+/// Queues the publisher's due payloads for each open subscriber, one by one: at most 64.
 fn deliver_each(table: &Table, media: &mut Media, clock: u64, room: u32, payload: &mut Payload)
     requires { clock < 2 ^ 62 }
     ensures { (e : Terms) (index : ℕ) (sessions : List Session) (at : ℕ) (s : Session) (q : Publishing) → IsBody e index clock table.now media.old sessions → IsPublisherAt sessions at s q → room ≡ unwrap_or (least_room e sessions) 0 → IsBody e index clock table.now media.new (delivered e clock sessions) }
@@ -143,8 +145,8 @@ fn deliver_each(table: &Table, media: &mut Media, clock: u64, room: u32, payload
     }
 }
 
-/// Delivers the payloads that are due, at most 64, each by way of `payload`. In buffer mode there is room for each of
-/// them with every open subscriber, and without a subscriber nothing is delivered.
+/// Delivers the payloads that are due, at most 64, each by way of `payload`. In buffer mode a payload is delivered only
+/// if every open subscriber has room for it and at least one is open.
 pub fn deliver(table: &Table, media: &mut Media, clock: u64, payload: &mut Payload)
     requires early { clock < 2 ^ 62 }
     ensures { (e : Terms) (index : ℕ) (sessions : List Session) → IsBody e index clock table.now media.old sessions → IsBody e index clock table.now media.new (delivered e clock sessions) }

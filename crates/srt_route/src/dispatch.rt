@@ -26,7 +26,7 @@ use srt_pub::Publisher;
 use srt_seq::{Item, Peer};
 use srt_sub::{Subscriber, Took};
 
-/// A packet comes for the publisher that has this slot: the session is heard of, or ends.
+/// Applies a packet to the publisher in this slot: its session is heard of, or ends.
 fn hear_publisher(slot: &mut Slot, publisher: &mut Publisher, clock: u64, packet: &PacketRef<'_>)
     requires early { clock < 2 ^ 62 }
     requires some { 0 < payload_length (body_of packet.now.kind) }
@@ -44,7 +44,7 @@ fn is_ended(took: Took) -> bool
     matches!(took, Took::Ended)
 }
 
-/// A subscriber's answer goes to its peer. False if there is none.
+/// Writes a subscriber's answer into `reply`, addressed to its peer. Returns false if there is none.
 fn answer_of(peer: Peer, took: Took, reply: &mut Reply) -> bool
     ensures { written_of (given result reply.new) ≡ datagrams_to peer (texts_of took reply.old.packet) }
 {
@@ -58,8 +58,8 @@ fn answer_of(peer: Peer, took: Took, reply: &mut Reply) -> bool
     }
 }
 
-/// A packet comes for the subscriber that has this slot: the session is heard of, or ends. True if it is answered at
-/// once.
+/// Applies a packet to the subscriber in this slot: its session is heard of, or ends. Returns true if `reply` has an
+/// answer.
 fn hear_subscriber(
     slot: &mut Slot,
     subscriber: &mut Subscriber,
@@ -77,8 +77,8 @@ fn hear_subscriber(
     answer_of(arrival.peer, took, reply)
 }
 
-/// A packet comes with a destination: the open session that has this ID takes it, if its peer is the sender. True if
-/// it is answered at once.
+/// Applies a packet with a destination to the open session with this ID, if the sender is that session's peer. Returns
+/// true if `reply` has an answer.
 fn to_session(
     table: &mut Table,
     media: &mut Media,
@@ -120,8 +120,8 @@ fn to_session(
     )
 }
 
-/// A packet comes. Without a destination a conclusion alone is taken; with one it is for a session. True if it is
-/// answered at once. A data packet has a payload of 1 to 1456 bytes.
+/// Applies a packet. If its destination is 0, only a conclusion is taken; otherwise it is for a session. Returns true
+/// if `reply` has an answer. A data packet has a payload of 1 to 1456 bytes.
 fn to_destination(
     table: &mut Table,
     media: &mut Media,
@@ -148,8 +148,8 @@ fn to_destination(
     conclude(table, media, arrival, c, reply)
 }
 
-/// An item's datagram is taken, at this clock in microseconds; a tick has none. True if it is answered at once, with
-/// `reply`. What doesn't read changes nothing.
+/// Applies an item's datagram at this clock in microseconds; a tick changes nothing here. Returns true if `reply` has
+/// an answer. A datagram that isn't a packet changes nothing.
 pub fn dispatch(
     table: &mut Table,
     media: &mut Media,

@@ -1,4 +1,5 @@
-//! Step 2 of an event: sessions whose peer is idle end, and subscribers give up what is too late (sections 4.5 and 4.6).
+//! Step 2 of an event: sessions whose peer is idle end, and subscribers drop what is too late to send (sections 4.5 and
+//! 4.6).
 
 ghost use Rattle.std.specs.Prelude.{◌≡◌, ℕ, ◌<◌, ◌≤◌, ◌^◌, true, false, List, map};
 ghost use Rattle.srt_seq.specs.Terms.{Terms};
@@ -12,11 +13,11 @@ use crate::table::Table;
 use srt_seq::Role;
 use srt_sub::Subscriber;
 
-/// A session of which nothing was heard for this long ends: five seconds, in microseconds (this profile).
+/// A session ends if its peer sent nothing for this long: five seconds, in microseconds (this profile).
 const PEER_IDLE_TIMEOUT_US: u64 = 5_000_000;
 
 impl Slot {
-    /// Whether nothing was heard of the session for five seconds.
+    /// Whether the session's peer sent nothing for five seconds.
     fn peer_idle(&self, clock: u64) -> bool
         ensures { result ≡ session_passes (peer_idle clock) self.now.session }
     {
@@ -26,7 +27,7 @@ impl Slot {
         }
     }
 
-    /// A session whose peer is idle ends, without a packet.
+    /// Closes the session if its peer is idle. No packet is sent.
     fn end_if_idle(&mut self, clock: u64)
         ensures { self.new ≡ record { generation = self.old.generation; session = stored_aged clock self.old.session } }
     {
@@ -35,7 +36,7 @@ impl Slot {
         }
     }
 
-    /// Whether a subscriber's session is open here that stays open.
+    /// Whether a subscriber's session is open here and isn't idle.
     fn is_kept_subscriber(&self, clock: u64) -> bool
         ensures { result ≡ session_passes (is_kept_subscriber clock) self.now.session }
     {
@@ -49,7 +50,7 @@ impl Slot {
     }
 }
 
-/// Time passes for one slot, and for the buffers of its subscriber.
+/// Advances the time of one slot and of its subscriber's buffers.
 fn pass_time(slot: &mut Slot, subscriber: &mut Subscriber, clock: u64)
     requires { clock < 2 ^ 62 }
     ensures slot { slot.new ≡ record { generation = slot.old.generation; session = stored_aged clock slot.old.session } }
@@ -62,8 +63,8 @@ fn pass_time(slot: &mut Slot, subscriber: &mut Subscriber, clock: u64)
     slot.end_if_idle(clock);
 }
 
-/// Time passes, up to this clock in microseconds: sessions of which nothing was heard for five seconds end, and the other
-/// subscribers give up what is too late.
+/// Advances the time to this clock, in microseconds: closes sessions whose peer sent nothing for five seconds, and lets
+/// the other subscribers drop what is too late.
 pub fn end_idle(table: &mut Table, media: &mut Media, clock: u64)
     requires early { clock < 2 ^ 62 }
     ensures { (e : Terms) (index before : ℕ) (sessions : List TheSession) → IsBody e index before table.old media.old sessions → before ≤ clock → clock < 2 ^ 62 → IsBody e index clock table.new media.new (map (aged e clock) sessions) }

@@ -5,13 +5,13 @@ ghost use Rattle.srt_route.specs.Route.{RepliesHavePlaces};
 ghost use Rattle.srt_route.specs.Sendable.{PublishersSendPackets, SubscribersSendPackets, AnswersArePackets, RepliesArePackets};
 ghost use Rattle.srt_route.specs.ShiftLaws.{ShiftGoesRound, FourBytesAreTheWord, PacketsShift, LengthsStay, LossesShift, HandshakesShift, ConclusionsShift, PacketsRestamp, CountsStay, StampsStay, PublishersHearTheSame, SubscribersHearTheSame, PublishersSayOthers, SubscribersSayOthers, AnswersSayOthers, ConclusionsHaveFewWords};
 
-/// A route has places for the replies to any item.
+/// An item has no more replies than the queue of waiting replies holds.
 pub fn replies_have_places()
     ensures { RepliesHavePlaces }
 {}
 
-/// Each datagram of a reply is what a packet that can be sent is written as, and reads as that packet; so is
-/// what a publisher's session sends, what a subscriber's does, and each answer to a handshake.
+/// Each reply's datagram is the encoding of a packet that can be sent, and decodes to that packet. The same holds for
+/// what a publisher's session sends, for what a subscriber's session sends, and for each answer to a handshake.
 pub fn replies_are_packets()
     ensures replies { RepliesArePackets }
     ensures publishers { PublishersSendPackets }
@@ -19,17 +19,18 @@ pub fn replies_are_packets()
     ensures answers { AnswersArePackets }
 {}
 
-/// Nothing depends on where numbers, timestamps and moments begin. All sequence numbers shifted, round their
-/// end, give the same replies with numbers shifted so; other timestamps, and the same later, give the same
-/// replies byte for byte.
+/// Nothing depends on the values at which sequence numbers, timestamps and moments begin. If all sequence numbers are
+/// shifted, modulo 2^31, the replies are the same with their numbers shifted; if all timestamps are shifted, or all
+/// moments are later, the replies are the same byte for byte.
 pub fn renumbering()
     ensures numbers { Renumbers }
     ensures stamps { Restamps }
     ensures moments { Moves }
 {}
 
-/// A datagram whose sequence numbers are moved on reads as the same packet with those, or has the same fault; so
-/// do a loss list, a handshake and a conclusion. One with another timestamp reads as the same packet with that.
+/// A datagram whose sequence numbers are shifted decodes to the same packet with the shifted numbers, or has the same
+/// fault; the same holds for a loss list, a handshake and a conclusion. A datagram with another timestamp decodes to
+/// the same packet with that timestamp.
 pub fn renumbered_datagrams()
     ensures numbers { ShiftGoesRound }
     ensures words { FourBytesAreTheWord }
@@ -41,8 +42,8 @@ pub fn renumbered_datagrams()
     ensures lengths { LengthsStay }
 {}
 
-/// A session whose initial number and whose packets are moved on alike hears the same, since it counts from its
-/// initial number and from its first timestamp.
+/// A session whose initial sequence number and whose packets are shifted by the same amount keeps the same state, since
+/// it counts from its initial number and from its first timestamp.
 pub fn renumbered_sessions()
     ensures numbers { CountsStay }
     ensures stamps { StampsStay }
@@ -50,7 +51,7 @@ pub fn renumbered_sessions()
     ensures subscribers { SubscribersHearTheSame }
 {}
 
-/// What is sent for a session whose initial number is moved on is what was sent, with its sequence numbers moved on.
+/// If a session's initial sequence number is shifted, its output is the same with all sequence numbers shifted.
 pub fn renumbered_output()
     ensures publishers { PublishersSayOthers }
     ensures subscribers { SubscribersSayOthers }

@@ -26,7 +26,9 @@ use std::alloc::Global;
 /// The buffers of a route's sessions: those of the one that publishes, and a subscriber's for each slot.
 #[derive(Drop)]
 pub struct Media {
+    /// The buffers of the publisher's session; meaningless while none is open.
     pub publisher: Publisher,
+    /// A subscriber's buffers for each slot; meaningless while no subscriber's session is open in the slot.
     pub subscribers: Vec<Subscriber>,
 }
 

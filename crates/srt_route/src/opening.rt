@@ -7,8 +7,8 @@ ghost use Rattle.srt_route.specs.Opening.{fault_of};
 
 use srt_seq::{Entry, OpenFault, is_name};
 
-/// Whether a route of this index can be opened with the entry, memory aside. If not, the first fault that applies: the
-/// name, then the limits.
+/// Checks whether a route with this index can be opened with the entry, memory aside. The error is the first fault that
+/// applies: `Names` for the name, then `Limits` for the index and the numbers.
 pub fn check_entry(entry: &Entry, index: usize) -> Result<(), OpenFault>
     ensures { result_err result ≡ fault_of (terms_of entry.now) index }
 {

@@ -9,9 +9,9 @@ use srt_seq::Peer;
 /// A packet that a route sends.
 #[derive(Drop)]
 pub struct Reply {
-    /// The receiver.
+    /// The address to which it is sent.
     pub peer: Peer,
-    /// What is sent; it can be written.
+    /// The packet; `srt_packet::encode` can write it: its payload has 1 to 1456 bytes, its loss list at least one word.
     pub packet: Packet,
     pub ghost writable: { is_writable packet.body ≡ true },
 }

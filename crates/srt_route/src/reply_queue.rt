@@ -54,7 +54,7 @@ impl ReplyQueue {
     ghost use Rattle.srt_route.specs.Tables.{written_of};
     ghost use Rattle.srt_route.specs.Waits.{replies_of, places_of};
 
-    /// A queue with room for this many replies, and none in it. The only call that takes memory.
+    /// An empty queue with a capacity of `places` replies. The only call that takes memory.
     pub fn open(alloc: Global, places: usize) -> Result<ReplyQueue, AllocError>
         ensures empty { IfOk result (λ w. replies_of w ≡ []) }
         ensures room { IfOk result (λ w. places_of w ≡ places) }
@@ -67,8 +67,8 @@ impl ReplyQueue {
         Ok(ReplyQueue { replies, spare })
     }
 
-    /// Queues the reply in this box, behind those before, and replaces the box by a spare one. If there is none, nothing
-    /// changes.
+    /// Queues the reply in this box behind those before, and replaces the box with a spare one. Does nothing if there
+    /// is no spare box.
     pub fn put(&mut self, place: &mut Box<Reply>)
         ensures places { places_of self.new ≡ places_of self.old }
         ensures put { length (replies_of self.old) < places_of self.old → replies_of self.new ≡ replies_of self.old ++ (place.old.value ∷ []) }
@@ -79,7 +79,7 @@ impl ReplyQueue {
         }
     }
 
-    /// Queues the reply in this box, if there is one.
+    /// Queues the reply in this box if `some`.
     pub fn put_if(&mut self, hand: &mut Box<Reply>, some: bool)
         ensures { Queues self.old self.new (written_of (given some hand.old.value)) }
     {
@@ -96,7 +96,7 @@ impl ReplyQueue {
         self.put(hand);
     }
 
-    /// Queues the packet in this box as a reply to this peer, if there is one.
+    /// Queues the packet in this box as a reply to this peer if `some`.
     pub fn put_to_if(&mut self, peer: Peer, hand: &mut Box<Reply>, some: bool)
         ensures { Queues self.old self.new (datagrams_to peer (texts (listed (given some hand.old.value.packet)))) }
     {
@@ -105,7 +105,8 @@ impl ReplyQueue {
         }
     }
 
-    /// Exchanges this box for that of the oldest reply that waits, and keeps it as a spare one. False if none waits.
+    /// Exchanges this box for that of the oldest reply that waits, and keeps it as a spare one. Returns false if none
+    /// waits.
     pub fn next(&mut self, place: &mut Box<Reply>) -> bool
         ensures places { places_of self.new ≡ places_of self.old }
         ensures first { result ≡ true → replies_of self.old ≡ place.new.value ∷ replies_of self.new }
@@ -121,7 +122,7 @@ impl ReplyQueue {
         true
     }
 
-    /// How many replies wait.
+    /// The number of replies that wait.
     pub fn len(&self) -> usize
         ensures { result ≡ length (replies_of self.now) }
     {

@@ -52,8 +52,10 @@ fn moment(item: &Item) -> u64
 }
 
 impl Route {
-    /// A route without sessions, at clock 0. It takes the memory of all its sessions, of 66 replies for each and 4 more,
-    /// and of 4 scratch boxes. The name is checked before the numbers.
+    /// A route without sessions, at clock 0. `index` is the route's position in the configuration, below 511. Takes all
+    /// memory that the route will ever need: the buffers of its sessions, 66 replies for each session and 4 more, and 4
+    /// scratch boxes. Errors: `Names` if the name has a wrong form, else `Limits` if a number is outside its limits,
+    /// else `OutOfMemory`.
     pub fn open(alloc: Global, entry: &Entry, index: usize) -> Result<Route, OpenFault>
         ensures stands { IfOk result (λ route. stands route (terms_of entry.now) index []) }
         ensures none_waits { IfOk result (λ route. waiting route ≡ []) }
@@ -82,7 +84,8 @@ impl Route {
         })
     }
 
-    /// One event: the route takes an item. Returns how many replies wait then. Takes no memory.
+    /// One event: applies one item (a datagram or a tick). Returns the number of replies that now wait, at most 4 + 66
+    /// * `sessions`; take them all with `next_reply` before the next call. Moments are microseconds. Takes no memory.
     pub fn step(&mut self, item: Item) -> usize
         requires none_waits { waiting self.old ≡ [] }
         requires timely { moment_of (told item) < 2 ^ 62 }
@@ -131,8 +134,8 @@ impl Route {
         self.waiting.len() > 0
     }
 
-    /// Exchanges the box in `place` for that of the oldest reply that waits, and keeps it for later replies. False if
-    /// none waits; then nothing changes. Takes no memory.
+    /// Puts the oldest reply that waits into `place`, by an exchange of boxes; the box that was in `place` is kept for
+    /// a later reply. Returns false and changes nothing if none waits. O(1). Takes no memory.
     pub fn next_reply(&mut self, place: &mut Box<Reply>) -> bool
         ensures first { result ≡ true → waiting self.old ≡ written place.new.value ∷ waiting self.new }
         ensures none { result ≡ false → (waiting self.old ≡ []) × (self.new ≡ self.old) × (place.new ≡ place.old) }

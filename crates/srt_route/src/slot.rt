@@ -16,24 +16,24 @@ use srt_seq::{Peer, Role};
 pub struct Session {
     /// The caller's address.
     pub peer: Peer,
-    /// The caller's socket ID.
+    /// The caller's SRT socket ID, to which replies are addressed.
     pub caller: u32,
-    /// The session's socket ID.
+    /// The session's own SRT socket ID, the destination of the caller's packets; see `id_at`.
     pub id: u32,
-    /// What the caller does.
+    /// Whether the caller publishes or subscribes.
     pub role: Role,
-    /// When it was last heard of, in microseconds.
+    /// The moment of the last packet or conclusion from the peer, in microseconds.
     pub heard: u64,
-    /// The answer to its conclusion.
+    /// The answer to its conclusion, kept to answer a repeated conclusion with the same bytes (section 4.3.1.2).
     pub answer: HsAnswer,
 }
 
 /// A slot for a session.
 #[derive(Drop)]
 pub struct Slot {
-    /// How many sessions the slot had, modulo 2^16.
+    /// The number of sessions that were ever opened in this slot, modulo 2^16.
     pub generation: u16,
-    /// The open one.
+    /// The open session, if any.
     pub session: Option<Session>,
 }
 
@@ -43,7 +43,7 @@ fn publishes(role: Role) -> bool
     matches!(role, Role::Publish)
 }
 
-/// Whether two addresses are one.
+/// Whether two addresses are equal: same IP and same UDP port.
 pub fn is_same_peer(peer: Peer, other: Peer) -> bool
     ensures { result ≡ is_same_peer peer other }
 {
@@ -76,7 +76,7 @@ impl Slot {
         self.session.is_none()
     }
 
-    /// A slot that had no session yet.
+    /// A slot in which no session was opened yet.
     pub fn vacant() -> Slot
         ensures { result ≡ record { generation = 0; session = None } }
     {
@@ -86,7 +86,7 @@ impl Slot {
         }
     }
 
-    /// A session opens here.
+    /// Opens a session in this slot; the generation goes up by one, modulo 2^16.
     pub fn fill(&mut self, session: Session)
         ensures { self.new ≡ record { generation = (self.old.generation + 1) % 65536; session = Some session } }
     {
@@ -94,8 +94,8 @@ impl Slot {
         self.session = Some(session);
     }
 
-    /// The conclusion of the session comes again: it is heard of, and its answer is the first one. False if no session
-    /// is open here.
+    /// Handles a repeated conclusion: updates the time at which the session was last heard of, and writes the first
+    /// answer again into `reply`. Returns false if no session is open here.
     pub fn again(&mut self, clock: u64, peer: Peer, reply: &mut Reply) -> bool
         ensures slot { self.new ≡ record { generation = self.old.generation; session = option_map (heard_at clock) self.old.session } }
         ensures answer { written_of (given result reply.new) ≡ again_of peer self.old.session }
@@ -110,7 +110,7 @@ impl Slot {
         }
     }
 
-    /// Whether a packet from this peer to this socket ID is for its session.
+    /// Whether a packet from this peer to this socket ID belongs to the session that is open here.
     pub fn is_for(&self, peer: Peer, dest: u32) -> bool
         ensures { result ≡ session_passes (is_stored_for peer dest) self.now.session }
     {
@@ -120,7 +120,7 @@ impl Slot {
         }
     }
 
-    /// A packet comes for the session: it is heard of, or ends.
+    /// After a packet for the session: closes it if `ends`, else updates the time at which it was last heard of.
     pub fn keep_or_end(&mut self, clock: u64, ends: bool)
         ensures { self.new ≡ record { generation = self.old.generation; session = stored_after ends clock self.old.session } }
     {
@@ -134,14 +134,14 @@ impl Slot {
     }
 }
 
-/// The first slot with a session of this caller.
+/// The first slot with an open session of this caller (address and socket ID). Linear in the slots, at most 17.
 pub fn slot_of(slots: &[Slot], peer: Peer, caller: u32) -> Option<usize>
     ensures { result ≡ position (holds peer caller) slots.now }
 {
     slots.iter().position(|slot| slot.holds(peer, caller))
 }
 
-/// Whether a publisher has a session.
+/// Whether a publisher's session is open in any slot.
 pub fn have_publisher(slots: &[Slot]) -> bool
     ensures { result ≡ list_any has_publisher slots.now }
 {
@@ -155,7 +155,8 @@ pub fn free_slot(slots: &[Slot]) -> Option<usize>
     slots.iter().position(|slot| slot.is_vacant())
 }
 
-/// The socket ID of a session (this profile): the route, the generation modulo 4096, and the slot.
+/// The socket ID of a session (this profile): index + 1 at bit 20, the generation modulo 4096 at bit 8, and the slot in
+/// the low 8 bits.
 pub fn id_at(index: u32, generation: u16, at: usize) -> u32
     requires index { index < 511 }
     requires slot { at < 17 }

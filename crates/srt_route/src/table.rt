@@ -11,11 +11,11 @@ use std::alloc::Global;
 pub struct Table {
     /// The route's index: below 511.
     pub index: u32,
-    /// How the route hands payloads on.
+    /// Live mode (by time, with a delay) or buffer mode (in order, without loss).
     pub mode: Mode,
     /// The least delay of a live session, in milliseconds.
     pub latency_ms: u16,
-    /// The packets of each session's window.
+    /// The size of each session's window, in packets: 32 to 8192.
     pub buffer: u32,
     /// At most 17 slots.
     pub slots: Vec<Slot>,

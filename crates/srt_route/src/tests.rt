@@ -72,7 +72,7 @@ fn conclusion(alloc: Global, fields: [&str; 4], blocks: &[&str]) -> Result<Strin
     )
 }
 
-/// Asserts what the route answers to these bytes; no text where it says nothing.
+/// Asserts what the route replies to these bytes; an empty text means no reply.
 fn assert_told(
     rt: &(impl AllocGlobal + Abort),
     route: &mut Route,
@@ -163,7 +163,7 @@ fn a_publisher_is_answered_again_and_ends(rt: HostRuntime) -> Result<(), Fail> {
     let end = "80050000000000000000000000100000";
     assert_told(&rt, &mut route, peer(5001), end, "")?;
     assert_told(&rt, &mut route, peer(5000), first.as_str(), answer.as_str())?;
-    // Its own shutdown, and the next session of that place.
+    // Its own shutdown, and the next session in that slot.
     assert_told(&rt, &mut route, peer(5000), end, "")?;
     let next = agreed(alloc, "00100100", "00780078")?;
     assert_told(&rt, &mut route, peer(5000), first.as_str(), next.as_str())

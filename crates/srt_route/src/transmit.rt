@@ -21,10 +21,10 @@ use srt_pub::Publisher;
 use srt_seq::Peer;
 use srt_sub::Subscriber;
 
-/// One more than the most packets that a subscriber is sent at the end of an event.
+/// One more than the number of packets that a subscriber is sent at most at the end of an event.
 const CALLS_MAX: u32 = 66;
 
-/// A publisher's ACK, NAK and KEEPALIVE, in this order, each if it is due (sections 3.2.3 to 3.2.5).
+/// Queues a publisher's ACK, NAK and KEEPALIVE, in this order, each if it is due (sections 3.2.3 to 3.2.5).
 fn transmit_reports(
     publisher: &mut Publisher,
     peer: Peer,
@@ -47,7 +47,7 @@ fn transmit_reports(
     waiting.put_to_if(peer, &mut scratch.keep_alive, reports.keep_alive);
 }
 
-/// Step 5: the publisher is sent its packets.
+/// Step 5: queues the publisher's packets.
 pub fn transmit_publisher(
     table: &Table,
     media: &mut Media,
@@ -68,7 +68,7 @@ pub fn transmit_publisher(
     transmit_reports(&mut media.publisher, session.peer, clock, scratch, waiting);
 }
 
-/// A subscriber's drop request, data packets and KEEPALIVE.
+/// Queues a subscriber's drop request, data packets and KEEPALIVE: at most 65.
 fn transmit_subscriber(
     subscriber: &mut Subscriber,
     peer: Peer,
@@ -88,7 +88,7 @@ fn transmit_subscriber(
     }
 }
 
-/// The subscriber of a slot is sent its packets.
+/// Queues the packets of a slot's subscriber, if one is open.
 fn transmit_slot(
     slot: &Slot,
     subscriber: &mut Subscriber,
@@ -110,7 +110,7 @@ fn transmit_slot(
     }
 }
 
-/// Step 6: the open subscribers are sent their packets, slots upwards.
+/// Step 6: queues the packets of the open subscribers, slots upwards.
 pub fn transmit_subscribers(
     table: &Table,
     media: &mut Media,

@@ -2,7 +2,7 @@ use Rattle.std.proofs.Common.{◌-◌, ◌≡◌, ◌≤◌, length, min}
 use Rattle.srt_route.proofs.Aging.{AgedUpTo}
 use Rattle.srt_route.proofs.idle.end_idle.Given as goal
 
--- so many places have aged, and nothing else changed
+-- the slots below `at` have aged, and nothing else changed
 abbrev pub invariant-loop-at : goal.invariant-loop-at
 invariant-loop-at l = record {
   places_are : l.places ≡ min (length l.fn.table.slots.items) (length l.fn.media.subscribers.items);
