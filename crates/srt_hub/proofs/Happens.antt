@@ -15,12 +15,12 @@ default [] i x y l = absurd (omega arith)
 default (z ∷ xs) zero x y l = refl
 default (z ∷ xs) (suc i) x y l = default xs i x y (omega arith)
 
--- an event that is nothing to any route leaves all lanes
+-- an event that is no route's step leaves all lanes as they are
 pub nothing_happens : {X : Type 0} (Is : X → Terms → ℕ → Lane → Type 0) (class : Sorting) (reply : Meaning) (entries : List Terms) (lanes : List X) (events : List Event) (event : Event) → ((k : ℕ) → step_for class k event ≡ Nothing) → AreLanes Is class reply entries lanes events → AreLanes Is class reply entries lanes (event ∷ events)
 nothing_happens {X} Is class reply entries lanes events event nothing h =
     record { as_many = h.as_many; each = λ k x below. rw (nothing k) (h.each k x below) }
 
--- an event that is a step to one route changes that one
+-- an event that is a step of one route changes that lane alone
 pub event_happens : {X : Type 0} (Is : X → Terms → ℕ → Lane → Type 0) (class : Sorting) (reply : Meaning) (entries : List Terms) (lanes : List X) (events : List Event) (event : Event) (r : ℕ) (old lane : X) (step : Step) → r < length lanes → old ≡ get_or lanes r old → step_for class r event ≡ step → ((k : ℕ) → k ≢ r → step_for class k event ≡ Nothing) → ((e : Terms) (i : ℕ) (m : Lane) → Is old e i m → Is lane e i (after_step reply e i step m)) → AreLanes Is class reply entries lanes events → AreLanes Is class reply entries (set lanes r lane) (event ∷ events)
 event_happens {X} Is class reply entries lanes events event r old lane step lt there own others goes_on h =
     record {
@@ -37,7 +37,7 @@ event_happens {X} Is class reply entries lanes events event r old lane step lt t
       ];
     }
 
--- what an answer by the lane says of the hub
+-- from the result of a lane to the result of the hub
 pub answer_is : {X A : Type 0} (Is : X → Terms → ℕ → Lane → Type 0) (class : Sorting) (reply : Meaning) (entries : List Terms) (lanes : List X) (events : List Event) (r : ℕ) (old : X) (answer : Terms → Lane → A) (result : A) → r < length lanes → old ≡ get_or lanes r old → ((e : Terms) (i : ℕ) (m : Lane) → Is old e i m → result ≡ answer e m) → AreLanes Is class reply entries lanes events → result ≡ answer (terms_at entries r) (lane_at class reply entries r events)
 answer_is {X} {A} Is class reply entries lanes events r old answer result lt there says h =
     says (terms_at entries r) r (lane_at class reply entries r events)
@@ -81,7 +81,7 @@ one_more {X} Is class reply entries lanes e lane new h =
     none : Terms
     none = record { name = []; mode = Live; latency_ms = 0; buffer = 0; sessions = 0; inbox = 0; outbox = 0 }
 
--- what the lobby answers or drops is nothing to a route
+-- what the lobby answers or drops is no route's step
 pub answer_nowhere : (class : Sorting) (d : Datagram) (moment : ℕ) (refused : Bool) (bytes : List ℕ) (k : ℕ) → class d moment ≡ Answer bytes → step_for class k (Arrives d moment refused) ≡ Nothing
 answer_nowhere class d moment refused bytes k is = rw is refl
 
@@ -96,7 +96,7 @@ either_way false = refl
 pub refused_nowhere : (class : Sorting) (d : Datagram) (moment r k : ℕ) → class d moment ≡ Route r → step_for class k (Arrives d moment true) ≡ Nothing
 refused_nowhere class d moment r k is = rw is (either_way (eqb r k))
 
--- another is its route's
+-- another arrival is its route's step
 pub arrival_here : (class : Sorting) (d : Datagram) (moment r : ℕ) → class d moment ≡ Route r → step_for class r (Arrives d moment false) ≡ Offers (Received d moment)
 arrival_here class d moment r is = rw (is, eq-eqb r r refl) refl
 

@@ -8,8 +8,8 @@ use Rattle.srt_hub.specs.World.{Event, Sorting, Meaning, solo, Lane, Step, Offer
 use Rattle.srt_hub.specs.Laws.{IsFrontOf, SentIsFront, SentIsWhole, RoutesAreIsolated, GatewaysAreIsolated}
 use Rattle.srt_hub.specs.Hubs.{names, terms_at}
 
--- what is kept of a route: the accepted items are those in the inbox and those applied; the replies to those applied are
--- those sent, those in the outbox and those that wait; and no queue holds more than its capacity
+-- an invariant of a route: the accepted items are those in the inbox and those applied; the replies to the applied ones
+-- are those sent, those in the outbox and those that wait; and no queue holds more than its capacity
 pub record IsKept (reply : Meaning) (e : Terms) (r : ℕ) (m : Lane) (items : List Item) (out : List Datagram) : Type 0 where
   pub items_are : items ≡ reverse m.inbox ++ m.applied
   pub replies_are : out ++ (m.outbox ++ m.waiting) ≡ solo reply e r m.applied

@@ -12,7 +12,7 @@ use Rattle.srt_lobby.specs.Opening.{fault_of, is_taken, is_fresh, are_names, are
 use Rattle.srt_hub.specs.Hubs.{AreLanes}
 use Rattle.srt_hub.proofs.Happens.{one_more}
 
--- the lanes of one entry more
+-- the lanes of one more entry
 pub lanes_grow : {X : Type 0} (Is : X → Terms → ℕ → Lane → Type 0) (class : Sorting) (reply : Meaning) (entries : List Entry) (r i : ℕ) (entry : Entry) (lanes : List X) (lane : X) → r ≡ i → i < length entries → entry ≡ get_or entries i entry → Is lane (terms_of entry) r empty → AreLanes Is class reply (map terms_of (take i entries)) lanes [] → AreLanes Is class reply (map terms_of (take (i + 1) entries)) (lanes ++ lane ∷ []) []
 lanes_grow {X} Is class reply entries r i entry lanes lane index below there new h =
     let places : length (map terms_of (take i entries)) ≡ i = length-map (take i entries) terms_of ∙ omega (arith, length-take i entries) in
@@ -24,7 +24,7 @@ both true true h = (refl, refl)
 both true false h = absurd (let bad : false ≡ true = h in cc)
 both false b h = absurd (let bad : false ≡ true = h in cc)
 
--- entries without a fault have right names and are in their limits
+-- entries without a fault have names of the right form and are within their limits
 sound_both : (named limited : Bool) → cond named (cond limited None (Some Limits)) (Some Names) ≡ None → (named ≡ true) × (limited ≡ true)
 sound_both true true h = (refl, refl)
 sound_both true false h = absurd (let bad : Some Limits ≡ None = h in cc)
@@ -48,7 +48,7 @@ each_is_named (x ∷ entries) (suc i) entry all below there =
 few : (n : ℕ) → is_between 1 511 n ≡ true → n ≤ 511
 few n h = grind (arith, nat_tests, both)
 
--- each entry has a right name, is in its limits, and has an index that a route may have
+-- each entry has a name of the right form, is within its limits, and has an index below 511
 pub record IsRight (e : Terms) (index : ℕ) : Type 0 where
   pub name : is_name e.name ≡ true
   pub limits : in_limits e ≡ true

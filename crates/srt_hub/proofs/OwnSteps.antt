@@ -7,7 +7,7 @@ use Rattle.srt_hub.specs.World.{Event, Arrives, Ticks, Turns, Sends, Sorting, Me
 use Rattle.srt_hub.specs.Laws.{and_own, own_steps, OwnStepsDecide, SortingDecides, OwnNameDecides}
 use Rattle.srt_hub.specs.Hubs.{names}
 
--- a route by its steps, the newest first
+-- a route after its steps, the newest first
 lane_by : Meaning → Terms → ℕ → List Step → Lane
 lane_by reply e r [] = empty
 lane_by reply e r (step ∷ steps) = after_step reply e r step (lane_by reply e r steps)

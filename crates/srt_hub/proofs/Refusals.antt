@@ -1,4 +1,4 @@
--- When something is given up.
+-- When something is refused.
 use Rattle.std.proofs.Common.{◌≡◌, ◌≢◌, ℕ, ◌≤◌, ltb, Bool, true, false, cond, Option, None, Some, List, [], ◌∷◌, ◌++◌, length, refl, sym, ap, subst, ◌∙◌, arith, inl, inr}
 use Rattle.std.proofs.lemmas.Bool.{cases_eq}
 use Rattle.std.proofs.lemmas.Bool.Decides.{nat_tests}
@@ -19,11 +19,11 @@ use Rattle.srt_hub.proofs.Happens.{tick_here, tick_elsewhere, turn_here, turn_el
 at_capacity : (n room : ℕ) → n ≤ room → ltb n room ≡ false → n ≡ room
 at_capacity n room fits full = grind (arith, nat_tests)
 
--- an event that is nothing to each route changes none
+-- an event that is no route's step changes no route
 nowhere : (class : Sorting) (reply : Meaning) (entries : List Terms) (events : List Event) (event : Event) → ((k : ℕ) → step_for class k event ≡ Nothing) → ChangesNoRoute class reply entries events event
 nowhere class reply entries events event nothing k = rw (nothing k) refl
 
--- nor does one that is a step to one route and leaves it as it is
+-- nor does one that is a step of one route and leaves it as it is
 leaves : (class : Sorting) (reply : Meaning) (entries : List Terms) (events : List Event) (event : Event) (r : ℕ) (step : Step) → step_for class r event ≡ step → ((k : ℕ) → k ≢ r → step_for class k event ≡ Nothing) → after_step reply (terms_at entries r) r step (lane_at class reply entries r events) ≡ lane_at class reply entries r events → ChangesNoRoute class reply entries events event
 leaves class reply entries events event r step own others same k = elim (cases_eq k r) [
   | inl here ↦ subst (λ (j : ℕ). lane_at class reply entries j (event ∷ events) ≡ lane_at class reply entries j events) (sym here) (rw own same)

@@ -1,4 +1,4 @@
--- What a hub stands for.
+-- The state of a hub, as a function of its events.
 use Rattle.std.specs.Prelude.{◌≡◌, ℕ, ◌<◌, Bool, List, [], map, length, slice_index_or}
 use Rattle.srt_seq.specs.declared.shared.Mode.TheVariants.{Live}
 use Rattle.srt_seq.specs.Terms.{Terms}
@@ -19,7 +19,7 @@ lane_at class reply entries r events = lane_after class reply (terms_at entries 
 abbrev pub room_at : Sorting → Meaning → List Terms → List Event → ℕ → Bool
 room_at class reply entries events r = has_room (terms_at entries r) (lane_at class reply entries r events)
 
--- there is one lane for each entry, and each is the one of its route after these events, the newest first
+-- there is one lane for each entry, and each is the lane of its route after these events, the newest first
 pub record AreLanes {X : Type 0} (Is : X → Terms → ℕ → Lane → Type 0) (class : Sorting) (reply : Meaning) (entries : List Terms) (lanes : List X) (events : List Event) : Type 0 where
   pub as_many : length lanes ≡ length entries
   pub each : (r : ℕ) (x : X) → r < length lanes → Is (slice_index_or lanes r x) (terms_at entries r) r (lane_at class reply entries r events)

@@ -1,4 +1,4 @@
--- What stands in the queues, as the items and the datagrams that it is.
+-- The contents of the queues as items and datagrams.
 use Rattle.std.specs.Global.{Box}
 use Rattle.srt_hub.specs.declared.items.Timely.{Timely}
 use Rattle.srt_seq.specs.Items.{Datagram, Item, told}

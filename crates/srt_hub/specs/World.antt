@@ -1,8 +1,8 @@
--- The whole gateway as one step for each event (this profile). Lists of events have the newest first, and so have applied and accepted
--- items; queues and what was sent have the oldest first.
+-- A model of the whole gateway: one step for each event (this profile). Lists of events, and of applied and accepted
+-- items, have the newest first; queues and lists of what was sent have the oldest first.
 --
--- What routes and lobby do is not said here: a route's meaning is what it replies to all that it was told, and the lobby's
--- is the class of each arrival.
+-- The model doesn't say what routes and lobby do: a route's meaning is its replies to all its items, and the lobby's is
+-- the class of each datagram.
 use Rattle.std.specs.Prelude.{◌≡◌, ℕ, ◌==◌, Bool, false, Option, None, Some, List, [], ◌∷◌, ◌++◌, length, nat_lt, if◌then◌else◌}
 use Rattle.srt_seq.specs.declared.shared.Turned.{Turned}
 use Rattle.srt_seq.specs.declared.shared.Turned.TheVariants.{Moved, Applied, Blocked, Idle}
@@ -15,18 +15,18 @@ use Rattle.srt_hub.specs.declared.answers.Ticked.TheVariants as ticked
 use Rattle.srt_seq.specs.Items.{Datagram, Item, Received, Tick}
 use Rattle.srt_seq.specs.Terms.{Terms}
 
--- what happens to the gateway; a refused arrival is one for whose copy there was no memory
+-- the events of the gateway; an arrival is refused if there was no memory for its copy
 pub data Event : Type 0 where
   Arrives : (datagram : Datagram) (moment : ℕ) (refused : Bool) → Event
   Ticks : (route moment : ℕ) → Event
   Turns : (route : ℕ) → Event
   Sends : (route : ℕ) → Event
 
--- what a lobby makes of an arrival, looking at nothing else
+-- the class of a datagram, which depends on nothing else
 abbrev pub Sorting : Type 0
 Sorting = Datagram → (moment : ℕ) → Class
 
--- what a route with these terms and this index replies to the newest of all that it was told
+-- the replies of a route with these terms and this index to the newest of all its items
 abbrev pub Meaning : Type 0
 Meaning = Terms → (index : ℕ) → List Item → List Datagram
 
@@ -69,11 +69,11 @@ step_for class r (Sends s) = if s == r then Send else Nothing
 abbrev pub has_room : Terms → Lane → Bool
 has_room e m = nat_lt (length m.inbox) e.inbox
 
--- an item goes last into the inbox, where there is room
+-- an item is appended to the inbox, if there is room
 abbrev pub offered : Terms → Item → Lane → Lane
 offered e item m = if has_room e m then record m { inbox = m.inbox ++ item ∷ [] } else m
 
--- a reply that waits goes first; an item is applied only where none waits
+-- a waiting reply goes first; an item is applied only if none waits
 abbrev pub turned_by : Meaning → Terms → ℕ → List Datagram → List Item → Lane → Lane
 turned_by reply e r (d ∷ ds) inbox m = if nat_lt (length m.outbox) e.outbox then record m { waiting = ds; outbox = m.outbox ++ d ∷ [] } else m
 turned_by reply e r [] (x ∷ xs) m = record m { inbox = xs; applied = x ∷ m.applied; waiting = reply e r (x ∷ m.applied) }
@@ -101,19 +101,19 @@ first (d ∷ ds) = Some d
 abbrev pub sent_from : Lane → Lane
 sent_from m = record m { outbox = without_first m.outbox }
 
--- what a step makes of the route
+-- the route and its queues after a step
 abbrev pub after_step : Meaning → Terms → ℕ → Step → Lane → Lane
 after_step reply e r (Offers item) m = offered e item m
 after_step reply e r Turn m = turned reply e r m
 after_step reply e r Send m = sent_from m
 after_step reply e r Nothing m = m
 
--- route r after these events; of the events it looks at its own alone
+-- route r after these events, of which only its own matter
 abbrev pub lane_after : Sorting → Meaning → Terms → ℕ → List Event → Lane
 lane_after class reply e r [] = empty
 lane_after class reply e r (event ∷ events) = after_step reply e r (step_for class r event) (lane_after class reply e r events)
 
--- the items that a step brings into the inbox, and what it sends
+-- the items that a step adds to the inbox, and the datagrams that it sends
 abbrev pub takes_in : Terms → Step → Lane → List Item
 takes_in e (Offers item) m = if has_room e m then item ∷ [] else []
 takes_in e Turn m = []
@@ -146,7 +146,7 @@ pub record IsQuiet (m : Lane) : Type 0 where
   pub waiting : m.waiting ≡ []
   pub outbox : m.outbox ≡ []
 
--- what each event is answered. An arrival's answer looks at a route only where its class is that route
+-- the result of each event. An arrival's result depends on a route only if its class is that route
 abbrev pub offered_to : (r : ℕ) → (room : Bool) → Arrived
 offered_to r room = if room then arrived.Accepted r else arrived.Full r
 

@@ -1,29 +1,29 @@
-//! What the calls answer.
+//! The results of the hub's calls.
 
 use srt_lobby::Cause;
 
-/// What came of an arrival.
+/// The result of an arrival.
 #[derive(Clone, Copy, Debug, PartialEq, Eq)]
 pub enum Arrived {
-    /// These bytes answer it.
+    /// The lobby answers it with this datagram: to be sent to the peer. No route is changed.
     Answer([u8; 64]),
-    /// It stands in the inbox of the route with this index.
+    /// It is now the last item in the inbox of the route with this index.
     Accepted(usize),
     /// The inbox of the route with this index held its capacity, and the datagram is dropped.
     Full(usize),
-    /// It is dropped.
+    /// It is dropped by the lobby, for this cause.
     Dropped(Cause),
 }
 
-/// What came of a tick.
+/// The result of a tick.
 #[derive(Clone, Copy, Debug, PartialEq, Eq)]
 pub enum Ticked {
-    /// It stands in the inbox.
+    /// It is now the last item in the inbox.
     Accepted,
-    /// The inbox held its capacity, and the tick is given up.
+    /// The inbox held its capacity, and the tick is dropped.
     Full,
 }
 
-/// There was no memory for the copy of a datagram's body. Nothing changed.
+/// The memory for the copy of a datagram's body was refused. Nothing changed.
 #[derive(Clone, Copy, Debug, PartialEq, Eq)]
 pub struct OutOfMemory;

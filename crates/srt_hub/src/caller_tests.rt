@@ -10,7 +10,7 @@ use std::alloc::Global;
 use std::process::Abort;
 use std::test::Fail;
 
-/// A conclusion with caller ID 1 and initial number 5, as far as its cookie.
+/// A conclusion with caller ID 1 and initial number 5, up to its cookie.
 const CONCLUSION: &str =
     "80000000 00000000 00000000 00000000 00000005 00000005 00000005 000005dc 00002000 ffffffff 00000001";
 
@@ -27,7 +27,7 @@ const STUDIO: &str = "00050002 64757473 00006f69";
 /// `#!::r=studio,m=publish`
 const PUBLISH_STUDIO: &str = "00050006 3a3a2123 74733d72 6f696475 703d6d2c 696c6275 00006873";
 
-/// The answer to a conclusion, as far as the session's ID, and after it.
+/// The answer to a conclusion, up to the session's ID, and after it.
 const ANSWER: &str =
     "80000000 00000000 00000000 00000001 00000005 00000001 00000005 000005dc 00000400 ffffffff";
 
@@ -100,7 +100,7 @@ fn opened(alloc: Global) -> Result<SrtGateway, Fail> {
     }
 }
 
-/// Asserts what becomes of these words from this port.
+/// Asserts the result of these words as a datagram from this port.
 fn assert_arrives(
     rt: &(impl AllocGlobal + Abort),
     gateway: &mut SrtGateway,
@@ -239,7 +239,7 @@ fn a_flood_changes_no_other_route(rt: HostRuntime) -> Result<(), Fail> {
     assert_sends(&rt, &mut gateway, 5000, &[ANSWER, "00100000", ANSWER_REST])
 }
 
-/// A cookie is right in its minute and the next.
+/// A cookie is valid in its minute and in the next.
 #[test]
 fn a_cookie_ends(rt: HostRuntime) -> Result<(), Fail> {
     let mut gateway = opened(rt.alloc())?;
@@ -270,7 +270,7 @@ fn a_cookie_ends(rt: HostRuntime) -> Result<(), Fail> {
     )
 }
 
-/// Entries that are at fault open no gateway.
+/// Entries with a fault open no gateway.
 #[test]
 fn wrong_entries_open_nothing(rt: HostRuntime) -> Result<(), Fail> {
     let alloc = rt.alloc();
@@ -291,7 +291,7 @@ fn wrong_entries_open_nothing(rt: HostRuntime) -> Result<(), Fail> {
     Ok(())
 }
 
-/// KEEPALIVEs with bytes behind them, which aren't looked at, of each length that a datagram may have.
+/// KEEPALIVEs of each length that a datagram can have; the bytes after the header aren't read.
 #[test]
 fn every_length_arrives(rt: HostRuntime) -> Result<(), Fail> {
     let mut gateway = opened(rt.alloc())?;

@@ -1,4 +1,4 @@
-//! The lobby of the whole gateway.
+//! The real lobby, as a part of the hub.
 
 ghost use Rattle.std.specs.Prelude.{◌≡◌};
 ghost use Rattle.srt_cookie.specs.Cookie.{secret_bytes};
@@ -12,7 +12,7 @@ use srt_lobby::{Class, Names, classify};
 use srt_seq::{Entry, OpenFault, Peer};
 use std::alloc::Global;
 
-/// The secret of the cookies, and the names of the routes.
+/// What the lobby keeps: the secret of the cookies, and the names of the routes.
 #[derive(Drop)]
 pub struct Entrance {
     secret: Secret,

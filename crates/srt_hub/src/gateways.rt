@@ -1,4 +1,4 @@
-//! The whole gateway: its lobby and its routes.
+//! The hub with the real lobby and the real routes.
 
 ghost use Rattle.srt_route.specs.Route.{reply as route_reply};
 ghost use Rattle.srt_route.specs.Stands.{stands as route_stands, waiting as route_waiting};
@@ -10,7 +10,7 @@ use srt_route::{Reply, Route};
 use srt_seq::{Entry, Item, OpenFault};
 use std::alloc::Global;
 
-/// The gateway that answers callers.
+/// The gateway: `srt_route`'s routes behind `srt_lobby`'s rules.
 pub type SrtGateway = Hub<Route, Entrance>;
 
 impl RouteStep for Route {

@@ -1,4 +1,4 @@
-//! All routes of a gateway, and the lobby before them.
+//! All routes of a gateway behind its lobby.
 
 ghost use Rattle.std.specs.Prelude.{◌≡◌, ℕ, ◌<◌, ◌≤◌, ◌^◌, List, [], ◌∷◌, None, Some, Err, IfOk, IfErr, OnErr, IfSome, IfNone, map, take, drop, length, option_map, is_err, if◌then◌else◌};
 ghost use Rattle.srt_hub.specs.World.{offered_to};
@@ -28,19 +28,19 @@ fn offered(r: usize, room: bool) -> Arrived
     }
 }
 
-/// What stands for the whole gateway.
+/// A gateway as its history: the secret, the entries and the events so far. Ghost members only.
 pub trait Gateway {
     ghost use Rattle.srt_seq.specs.Terms.{Terms};
     ghost use Rattle.srt_hub.specs.World.{Event};
 
-    /// How many routes there are.
+    /// The number of routes.
     ghost routes: { Self → ℕ };
 
-    /// It was opened with this secret and these entries, and this happened since, the newest first.
+    /// The gateway was opened with this secret and these entries, and then these events happened, the newest first.
     ghost stands: { Self → (secret : List ℕ) → (entries : List Terms) → (events : List Event) → Type 0 };
 }
 
-/// A gateway.
+/// A gateway: a lobby `L`, and a route `R` with its queues for each entry.
 #[derive(Drop)]
 pub struct Hub<R: RouteStep, L: Lobby> {
     lobby: L,
@@ -64,8 +64,9 @@ impl<R: RouteStep, L: Lobby> Hub<R, L> {
     ghost use Rattle.srt_hub.specs.World.{Event, Arrives, Ticks, Turns, Sends, arrival_of, tick, turn, first};
     ghost use Rattle.srt_hub.specs.Hubs.{names, terms_at, lane_at, room_at};
 
-    /// The gateway of these entries. It takes all memory but that for the copies of datagrams. Nothing is kept
-    /// after a fault.
+    /// Opens the gateway of these entries, 1 to 511. Takes all memory except that for copies of datagrams. Errors:
+    /// `Names` if a name has a wrong form or stands twice, else `Limits` if the number of entries or a number of an
+    /// entry is outside its limits, else `OutOfMemory`. After an error nothing is kept.
     pub fn open(alloc: Global, secret: Secret, entries: &[Entry]) -> Result<Hub<R, L>, OpenFault>
         ensures stands { IfOk result (λ hub. ⟦<Hub<R, L> as Gateway>⟧.stands hub (secret_bytes secret) (map terms_of entries.now) []) }
         ensures routes { IfOk result (λ hub. ⟦<Hub<R, L> as Gateway>⟧.routes hub ≡ length entries.now) }
@@ -90,7 +91,7 @@ impl<R: RouteStep, L: Lobby> Hub<R, L> {
         Ok(Hub { lobby, lanes })
     }
 
-    /// How many routes there are. Their indexes are the numbers below it.
+    /// The number of routes; their indexes are 0 up to it. O(1).
     pub fn routes(&self) -> usize
         ensures routes { result ≡ ⟦<Hub<R, L> as Gateway>⟧.routes self.now }
         ensures entries { (secret : List ℕ) (entries : List Terms) (events : List Event) → ⟦<Hub<R, L> as Gateway>⟧.stands self.now secret entries events → result ≡ length entries }
@@ -98,7 +99,9 @@ impl<R: RouteStep, L: Lobby> Hub<R, L> {
         self.lanes.len()
     }
 
-    /// A datagram comes. Only a route's is copied, and only where that copy was refused the answer is an error.
+    /// Sorts a datagram and puts it into its route's inbox, if it is for a route. `moment` is in microseconds. Only a
+    /// datagram for a route is copied; that copy takes memory, also if the inbox turns out to be full. The only error
+    /// is that this memory is refused, and then nothing has changed. Linear in the length of the datagram.
     pub fn arrive(
         &mut self,
         alloc: Global,
@@ -128,7 +131,8 @@ impl<R: RouteStep, L: Lobby> Hub<R, L> {
         }
     }
 
-    /// A route is told the time.
+    /// Puts a tick with this moment, in microseconds, into the inbox of route `r`. Returns `Full` and drops the tick if
+    /// the inbox holds its capacity. O(1). Takes no memory.
     pub fn tick(&mut self, r: usize, moment: u64) -> Ticked
         requires route { r < ⟦<Hub<R, L> as Gateway>⟧.routes self.old }
         requires moment { moment < 2 ^ 62 }
@@ -142,7 +146,8 @@ impl<R: RouteStep, L: Lobby> Hub<R, L> {
         ticked(self.lanes[r].offer(item))
     }
 
-    /// A route moves a reply that waits, or else applies an item.
+    /// One turn of route `r`: moves the oldest waiting reply to the outbox if there is one, else applies the oldest
+    /// item of the inbox. Takes no memory.
     pub fn turn(&mut self, r: usize) -> Turned
         requires { r < ⟦<Hub<R, L> as Gateway>⟧.routes self.old }
         ensures stands { (secret : List ℕ) (entries : List Terms) (events : List Event) → ⟦<Hub<R, L> as Gateway>⟧.stands self.old secret entries events → ⟦<Hub<R, L> as Gateway>⟧.stands self.new secret entries (Turns r ∷ events) }
@@ -152,8 +157,9 @@ impl<R: RouteStep, L: Lobby> Hub<R, L> {
         self.lanes[r].turn()
     }
 
-    /// Takes a route's first reply out of its outbox and writes it to the front of the buffer. Answers to whom it
-    /// goes, and its length.
+    /// Takes the oldest reply out of the outbox of route `r` and writes its packet to the front of `out`. Returns its
+    /// receiver and its length in bytes; None if the outbox is empty. The rest of `out` doesn't change. Takes no
+    /// memory.
     pub fn send(&mut self, r: usize, out: &mut [u8; 1472]) -> Option<(Peer, usize)>
         requires { r < ⟦<Hub<R, L> as Gateway>⟧.routes self.old }
         ensures stands { (secret : List ℕ) (entries : List Terms) (events : List Event) → ⟦<Hub<R, L> as Gateway>⟧.stands self.old secret entries events → ⟦<Hub<R, L> as Gateway>⟧.stands self.new secret entries (Sends r ∷ events) }

@@ -1,4 +1,4 @@
-//! What stands in the inbox of a route.
+//! The items of a route's inbox.
 
 ghost use Rattle.std.specs.Prelude.{◌≡◌, ◌^◌, ◌<◌, ◌≤◌, length, IfOk};
 ghost use Rattle.srt_seq.specs.Items.{told, moment_of, Received};
@@ -10,12 +10,13 @@ use std::alloc::Global;
 /// An item of the inbox.
 #[derive(Drop)]
 pub struct Timely {
-    /// The item; its moment is below 2^62.
+    /// The item; its moment is below 2^62 microseconds.
     pub item: Item,
     pub ghost timely: { moment_of (told item) < 2 ^ 62 },
 }
 
-/// A datagram as an item: its body is copied.
+/// Makes an item of a datagram, with a copy of all bytes after the first 16. Takes memory for that copy; the only error
+/// is that it is refused.
 pub fn copied(alloc: Global, peer: Peer, bytes: &[u8], moment: u64) -> Result<Timely, OutOfMemory>
     requires header { 16 ≤ length bytes.now }
     requires timely { moment < 2 ^ 62 }

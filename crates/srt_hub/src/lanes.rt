@@ -13,8 +13,8 @@ use srt_seq::{Entry, OpenFault, Peer, Turned};
 use std::alloc::Global;
 use std::collections::VecDeque;
 
-/// A route with its queues, which have room for the capacities. Replies stand in boxes; the spare boxes are the free
-/// places of the outbox.
+/// A route with its queues, which have memory for their capacities. Replies are boxed: moving one exchanges boxes. The
+/// number of spare boxes is the free space of the outbox.
 #[derive(Drop)]
 pub struct Lane<R: RouteStep> {
     route: R,
@@ -29,12 +29,12 @@ pub struct Lane<R: RouteStep> {
     ghost boxes: { length outbox.items + length spare.items ≡ outbox_room },
 }
 
-/// What stands for a route of the world.
+/// A lane as a lane of the model. Ghost members only.
 pub trait Standing {
     ghost use Rattle.srt_seq.specs.Terms.{Terms};
     ghost use Rattle.srt_hub.specs.World.{Lane as TheLane};
 
-    /// With these terms and this index it is this one.
+    /// With these terms and this index the lane is this lane of the model.
     ghost is: { Self → Terms → (index : ℕ) → TheLane → Type 0 };
 }
 
@@ -51,7 +51,8 @@ impl<R: RouteStep> Lane<R> {
     ghost use Rattle.srt_seq.specs.Terms.{Terms, terms_of};
     ghost use Rattle.srt_hub.specs.World.{Lane as TheLane, empty, offered, has_room, turned, turn, sent_from, first};
 
-    /// A route that was told nothing, with empty queues.
+    /// A route without items, with empty queues. Takes the memory of the route, of both queues and of `outbox` boxes.
+    /// The only error is `OutOfMemory`.
     pub fn open(alloc: Global, entry: &Entry, index: usize) -> Result<Lane<R>, OpenFault>
         requires name { is_name (terms_of entry.now).name ≡ true }
         requires limits { in_limits (terms_of entry.now) ≡ true }
@@ -81,7 +82,8 @@ impl<R: RouteStep> Lane<R> {
         })
     }
 
-    /// Puts an item last into the inbox. Answers whether there was room; where there was none, nothing changed.
+    /// Appends an item to the inbox. Returns false, and changes nothing, if the inbox holds its capacity. O(1). Takes
+    /// no memory.
     pub fn offer(&mut self, item: Timely) -> bool
         ensures stands { (e : Terms) (r : ℕ) (m : TheLane) → ⟦<Lane<R> as Standing>⟧.is self.old e r m → ⟦<Lane<R> as Standing>⟧.is self.new e r (offered e (item_in item) m) }
         ensures answer { (e : Terms) (r : ℕ) (m : TheLane) → ⟦<Lane<R> as Standing>⟧.is self.old e r m → result ≡ has_room e m }
@@ -92,7 +94,8 @@ impl<R: RouteStep> Lane<R> {
         self.inbox.push_back(item).is_ok()
     }
 
-    /// Moves a reply that waits, or else applies an item.
+    /// Moves the oldest waiting reply to the outbox, if there is one; else applies the oldest item of the inbox.
+    /// `Blocked` if the outbox is full, `Idle` if there is nothing to do. Takes no memory.
     pub fn turn(&mut self) -> Turned
         ensures stands { (e : Terms) (r : ℕ) (m : TheLane) → ⟦<Lane<R> as Standing>⟧.is self.old e r m → ⟦<Lane<R> as Standing>⟧.is self.new e r (turned R.reply e r m) }
         ensures answer { (e : Terms) (r : ℕ) (m : TheLane) → ⟦<Lane<R> as Standing>⟧.is self.old e r m → result ≡ turn e m }
@@ -112,8 +115,8 @@ impl<R: RouteStep> Lane<R> {
         Turned::Applied
     }
 
-    /// Takes the first reply out of the outbox and writes it to the front of the buffer. Answers to whom it goes,
-    /// and its length.
+    /// Takes the oldest reply out of the outbox and writes its packet to the front of `out`. Returns its receiver and
+    /// its length in bytes; None if the outbox is empty.
     pub fn send(&mut self, out: &mut [u8; 1472]) -> Option<(Peer, usize)>
         ensures stands { (e : Terms) (r : ℕ) (m : TheLane) → ⟦<Lane<R> as Standing>⟧.is self.old e r m → ⟦<Lane<R> as Standing>⟧.is self.new e r (sent_from m) }
         ensures answer { (e : Terms) (r : ℕ) (m : TheLane) → ⟦<Lane<R> as Standing>⟧.is self.old e r m → option_map (λ sent. record { peer = sent.0; bytes = take sent.1 out.new }) result ≡ first m.outbox }

@@ -1,5 +1,19 @@
-//! The whole gateway without threads: routes with their queues, and the lobby before them. Every call is one
-//! step of the world that `specs/World.antt` defines.
+//! The whole gateway without threads: the lobby, and the routes with their queues. Each call is one step of the model
+//! in `specs/World.antt`.
+//!
+//! It has no socket, no clock and no threads: datagrams, ticks, turns and sends are calls. The same routes with threads
+//! are in `srt_mailbox`, `srt_poller` and `srt_serve`. What a datagram means is decided by `srt_lobby`, what a route
+//! replies by `srt_route`.
+//!
+//! Types: `Hub`, the gateway, over any `Lobby` and any `RouteStep` (traits in `parts.rt`); `SrtGateway`, the hub with
+//! the real ones (`Entrance` in `entrance.rt`, `srt_route::Route` in `gateways.rt`). A lane (`lanes.rt`) is a route
+//! with its inbox and outbox; `Arrived`, `Ticked` and `OutOfMemory` (`answers.rt`) are results.
+//!
+//! Calls: `Hub::open`; then in any order `arrive` for each datagram, `tick` for a route's clock, `turn`, which moves a
+//! waiting reply to the outbox or applies one item of the inbox, and `send`, which takes a reply out of the outbox.
+//!
+//! Laws: `laws.rt` states that routes don't affect each other (`specs/Laws.antt`) and why something is refused
+//! (`specs/Refusals.antt`).
 #![tactic(auto)]
 
 mod answers;

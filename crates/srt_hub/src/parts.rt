@@ -1,6 +1,6 @@
-//! What a gateway is made of: the lobby and the routes. The hub is proved for every lobby and every kind of
-//! route, by what these traits say and by nothing else: what a route replies and how arrivals are sorted are
-//! ghost members, which each kind defines for itself.
+//! The parts of a gateway, as traits: the lobby and the routes. The hub is proved for every lobby and every kind of
+//! route from the contracts of these traits alone: what a route replies and how arrivals are sorted are ghost members,
+//! which each implementation defines.
 
 ghost use Rattle.std.specs.Prelude.{◌≡◌, ◌↔◌, ℕ, ◌<◌, ◌≤◌, ◌^◌, ◌∷◌, [], List, length, true, false, None, Some, Err, IfOk, IfErr, map};
 ghost use Rattle.srt_seq.specs.declared.shared.OpenFault.{OpenFault as TheFault};
@@ -20,45 +20,47 @@ use srt_route::Reply;
 use srt_seq::{Entry, Item, OpenFault, Peer};
 use std::alloc::Global;
 
-/// What sorts the arrivals.
+/// Sorts datagrams: answered, dropped, or for a route.
 pub trait Lobby: Drop {
-    /// What a lobby with this secret and these names makes of an arrival.
+    /// The class of a datagram for a lobby with this secret and these names.
     ghost class: { (secret : List ℕ) → (names : List (List ℕ)) → Datagram → (moment : ℕ) → TheClass };
 
-    /// The lobby was opened with this secret and these names.
+    /// The lobby was opened with this secret and these names of routes, in the order of their indexes.
     ghost knows: { Self → (secret : List ℕ) → (names : List (List ℕ)) → Type 0 };
 
-    /// The lobby of these entries. Nothing is kept after a fault.
+    /// Opens the lobby of these entries. Errors: `Names`, else `Limits`, else `OutOfMemory`, as `Hub::open`. After an
+    /// error nothing is kept.
     fn open(alloc: Global, secret: Secret, entries: &[Entry]) -> Result<Self, OpenFault>
         ensures knows { IfOk result (λ lobby. knows lobby (secret_bytes secret) (names (map terms_of entries.now))) }
         ensures sound { IfOk result (λ _. fault_of (map terms_of entries.now) ≡ None) }
         ensures fault { (fault : TheFault) → fault_of (map terms_of entries.now) ≡ Some fault → result ≡ Err fault }
         ensures memory { fault_of (map terms_of entries.now) ≡ None → IfErr result (λ fault. fault ≡ OpenFault.OutOfMemory) };
 
-    /// What it makes of an arrival. Takes no memory.
+    /// Sorts a datagram that came from `peer` at this moment, in microseconds. Takes no memory.
     fn classify(&self, peer: Peer, bytes: &[u8], moment: u64) -> Class
         requires { moment < 2 ^ 62 }
         ensures class { (secret : List ℕ) (names : List (List ℕ)) → knows self.now secret names → result ≡ class secret names (record { peer = peer; bytes = bytes.now }) moment }
-        // What is for a route has a whole header.
+        // A datagram for a route has a whole header.
         ensures header { (r : ℕ) → result ≡ Class.Route r → 16 ≤ length bytes.now };
 
-    /// It sends arrivals to routes that have a name.
+    /// A datagram for a route is for a route that exists.
     ghost named: { (secret : List ℕ) (names : List (List ℕ)) (d : Datagram) (moment r : ℕ) → class secret names d moment ≡ ForRoute r → r < length names };
 }
 
-/// A route.
+/// A route as the hub drives it: items in, replies out.
 pub trait RouteStep: Drop {
-    /// What a route with these terms and this index replies to the newest of all items that it was told.
+    /// The replies of a route with these terms and this index to the newest of these items. The newest item comes
+    /// first.
     ghost reply: { Terms → (index : ℕ) → List TheItem → List Datagram };
 
-    /// The route is what its terms, its index and the items that it was told make of it, the waiting replies
-    /// aside.
+    /// The route's state is the one that these terms, this index and these items determine, the waiting replies aside.
     ghost stands: { Self → Terms → (index : ℕ) → List TheItem → Type 0 };
 
     /// The replies that wait, the oldest first.
     ghost waiting: { Self → List Datagram };
 
-    /// A route that was told nothing. It takes all memory that it will ever need.
+    /// Opens a route without items. Takes all memory that the route will ever need; the only error is that it is
+    /// refused. `index` is below 511.
     fn open(alloc: Global, entry: &Entry, index: usize) -> Result<Self, OpenFault>
         requires name { is_name (terms_of entry.now).name ≡ true }
         requires limits { in_limits (terms_of entry.now) ≡ true }
@@ -67,7 +69,8 @@ pub trait RouteStep: Drop {
         ensures none_waits { IfOk result (λ route. waiting route ≡ []) }
         ensures memory { IfErr result (λ fault. fault ≡ OpenFault.OutOfMemory) };
 
-    /// Tells the route an item. Answers how many replies wait then. Takes no memory.
+    /// Applies one item. Returns the number of replies that now wait. To be called only if no reply waits. Takes no
+    /// memory.
     fn step(&mut self, item: Item) -> usize
         requires none_waits { waiting self.old ≡ [] }
         requires timely { moment_of (told item) < 2 ^ 62 }
@@ -79,8 +82,8 @@ pub trait RouteStep: Drop {
     fn waits(&self) -> bool
         ensures { (result ≡ true) ↔ (0 < length (waiting self.now)) };
 
-    /// Exchanges the place's box for that of the first reply that waits, and keeps the box that it got for later
-    /// replies. Takes no memory.
+    /// Puts the oldest waiting reply into `place`, by an exchange of boxes; the box that was in `place` is kept for a
+    /// later reply. Returns false and changes nothing if none waits. Takes no memory.
     fn next_reply(&mut self, place: &mut Box<Reply>) -> bool
         ensures first { result ≡ true → waiting self.old ≡ written place.new.value ∷ waiting self.new }
         ensures none { result ≡ false → (waiting self.old ≡ []) × (self.new ≡ self.old) × (place.new ≡ place.old) }

@@ -173,7 +173,7 @@ fn arrivals_and_ticks_become_datagrams(rt: HostRuntime) -> Result<(), Fail> {
     Ok(())
 }
 
-/// A flood of one route fills that route's inbox, and another goes on as without it.
+/// A flood of one route fills that route's inbox, and the other route goes on as it does without the flood.
 #[test]
 fn a_flood_stays_in_its_own_inbox(rt: HostRuntime) -> Result<(), Fail> {
     let alloc = rt.alloc();
@@ -204,7 +204,7 @@ fn a_flood_stays_in_its_own_inbox(rt: HostRuntime) -> Result<(), Fail> {
     Ok(())
 }
 
-/// A full outbox holds the turns back, and drops nothing.
+/// If the outbox is full, turns are blocked, and nothing is dropped.
 #[test]
 fn a_full_outbox_blocks(rt: HostRuntime) -> Result<(), Fail> {
     let alloc = rt.alloc();
@@ -229,7 +229,7 @@ fn a_full_outbox_blocks(rt: HostRuntime) -> Result<(), Fail> {
     Ok(())
 }
 
-/// The boxes of an outbox go round: more replies are sent than there are boxes, each in its turn.
+/// The boxes of an outbox are used again: more replies are sent than there are boxes, in order.
 #[test]
 fn boxes_go_round(rt: HostRuntime) -> Result<(), Fail> {
     let alloc = rt.alloc();
@@ -253,7 +253,8 @@ fn boxes_go_round(rt: HostRuntime) -> Result<(), Fail> {
     Ok(())
 }
 
-/// Where the memory for the copy is refused, the same arrival is then taken as if it were the first.
+/// If the memory for the copy is refused, the same datagram can be offered again, and is then taken as if it were the
+/// first.
 #[test]
 fn a_refused_arrival_may_come_again(rt: HostRuntime) -> Result<(), Fail> {
     let alloc = rt.alloc();
