@@ -70,7 +70,7 @@ named es h = by_test (are_names es) (are_in_limits es) h
 pub names_are_distinct : NamesAreDistinct
 names_are_distinct es h = distinct es (named es h)
 
--- a name doesn't stand before its place
+-- a name doesn't stand before its index
 pub is_new : (es : List Terms) (i : ℕ) (name : List ℕ) → are_names es ≡ true → slice_get (map name_of es) i ≡ Some name → list_any (λ other. bytes_eq name other) (take i (map name_of es)) ≡ false
 is_new [] i name h p = cc
 is_new (e ∷ es) zero name h p = refl

@@ -1,4 +1,4 @@
--- Names and their places.
+-- Names and their indexes.
 use Rattle.std.proofs.Common.{◌≡◌, ℕ, zero, suc, ◌+◌, ◌<◌, Bool, true, false, not, cond, ◌&&◌, List, [], ◌∷◌, length, get_or, take, drop, ◌++◌, map, None, Some, position, slice_get, nat_lt, refl, sym, ap, ◌∙◌, arith}
 use Rattle.std.specs.List.{position_or_len, list_any, list_all}
 use Rattle.std.specs.Str.{bytes_eq}

@@ -1,4 +1,4 @@
--- What an arrival's class has to do with the routes.
+-- The class of a datagram and the routes.
 use Rattle.std.proofs.Common.{◌≡◌, ℕ, ◌-◌, ◌+◌, ◌/◌, ◌^◌, ◌<◌, ◌≤◌, Bool, true, false, cond, ◌&&◌, List, [], length, Option, None, Some, Result, Ok, Err, nat_lt, nat_le, ◌==◌, refl, ap, ◌∙◌, arith}
 use Rattle.std.proofs.lemmas.Bool.Decides.{nat_tests}
 use Rattle.std.proofs.lemmas.Option.{slice_get_within}
@@ -126,7 +126,7 @@ own secret names others r name has have datagram moment = (
   packet_follows secret others names r name have has datagram.peer moment (packet_in datagram.bytes),
 )
 
--- of a route that there is
+-- a datagram for a route is for a route that exists
 abbrev Inside : (names : List (List ℕ)) (r : ℕ) → Class → Type 0
 Inside names r x = x ≡ Route r → r < length names
 

@@ -1,4 +1,4 @@
--- What arrivals and routes have to do with each other.
+-- Which datagrams are which route's.
 use Rattle.std.specs.Prelude.{◌≡◌, ◌↔◌, ℕ, ◌<◌, ◌≤◌, List, length, None, Some, map, slice_get}
 use Rattle.srt_seq.specs.Items.{Datagram}
 use Rattle.srt_seq.specs.Terms.{Terms}
@@ -21,31 +21,31 @@ pub record HasRoute (names : List (List ℕ)) (r : ℕ) (name : List ℕ) : Type
 abbrev pub NamesAreDistinct : Type 0
 NamesAreDistinct = (entries : List Terms) → fault_of entries ≡ None → AreDistinct (map name_of entries)
 
--- whether an arrival is for a route depends on the secret, the route's index, its name and that arrival: other routes, their
--- names and their number make no difference
+-- whether a datagram is for a route depends on the secret, the route's index, its name and that datagram: other routes,
+-- their names and their number make no difference
 abbrev pub RouteIsItsOwn : Type 0
 RouteIsItsOwn =
     (secret : List ℕ) (names others : List (List ℕ)) (r : ℕ) (name : List ℕ) → HasRoute names r name → HasRoute others r name →
     (datagram : Datagram) (moment : ℕ) → (class_of secret names datagram moment ≡ Route r) ↔ (class_of secret others datagram moment ≡ Route r)
 
--- an arrival is sent to a route that there is
+-- a datagram for a route is for a route that exists
 abbrev pub RouteIsNamed : Type 0
 RouteIsNamed =
     (secret : List ℕ) (names : List (List ℕ)) (datagram : Datagram) (moment r : ℕ) →
     class_of secret names datagram moment ≡ Route r → r < length names
 
--- what is for a route has a whole header
+-- a datagram for a route has a whole header
 abbrev pub RouteHasHeader : Type 0
 RouteHasHeader =
     (secret : List ℕ) (names : List (List ℕ)) (datagram : Datagram) (moment r : ℕ) →
     class_of secret names datagram moment ≡ Route r → 16 ≤ length datagram.bytes
 
--- a packet that says this answer to this socket, with timestamp 0
+-- a handshake packet with this answer to this socket, with timestamp 0
 pub record IsAnswer (packet : Packet) (id : ℕ) (answer : HsAnswer) : Type 0 where
   pub stamp : packet.stamp ≡ 0
   pub dest : packet.dest ≡ id
   pub says : (info : _) × (packet.body ≡ bodies.Handshake info) × (info.items ≡ answer_text answer)
 
--- an answer is the text of such a packet
+-- an answer is the encoding of such a packet
 abbrev pub AnswerIsPacket : Type 0
 AnswerIsPacket = (packet : Packet) (id : ℕ) (answer : HsAnswer) → IsAnswer packet id answer → answer_bytes id answer ≡ text packet

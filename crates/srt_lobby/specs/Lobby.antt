@@ -1,5 +1,5 @@
--- What the lobby makes of an arrival. It looks at the secret, the names of the routes and the arrival, and at nothing else.
--- The order of the tests is this profile's.
+-- The class of a datagram. It depends on the secret, the routes' names and the datagram alone. The order of the tests
+-- is this profile's.
 use Rattle.std.specs.Prelude.{ℕ, ◌-◌, ◌/◌, ◌^◌, List, length, Option, None, Some, is_some, not, Result, Ok, Err, nat_le, nat_lt, ◌==◌, ◌++◌, ◌&&◌, ◌||◌, if◌then◌else◌}
 use Rattle.srt_seq.specs.declared.shared.Peer.{Peer}
 use Rattle.srt_seq.specs.Items.{Datagram}
@@ -32,15 +32,15 @@ use Rattle.srt_lobby.specs.Names.{index_of}
 abbrev pub answer_bytes : (id : ℕ) → HsAnswer → List ℕ
 answer_bytes id answer = word 0x8000_0000 ++ word 0 ++ word 0 ++ word id ++ answer_text answer
 
--- a handshake is answered so; the caller's initial number is repeated as it came
+-- a handshake gets this answer; the caller's initial number is repeated as it came
 unfoldable pub answered : Handshake → AnswerKind → Class
 answered hs what = Answer (answer_bytes hs.id (record { initial = hs.initial; what = what }))
 
 abbrev pub refused : Handshake → RefusalCode → Class
 refused hs code = answered hs (answers.Refusal code)
 
--- why a conclusion is refused whatever route it asks for: not version 5, a false number or no HSREQ, encryption,
--- a packet filter, a connection group (section 4.3, table 7)
+-- the first reason to refuse a conclusion, whatever route it asks for: not version 5, an initial number that isn't
+-- below 2^31 or no HSREQ, encryption, a packet filter, a connection group (section 4.3, table 7)
 unfoldable pub reason_of : Handshake → Option RefusalCode
 reason_of hs =
     if not (hs.version == 5) then Some codes.Version
@@ -55,22 +55,22 @@ abbrev pub route_named : (names : List (List ℕ)) → (bytes : List ℕ) → Re
 route_named names bytes (Ok ask) = index_of names (name_of bytes ask)
 route_named names bytes (Err fault) = None
 
--- the index of the route that a Stream ID asks for, where there is one (appendix B)
+-- the index of the route that a Stream ID asks for, if there is one (appendix B)
 abbrev pub route_asked : (names : List (List ℕ)) → Option (List ℕ) → Option ℕ
 route_asked names (Some bytes) = route_named names bytes (ask_in bytes)
 route_asked names None = None
 
--- a conclusion that asks for this route, or for none
+-- a conclusion that names this route, or none
 abbrev pub by_route : Handshake → Option ℕ → Class
 by_route hs (Some r) = Route r
 by_route hs None = refused hs codes.Peer
 
--- a conclusion that is refused for this reason, or for none yet
+-- a conclusion that is refused for this reason, or isn't refused yet
 abbrev pub by_reason : (names : List (List ℕ)) → Handshake → Option RefusalCode → Class
 by_reason names hs (Some code) = refused hs code
 by_reason names hs None = by_route hs (route_asked names hs.blocks.stream_id)
 
--- a conclusion whose cookie is right
+-- a conclusion with a valid cookie
 unfoldable pub of_conclusion : (names : List (List ℕ)) → Handshake → Class
 of_conclusion names hs = by_reason names hs (reason_of hs)
 
@@ -84,16 +84,16 @@ abbrev pub of_handshake : (secret : List ℕ) → (names : List (List ℕ)) → 
 of_handshake secret names peer moment (Ok hs) = by_kind secret names peer moment hs hs.kind
 of_handshake secret names peer moment (Err fault) = Dropped causes.Handshake
 
--- what has no destination is a handshake
+-- a packet with destination 0 has to be a handshake
 abbrev pub of_body : (secret : List ℕ) → (names : List (List ℕ)) → Peer → (moment : ℕ) → Body → Class
 of_body secret names peer moment (packets.Handshake info) = of_handshake secret names peer moment (handshake_in info)
 of_body secret names peer moment _ = Dropped causes.NotHandshake
 
--- the route of this index plus 1, where there are so many
+-- the route with this index + 1, if there is one
 abbrev pub by_place : (routes place : ℕ) → Class
 by_place routes place = if nat_lt 0 place && nat_le place routes then Route (place - 1) else Dropped causes.UnknownId
 
--- a session's socket ID tells its route: the index plus 1 stands at bit 20 (this profile)
+-- a session's socket ID has its route's index + 1 at bit 20 (this profile)
 abbrev pub to_session : (routes dest : ℕ) → Class
 to_session routes dest = by_place routes (dest / 2 ^ 20)
 
@@ -102,6 +102,6 @@ of_packet secret names peer moment (Ok packet) =
     if packet.dest == 0 then of_body secret names peer moment packet.body else to_session (length names) packet.dest
 of_packet secret names peer moment (Err fault) = Dropped causes.Packet
 
--- what the lobby makes of an arrival
+-- the class of a datagram
 unfoldable pub class_of : (secret : List ℕ) → (names : List (List ℕ)) → Datagram → (moment : ℕ) → Class
 class_of secret names datagram moment = of_packet secret names datagram.peer moment (packet_in datagram.bytes)

@@ -1,4 +1,4 @@
--- The numbers by which causes are told.
+-- The numbers of the causes in the output of a replay.
 use Rattle.std.specs.Prelude.{ℕ}
 use Rattle.srt_lobby.specs.declared.classes.Cause.{Cause}
 use Rattle.srt_lobby.specs.declared.classes.Cause.TheVariants.{Packet, UnknownId, NotHandshake, Handshake, WrongKind, WrongCookie}

@@ -11,7 +11,7 @@ use Rattle.srt_seq.specs.Entries.{is_between, is_name, in_limits}
 abbrev pub is_taken : (name : List ℕ) → List Terms → Bool
 is_taken name entries = list_any (λ (e : Terms). bytes_eq e.name name) entries
 
--- its name has the right form, and none of these has it
+-- an entry's name has the right form, and none of these entries has it
 abbrev pub is_fresh : Terms → List Terms → Bool
 is_fresh e entries = is_name e.name && not (is_taken e.name entries)
 
@@ -20,10 +20,10 @@ abbrev pub are_names : List Terms → Bool
 are_names [] = true
 are_names (e ∷ entries) = is_fresh e entries && are_names entries
 
--- the number of routes is within its limits, and so are the numbers of each
+-- the number of entries is within its limits, and so are the numbers of each entry
 abbrev pub are_in_limits : List Terms → Bool
 are_in_limits entries = is_between 1 511 (length entries) && list_all in_limits entries
 
--- why they can't be opened, want of memory aside: names come first
+-- the first reason why a gateway can't be opened with these entries, memory aside: names come first
 abbrev pub fault_of : List Terms → Option OpenFault
 fault_of entries = if are_names entries then (if are_in_limits entries then None else Some faults.Limits) else Some faults.Names

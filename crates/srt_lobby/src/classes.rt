@@ -1,4 +1,4 @@
-//! What the lobby makes of an arrival.
+//! The lobby's classes of datagrams, and the causes for which one is dropped.
 
 ghost use Rattle.std.specs.Prelude.{◌≡◌};
 ghost use Rattle.srt_lobby.specs.Numbers.{number_of};
@@ -6,22 +6,23 @@ ghost use Rattle.srt_lobby.specs.Numbers.{number_of};
 /// Why a datagram is dropped.
 #[derive(Clone, Copy, Debug, PartialEq, Eq)]
 pub enum Cause {
-    /// It is no packet.
+    /// It isn't an SRT packet: shorter than 16 bytes or longer than 1472, a data packet without a payload, or a control
+    /// packet of an unknown type or too short for its type (section 3).
     Packet,
-    /// Its destination is no route's.
+    /// Its destination isn't 0, and the index in its upper bits is no route's.
     UnknownId,
-    /// It has no destination and is no handshake.
+    /// Its destination is 0, and it isn't a handshake packet.
     NotHandshake,
-    /// Its handshake doesn't read.
+    /// It is a handshake packet, but its handshake has a fault (section 3.2.1).
     Handshake,
-    /// It is no handshake that a caller sends to a listener.
+    /// Its handshake is neither an INDUCTION nor a CONCLUSION: a listener takes no other type (section 4.3.1).
     WrongKind,
-    /// Its cookie isn't right.
+    /// It is a conclusion whose cookie is neither that of this minute nor that of the minute before (section 4.3.1.1).
     WrongCookie,
 }
 
 impl Cause {
-    /// The number by which a tape's output names it: 1 to 6, in the order above.
+    /// The number of the cause in the output of a replay: 1 to 6, in the order above.
     pub fn number(self) -> u8
         ensures { result ≡ number_of self }
     {
@@ -36,13 +37,13 @@ impl Cause {
     }
 }
 
-/// What the lobby makes of one arrival.
+/// What the lobby does with one datagram.
 #[derive(Clone, Copy, Debug, PartialEq, Eq)]
 pub enum Class {
-    /// It is answered with these bytes, and nothing is kept of it.
+    /// It is answered with this handshake packet, sent back to its sender; nothing is kept.
     Answer([u8; 64]),
-    /// It is for the route with this index.
+    /// It is for the route with this index, below the number of routes.
     Route(usize),
-    /// It is dropped.
+    /// It is dropped, for this cause.
     Dropped(Cause),
 }

@@ -1,5 +1,18 @@
-//! The lobby: what becomes of each datagram before any route sees it. It answers inductions, refuses
-//! conclusions, tells the route of all others, and keeps nothing.
+//! The lobby: sorts each datagram before any route sees it. It answers inductions, refuses conclusions, drops what no
+//! route can use, and finds the route of everything else.
+//!
+//! It keeps no state about callers: the class of a datagram depends on the secret, the routes' names, the sender, the
+//! bytes and the moment alone. It opens no session and doesn't look at a route's state (`srt_route` does).
+//!
+//! Types: `Names`, the routes' names with their indexes; `Class`, what is done with a datagram; `Cause`, why it is
+//! dropped.
+//!
+//! Calls: `Names::open` once; then `classify` for each datagram. `is_taken` is for readers of configurations.
+//!
+//! Files: `lobby.rt` has the checks in their order (docs/PROTOCOL.md, "Where a datagram goes"): destination, handshake,
+//! cookie, and the refusals 1008, 1004, 1011, 1014, 1015 and 1002. `classes.rt` has the classes and causes, `names.rt`
+//! the look-up, `opening.rt` the limits of entries, `laws.rt` what is proved of all of it. The definition is
+//! `specs/Lobby.antt`.
 #![tactic(auto)]
 
 mod classes;

@@ -1,4 +1,4 @@
-//! What becomes of an arrival.
+//! What is done with a datagram, test by test (section 4.3.1; the order is this profile's).
 
 ghost use Rattle.std.specs.Prelude.{◌≡◌, ℕ, ◌^◌, ◌<◌, ◌≤◌, [], length};
 ghost use Rattle.srt_seq.specs.Items.{Datagram};
@@ -18,7 +18,7 @@ use srt_hs::{AnswerKind, HsAnswer, HsKind, HsRef, RefusalCode, stream_id, write}
 use srt_packet::{Kind, PacketRef, decode};
 use srt_seq::{Peer, write_at};
 
-/// The packet of an answer, to this socket.
+/// The 64 bytes of a handshake packet with this answer, to the caller's socket `id`, with timestamp 0.
 fn answer(id: u32, initial: u32, what: AnswerKind) -> [u8; 64]
     requires { blocks_text what ≡ [] }
     ensures { result ≡ answer_bytes id (record { initial = initial; what = what }) }
@@ -46,7 +46,10 @@ fn refused(hs: &HsRef<'_>, code: RefusalCode) -> Class
     answered(hs, AnswerKind::Refusal(code))
 }
 
-/// Why a conclusion is refused, whatever it asks for.
+/// The first reason to refuse a conclusion, whatever route it asks for (section 4.3, table 7). In order: 1008
+/// (SRT_REJ_VERSION) if the version isn't 5; 1004 (SRT_REJ_ROGUE) if the initial sequence number isn't below 2^31 or
+/// there is no HSREQ; 1011 (SRT_REJ_UNSECURE) for a KMREQ, since there is no encryption; 1014 (SRT_REJ_FILTER) for a
+/// packet filter; 1015 (SRT_REJ_GROUP) for a connection group.
 #[tactic(auto, unfolding(crate::specs::Lobby::reason_of))]
 fn reason(hs: &HsRef<'_>) -> Option<RefusalCode>
     ensures { result ≡ reason_of (handshake_of hs.now) }
@@ -66,7 +69,7 @@ fn reason(hs: &HsRef<'_>) -> Option<RefusalCode>
     }
 }
 
-/// The index of the route that a Stream ID asks for.
+/// The index of the route that a Stream ID asks for (appendix B); None if it has a fault or names no route.
 fn route_by_text(names: &Names, bytes: &[u8]) -> Option<usize>
     ensures { result ≡ route_named (names_of names.now) bytes.now (ask_in bytes.now) }
 {
@@ -76,7 +79,7 @@ fn route_by_text(names: &Names, bytes: &[u8]) -> Option<usize>
     }
 }
 
-/// The index of the route that a conclusion asks for.
+/// The index of the route that a conclusion asks for; None also if it has no Stream ID.
 fn route_of(names: &Names, hs: &HsRef<'_>) -> Option<usize>
     ensures { result ≡ route_asked (names_of names.now) (handshake_of hs.now).blocks.stream_id }
 {
@@ -87,7 +90,8 @@ fn route_of(names: &Names, hs: &HsRef<'_>) -> Option<usize>
     }
 }
 
-/// What becomes of a conclusion whose cookie is right.
+/// The class of a conclusion with a valid cookie: refused for `reason`; refused with 1002 (SRT_REJ_PEER) if it has no
+/// Stream ID, one with a fault, or a name that is no route's; else for the named route.
 #[tactic(auto, unfolding(crate::specs::Lobby::of_conclusion))]
 fn of_conclusion(names: &Names, hs: &HsRef<'_>) -> Class
     ensures { result ≡ of_conclusion (names_of names.now) (handshake_of hs.now) }
@@ -120,7 +124,7 @@ fn of_handshake(secret: &Secret, names: &Names, peer: Peer, moment: u64, hs: &Hs
     }
 }
 
-/// What becomes of a handshake packet without a destination.
+/// The class of a handshake packet with destination 0, from the bytes after its header.
 fn of_info(secret: &Secret, names: &Names, peer: Peer, moment: u64, info: &[u8]) -> Class
     ensures { result ≡ of_handshake (secret_bytes secret.now) (names_of names.now) peer moment (handshake_in info.now) }
 {
@@ -130,7 +134,8 @@ fn of_info(secret: &Secret, names: &Names, peer: Peer, moment: u64, info: &[u8])
     }
 }
 
-/// What becomes of a packet to this socket ID, which isn't 0.
+/// The class of a packet to this socket ID, which isn't 0: its bits from 20 up are the route's index + 1 (this
+/// profile).
 fn to_session(names: &Names, dest: u32) -> Class
     ensures { result ≡ to_session (length (names_of names.now)) dest }
 {
@@ -160,13 +165,13 @@ fn of_packet(
     }
 }
 
-/// What becomes of an arrival at this moment, in microseconds. Takes no memory, and looks at nothing but
-/// what it is given.
+/// Sorts a datagram that came from `peer` at this moment, in microseconds. Linear in its length, whatever the number of
+/// routes. Takes no memory and changes nothing; the result depends on the arguments alone.
 #[tactic(auto, unfolding(crate::specs::Lobby::class_of))]
 pub fn classify(secret: &Secret, names: &Names, peer: Peer, bytes: &[u8], moment: u64) -> Class
     requires { moment < 2 ^ 62 }
     ensures class { result ≡ class_of (secret_bytes secret.now) (names_of names.now) (record { peer = peer; bytes = bytes.now }) moment }
-    // What is for a route has a whole header.
+    // A datagram for a route has a whole header.
     ensures header { (r : ℕ) → result ≡ Class.Route r → 16 ≤ length bytes.now }
 {
     match decode(bytes) {

@@ -5,7 +5,7 @@ use indexmap::IndexSet;
 use srt_seq::{Entry, OpenFault};
 use std::alloc::{AllocError, Global};
 
-/// The names of the routes, each with the route's index. To find one takes a look-up, however many there are.
+/// The names of the routes, each with the route's index. A look-up costs the same for any number of routes.
 #[derive(Drop)]
 pub struct Names {
     pub(crate) set: IndexSet<Vec<u8>>,
@@ -30,7 +30,9 @@ impl Names {
         Ok(Names { set })
     }
 
-    /// The names of these entries, of which there are 1 to 511. Nothing is kept after a fault.
+    /// The names of these entries, 1 to 511. Takes memory for a copy of each name. Errors: `Names` if a name has a
+    /// wrong form or stands twice, else `Limits` if the number of entries or a number of an entry is outside its
+    /// limits, else `OutOfMemory`. After an error nothing is kept.
     pub fn open(alloc: Global, entries: &[Entry]) -> Result<Names, OpenFault>
         ensures opened { IfOk result (λ names. names_of names ≡ map name_of (map terms_of entries.now)) }
         ensures sound { IfOk result (λ _. fault_of (map terms_of entries.now) ≡ None) }
@@ -46,14 +48,14 @@ impl Names {
         }
     }
 
-    /// How many there are.
+    /// The number of routes.
     pub(crate) fn count(&self) -> usize
         ensures { result ≡ length (names_of self.now) }
     {
         self.set.len()
     }
 
-    /// The index of the route with this name.
+    /// The index of the route with this name, if there is one.
     pub(crate) fn find(&self, name: &[u8]) -> Option<usize>
         ensures { result ≡ index_of (names_of self.now) name.now }
     {

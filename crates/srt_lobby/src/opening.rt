@@ -1,4 +1,4 @@
-//! Which entries a gateway can be opened with.
+//! Which entries a gateway can be opened with: 1 to 511, with distinct names.
 
 ghost use Rattle.std.specs.Prelude.{◌≡◌, map};
 ghost use Rattle.std.specs.List.{list_any, list_all};
@@ -15,7 +15,7 @@ fn has_any(name: &[u8], entries: &[Entry]) -> bool
     entries.iter().any(|e| e.name.as_bytes() == name)
 }
 
-/// Whether one of these entries has this name.
+/// Whether one of these entries has this name. Linear in the number of entries. Takes no memory.
 pub fn is_taken(name: &[u8], entries: &[Entry]) -> bool
     ensures { result ≡ is_taken name.now (map terms_of entries.now) }
 {
@@ -55,7 +55,9 @@ fn are_in_limits(entries: &[Entry]) -> bool
     is_between(1, 511, entries.len()) && all_in_limits(entries)
 }
 
-/// Why these entries can't be opened, want of memory aside.
+/// The first reason why a gateway can't be opened with these entries, memory aside: `Names` if a name has a wrong form
+/// or stands twice, else `Limits` if there are no entries or more than 511, or if a number is outside its limits.
+/// Quadratic in the number of entries.
 pub fn fault(entries: &[Entry]) -> Option<OpenFault>
     ensures { result ≡ fault_of (map terms_of entries.now) }
 {

@@ -1,5 +1,5 @@
-//! Datagrams and what becomes of them. The cookies were computed by Python's hashlib, and the words of callers
-//! are as libsrt sends them.
+//! Datagrams and their classes. The cookies were computed by Python's hashlib, and the words of callers are as libsrt
+//! sends them.
 
 ghost use Rattle.std.specs.Prelude.{◌^◌, ◌<◌};
 
@@ -15,7 +15,7 @@ const HEADER: &str = "80000000 00000000 00000000 00000000";
 const INDUCTION: &str =
     "00000004 00000002 00000005 000005dc 00002000 00000001 00bc614e 00000000 00000000 00000000 00000000 00000000";
 
-/// The 48 bytes of a conclusion, but for cookie and address.
+/// The 48 bytes of a conclusion, without its cookie and address.
 const CONCLUSION: &str = "00000005 00000005 00000005 000005dc 00002000 ffffffff 00000001";
 
 const OF_VERSION_4: &str = "00000004 00000005 00000005 000005dc 00002000 ffffffff 00000001";
@@ -119,7 +119,7 @@ fn opened(alloc: Global, names: &[&str]) -> Result<Names, Fail> {
     }
 }
 
-/// What becomes of these words from 127.0.0.1 at this port.
+/// The class of these words as a datagram from 127.0.0.1 at this port.
 fn class_at(alloc: Global, port: u16, moment: u64, parts: &[&str]) -> Result<Class, Fail>
     requires { moment < 2 ^ 62 }
 {
@@ -133,7 +133,7 @@ fn class(alloc: Global, parts: &[&str]) -> Result<Class, Fail> {
     class_at(alloc, 5000, 1_000_000, parts)
 }
 
-/// The class of a conclusion with a right cookie and these blocks.
+/// The class of a conclusion with a valid cookie and these blocks.
 fn concluded(alloc: Global, front: &str, blocks: &[&str]) -> Result<Class, Fail> {
     let mut bytes = bytes_of(alloc, &[HEADER, front, COOKIE_0, ADDRESS])?;
     for block in blocks {
@@ -173,7 +173,7 @@ fn inductions_are_answered(rt: HostRuntime) -> Result<(), Fail> {
         (5000u16, 0u64, "", COOKIE_0),
         (5001, 59_999_999, "", "6e4680bd"),
         (5000, 180_000_000, "", COOKIE_3),
-        // what follows the 48 bytes is not looked at
+        // bytes after the 48 aren't read
         (5000, 1_000_000, "0102030405", COOKIE_0),
     ] {
         if moment < MOMENT_END {
@@ -194,7 +194,7 @@ fn a_captured_induction_is_answered(rt: HostRuntime) -> Result<(), Fail> {
     assert_answer(&rt, class, &[front, COOKIE_0, ADDRESS])
 }
 
-/// Asserts what becomes of each of these in the first minute.
+/// Asserts the class of each of these in the first minute.
 fn assert_dropped(
     rt: &(impl AllocGlobal + Abort),
     rows: &[[&str; 3]],
@@ -288,7 +288,7 @@ fn sessions_tell_their_route(rt: HostRuntime) -> Result<(), Fail> {
     ] {
         let shutdown = class(alloc, &["80050000 00000000 00000000", dest])?;
         assert_eq!(rt; shutdown, Class::Route(route), "{dest}");
-        // a handshake's body is not read then
+        // a handshake's body isn't read then
         let handshake = class(alloc, &["80000000 00000000 00000000", dest, "00"])?;
         assert_eq!(rt; handshake, Class::Route(route), "{dest}");
     }
@@ -328,14 +328,14 @@ fn wrong_cookies_come_before_refusals(rt: HostRuntime) -> Result<(), Fail> {
 #[test]
 fn conclusions_go_to_the_route_that_they_name(rt: HostRuntime) -> Result<(), Fail> {
     let other_flags = "00010003 00010500 000000ff 00780078";
-    // what the lobby doesn't look at is the route's to refuse
+    // what the lobby doesn't check is for the route to refuse
     let small = "00000005 00000005 00000005 0000004b 00000000 ffffffff 00000001";
     for (front, blocks, route) in [
         (CONCLUSION, [HSREQ, PUBLISH_STUDIO, ""], 0),
         (CONCLUSION, [HSREQ, REQUEST_STUDIO, ""], 0),
         (CONCLUSION, [HSREQ, STUDIO, ""], 0),
         (CONCLUSION, [HSREQ, PUBLISH_FILES, ""], 1),
-        // a block that is passed over
+        // a block of another type is skipped
         (CONCLUSION, [HSREQ, PUBLISH_STUDIO, "00000000"], 0),
         (small, [other_flags, PUBLISH_STUDIO, ""], 0),
     ] {
@@ -406,7 +406,7 @@ fn a_false_initial_number_comes_back_as_it_came(rt: HostRuntime) -> Result<(), F
     assert_answer(&rt, class, &[front, back])
 }
 
-/// What the opening of these entries answers.
+/// The fault of opening these entries, if there is one.
 fn opening(alloc: Global, entries: &[Entry]) -> Option<OpenFault> {
     match Names::open(alloc, entries) {
         Ok(_) => None,
@@ -466,7 +466,7 @@ fn numbers_have_their_limits(rt: HostRuntime) -> Result<(), Fail> {
             assert_eq!(rt; opening(alloc, &[one]), fault, "{i} {n}");
         }
     }
-    // names come first
+    // faults of names come first
     let mut one = entry(alloc, "studio")?;
     one.buffer = 31;
     let two = entry(alloc, "a b")?;
@@ -502,7 +502,7 @@ fn there_are_511_routes_at_most(rt: HostRuntime) -> Result<(), Fail> {
     Ok(())
 }
 
-/// An opening that finds no memory says so and keeps nothing, and the next one is as the first.
+/// If memory is refused, the opening returns that and keeps nothing, and the next opening is as the first.
 #[test]
 fn refused_memory_is_told(rt: HostRuntime) -> Result<(), Fail> {
     let alloc = rt.alloc();
