@@ -1,4 +1,4 @@
--- The lines of answers are those of the world's.
+-- The lines that are written are those of the model.
 use Rattle.std.proofs.Common.{◌≡◌, ℕ, Bool, false, List, Option, None, Some, refl, ap, ◌∙◌}
 use Rattle.srt_seq.specs.declared.shared.Turned.{Turned}
 use Rattle.srt_hub.specs.declared.answers.Arrived.{Arrived}
@@ -27,7 +27,7 @@ pub send_line : (class : Sorting) (reply : Meaning) (entries : List Terms) (past
 unfolding event_text
 send_line class reply entries past r answer text t a = t ∙ ap sent_text a
 
--- an arrival without an answer is a route's
+-- an arrival without an answer is for a route
 pub routed : (k : Class) (refused : Bool) (rooms : ℕ → Bool) → None ≡ arrival_of refused rooms k → (r : ℕ) × (k ≡ Route r)
 routed (Answer bytes) refused rooms h = absurd cc
 routed (Dropped cause) refused rooms h = absurd cc

@@ -52,7 +52,7 @@ line_last old now new line k inside some end t xs e =
     let none : b.0 ≡ [] = sym b.2 ∙ end a.0 a.1 in
     (b.0, b.1, ap lines_of (a.2 ∙ ap (λ (ys : List ℕ). line ++ ys) (end a.0 a.1) ∙ append-nil line) ∙ whole line some (recursion_from_All IsInside line inside) ∙ ap (λ (ys : List ℕ). line ∷ lines_of ys) (sym none))
 
--- the bytes ended where no line had begun
+-- the bytes ended before a line had begun
 pub no_line : (old now : Option (List ℕ)) (line : List ℕ) → Took old now line → length line ≡ 0 → AtEnd now → NoLine old
 no_line old now line k none end xs e =
     let a = k xs e in

@@ -1,4 +1,4 @@
--- The fault that is told is that of the first key that has one.
+-- The fault that is returned is that of the first key that has one.
 use Rattle.std.proofs.Common.{◌&&◌, is_some, ◌≡◌, ℕ, ℤ, pos, negsuc, ◌⊎◌, inl, inr, Bool, true, false, not, codes, List, [], ◌∷◌, ◌++◌, Option, Some, None, Result, Ok, Err, refl, sym, ap, subst, ◌∙◌, if◌then◌else◌}
 use Rattle.std.specs.Str.{bytes_eq}
 use Rattle.toml.specs.Data.{Data, Members, Items, no_items, item, get_member, as_str, as_integer, as_array, as_table}
@@ -46,7 +46,7 @@ on {A} {B} (Err g) next first later t u fault =
     back (inl k) = ap (failed {A = B}) (the_fault {A = A} g fault ((t fault).1 k))
     back (inr k) = absurd (k.0 g ((t g).0 refl))
 
--- what is made of the last value has no fault
+-- the function of the last value has no fault
 last : {A B : Type 0} (r : Result A Fault) (f : A → B) (faulty : Faulty) → Tells r faulty → Tells (r >>= λ x. Ok (f x)) faulty
 last {A} {B} (Ok x) f faulty t fault = (λ e. absurd (never (f x) fault e), λ k. absurd (never x fault ((t fault).1 k)))
 last {A} {B} (Err g) f faulty t fault = (λ e. (t fault).0 (ap (failed {A = A}) (the_fault {A = B} g fault e)), λ k. ap (failed {A = B}) (the_fault {A = A} g fault ((t fault).1 k)))

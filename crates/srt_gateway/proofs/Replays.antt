@@ -20,7 +20,7 @@ Known xs = Some xs
 abbrev past_of : List Terms → List (List ℕ) → List Event
 past_of entries lines = with_past [] (events_from (length entries) 1 lines)
 
--- lines of which each says an event, and those behind them
+-- lines that are all events, and those after them
 fault_first : (n : ℕ) (event : Option Event) (others : Option ℕ) → fault_on n event others ≡ None → (e : Event) × (event ≡ Some e) × (others ≡ None)
 fault_first n None others h = absurd cc
 fault_first n (Some e) others h = (e, refl, h)
@@ -75,7 +75,7 @@ pub started : (class : Sorting) (reply : Meaning) (entries : List Terms) (Now : 
 started class reply entries Now r w stands tape e =
     record { lines = []; left = tape; lines_are = refl; number_is = refl; no_fault = refl; reader_is = e; wrote = λ ws f. f ∙ ap Known (sym (append-nil ws)); stands = stands }
 
--- what a line's turn did, whatever happened before
+-- the result of a line, whatever happened before
 abbrev pub Step : Sorting → Meaning → List Terms → (Now Next : History) → (old new held holds : Option (List ℕ)) (number : ℕ) → Result Bool ReplayFault → Type 0
 Step class reply entries Now Next old new held holds number result = (past : List Event) → Now past → Answered class reply entries past Next old new held holds number result
 
@@ -124,7 +124,7 @@ ends_at_fault class reply entries Now r0 w0 r w n h none tape e =
     let text : tape_text class reply entries tape ≡ done = tape_text_is class reply entries tape a.lines (lines_of a.left) n a.lines_are a.no_fault a.number_is ∙ ap (λ (es : List Event). done ++ text_after class reply entries (past_of entries a.lines) es) rest ∙ append-nil done in
     (λ ws f. a.wrote ws f ∙ ap (λ (xs : List ℕ). Known (ws ++ xs)) (sym text), fault_line_is routes tape a.lines (lines_of a.left) n a.lines_are a.no_fault a.number_is ∙ ap (fault_from routes n) b.2 ∙ fault_none routes n b.0 b.1 b.3)
 
--- some whole lines were answered
+-- some whole lines have their answers
 front_is : (tape : List ℕ) (lines behind : List (List ℕ)) → lines_of tape ≡ lines ++ behind → take (length lines) (lines_of tape) ≡ lines
 front_is tape lines behind are = ap (take (length lines)) are ∙ take-append_seam lines behind
 

@@ -123,7 +123,7 @@ abbrev send_line : (o : Option Datagram) → IsLine (sent_text o)
 send_line None = record { line = codes "none"; text_is = refl; inside = none_inside }
 send_line (Some d) = record { line = sent_line d; text_is = refl; inside = sent_inside d }
 
--- what it is told as sent
+-- the line, if it is a `sent` line
 abbrev picked : (b : Bool) (line : List ℕ) → List (List ℕ)
 picked b line = if b then line ∷ [] else []
 
@@ -236,7 +236,7 @@ lines_unrefused : (routes number : ℕ) (lines : List (List ℕ)) → AllUnrefus
 lines_unrefused routes number [] = tt
 lines_unrefused routes number (line ∷ lines) = and_on (event_at routes number line) (events_from routes (number + 1) lines) (line_unrefused routes number line) (lines_unrefused routes (number + 1) lines)
 
--- an event's line, and what it tells as sent for a route
+-- an event's line, and its `sent` lines for a route
 record Told (class : Sorting) (reply : Meaning) (entries : List Terms) (r : ℕ) (past : List Event) (event : Event) : Type 0 where
   line : List ℕ
   text_is : event_text class reply entries past event ≡ line ++ 10 ∷ []

@@ -2,7 +2,7 @@
 use Rattle.std.specs.Prelude.{ℕ, ◌^◌, ◌==◌, List, [], ◌∷◌, Option, None, Some, option_and_then, option_map, if◌then◌else◌}
 use Rattle.srt_gateway.specs.Tape.{number_in}
 
--- a text split at the first such byte
+-- a text split at the first byte of this value
 abbrev pub with_front : ℕ → List ℕ × List ℕ → List ℕ × List ℕ
 with_front b parts = (b ∷ parts.0, parts.1)
 
@@ -14,7 +14,7 @@ infixl 10 ◌>>=◌
 abbrev ◌>>=◌ : {A B : Type 0} → Option A → (A → Option B) → Option B
 o >>= f = option_and_then f o
 
--- an octet and what stands behind the byte that ends it
+-- an octet, and the text after the byte that ends it
 unfoldable pub octet_to : (end : ℕ) → List ℕ → Option (ℕ × List ℕ)
 octet_to end text = parted end text >>= λ parts. number_in 256 parts.0 >>= λ octet. Some (octet, parts.1)
 

@@ -1,4 +1,4 @@
--- What the parts of an address stand for.
+-- The parts of an address, as plain values.
 use Rattle.std.specs.Prelude.{ℕ, List}
 use Rattle.srt_gateway.specs.declared.config.address.Parts.{Parts}
 use Rattle.srt_gateway.specs.declared.config.address.Octet.{Octet}

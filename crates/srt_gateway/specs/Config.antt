@@ -1,4 +1,4 @@
--- What a configuration's text says (this profile).
+-- The configuration in a text (this profile).
 use Rattle.std.specs.Prelude.{ℕ, List, [], ◌∷◌, map, Option, None, Some, Result, Ok, Err}
 use Rattle.toml.specs.Data.{Members}
 use Rattle.hex.specs.Hex.{decode_sized}
@@ -18,7 +18,7 @@ abbrev pub decoded : Result (List ℕ) FromHexError → Result (List ℕ) Fault
 decoded (Ok bytes) = Ok bytes
 decoded (Err e) = Err BadSecret
 
--- the 32 bytes that 64 hexadecimal digits say, in either case
+-- the 32 bytes of 64 hexadecimal digits, in either case
 unfoldable pub secret_in : List ℕ → Result (List ℕ) Fault
 secret_in text = decoded (decode_sized text 32)
 
@@ -32,7 +32,7 @@ addressed None = Err BadAddress
 unfoldable pub bind_at : Members → Result Address Fault
 bind_at table = text_at Bind table >>= λ text. addressed (address_in text)
 
--- what the gateway is told when it starts, as plain values
+-- a configuration as plain values
 pub record Settings : Type 0 where
   pub secret : List ℕ
   pub bind : Address
@@ -43,7 +43,7 @@ pub record Settings : Type 0 where
 abbrev pub top_keys : List Key
 top_keys = Secret ∷ Bind ∷ Workers ∷ Route ∷ []
 
--- the configuration that a table says, or its first fault
+-- the configuration in a table, or its first fault
 unfoldable pub settings_at : Members → Result Settings Fault
 settings_at table =
     known top_keys table >>= λ _.
@@ -53,7 +53,7 @@ settings_at table =
     routes_at table >>= λ routes.
     Ok (record { secret = secret; bind = bind; workers = workers; routes = routes })
 
--- the same of a text that is a table or none
+-- the same of a text: its table, or None if it isn't TOML
 abbrev pub config_in : Option Members → Result Settings Fault
 config_in (Some table) = settings_at table
 config_in None = Err Toml

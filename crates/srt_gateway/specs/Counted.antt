@@ -1,4 +1,4 @@
--- A reader that counts its reads: how many may still be asked for, and what the last one brought.
+-- A reader that counts its reads: the number that is left, and the result of the last one.
 use Rattle.std.specs.Prelude.{◌≡◌, ◌≢◌, ℕ, ◌<◌, ◌≤◌, Bool, true, false, List, length, Result, Ok, Err}
 use Rattle.std.specs.IoError.{error_kind}
 use Rattle.std.specs.declared.io.Error.{Error}
@@ -27,15 +27,15 @@ brought_in budget = budget.brought
 abbrev pub source : {R : Type 0} → CountedReader R → R
 source reader = reader.reader
 
--- how many reads may still be asked of it
+-- the number of reads that are left
 abbrev pub reads_left : {R : Type 0} → CountedReader R → ℕ
 reads_left reader = left_in reader.budget
 
--- what the last one brought
+-- the result of the last one
 abbrev pub last_brought : {R : Type 0} → CountedReader R → Brought
 last_brought reader = brought_in reader.budget
 
--- what a read's answer says that it brought
+-- the result that is noted for what a read returned
 abbrev pub BroughtBy : Result (Bor (List ℕ)) Error → Brought → Type 0
 BroughtBy (Ok bytes) brought = (length bytes.now ≡ 0 → brought ≡ End) × (0 < length bytes.now → brought ≡ Bytes)
 BroughtBy (Err e) brought = (error_kind e ≡ Interrupted → brought ≡ Nothing) × (error_kind e ≢ Interrupted → brought ≡ Failure)
@@ -48,8 +48,8 @@ MayLook reader = (0 < reads_left reader) × (last_brought reader ≢ Failure)
 abbrev pub WasUnread : (left : ℕ) → Brought → Type 0
 WasUnread left brought = brought ≢ Failure → left ≡ 0
 
--- what a look at a reader, a line's reading, a line's turn and a whole replay have to do with the reads; after each
--- answer but that the reader was not read, the last read didn't fail
+-- the reads after one read, after a line, after a line's answer and after a whole replay: unless the result is that the
+-- reader failed or has no read left, the last read didn't fail
 abbrev pub PieceRead : Brought → Result Piece ReadFailed → Type 0
 PieceRead brought (Ok (piece.Part n)) = brought ≢ Failure
 PieceRead brought (Ok (piece.Line n)) = brought ≢ Failure
@@ -71,8 +71,8 @@ TurnRead number left brought (Err OutOfMemory) = brought ≢ Failure
 TurnRead number left brought (Err Read) = WasUnread left brought
 TurnRead number left brought (Err Write) = brought ≢ Failure
 
--- a replay that is done came to the reader's end; one that ended as unread was failed by the reader, or spent the reads;
--- one that ended as unwritten may have found that in the flush after a failed read
+-- a replay that is done came to the reader's end; one that ended with `Read` had a reader that failed or had no read
+-- left; one that ended with `Write` may have found that in the flush after a failed read
 abbrev pub ReplayRead : (left : ℕ) → Brought → Result (Unit {0}) ReplayFault → Type 0
 ReplayRead left brought (Ok u) = brought ≡ End
 ReplayRead left brought (Err (Tape line)) = brought ≢ Failure

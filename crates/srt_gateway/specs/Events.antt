@@ -1,9 +1,9 @@
--- The events that a tape's lines say, to a gateway with so many routes (this profile).
+-- The events of a tape's lines, for a gateway with this number of routes (this profile).
 use Rattle.std.specs.Prelude.{ℕ, ◌^◌, List, [], ◌∷◌, length, nat_le, Option, None, Some, if◌then◌else◌, ◌==◌, Bool, false}
 use Rattle.srt_hub.specs.World.{Event, Arrives, Ticks, Turns, Sends}
 use Rattle.srt_gateway.specs.Tape.{fields_of, line_max, number_in, address_in, bytes_in}
 
--- an arrival, where each of its fields is of its form
+-- an arrival, if each of its fields has its form
 abbrev pub arrival_of : (moment : Option ℕ) (address : Option (List ℕ)) (port : Option ℕ) (bytes : Option (List ℕ)) → Option Event
 arrival_of (Some moment) (Some ip) (Some port) (Some bytes) = Some (Arrives (record { peer = record { ip = ip; port = port }; bytes = bytes }) moment false)
 arrival_of (Some moment) (Some ip) (Some port) None = None
@@ -24,16 +24,16 @@ abbrev pub send_of : (route : Option ℕ) → Option Event
 send_of (Some r) = Some (Sends r)
 send_of None = None
 
--- moments lie below 2^62
+-- moments are below 2^62 microseconds
 abbrev pub moment_in : List ℕ → Option ℕ
 moment_in text = number_in (2 ^ 62) text
 
--- moment, address, port and bytes: ports lie below 2^16
+-- the fields of an arrival: moment, address, port and bytes; ports are below 2^16
 abbrev pub arrival_in : List (List ℕ) → Option Event
 arrival_in (moment ∷ address ∷ port ∷ bytes ∷ []) = arrival_of (moment_in moment) (address_in address) (number_in (2 ^ 16) port) (bytes_in bytes)
 arrival_in _ = None
 
--- route and moment: the numbers of routes lie below their count
+-- the fields of a tick: route and moment; a route's number is below the number of routes
 abbrev pub tick_in : (routes : ℕ) → List (List ℕ) → Option Event
 tick_in routes (route ∷ moment ∷ []) = tick_of (number_in routes route) (moment_in moment)
 tick_in routes _ = None
@@ -61,6 +61,6 @@ event_in routes (letter ∷ fields) =
     if is_letter 85 letter then turn_in routes fields else
     if is_letter 83 letter then send_in routes fields else None
 
--- the event that a line says; there is memory for every arrival
+-- the event of a line; in it there is memory for every arrival
 unfoldable pub event_of : (routes : ℕ) → List ℕ → Option Event
 event_of routes line = if nat_le (length line) line_max then event_in routes (fields_of line) else None

@@ -1,10 +1,10 @@
--- Reading in steps, of which the first that fails tells the fault.
+-- Reading in steps: the first step that fails gives the fault.
 use Rattle.std.specs.Prelude.{◌≡◌, ℕ, ◌⊎◌, List, string_bytes, Result, Ok, Err}
 use Rattle.srt_gateway.specs.declared.config.faults.Key.{Key}
 use Rattle.srt_gateway.specs.declared.config.faults.ConfigFault.{ConfigFault}
 use Rattle.srt_gateway.specs.declared.config.faults.ConfigFault.TheVariants as code
 
--- what is wrong with a configuration, as plain values
+-- the faults of a configuration, as plain values
 pub data Fault : Type 0 where
   Toml : Fault
   UnknownKey : (key : List ℕ) → Fault
@@ -30,16 +30,16 @@ told code.BadAddress = BadAddress
 told code.OutOfMemory = OutOfMemory
 
 infixl 10 ◌>>=◌
--- a step, and then the next one with what it gave
+-- a step, and then the next one with the first one's result
 abbrev pub ◌>>=◌ : {A B : Type 0} → Result A Fault → (A → Result B Fault) → Result B Fault
 Ok x >>= next = next x
 Err fault >>= next = Err fault
 
--- an answer, with its value seen through `view`
+-- a result, with its value seen through `view`
 abbrev pub seen : {A B : Type 0} → (view : A → B) → Result A ConfigFault → Result B Fault
 seen view (Ok x) = Ok (view x)
 seen view (Err fault) = Err (told fault)
 
--- the answer is what is said, unless memory was refused
+-- the result is this one, unless memory was refused
 abbrev pub Gives : {A B : Type 0} → (view : A → B) → Result A ConfigFault → (said : Result B Fault) → Type 0
 Gives view answer said = (answer ≡ Err code.OutOfMemory) ⊎ (seen view answer ≡ said)

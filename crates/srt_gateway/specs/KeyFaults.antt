@@ -1,4 +1,4 @@
--- What is wrong with a configuration, said key by key: beside the functions that read it (this profile).
+-- The faults of a configuration, key by key: stated without the functions that read it (this profile).
 use Rattle.std.specs.Prelude.{◌≡◌, ℕ, ℤ, pos, ◌⊎◌, ◌↔◌, true, false, codes, List, [], ◌∷◌, ◌++◌, Option, Some, None, Ok, Err}
 use Rattle.std.specs.Str.{bytes_eq}
 use Rattle.toml.specs.Data.{Data, Members, Items, no_items, item, get_member, as_str, as_integer, as_array, as_table}
@@ -15,7 +15,7 @@ use Rattle.srt_gateway.specs.Keys.{least_unknown}
 use Rattle.srt_gateway.specs.Routes.{route_keys, terms_at, are_tables, count}
 use Rattle.srt_gateway.specs.Config.{top_keys, settings_at}
 
--- the faults that something has
+-- a set of faults
 abbrev pub Faulty : Type 1
 Faulty = Fault → Type 0
 
@@ -23,7 +23,7 @@ abbrev pub HasNone : Faulty → Type 0
 HasNone faulty = (fault : Fault) → faulty fault → ⊥
 
 infixr 10 ◌⊳◌
--- the first has this fault; or it has none, and what comes later has this one
+-- the first part has this fault; or it has none, and the later part has this one
 abbrev pub ◌⊳◌ : Faulty → Faulty → Faulty
 (first ⊳ later) fault = first fault ⊎ (HasNone first × later fault)
 
@@ -31,18 +31,18 @@ abbrev pub ◌⊳◌ : Faulty → Faulty → Faulty
 abbrev pub Unknown : List Key → Members → Faulty
 Unknown keys table fault = (text : List ℕ) × (least_unknown keys table ≡ Some text) × (fault ≡ UnknownKey text)
 
--- what is wrong with one key: it is missing, its value is of another kind, or the value has a fault of its own
+-- the faults of one key: it is missing, its value has another type, or the value has a fault of its own
 abbrev pub AtKey : {A : Type 0} → (key : Key) (kind : Data → Option A) (Own : A → Faulty) → Members → Faulty
 AtKey {A} key kind Own table fault =
     ((get_member (key_name key) table ≡ None) × (fault ≡ Missing key)) ⊎
     ((value : Data) × (get_member (key_name key) table ≡ Some value) ×
     (((kind value ≡ None) × (fault ≡ WrongKind key)) ⊎ ((x : A) × (kind value ≡ Some x) × Own x fault)))
 
--- no 64 hexadecimal digits
+-- not 64 hexadecimal digits
 abbrev pub NoSecret : List ℕ → Faulty
 NoSecret text fault = (fault ≡ BadSecret) × ((bytes : List ℕ) → decode_sized text 32 ≡ Ok bytes → ⊥)
 
--- no address and port
+-- not an address and port
 abbrev pub NoAddress : List ℕ → Faulty
 NoAddress text fault = (fault ≡ BadAddress) × (address_in text ≡ None)
 
@@ -50,7 +50,7 @@ NoAddress text fault = (fault ≡ BadAddress) × (address_in text ≡ None)
 abbrev pub Outside : Key → (low high : ℕ) → ℤ → Faulty
 Outside key low high n fault = (fault ≡ OutOfRange key) × ((k : ℕ) → n ≡ pos k → is_between low high k ≡ true → ⊥)
 
--- a name of another form; or of the right form, and a route before has it
+-- a name of a wrong form; or one of the right form that an earlier route has
 abbrev pub NoName : (before : List Terms) → List ℕ → Faulty
 NoName before text fault = ((fault ≡ BadName) × (is_name text ≡ false)) ⊎ ((fault ≡ RepeatedName) × (is_name text ≡ true) × (is_taken text before ≡ true))
 
@@ -58,7 +58,7 @@ NoName before text fault = ((fault ≡ BadName) × (is_name text ≡ false)) ⊎
 abbrev pub NoMode : List ℕ → Faulty
 NoMode text fault = (fault ≡ OutOfRange Mode) × (bytes_eq text (codes "live") ≡ false) × (bytes_eq text (codes "buffer") ≡ false)
 
--- the keys of one route, in their order, where these routes stand before it
+-- the keys of one route, in their order, after these routes
 abbrev pub InRoute : (before : List Terms) → Members → Faulty
 InRoute before table =
     Unknown route_keys table ⊳
@@ -70,7 +70,7 @@ InRoute before table =
     AtKey Inbox as_integer (Outside Inbox 16 4096) table ⊳
     AtKey Outbox as_integer (Outside Outbox 16 4096) table
 
--- the routes one after the other: the first table has this fault, or it says a route, and the others have it
+-- the routes one after the other: the first table has this fault, or it is a route and the others have the fault
 abbrev pub InRoutes : (before : List Terms) → Items → Faulty
 InRoutes before no_items fault = ⊥
 InRoutes before (item value rest) fault =
@@ -95,6 +95,6 @@ InTable table =
     AtKey Workers as_integer (Outside Workers 1 16) table ⊳
     AtKey Route as_array NoRoutesOrIn table
 
--- what is told is the fault of the first key that has one
+-- the fault that is returned is that of the first key that has one
 abbrev pub TellsFirstFault : Type 0
 TellsFirstFault = (table : Members) (fault : Fault) → (settings_at table ≡ Err fault) ↔ InTable table fault

@@ -13,11 +13,11 @@ use Rattle.srt_gateway.specs.declared.config.faults.Key.{Key}
 use Rattle.srt_gateway.specs.Faults.{key_name}
 use Rattle.srt_gateway.specs.FirstFault.{Fault, UnknownKey, Missing, WrongKind, OutOfRange, ◌>>=◌}
 
--- one of these keys is spelled so
+-- one of these keys has this spelling
 abbrev pub is_key : List Key → List ℕ → Bool
 is_key keys text = list_any (λ (k : Key). bytes_eq (key_name k) text) keys
 
--- this text, or the other one where that comes first in the order of bytes
+-- the lesser of two texts in the order of bytes, or the only one
 abbrev pub lesser : List ℕ → Option (List ℕ) → List ℕ
 lesser text None = text
 lesser text (Some other) = if is_lt (slice_cmp nat_cmp other text) then other else text
@@ -57,7 +57,7 @@ abbrev pub within : Key → (low high : ℕ) → ℤ → Result ℕ Fault
 within key low high (pos n) = if is_between low high n then Ok n else Err (OutOfRange key)
 within key low high (negsuc n) = Err (OutOfRange key)
 
--- the number at a key, which is to lie within these limits
+-- the number at a key, which has to be within these limits
 unfoldable pub number_at : Key → (low high : ℕ) → Members → Result ℕ Fault
 number_at key low high table = value_at key table >>= λ value. of_kind key (as_integer value) >>= λ n. within key low high n
 

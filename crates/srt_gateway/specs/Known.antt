@@ -1,4 +1,4 @@
--- Readers and writers that tell their bytes: what was taken of the ones, and written to the others.
+-- Readers and writers whose bytes are known: what was taken from the readers, and written to the writers.
 use Rattle.std.specs.Prelude.{◌≡◌, ◌≢◌, ℕ, ◌+◌, List, [], ◌∷◌, ◌++◌, length, take, All, Option, Some, ◌<◌, ◌≤◌}
 use Rattle.srt_gateway.specs.Tape.{lines_of, line_max}
 use Rattle.srt_gateway.specs.declared.lines.Taken.{Taken}
@@ -6,45 +6,46 @@ use Rattle.srt_gateway.specs.declared.lines.Taken.TheVariants as taken
 use Rattle.srt_gateway.specs.declared.reader.Piece.{Piece}
 use Rattle.srt_gateway.specs.declared.reader.Piece.TheVariants.{Part, Line, Long, End}
 
--- where the old bytes are known, they are these and the new ones
+-- if the reader's bytes are known, they were these and then the ones that are left
 abbrev pub Took : (old new : Option (List ℕ)) → List ℕ → Type 0
 Took old new bs = (xs : List ℕ) → old ≡ Some xs → (ys : List ℕ) × (new ≡ Some ys) × (xs ≡ bs ++ ys)
 
--- where the bytes are known, they begin so
+-- if the bytes are known, they begin with these
 abbrev pub BeginsWith : Option (List ℕ) → List ℕ → Type 0
 BeginsWith old bs = (xs : List ℕ) → old ≡ Some xs → (ys : List ℕ) × (xs ≡ bs ++ ys)
 
--- where the bytes are known, none is left
+-- if the bytes are known, none is left
 abbrev pub AtEnd : Option (List ℕ) → Type 0
 AtEnd old = (xs : List ℕ) → old ≡ Some xs → xs ≡ []
 
--- where the old bytes are known, this line came first, and the new ones are the others
+-- if the reader's bytes are known, this line came first, and the others are left
 abbrev pub TookLine : (old new : Option (List ℕ)) → List ℕ → Type 0
 TookLine old new line = (xs : List ℕ) → old ≡ Some xs → (ys : List ℕ) × (new ≡ Some ys) × (lines_of xs ≡ line ∷ lines_of ys)
 
--- where the bytes are known, they have no line
+-- if the bytes are known, there is no line in them
 abbrev pub NoLine : Option (List ℕ) → Type 0
 NoLine old = (xs : List ℕ) → old ≡ Some xs → lines_of xs ≡ []
 
--- where the bytes are known, their first line is too long
+-- if the bytes are known, their first line is too long
 abbrev pub LongLine : Option (List ℕ) → Type 0
 LongLine old = (xs : List ℕ) → old ≡ Some xs → (line : List ℕ) × (lines : List (List ℕ)) × (lines_of xs ≡ line ∷ lines) × (line_max < length line)
 
--- where the old bytes are known, the new ones are these and the bytes written
+-- if the writer's bytes are known, these were appended to them
 abbrev pub Wrote : (old new : Option (List ℕ)) → List ℕ → Type 0
 Wrote old new bs = (ws : List ℕ) → old ≡ Some ws → new ≡ Some (ws ++ bs)
 
 abbrev pub NoLf : List ℕ → Type 0
 NoLf bs = All (λ b. b ≢ 10) bs
 
--- what one look at a reader gave: the line's bytes as far as they came before, and in the end those in the buffer
+-- the result of one read: the buffer's bytes are those of the line so far, which came before, and those that were taken
+-- now
 abbrev pub TookPiece : (old new : Option (List ℕ)) (before buffer : List ℕ) → Piece → Type 0
 TookPiece old new before buffer (Part n) = (bs : List ℕ) × Took old new bs × (take n buffer ≡ before ++ bs) × NoLf bs × (n ≤ line_max)
 TookPiece old new before buffer (Line n) = (bs : List ℕ) × Took old new (bs ++ 10 ∷ []) × (take n buffer ≡ before ++ bs) × NoLf bs × (n ≤ line_max)
 TookPiece old new before buffer Long = (bs : List ℕ) × BeginsWith old bs × NoLf bs × (line_max < length before + length bs)
 TookPiece old new before buffer End = AtEnd old × Took old new [] × (take (length before) buffer ≡ before)
 
--- what was taken in one call: a line at the front of the buffer, or none
+-- the result of taking one line: it is at the front of the buffer, or there is none
 abbrev pub TookOne : (old new : Option (List ℕ)) (buffer : List ℕ) → Taken → Type 0
 TookOne old new buffer (taken.Line n) = TookLine old new (take n buffer) × (n ≤ line_max)
 TookOne old new buffer taken.Long = LongLine old

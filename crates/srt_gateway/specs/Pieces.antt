@@ -4,7 +4,7 @@ use denote.Ref.{Bor}
 use Rattle.srt_gateway.specs.declared.events.Four.{Four}
 use Rattle.srt_gateway.specs.Tape.{fields_of}
 
--- the fields that stand behind a space; none where there was no space
+-- the fields after a space; none if there was no space
 abbrev pub fields_behind : Option (Bor (List ℕ)) → List (List ℕ)
 fields_behind None = []
 fields_behind (Some text) = fields_of text.now
@@ -13,7 +13,7 @@ fields_behind (Some text) = fields_of text.now
 abbrev pub fields_in : Four → List (List ℕ)
 fields_in four = four.first.now ∷ four.second.now ∷ four.third.now ∷ four.fourth.now ∷ []
 
--- the fields are these four, or there aren't four
+-- the text's four fields, or None if there aren't four
 abbrev pub FourOf : Option Four → List (List ℕ) → Type 0
 FourOf (Some four) fields = fields ≡ fields_in four
 FourOf None fields = (a b c d : List ℕ) → fields ≡ a ∷ b ∷ c ∷ d ∷ [] → ⊥

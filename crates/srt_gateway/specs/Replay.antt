@@ -1,4 +1,4 @@
--- What the replay of a tape writes (this profile).
+-- The output of a replay (this profile).
 use Rattle.std.specs.Prelude.{◌≡◌, ℕ, ◌+◌, nat_le, List, [], ◌∷◌, ◌++◌, take, drop, length, Option, None, Some, Result, Ok, Err, if◌then◌else◌}
 use Rattle.srt_seq.specs.Terms.{Terms}
 use Rattle.srt_lobby.specs.declared.classes.Class.TheVariants.{Route}
@@ -10,7 +10,7 @@ use Rattle.srt_gateway.specs.Events.{event_of}
 use Rattle.srt_gateway.specs.Texts.{event_text}
 use Rattle.srt_gateway.specs.Known.{Wrote}
 
--- the most lines of a tape
+-- the greatest number of lines of a tape
 abbrev pub lines_max : ℕ
 lines_max = 1_000_000
 
@@ -18,12 +18,12 @@ lines_max = 1_000_000
 unfoldable pub event_at : (routes number : ℕ) → (line : List ℕ) → Option Event
 event_at routes number line = if nat_le number lines_max then event_of routes line else None
 
--- events go on behind an event, and end where there is none
+-- an event and those after it; none after a line that isn't an event
 abbrev pub events_on : Option Event → (others : List Event) → List Event
 events_on None others = []
 events_on (Some event) others = event ∷ others
 
--- the events of lines, the oldest first, as far as the first line that says none; the first line has this number
+-- the events of lines, the oldest first, up to the first line that isn't an event; the first line has this number
 abbrev pub events_from : (routes number : ℕ) → List (List ℕ) → List Event
 events_from routes number [] = []
 events_from routes number (line ∷ lines) = events_on (event_at routes number line) (events_from routes (number + 1) lines)
@@ -32,41 +32,41 @@ abbrev pub fault_on : (number : ℕ) → Option Event → (others : Option ℕ) 
 fault_on number None others = Some number
 fault_on number (Some event) others = others
 
--- the number of the first line that says no event
+-- the number of the first line that isn't an event
 abbrev pub fault_from : (routes number : ℕ) → List (List ℕ) → Option ℕ
 fault_from routes number [] = None
 fault_from routes number (line ∷ lines) = fault_on number (event_at routes number line) (fault_from routes (number + 1) lines)
 
--- what is written for coming events, the oldest first, after past events, the newest first: each is answered by the
--- world, and then belongs to the past
+-- the text that is written for coming events, the oldest first, after past events, the newest first: the model gives
+-- each event's result, and the event then belongs to the past
 abbrev pub text_after : Sorting → Meaning → List Terms → (past coming : List Event) → List ℕ
 text_after class reply entries past [] = []
 text_after class reply entries past (event ∷ coming) = event_text class reply entries past event ++ text_after class reply entries (event ∷ past) coming
 
--- what is written for lines
+-- the text that is written for lines
 abbrev pub text_of : Sorting → Meaning → List Terms → List (List ℕ) → List ℕ
 text_of class reply entries lines = text_after class reply entries [] (events_from (length entries) 1 lines)
 
--- what is written for a tape
+-- the text that is written for a tape
 abbrev pub tape_text : Sorting → Meaning → List Terms → (tape : List ℕ) → List ℕ
 tape_text class reply entries tape = text_of class reply entries (lines_of tape)
 
--- what is written for its first lines
+-- the text that is written for its first lines
 abbrev pub front_text : Sorting → Meaning → List Terms → (tape : List ℕ) (lines : ℕ) → List ℕ
 front_text class reply entries tape lines = text_of class reply entries (take lines (lines_of tape))
 
--- the number of its first line that says no event, counted from 1
+-- the number of its first line that isn't an event, counted from 1
 abbrev pub fault_line : (routes : ℕ) → (tape : List ℕ) → Option ℕ
 fault_line routes tape = fault_from routes 1 (lines_of tape)
 
--- an arrival for whose copy memory is wanted: its class is a route
+-- an arrival whose copy takes memory: it is for a route
 abbrev pub WantsCopy : Sorting → Event → Type 0
 WantsCopy class (Arrives d moment refused) = (r : ℕ) × (class d moment ≡ Route r)
 WantsCopy class (Ticks r moment) = ⊥
 WantsCopy class (Turns r) = ⊥
 WantsCopy class (Sends r) = ⊥
 
--- behind this many lines, of which each says an event, comes one that says such an arrival
+-- after this number of lines, all events, comes a line with such an arrival
 pub record WantsMemory (class : Sorting) (routes : ℕ) (tape : List ℕ) (lines : ℕ) : Type 0 where
   pub line : List ℕ
   pub behind : List (List ℕ)
@@ -76,20 +76,20 @@ pub record WantsMemory (class : Sorting) (routes : ℕ) (tape : List ℕ) (lines
   pub event_is : event_at routes (lines + 1) line ≡ Some event
   pub wants : WantsCopy class event
 
--- what the replay of a tape answers, and what the writer, where its bytes are known, holds then
+-- the result of a replay, and what the writer then holds, if its bytes are known
 abbrev pub HasReplayed : Sorting → Meaning → List Terms → (tape : List ℕ) (before after : Option (List ℕ)) → Result (Unit {0}) ReplayFault → Type 0
 -- the whole text
 HasReplayed class reply entries tape before after (Ok u) = Wrote before after (tape_text class reply entries tape) × (fault_line (length entries) tape ≡ None)
--- the text of the lines before the first that says no event
+-- the text of the lines before the first that isn't an event
 HasReplayed class reply entries tape before after (Err (Tape line)) = Wrote before after (tape_text class reply entries tape) × (fault_line (length entries) tape ≡ Some line)
--- the text of the lines before an arrival of a route's
+-- the text of the lines before an arrival that is for a route
 HasReplayed class reply entries tape before after (Err OutOfMemory) = (lines : ℕ) × Wrote before after (front_text class reply entries tape lines) × WantsMemory class (length entries) tape lines
 -- the text of some first lines
 HasReplayed class reply entries tape before after (Err Read) = (lines : ℕ) × Wrote before after (front_text class reply entries tape lines)
--- a part of the text from its beginning
+-- a prefix of the text
 HasReplayed class reply entries tape before after (Err Write) = (text more : List ℕ) × Wrote before after text × (text ++ more ≡ tape_text class reply entries tape)
 
--- the same of a reader, where it tells its bytes
+-- the same of a reader, if its bytes are known
 abbrev pub Replays : Sorting → Meaning → List Terms → (reader writer after : Option (List ℕ)) → Result (Unit {0}) ReplayFault → Type 0
 Replays class reply entries reader writer after result = (tape : List ℕ) → reader ≡ Some tape → HasReplayed class reply entries tape writer after result
 

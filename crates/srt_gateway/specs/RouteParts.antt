@@ -1,4 +1,4 @@
--- What the parts of a route stand for.
+-- The parts of a route, as plain values.
 use Rattle.std.specs.Prelude.{List, Vec, map}
 use Rattle.std.specs.declared.alloc.Global.{Global}
 use Rattle.srt_seq.specs.Terms.{Terms, terms_of}

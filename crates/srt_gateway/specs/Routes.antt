@@ -1,4 +1,4 @@
--- What the tables of the routes say (this profile).
+-- The routes in a configuration's tables (this profile).
 use Rattle.std.specs.Prelude.{ℕ, suc, Bool, true, not, ◌&&◌, codes, List, [], ◌∷◌, ◌++◌, is_some, Result, Ok, Err, if◌then◌else◌}
 use Rattle.std.specs.Str.{bytes_eq}
 use Rattle.toml.specs.Data.{Items, no_items, item, Members, as_array, as_table}
@@ -12,7 +12,7 @@ use Rattle.srt_gateway.specs.declared.config.faults.Key.TheVariants.{Route, Name
 use Rattle.srt_gateway.specs.FirstFault.{Fault, WrongKind, OutOfRange, BadName, RepeatedName, ◌>>=◌}
 use Rattle.srt_gateway.specs.Keys.{known, value_at, text_at, number_at, of_kind}
 
--- a name of the right form that no route before has
+-- a name of the right form that no earlier route has
 unfoldable pub name_in : (before : List Terms) → List ℕ → Result (List ℕ) Fault
 name_in before text = if not (is_name text) then Err BadName else if is_taken text before then Err RepeatedName else Ok text
 
@@ -49,7 +49,7 @@ route_keys = Name ∷ Mode ∷ LatencyMs ∷ Buffer ∷ Sessions ∷ Inbox ∷ O
 abbrev pub terms_with : List ℕ → TheMode → Numbers → Terms
 terms_with name mode n = record { name = name; mode = mode; latency_ms = n.latency_ms; buffer = n.buffer; sessions = n.sessions; inbox = n.inbox; outbox = n.outbox }
 
--- the route that a table says, where these stand before it
+-- the route in a table, after these routes
 unfoldable pub terms_at : (before : List Terms) → Members → Result Terms Fault
 terms_at before table =
     known route_keys table >>= λ _.
@@ -67,13 +67,13 @@ abbrev pub count : Items → ℕ
 count no_items = 0
 count (item value rest) = suc (count rest)
 
--- the routes of the tables, behind those before
+-- the routes in these tables, after those before
 abbrev pub routes_from : (before : List Terms) → Items → Result (List Terms) Fault
 routes_from before no_items = Ok before
 routes_from before (item value rest) =
     of_kind Route (as_table value) >>= λ table. terms_at before table >>= λ terms. routes_from (before ++ terms ∷ []) rest
 
--- 1 to 511 tables, each of which says a route
+-- 1 to 511 tables, each of them a route
 unfoldable pub routes_in : Items → Result (List Terms) Fault
 routes_in items =
     if not (are_tables items) then Err (WrongKind Route)

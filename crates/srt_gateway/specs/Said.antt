@@ -1,17 +1,17 @@
--- What an event that was read stands for.
+-- The event that was read, as the model has it.
 use Rattle.std.specs.Prelude.{ℕ, ◌^◌, ◌<◌, ◌≤◌, List, take, false}
 use Rattle.srt_gateway.specs.declared.events.Said.{Said}
 use Rattle.srt_gateway.specs.declared.events.Said.TheVariants as said
 use Rattle.srt_hub.specs.World.{Event, Arrives, Ticks, Turns, Sends}
 
--- the event, with the datagram that stands at the front of the buffer
+-- the event, with its datagram at the front of the buffer
 abbrev pub event_said : (buffer : List ℕ) → Said → Event
 event_said buffer (said.Arrival peer moment len) = Arrives (record { peer = peer; bytes = take len buffer }) moment false
 event_said buffer (said.Tick route moment) = Ticks route moment
 event_said buffer (said.Turn route) = Turns route
 event_said buffer (said.Send route) = Sends route
 
--- the datagram stands within the buffer, the route is there, and the moment is below its limit
+-- the datagram is within the buffer, the route exists, and the moment is below its limit
 abbrev pub IsSound : (routes : ℕ) → Said → Type 0
 IsSound routes (said.Arrival peer moment len) = (len ≤ 2048) × (moment < 2 ^ 62)
 IsSound routes (said.Tick route moment) = (route < routes) × (moment < 2 ^ 62)

@@ -1,4 +1,4 @@
--- The lines of a replay that tell what was sent for a route.
+-- The lines of a replay for what was sent for a route.
 use Rattle.std.specs.Prelude.{◌≡◌, ℕ, ◌==◌, ◌&&◌, Bool, false, List, [], ◌∷◌, ◌++◌, length, take, map, codes, decimal, if◌then◌else◌}
 use Rattle.std.specs.Str.{bytes_eq}
 use Rattle.hex.specs.Hex.{encode_lower}
@@ -10,7 +10,7 @@ use Rattle.srt_gateway.specs.Tape.{lines_of}
 use Rattle.srt_gateway.specs.Replay.{events_from, tape_text}
 use Rattle.srt_gateway.specs.Step.{with_past}
 
--- what a tape makes happen to a gateway with so many routes, the oldest first
+-- the events of a tape for a gateway with this number of routes, the oldest first
 abbrev pub events_of : (routes : ℕ) → (tape : List ℕ) → List Event
 events_of routes tape = events_from routes 1 (lines_of tape)
 
@@ -33,24 +33,24 @@ sent_line d = codes "sent " ++ encode_lower d.peer.ip ++ 32 ∷ decimal d.peer.p
 abbrev pub is_sent_line : List ℕ → Bool
 is_sent_line line = bytes_eq (take 5 line) (codes "sent ")
 
--- of lines, one for each of these events, the `sent` lines at the sends of a route
+-- the `sent` lines at the sends of a route, out of the lines that belong to these events
 abbrev pub sent_at : (r : ℕ) → List Event → (lines : List (List ℕ)) → List (List ℕ)
 sent_at r [] lines = []
 sent_at r (event ∷ events) [] = []
 sent_at r (event ∷ events) (line ∷ lines) = if is_send r event && is_sent_line line then line ∷ sent_at r events lines else sent_at r events lines
 
--- the `sent` lines of a text at the lines `S r` of the tape that it answers
+-- the `sent` lines of a text at the lines `S r` of its tape
 abbrev pub sent_lines : (routes r : ℕ) → (tape text : List ℕ) → List (List ℕ)
 sent_lines routes r tape text = sent_at r (events_of routes tape) (lines_of text)
 
--- in what is written for a tape they are the lines of what was sent for the route
+-- in the text of a tape they are the lines of the datagrams that were sent for the route
 abbrev pub SentLinesTell : Type 0
 SentLinesTell =
     (class : Sorting) (reply : Meaning) (entries : List Terms) (r : ℕ) (tape : List ℕ) →
     sent_lines (length entries) r tape (tape_text class reply entries tape) ≡ map sent_line (sent class reply (terms_at entries r) r (happened (length entries) tape))
 
--- two tapes, replayed over gateways with the same secret and the same entry for a route: if the route accepted the same items
--- and nothing of it waits in the end, these lines are the same, and tell what the route alone replies
+-- two tapes, replayed over gateways with the same secret and the same entry for a route: if the route accepted the same
+-- items and nothing of it waits at the end, these lines are the same, and are those of what the route alone replies
 abbrev pub TapesAreIsolated : Type 0
 TapesAreIsolated =
     (class : (secret : List ℕ) → (names : List (List ℕ)) → Sorting) (reply : Meaning) (secret : List ℕ) (entries entries' : List Terms) (r : ℕ) (tape tape' : List ℕ) →

@@ -11,36 +11,37 @@ use Rattle.srt_gateway.specs.Texts.{event_text}
 use Rattle.srt_gateway.specs.Known.{TookLine, NoLine, Wrote}
 use Rattle.srt_gateway.specs.Replay.{event_at, events_from, text_of, fault_from, WantsCopy}
 
--- what a gateway stands for, by its events, the newest first
+-- a gateway's state as a property of its events, the newest first
 abbrev pub History : Type 1
 History = List Event → Type 0
 
--- an event after these events was answered with this text, and belongs to the past now
+-- an event after these events has this text as its answer, and now belongs to the past
 abbrev pub WasAnswered : Sorting → Meaning → List Terms → (past : List Event) (event : Event) (text : List ℕ) → History → Type 0
 WasAnswered class reply entries past event text After = (text ≡ event_text class reply entries past event) × After (event ∷ past)
 
--- an event's answer stands at the front of a buffer, or there was no memory for the copy of an arrival that is a route's
+-- an event's answer is at the front of a buffer, or the memory for the copy of an arrival to a route was refused
 abbrev pub EventAnswered : Sorting → Meaning → List Terms → (past : List Event) (event : Event) (buffer : List ℕ) → History → Result ℕ NoMemory → Type 0
 EventAnswered class reply entries past event buffer After (Ok n) = WasAnswered class reply entries past event (take n buffer) After
 EventAnswered class reply entries past event buffer After (Err fault) = WantsCopy class event
 
--- a line's answer stands at the front of a buffer, or the line says no event, or one for whose copy there was no memory
+-- a line's answer is at the front of a buffer, or the line isn't an event, or the memory for its arrival's copy was
+-- refused
 abbrev pub LineAnswered : Sorting → Meaning → List Terms → (past : List Event) (line buffer : List ℕ) → History → Result (Option ℕ) NoMemory → Type 0
 LineAnswered class reply entries past line buffer After (Ok (Some n)) = (event : Event) × (event_of (length entries) line ≡ Some event) × WasAnswered class reply entries past event (take n buffer) After
 LineAnswered class reply entries past line buffer After (Ok None) = event_of (length entries) line ≡ None
 LineAnswered class reply entries past line buffer After (Err fault) = (event : Event) × (event_of (length entries) line ≡ Some event) × WantsCopy class event
 
--- where the bytes are known, their first line, of this number, says no event
+-- if the bytes are known, their first line, with this number, isn't an event
 abbrev pub NoEvent : Option (List ℕ) → (routes number : ℕ) → Type 0
 NoEvent old routes number = (xs : List ℕ) → old ≡ Some xs → (line : List ℕ) × (lines : List (List ℕ)) × (lines_of xs ≡ line ∷ lines) × (event_at routes number line ≡ None)
 
--- a line was taken that says this event
+-- a line with this event was taken
 pub record TookEvent (old new : Option (List ℕ)) (routes number : ℕ) (event : Event) : Type 0 where
   pub line : List ℕ
   pub took : TookLine old new line
   pub event_is : event_at routes number line ≡ Some event
 
--- what one line's turn did: true where a line was answered, false where there is none
+-- the result of one line: true if it was answered, false if there is none
 abbrev pub Answered : Sorting → Meaning → List Terms → (past : List Event) → History → (old new held holds : Option (List ℕ)) (number : ℕ) → Result Bool ReplayFault → Type 0
 Answered class reply entries past After old new held holds number (Ok true) = (event : Event) × TookEvent old new (length entries) number event × Wrote held holds (event_text class reply entries past event) × After (event ∷ past)
 Answered class reply entries past After old new held holds number (Ok false) = NoLine old × (holds ≡ held)
@@ -54,7 +55,7 @@ abbrev pub with_past : (past came : List Event) → List Event
 with_past past [] = past
 with_past past (event ∷ came) = with_past (event ∷ past) came
 
--- a replay under way, before the line of this number; what is written is said where the writer's bytes are known
+-- a replay before the line with this number; the text is known only if the writer's bytes are
 pub record Replayed (class : Sorting) (reply : Meaning) (entries : List Terms) (Now : History) (tape : List ℕ) (held reader writer : Option (List ℕ)) (number : ℕ) : Type 0 where
   -- the lines that were answered, and the bytes that are left
   pub lines : List (List ℕ)

@@ -1,4 +1,4 @@
--- What is written for the answer to each event (this profile).
+-- The text of the answer to each event (this profile).
 use Rattle.std.specs.Prelude.{ℕ, ◌+◌, List, [], ◌∷◌, ◌++◌, Option, None, Some, codes, decimal}
 use Rattle.hex.specs.Hex.{encode_lower}
 use Rattle.srt_seq.specs.declared.shared.Turned.{Turned}
@@ -43,12 +43,12 @@ abbrev pub sent_text : Option Datagram → List ℕ
 sent_text None = codes "none" ++ 10 ∷ []
 sent_text (Some d) = codes "sent " ++ encode_lower d.peer.ip ++ 32 ∷ decimal d.peer.port ++ 32 ∷ encode_lower d.bytes ++ 10 ∷ []
 
--- an arrival for which there was no memory has no line
+-- an arrival whose memory was refused has no line
 abbrev pub arrival_text : Option Arrived → List ℕ
 arrival_text None = []
 arrival_text (Some answer) = arrived_text answer
 
--- the line that is written for an event after these events, the newest first
+-- the line of an event's answer, after these events, the newest first
 unfoldable pub event_text : Sorting → Meaning → List Terms → List Event → Event → List ℕ
 event_text class reply entries events (Arrives d moment refused) = arrival_text (arrival_of refused (room_at class reply entries events) (class d moment))
 event_text class reply entries events (Ticks r moment) = ticked_text r (tick (terms_at entries r) (lane_at class reply entries r events))

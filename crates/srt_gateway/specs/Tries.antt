@@ -1,4 +1,4 @@
--- A writer that counts its tries: how many the last text or the last flush took, and what came of the last one.
+-- A writer that counts its tries: the number for the last text or the last flush, and the result of the last one.
 use Rattle.std.specs.Prelude.{◌≡◌, ◌≢◌, ◌⊎◌, ℕ, ◌^◌, ◌<◌, Result, Ok, Err}
 use Rattle.std.specs.IoError.{error_kind}
 use Rattle.std.specs.declared.io.Error.{Error}
@@ -20,24 +20,24 @@ last_in note = note.last
 abbrev pub sink : {W : Type 0} → CountedWriter W → W
 sink writer = writer.writer
 
--- how many tries its last text or its last flush took
+-- the number of tries for the last text or the last flush
 abbrev pub tries_made : {W : Type 0} → CountedWriter W → ℕ
 tries_made writer = made_in writer.note
 
--- what came of the last one
+-- the result of the last try
 abbrev pub last_try : {W : Type 0} → CountedWriter W → Tried
 last_try writer = last_in writer.note
 
--- what an error says that came of a try
+-- the result that is noted for an error
 abbrev pub CameOfError : Error → Tried → Type 0
 CameOfError e tried = (error_kind e ≡ Interrupted → tried ≡ Nothing) × (error_kind e ≢ Interrupted → tried ≡ Failure)
 
--- what a write's answer says that came of it
+-- the result that is noted for what a write returned
 abbrev pub CameOfWrite : Result ℕ Error → Tried → Type 0
 CameOfWrite (Ok n) tried = (n ≡ 0 → tried ≡ NoBytes) × (0 < n → tried ≡ Bytes)
 CameOfWrite (Err e) tried = CameOfError e tried
 
--- and a flush's
+-- and for what a flush returned
 abbrev pub CameOfFlush : Result (Unit {0}) Error → Tried → Type 0
 CameOfFlush (Ok u) tried = tried ≡ Flushed
 CameOfFlush (Err e) tried = CameOfError e tried
@@ -49,7 +49,7 @@ WasGivenUp note = (last_in note ≡ NoBytes) ⊎ (last_in note ≡ Failure) ⊎ 
 abbrev pub IsUnwritten : {W : Type 0} → CountedWriter W → Type 0
 IsUnwritten writer = WasGivenUp writer.note
 
--- what ends as unwritten has its cause in the writer
+-- a result `Write` is caused by the writer
 abbrev pub HasWriteCause : {A W : Type 0} → CountedWriter W → Result A ReplayFault → Type 0
 HasWriteCause writer (Ok x) = Unit {0}
 HasWriteCause writer (Err (Tape line)) = Unit {0}
@@ -57,7 +57,7 @@ HasWriteCause writer (Err OutOfMemory) = Unit {0}
 HasWriteCause writer (Err Read) = Unit {0}
 HasWriteCause writer (Err Write) = IsUnwritten writer
 
--- and what ends otherwise was handed on at last
+-- and with any other result the last flush was done
 abbrev pub ReplayWritten : {W : Type 0} → CountedWriter W → Result (Unit {0}) ReplayFault → Type 0
 ReplayWritten writer (Ok u) = last_try writer ≡ Flushed
 ReplayWritten writer (Err (Tape line)) = last_try writer ≡ Flushed

@@ -18,16 +18,16 @@ pub use reading::read_config;
 use srt_cookie::Secret;
 use srt_seq::Entry;
 
-/// What the gateway is told when it starts.
+/// A configuration: everything that the gateway is started with.
 #[derive(Drop)]
 pub struct Config {
-    /// What its cookies are made with.
+    /// The secret of the handshake cookies: 32 bytes.
     pub secret: Secret,
-    /// Where it takes datagrams.
+    /// The address and UDP port at which `serve` receives datagrams.
     pub bind: BindAddress,
-    /// How many threads serve its routes: 1 to 16.
+    /// The number of threads that serve the routes in `serve`: 1 to 16.
     pub workers: u32,
-    /// Its routes, by their indexes: 1 to 511, with distinct names.
+    /// The routes, in the order of their indexes: 1 to 511, with distinct names.
     pub entries: Vec<Entry>,
     pub ghost served: { is_between 1 16 workers ≡ true },
     pub ghost sound: { fault_of (map terms_of entries.items) ≡ None },

@@ -1,4 +1,4 @@
-//! The events that a tape's lines say to a gateway.
+//! The events of a tape's lines (docs/PROTOCOL.md, "Tapes").
 
 ghost use Rattle.std.specs.Prelude.{◌≡◌, ◌≢◌, ◌∷◌, [], ◌≤◌, ◌<◌, ◌^◌, length, option_map, IfSome};
 ghost use Rattle.srt_gateway.specs.Tape.{fields_of};
@@ -12,28 +12,28 @@ use crate::lines::LINE_MAX;
 use crate::numbers::{read_address, read_bytes, read_number};
 use srt_seq::{MOMENT_END, Peer};
 
-/// An event as it was read; the datagram's bytes stand at the front of a buffer beside it.
+/// An event as it was read. The bytes of an arrival's datagram are at the front of a buffer beside it.
 #[derive(Clone, Copy)]
 pub(crate) enum Said {
-    /// A datagram comes.
+    /// `A`: a datagram arrives.
     Arrival {
-        /// From whom.
+        /// The sender's address.
         peer: Peer,
-        /// When, in microseconds.
+        /// The moment in microseconds, below 2^62.
         moment: u64,
-        /// How many bytes it has.
+        /// The length of the datagram in bytes, at most 2048.
         len: usize,
     },
-    /// A route is told the time, in microseconds.
+    /// `T`: a tick for a route, at a moment in microseconds, below 2^62.
     Tick {
         route: usize,
         moment: u64,
     },
-    /// A route moves a reply or applies an item.
+    /// `U`: a route moves a reply or applies an item.
     Turn {
         route: usize,
     },
-    /// A route's first reply is sent.
+    /// `S`: a route's oldest reply in the outbox is sent.
     Send {
         route: usize,
     },
@@ -46,7 +46,7 @@ struct Two<'a> {
     second: &'a [u8],
 }
 
-/// The field that a text is, where it is one.
+/// The only field of a text; None if there are more.
 fn one_field(text: &[u8]) -> Option<&[u8]>
     ensures { OneOf result (fields_of text.now) }
 {
@@ -57,7 +57,7 @@ fn one_field(text: &[u8]) -> Option<&[u8]>
     }
 }
 
-/// The fields of a text, where they are two.
+/// The two fields of a text; None if there aren't two.
 fn two_fields(text: &[u8]) -> Option<Two<'_>>
     ensures { TwoOf result (fields_of text.now) }
 {
@@ -81,7 +81,7 @@ struct Four<'a> {
     fourth: &'a [u8],
 }
 
-/// The fields of a text, where they are four.
+/// The four fields of a text; None if there aren't four.
 fn four_fields(text: &[u8]) -> Option<Four<'_>>
     ensures fields { FourOf result (fields_of text.now) }
     ensures within { IfSome result (λ four. length four.fourth.now ≤ length text.now) }
@@ -101,7 +101,8 @@ fn four_fields(text: &[u8]) -> Option<Four<'_>>
     }
 }
 
-/// The arrival that the fields behind a line's letter say. Its datagram is put at the front of the buffer.
+/// Reads an arrival from the fields after the line's letter: moment, address, port and bytes. The datagram is written
+/// to the front of the buffer.
 fn read_arrival(text: &[u8], buffer: &mut [u8; 2048]) -> Option<Said>
     requires { length text.now ≤ 4096 }
     ensures value { option_map (event_said buffer.new) result ≡ arrival_in (fields_of text.now) }
@@ -152,7 +153,7 @@ fn read_send(text: &[u8], routes: usize) -> Option<Said>
     })
 }
 
-/// The event that a line says, where it says one. A datagram is put at the front of the buffer.
+/// Reads the event of a line; None if it isn't one. A datagram is written to the front of the buffer.
 #[tactic(auto, unfolding(crate::specs::Events::event_in))]
 fn read_fields(line: &[u8], routes: usize, buffer: &mut [u8; 2048]) -> Option<Said>
     requires { length line.now ≤ 4096 }
@@ -169,8 +170,8 @@ fn read_fields(line: &[u8], routes: usize, buffer: &mut [u8; 2048]) -> Option<Sa
     }
 }
 
-/// The event that a line says to a gateway with so many routes, where it says one. A datagram is put at the
-/// front of the buffer.
+/// Reads the event of a line, for a gateway with `routes` routes; None if it isn't one or is longer than 4096 bytes. A
+/// datagram is written to the front of the buffer, whose bytes mean nothing after None.
 #[tactic(auto, unfolding(crate::specs::Events::event_of))]
 pub(crate) fn read_event(line: &[u8], routes: usize, buffer: &mut [u8; 2048]) -> Option<Said>
     ensures value { option_map (event_said buffer.new) result ≡ event_of routes line.now }

@@ -9,13 +9,13 @@ use memchr::memchr;
 /// A text split at its first space.
 #[derive(Clone, Copy)]
 pub(crate) struct Split<'a> {
-    /// What stands before the space.
+    /// The bytes before the space.
     pub(crate) field: &'a [u8],
-    /// What stands behind it, if there is one.
+    /// The bytes after the space, if there is one.
     pub(crate) rest: Option<&'a [u8]>,
 }
 
-/// The first field and what stands behind it.
+/// Splits a text at its first space. Linear in the length of the first field.
 pub(crate) fn split_field(text: &[u8]) -> Split<'_>
     ensures fields { fields_of text.now ≡ result.field.now ∷ fields_behind result.rest }
     ensures field_within { length result.field.now ≤ length text.now }

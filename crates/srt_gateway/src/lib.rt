@@ -1,4 +1,20 @@
-//! The gateway: its configuration, and tapes of events replayed to their answers.
+//! The gateway's configuration, and the replay of tapes: texts of events, one a line, run over a gateway without
+//! threads.
+//!
+//! It opens no file and no socket: text, reader and writer are arguments. The program is `srtgw`; the gateway with a
+//! socket and threads is in `srt_poller` and `srt_serve`. What an event does is decided by `srt_hub`.
+//!
+//! Types: `Config`, the secret, the address and the routes' entries; `ConfigFault`, the first thing that is wrong, with
+//! its `Key`; `CountedReader` and `CountedWriter`, a reader and a writer with a bound on the number of calls;
+//! `ReplayFault`, why a replay ended early.
+//!
+//! Calls: `read_config` on the text of a configuration; then `replay` on a tape, or `replay_over` with a hub of one's
+//! own.
+//!
+//! Files: `config.rt` and `config/` have the keys and their limits (docs/PROTOCOL.md, "Configuration"); `events.rt`,
+//! `fields.rt` and `numbers.rt` the grammar of a line ("Tapes"); `lines.rt` and `reader.rt` take lines; `texts.rt` and
+//! `writer.rt` write the answers; `replaying.rt` joins them. `laws.rt` states that tapes of one route don't depend on
+//! the others.
 #![tactic(auto)]
 
 mod config;

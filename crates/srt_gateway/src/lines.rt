@@ -1,4 +1,4 @@
-//! The lines of a reader, taken by whole pieces.
+//! The lines of a reader. A line ends with LF, which the last one may lack.
 
 ghost use Rattle.std.specs.Prelude.{◌≡◌, ◌<◌, ◌≤◌, IfOk};
 ghost use Rattle.srt_gateway.specs.Known.{TookOne};
@@ -7,21 +7,21 @@ ghost use Rattle.srt_gateway.specs.Counted.{source, reads_left, last_brought, Li
 use crate::reader::{CountedReader, Piece, ReadFailed};
 use std::io::BufRead;
 
-/// The most bytes of a line.
+/// The greatest length of a line, in bytes, without its LF.
 pub(crate) const LINE_MAX: usize = 4096;
 
-/// What was taken of a reader.
+/// The result of taking a line.
 #[derive(Clone, Copy)]
 pub(crate) enum Taken {
-    /// A line of so many bytes, without its LF.
+    /// A line with this length in bytes, without its LF.
     Line(usize),
-    /// Nothing; the next line is longer than a line may be.
+    /// Nothing; the next line is longer than 4096 bytes.
     Long,
     /// Nothing; there is no further line.
     End,
 }
 
-/// What was taken of a reader that came to its end behind this many bytes of a line.
+/// The result if the reader ended after this many bytes of a line.
 fn at_end(len: usize) -> Taken
     ensures none { len ≡ 0 → result ≡ Taken.End }
     ensures some { 0 < len → result ≡ Taken.Line len }
@@ -33,8 +33,8 @@ fn at_end(len: usize) -> Taken
     }
 }
 
-/// Takes the next line and puts it at the front of the buffer. A reader that failed before, or whose reads are spent,
-/// is not asked.
+/// Takes the next line and writes it to the front of `line`. The error is that the reader failed or has no read left;
+/// such a reader isn't called again.
 pub(crate) fn next_line<R: BufRead>(
     reader: &mut CountedReader<R>,
     line: &mut [u8; LINE_MAX],

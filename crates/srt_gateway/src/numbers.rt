@@ -1,4 +1,4 @@
-//! The forms of a tape's fields.
+//! Numbers, addresses and bytes in a tape's fields.
 
 ghost use Rattle.std.specs.Prelude.{◌≡◌, ◌^◌, ◌≤◌, ◌<◌, length, take, option_map, IfSome};
 ghost use Rattle.srt_gateway.specs.Tape.{below as under, digits_from, has_leading_zero as starts_with_zero, number_in, bytes_in, address_in};
@@ -9,7 +9,7 @@ fn has_leading_zero(text: &[u8]) -> bool
     text.len() > 1 && text[0] == b'0'
 }
 
-/// The number that decimal digits say, where it is below 2^64.
+/// Reads decimal digits; None if another byte is among them or the number isn't below 2^64.
 fn read_digits(text: &[u8]) -> Option<u64>
     ensures { result ≡ under (2 ^ 64) (digits_from 0 text.now) }
 {
@@ -27,7 +27,8 @@ fn read_digits(text: &[u8]) -> Option<u64>
     Some(number)
 }
 
-/// The number that decimal digits say, where it is below the limit and has no leading zero.
+/// Reads a decimal number; None if the text is empty, has a leading zero or a byte that is no digit, or if the number
+/// isn't below the limit.
 #[tactic(auto, unfolding(crate::specs::Tape::number_in))]
 pub(crate) fn read_number(text: &[u8], limit: u64) -> Option<u64>
     ensures value { result ≡ number_in limit text.now }
@@ -40,7 +41,7 @@ pub(crate) fn read_number(text: &[u8], limit: u64) -> Option<u64>
     if number < limit { Some(number) } else { None }
 }
 
-/// The 16 bytes of an address.
+/// Reads an address: 16 bytes in 32 hexadecimal digits, of either case.
 #[tactic(auto, unfolding(crate::specs::Tape::address_in))]
 pub(crate) fn read_address(text: &[u8]) -> Option<[u8; 16]>
     ensures { result ≡ address_in text.now }
@@ -52,7 +53,8 @@ pub(crate) fn read_address(text: &[u8]) -> Option<[u8; 16]>
     }
 }
 
-/// Puts the bytes that hexadecimal digits say at the front of `out`, and answers how many.
+/// Reads hexadecimal digits, of either case, into the front of `out`. Returns the number of bytes; None if they aren't
+/// pairs of digits. A failed read may change `out`.
 #[tactic(auto, unfolding(crate::specs::Tape::bytes_in))]
 pub(crate) fn read_bytes(text: &[u8], out: &mut [u8; 2048]) -> Option<usize>
     requires { length text.now ≤ 4096 }

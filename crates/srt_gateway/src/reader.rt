@@ -1,4 +1,4 @@
-//! A reader that counts its reads.
+//! A reader that counts its reads, so that a replay ends even if its reader is interrupted forever.
 
 ghost use Rattle.std.specs.Prelude.{◌≡◌, ◌≢◌, ◌<◌, ◌≤◌, ◌+◌, ◌^◌, [], true, false, IfOk, IfSome, length, take};
 ghost use Rattle.std.specs.Io.{StartsWith};
@@ -12,56 +12,56 @@ use memchr::memchr;
 use srt_seq::write_at;
 use std::io::{self, BufRead, ErrorKind};
 
-/// The most reads of one replay.
+/// The greatest number of reads of one replay.
 const READS_MAX: u64 = 1 << 33;
 
-/// What a read brought.
+/// The result of the last read.
 #[derive(Clone, Copy, Debug, PartialEq, Eq)]
 pub enum Brought {
-    /// Nothing yet: no read was asked for, or the last one was interrupted.
+    /// Nothing: no read was made yet, or the last one was interrupted.
     Nothing,
-    /// Bytes.
+    /// At least one byte.
     Bytes,
-    /// The end: there are no further bytes.
+    /// The end: there are no more bytes.
     End,
-    /// That the reader failed.
+    /// An error other than an interruption.
     Failure,
 }
 
-/// How many reads may still be asked of a reader, and what the last one brought.
+/// The number of reads that are left, and the result of the last one.
 #[derive(Drop)]
 struct ReadBudget {
     left: u64,
     brought: Brought,
 }
 
-/// A reader, how many reads may still be asked of it, and what the last one brought. The reader is reached by
-/// nothing else: each look at what it has is one read of the budget, an interrupted one too. After a failed read,
-/// and when the budget is spent, it is not asked again.
+/// A reader, the number of reads that are left, and the result of the last one. Nothing else has access to the reader:
+/// each call of its `fill_buf` is one read, also an interrupted one. After a failed read, and if no read is left, it
+/// isn't called again.
 #[derive(Drop)]
 pub struct CountedReader<R> {
     reader: R,
     budget: ReadBudget,
 }
 
-/// The reader failed, or may be asked no more.
+/// The reader failed, or no read is left.
 #[derive(Clone, Copy)]
 pub(crate) struct ReadFailed;
 
-/// What one look at a reader gave. A length is that of the line as far as it came.
+/// The result of one read. A length is that of the line so far.
 #[derive(Clone, Copy)]
 pub(crate) enum Piece {
-    /// A part of the line, or nothing.
+    /// A part of the line, perhaps empty.
     Part(usize),
-    /// The rest of the line, and its LF.
+    /// The rest of the line. Its LF was taken, too.
     Line(usize),
-    /// More than a line may have; it is still in the reader.
+    /// The line is longer than 4096 bytes; this part of it wasn't taken from the reader.
     Long,
-    /// There is nothing more.
+    /// There are no more bytes.
     End,
 }
 
-/// What a read brought that gave this.
+/// The result of a read that returned this.
 fn brought_by(shown: &io::Result<&[u8]>) -> Brought
     ensures { BroughtBy shown.now result }
 {
@@ -81,7 +81,7 @@ fn brought_by(shown: &io::Result<&[u8]>) -> Brought
     }
 }
 
-/// Looks at what the reader has: one read of the budget, which keeps what it brought.
+/// One read: returns what the reader has buffered, and notes the result in the budget.
 fn look<'a, R: BufRead>(reader: &'a mut R, budget: &mut ReadBudget) -> io::Result<&'a [u8]>
     requires { 0 < left_in budget.old }
     ensures spent { left_in budget.new + 1 ≡ left_in budget.old }
@@ -96,7 +96,7 @@ fn look<'a, R: BufRead>(reader: &'a mut R, budget: &mut ReadBudget) -> io::Resul
     shown
 }
 
-/// Looks once at what the reader has, and puts what belongs to the line behind the bytes that came before.
+/// One read: appends what belongs to the line to its first `len` bytes.
 fn take_piece<R: BufRead>(
     reader: &mut R,
     budget: &mut ReadBudget,
@@ -143,7 +143,7 @@ fn take_piece<R: BufRead>(
 }
 
 impl<R> CountedReader<R> {
-    /// A reader with the 2^33 reads of a replay.
+    /// A counted reader with the 2^33 reads of a replay.
     pub fn new(reader: R) -> CountedReader<R>
         ensures source { source result ≡ reader }
         ensures left { reads_left result ≡ 2 ^ 33 }
@@ -152,7 +152,7 @@ impl<R> CountedReader<R> {
         CountedReader::within(reader, READS_MAX)
     }
 
-    /// A reader that may be asked for this number of reads.
+    /// A counted reader with this number of reads.
     pub fn within(reader: R, reads: u64) -> CountedReader<R>
         ensures source { source result ≡ reader }
         ensures left { reads_left result ≡ reads }
@@ -167,7 +167,7 @@ impl<R> CountedReader<R> {
         }
     }
 
-    /// How many reads may still be asked for.
+    /// The number of reads that are left.
     pub fn left(&self) -> u64
         ensures { result ≡ reads_left self.now }
     {
@@ -181,7 +181,7 @@ impl<R> CountedReader<R> {
         self.budget.brought
     }
 
-    /// Whether a read is left and the last one didn't fail.
+    /// Whether a read is left, and the last one didn't fail.
     pub(crate) fn may_look(&self) -> bool
         ensures yes { result ≡ true → MayLook self.now }
         ensures no { result ≡ false → WasUnread (reads_left self.now) (last_brought self.now) }
@@ -194,8 +194,7 @@ impl<R> CountedReader<R> {
 }
 
 impl<R: BufRead> CountedReader<R> {
-    /// Looks once at what the reader has, which is one read, and puts what belongs to the line behind the bytes that
-    /// came before.
+    /// One read: appends what belongs to the line to its first `len` bytes.
     pub(crate) fn take_piece(
         &mut self,
         line: &mut [u8; LINE_MAX],

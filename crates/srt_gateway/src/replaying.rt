@@ -1,4 +1,4 @@
-//! Tapes replayed over a hub: each line's event happens, and its answer is written as a line.
+//! Tapes replayed over a hub: the event of each line is run, and its answer is written as a line.
 
 ghost use Rattle.std.specs.Prelude.{◌≡◌, ◌≤◌, ◌<◌, ◌^◌, ◌⊎◌, ℕ, List, [], IfOk, IfSome, take, length, map, false};
 ghost use Rattle.srt_seq.specs.Terms.{Terms, terms_of};
@@ -24,23 +24,25 @@ use srt_seq::{OpenFault, Peer};
 use std::alloc::Global;
 use std::io::{BufRead, Write};
 
-/// The most lines of a tape.
+/// The greatest number of lines of a tape.
 pub(crate) const LINES_MAX: u32 = 1_000_000;
 
-/// Why a replay ended early. What was written before stands.
+/// Why a replay ended early. What was written before stays written.
 #[derive(Clone, Copy, Debug, PartialEq, Eq)]
 pub enum ReplayFault {
-    /// The line of this number, counted from 1, says no event.
+    /// The line with this number, counted from 1, isn't an event, is longer than 4096 bytes, or comes after 1,000,000
+    /// lines.
     Tape(u32),
-    /// The memory was refused: for the gateway's routes, or for the copy of a route's datagram.
+    /// Memory was refused: for the gateway's routes, or for the copy of a datagram to a route.
     OutOfMemory,
-    /// The reader failed, or its reads are spent and brought no end and no fault.
+    /// The reader failed, or its reads were used up before the end of the tape.
     Read,
-    /// The writer failed, took nothing of what was handed to it, or was interrupted too often.
+    /// The writer failed, took none of the bytes that it was given, or was interrupted too often.
     Write,
 }
 
-/// A datagram comes, and its answer's line is put at the front of `out`. Answers the line's length.
+/// Runs an arrival, and writes its answer as a line to the front of `out`. Returns the line's length. The error is that
+/// the memory for the datagram's copy was refused.
 #[tactic(auto, unfolding(crate::specs::Texts::event_text))]
 fn answer_arrival<R: RouteStep, L: Lobby>(
     alloc: Global,
@@ -60,7 +62,7 @@ fn answer_arrival<R: RouteStep, L: Lobby>(
     }
 }
 
-/// A route is told the time, and its answer's line is put at the front of `out`. Answers the line's length.
+/// Runs a tick, and writes its answer as a line to the front of `out`. Returns the line's length.
 #[tactic(auto, unfolding(crate::specs::Texts::event_text))]
 fn answer_tick<R: RouteStep, L: Lobby>(
     hub: &mut Hub<R, L>,
@@ -77,7 +79,7 @@ fn answer_tick<R: RouteStep, L: Lobby>(
     write_ticked(route, answer, out)
 }
 
-/// A route takes a turn, and its answer's line is put at the front of `out`. Answers the line's length.
+/// Runs a turn, and writes its answer as a line to the front of `out`. Returns the line's length.
 #[tactic(auto, unfolding(crate::specs::Texts::event_text))]
 fn answer_turn<R: RouteStep, L: Lobby>(
     hub: &mut Hub<R, L>,
@@ -92,7 +94,8 @@ fn answer_turn<R: RouteStep, L: Lobby>(
     write_turned(answer, out)
 }
 
-/// A route's first reply is sent, and its line is put at the front of `out`. Answers the line's length.
+/// Runs a send, and writes the datagram that was sent, or `none`, as a line to the front of `out`. Returns the line's
+/// length.
 #[tactic(auto, unfolding(crate::specs::Texts::event_text))]
 fn answer_send<R: RouteStep, L: Lobby>(
     hub: &mut Hub<R, L>,
@@ -110,7 +113,7 @@ fn answer_send<R: RouteStep, L: Lobby>(
     }
 }
 
-/// What a replay works in, made once.
+/// The buffers of a replay, made once: for a line, its datagram, a packet to send, and an answer.
 #[derive(Drop)]
 struct Buffers {
     line: [u8; LINE_MAX],
@@ -119,7 +122,7 @@ struct Buffers {
     text: [u8; TEXT_MAX],
 }
 
-/// An event happens, and its answer's line is put at the front of `out`. Answers the line's length.
+/// Runs an event, and writes its answer as a line to the front of `out`. Returns the line's length.
 fn answer_event<R: RouteStep, L: Lobby>(
     alloc: Global,
     hub: &mut Hub<R, L>,
@@ -142,8 +145,8 @@ fn answer_event<R: RouteStep, L: Lobby>(
     }
 }
 
-/// The event of a line happens, and its answer's line is put at the front of `out`. Answers the line's length;
-/// None where the line says no event.
+/// Runs the event of a line, and writes its answer as a line to the front of `out`. Returns the line's length; None if
+/// the line isn't an event.
 fn answer_line<R: RouteStep, L: Lobby>(
     alloc: Global,
     hub: &mut Hub<R, L>,
@@ -164,7 +167,7 @@ fn answer_line<R: RouteStep, L: Lobby>(
     }
 }
 
-/// Takes the next line, which has this number, and writes its answer. False where there is none.
+/// Takes the next line, which has this number, and writes its answer. Returns false if there is no further line.
 #[tactic(auto, unfolding(crate::specs::Replay::event_at))]
 fn answer_next<R: RouteStep, L: Lobby, B: BufRead, W: Write>(
     alloc: Global,
@@ -206,7 +209,7 @@ fn answer_next<R: RouteStep, L: Lobby, B: BufRead, W: Write>(
     }
 }
 
-/// Answers the lines of a tape one after the other.
+/// Runs the lines of a tape one after the other.
 fn answer_lines<R: RouteStep, L: Lobby, B: BufRead, W: Write>(
     alloc: Global,
     hub: &mut Hub<R, L>,
@@ -231,14 +234,14 @@ fn answer_lines<R: RouteStep, L: Lobby, B: BufRead, W: Write>(
             Err(fault) => return Err(fault),
         }
     }
-    // The line after the last that a tape may have is a fault.
+    // The line after the 1,000,000th is a fault.
     unreachable!()
 }
 
-/// Replays a tape over a hub to which nothing has happened: each line's event happens, and its answer is written
-/// as a line. The tape is read and the text written in blocks as the reader and the writer hold them, so hand in
-/// ones with buffers. Each look at the reader is one of its reads, an interrupted one too. The writer is flushed in
-/// the end, unless it failed. Memory is taken for the copies of routes' datagrams alone.
+/// Replays a tape over a hub without events so far: runs the event of each line, and writes its answer as a line. Reads
+/// and writes are as large as the reader's and the writer's buffers, so pass ones with buffers. Each call of the reader
+/// counts as a read, also an interrupted one. The writer is flushed at the end, unless it failed. Only copies of
+/// datagrams to routes take memory. Errors: see `ReplayFault`.
 pub fn replay_over<R: RouteStep, L: Lobby, B: BufRead, W: Write>(
     alloc: Global,
     hub: &mut Hub<R, L>,
@@ -260,8 +263,8 @@ pub fn replay_over<R: RouteStep, L: Lobby, B: BufRead, W: Write>(
     }
 }
 
-/// Replays a tape over the gateway of a configuration, to which nothing has happened. It takes the memory of the
-/// configuration's routes first; where that is refused, nothing is read or written.
+/// Replays a tape over the gateway of a configuration, without events so far. Takes the memory of the routes first; if
+/// that is refused, nothing is read or written, and the error is `OutOfMemory`. Else as `replay_over`.
 pub fn replay<B: BufRead, W: Write>(
     alloc: Global,
     config: &Config,
@@ -276,7 +279,7 @@ pub fn replay<B: BufRead, W: Write>(
     match SrtGateway::open(alloc, config.secret, config.entries.as_slice()) {
         Ok(mut hub) => replay_over(alloc, &mut hub, reader, writer),
         Err(OpenFault::OutOfMemory) => Err(ReplayFault::OutOfMemory),
-        // A configuration has names and numbers that can be opened.
+        // A configuration has only names and numbers that a gateway can be opened with.
         Err(OpenFault::Names | OpenFault::Limits) => unreachable!(),
     }
 }

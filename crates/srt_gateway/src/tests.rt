@@ -1,4 +1,4 @@
-//! Configurations and tapes with what they give. Cookies were computed by Python's hashlib.
+//! Configurations and tapes with their results. Cookies were computed by Python's hashlib.
 
 mod configs;
 mod devices;
@@ -34,7 +34,7 @@ inbox = 16
 outbox = 16
 ";
 
-/// The configuration that a text says.
+/// The configuration of a text.
 fn config_of(rt: &(impl AllocGlobal + Abort), text: &str) -> Result<Config, Fail> {
     match read_config(rt.alloc(), text) {
         Ok(config) => Ok(config),
@@ -42,7 +42,7 @@ fn config_of(rt: &(impl AllocGlobal + Abort), text: &str) -> Result<Config, Fail
     }
 }
 
-/// Asserts that the replay of a tape in memory writes this text, and ends so.
+/// Asserts that the replay of a tape in memory writes this text and has this result.
 fn assert_replayed(
     rt: &(impl AllocGlobal + Abort),
     tape: &[u8],
@@ -61,7 +61,7 @@ fn assert_replayed(
     }
 }
 
-/// Asserts that a line, behind one that is dropped as no packet, says no event.
+/// Asserts that a line isn't an event. The line before it is a datagram that is dropped because it isn't a packet.
 fn assert_no_event(rt: &(impl AllocGlobal + Abort), line: &str) -> Result<(), Fail> {
     let mut tape = Vec::new(rt.alloc());
     tape.extend_from_slice(b"A 0 00000000000000000000ffff7f000001 5000 \n")?;

@@ -1,4 +1,4 @@
-//! The lines of answers.
+//! The lines that a replay writes: the answer to each event.
 
 ghost use Rattle.std.specs.Prelude.{◌≡◌, ◌+◌, ◌*◌, ◌++◌, ◌∷◌, [], ◌≤◌, None, Some, take, length, decimal};
 ghost use Rattle.hex.specs.Hex.{encode_lower};
@@ -8,7 +8,7 @@ use itoa::Buffer;
 use srt_hub::{Arrived, Cause, Ticked};
 use srt_seq::{Peer, Turned, write_at};
 
-/// The most bytes of an answer's line.
+/// The greatest length of an answer's line, in bytes, with its LF.
 pub(crate) const TEXT_MAX: usize = 4096;
 
 fn digit_of(cause: Cause) -> u8
@@ -17,7 +17,7 @@ fn digit_of(cause: Cause) -> u8
     b'0' + cause.number()
 }
 
-/// Puts the decimal digits of a number at a place, and answers where they end.
+/// Writes a number in decimal digits at offset `at`. Returns the offset behind it.
 fn write_number(out: &mut [u8; TEXT_MAX], at: usize, number: usize) -> usize
     requires { at ≤ 4000 }
     ensures end { result ≤ at + 20 }
@@ -27,7 +27,7 @@ fn write_number(out: &mut [u8; TEXT_MAX], at: usize, number: usize) -> usize
     write_at(out, at, digits.format(number).as_bytes())
 }
 
-/// Puts the hexadecimal digits of bytes at a place, and answers where they end.
+/// Writes bytes in hexadecimal digits at offset `at`. Returns the offset behind them.
 fn write_hex(out: &mut [u8; TEXT_MAX], at: usize, bytes: &[u8]) -> usize
     requires { at + 2 * length bytes.now ≤ 4096 }
     ensures end { result ≡ at + 2 * length bytes.now }
@@ -48,7 +48,8 @@ fn write_route(out: &mut [u8; TEXT_MAX], words: &[u8], route: usize) -> usize
     write_at(out, end, b"\n")
 }
 
-/// Puts the line of an arrival's answer at the front of `out`, and answers its length.
+/// Writes the line of an arrival's result to the front of `out`: `answer` and bytes, `accepted` or `full` and the
+/// route, or `dropped` and the cause. Returns its length.
 pub(crate) fn write_arrived(answer: &Arrived, out: &mut [u8; TEXT_MAX]) -> usize
     ensures within { result ≤ 4096 }
     ensures text { take result out.new ≡ arrived_text answer.now }
@@ -68,7 +69,7 @@ pub(crate) fn write_arrived(answer: &Arrived, out: &mut [u8; TEXT_MAX]) -> usize
     }
 }
 
-/// Puts the line of a tick's answer at the front of `out`, and answers its length.
+/// Writes the line of a tick's result to the front of `out`: `accepted` or `full` and the route. Returns its length.
 pub(crate) fn write_ticked(route: usize, answer: Ticked, out: &mut [u8; TEXT_MAX]) -> usize
     ensures within { result ≤ 4096 }
     ensures text { take result out.new ≡ ticked_text route answer }
@@ -79,7 +80,8 @@ pub(crate) fn write_ticked(route: usize, answer: Ticked, out: &mut [u8; TEXT_MAX
     }
 }
 
-/// Puts the line of a turn's answer at the front of `out`, and answers its length.
+/// Writes the line of a turn's result to the front of `out`: `moved`, `applied`, `blocked` or `idle`. Returns its
+/// length.
 pub(crate) fn write_turned(answer: Turned, out: &mut [u8; TEXT_MAX]) -> usize
     ensures within { result ≤ 4096 }
     ensures text { take result out.new ≡ turned_text answer }
@@ -92,7 +94,7 @@ pub(crate) fn write_turned(answer: Turned, out: &mut [u8; TEXT_MAX]) -> usize
     }
 }
 
-/// Puts the line of a send that had nothing to send at the front of `out`, and answers its length.
+/// Writes the line of a send with an empty outbox, `none`, to the front of `out`. Returns its length.
 pub(crate) fn write_none(out: &mut [u8; TEXT_MAX]) -> usize
     ensures within { result ≤ 4096 }
     ensures text { take result out.new ≡ sent_text None }
@@ -100,7 +102,8 @@ pub(crate) fn write_none(out: &mut [u8; TEXT_MAX]) -> usize
     write_at(out, 0, b"none\n")
 }
 
-/// Puts the line of a datagram that was sent at the front of `out`, and answers its length.
+/// Writes the line of a datagram that was sent to the front of `out`: `sent`, the address, the port and the bytes.
+/// Returns its length.
 pub(crate) fn write_sent(peer: Peer, bytes: &[u8], out: &mut [u8; TEXT_MAX]) -> usize
     requires { length bytes.now ≤ 1472 }
     ensures within { result ≤ 4096 }

@@ -1,4 +1,4 @@
-//! A writer that counts its tries.
+//! A writer that counts its tries, so that a replay ends even if its writer is interrupted forever.
 
 ghost use Rattle.std.specs.Prelude.{◌≡◌, ℕ, ◌+◌, ◌<◌, ◌^◌, OnOk, OnErr, take};
 ghost use Rattle.std.specs.Io.{WritesAtMost};
@@ -8,44 +8,44 @@ ghost use Rattle.srt_gateway.specs.Tries.{CameOfWrite, CameOfFlush, WasGivenUp, 
 
 use std::io::{self, ErrorKind, Write};
 
-/// The most tries to write one text, and to flush.
+/// The greatest number of tries to write one text, and to flush.
 const TRIES_MAX: u64 = 1 << 33;
 
-/// What came of a try to write or to flush.
+/// The result of the last try to write or to flush.
 #[derive(Clone, Copy, Debug, PartialEq, Eq)]
 pub enum Tried {
-    /// Nothing: no try was made, or the last one was interrupted.
+    /// Nothing: no try was made yet, or the last one was interrupted.
     Nothing,
-    /// Bytes were taken.
+    /// At least one byte was taken.
     Bytes,
-    /// None of the bytes that were handed over was taken.
+    /// None of the bytes was taken.
     NoBytes,
-    /// All that was taken was handed on.
+    /// The flush is done.
     Flushed,
-    /// The writer failed.
+    /// An error other than an interruption.
     Failure,
 }
 
-/// How many tries were made for the last text or the last flush, and what came of the last try.
+/// The number of tries for the last text or the last flush, and the result of the last try.
 #[derive(Drop)]
 struct TryNote {
     made: u64,
     last: Tried,
 }
 
-/// A writer, how many tries the last text or the last flush took, and what came of the last try. The writer is
-/// written to by nothing else.
+/// A writer, the number of tries for the last text or the last flush, and the result of the last try. Nothing else has
+/// access to the writer.
 #[derive(Drop)]
 pub struct CountedWriter<W> {
     writer: W,
     note: TryNote,
 }
 
-/// The writer failed, took nothing, or was interrupted too often.
+/// The writer failed, took none of the bytes, or was interrupted too often.
 #[derive(Clone, Copy)]
 pub(crate) struct WriteFailed;
 
-/// What came of a write that gave this.
+/// The result of a write that returned this.
 fn came_of_write(written: &io::Result<usize>) -> Tried
     ensures { CameOfWrite written.now result }
 {
@@ -61,7 +61,7 @@ fn came_of_write(written: &io::Result<usize>) -> Tried
     }
 }
 
-/// What came of a flush that gave this.
+/// The result of a flush that returned this.
 fn came_of_flush(flushed: &io::Result<()>) -> Tried
     ensures { CameOfFlush flushed.now result }
 {
@@ -76,7 +76,7 @@ fn came_of_flush(flushed: &io::Result<()>) -> Tried
     }
 }
 
-/// Writes some first of the bytes: one try, and the note keeps what came of it.
+/// One try to write: the writer takes a prefix of the bytes. The result is noted.
 fn try_write<W: Write>(writer: &mut W, note: &mut TryNote, bytes: &[u8]) -> io::Result<usize>
     requires { made_in note.old < 2 ^ 33 }
     ensures made { made_in note.new ≡ made_in note.old + 1 }
@@ -90,7 +90,7 @@ fn try_write<W: Write>(writer: &mut W, note: &mut TryNote, bytes: &[u8]) -> io::
     written
 }
 
-/// Hands on what the writer holds: one try, and the note keeps what came of it.
+/// One try to flush. The result is noted.
 fn try_flush<W: Write>(writer: &mut W, note: &mut TryNote) -> io::Result<()>
     requires { made_in note.old < 2 ^ 33 }
     ensures made { made_in note.new ≡ made_in note.old + 1 }
@@ -103,7 +103,7 @@ fn try_flush<W: Write>(writer: &mut W, note: &mut TryNote) -> io::Result<()>
     flushed
 }
 
-/// Writes bytes, or some first of them where the writer fails. An interrupted write is tried again.
+/// Writes all bytes, or a prefix of them if the writer fails. An interrupted write is tried again, up to 2^33 tries.
 fn write_bytes<W: Write>(
     writer: &mut W,
     note: &mut TryNote,
@@ -133,7 +133,7 @@ fn write_bytes<W: Write>(
     Err(WriteFailed)
 }
 
-/// Hands on what a writer holds. An interrupted flush is tried again.
+/// Flushes the writer. An interrupted flush is tried again, up to 2^33 tries.
 fn flush<W: Write>(writer: &mut W, note: &mut TryNote) -> Result<(), WriteFailed>
     ensures bytes { Keeps (W.contents writer.old) (W.contents writer.new) }
     ensures ok { OnOk result (last_in note.new ≡ Tried.Flushed) }
@@ -155,7 +155,7 @@ fn flush<W: Write>(writer: &mut W, note: &mut TryNote) -> Result<(), WriteFailed
 }
 
 impl<W> CountedWriter<W> {
-    /// A writer to which nothing was written.
+    /// A counted writer without tries so far.
     pub fn new(writer: W) -> CountedWriter<W>
         ensures sink { sink result ≡ writer }
         ensures last { last_try result ≡ Tried.Nothing }
@@ -176,7 +176,7 @@ impl<W> CountedWriter<W> {
         &self.writer
     }
 
-    /// What came of the last try.
+    /// The result of the last try.
     pub fn tried(&self) -> Tried
         ensures { result ≡ last_try self.now }
     {
@@ -185,7 +185,7 @@ impl<W> CountedWriter<W> {
 }
 
 impl<W: Write> CountedWriter<W> {
-    /// Writes bytes, or some first of them where the writer fails.
+    /// Writes all bytes, or a prefix of them if the writer fails.
     pub(crate) fn write_bytes(&mut self, bytes: &[u8]) -> Result<(), WriteFailed>
         ensures ok { OnOk result (Wrote (W.contents (sink self.old)) (W.contents (sink self.new)) bytes.now) }
         ensures err { OnErr result ((n : ℕ) × Wrote (W.contents (sink self.old)) (W.contents (sink self.new)) (take n bytes.now)) }
@@ -194,7 +194,7 @@ impl<W: Write> CountedWriter<W> {
         write_bytes(&mut self.writer, &mut self.note, bytes)
     }
 
-    /// Hands on what the writer holds.
+    /// Flushes the writer.
     pub(crate) fn flush(&mut self) -> Result<(), WriteFailed>
         ensures bytes { Keeps (W.contents (sink self.old)) (W.contents (sink self.new)) }
         ensures ok { OnOk result (last_try self.new ≡ Tried.Flushed) }

@@ -10,13 +10,13 @@ use memchr::memchr;
 /// An IPv4 address and a port.
 #[derive(Clone, Copy, Debug, PartialEq, Eq)]
 pub struct BindAddress {
-    /// The address, the greatest byte first.
+    /// The four octets as they are written, the first one first.
     pub ip: [u8; 4],
-    /// The UDP port; 0 for any.
+    /// The UDP port; 0 if the system may choose one.
     pub port: u16,
 }
 
-/// A text split at the first such byte.
+/// A text split at the first byte of some value, which belongs to neither part.
 #[derive(Clone, Copy)]
 pub(crate) struct Parts<'a> {
     pub(crate) before: &'a [u8],
@@ -35,7 +35,7 @@ fn parted(at: u8, text: &[u8]) -> Option<Parts<'_>>
     }
 }
 
-/// An octet and what stands behind it.
+/// An octet, and the text after the byte that ends it.
 #[derive(Clone, Copy)]
 pub(crate) struct Octet<'a> {
     pub(crate) octet: u8,
@@ -54,7 +54,7 @@ fn octet_to(end: u8, text: &[u8]) -> Option<Octet<'_>>
     })
 }
 
-/// The address and port that `a.b.c.d:port` says.
+/// Reads `a.b.c.d:port` in decimal digits without leading zeros; None if the text has another form.
 #[tactic(auto, unfolding(crate::specs::Address::address_in))]
 pub(crate) fn read_bind(text: &[u8]) -> Option<BindAddress>
     ensures { option_map address_of result ≡ address_in text.now }

@@ -1,4 +1,4 @@
-//! The keys of a configuration, and what can be wrong with it.
+//! The keys of a configuration, and its faults.
 
 ghost use Rattle.std.specs.Prelude.{◌≡◌};
 ghost use Rattle.srt_gateway.specs.Faults.{key_name, key_text, number_of};
@@ -6,32 +6,32 @@ ghost use Rattle.srt_gateway.specs.Faults.{key_name, key_text, number_of};
 /// A key of the table or of a route in it.
 #[derive(Clone, Copy, Debug, PartialEq, Eq)]
 pub enum Key {
-    /// `secret`.
+    /// `secret`: 64 hexadecimal digits.
     Secret,
-    /// `bind`.
+    /// `bind`: an IPv4 address and a UDP port.
     Bind,
-    /// `workers`.
+    /// `workers`: the number of threads that serve routes, 1 to 16.
     Workers,
-    /// `route`.
+    /// `route`: the tables of the routes, 1 to 511.
     Route,
-    /// `name`.
+    /// `name`: a route's name, 1 to 64 bytes.
     Name,
-    /// `mode`.
+    /// `mode`: `live` or `buffer`.
     Mode,
-    /// `latency_ms`.
+    /// `latency_ms`: the least delay of a live session in milliseconds, 20 to 8000.
     LatencyMs,
-    /// `buffer`.
+    /// `buffer`: the size of a session's window in packets, 32 to 8192.
     Buffer,
-    /// `sessions`.
+    /// `sessions`: the greatest number of sessions at a time, 1 to 17.
     Sessions,
-    /// `inbox`.
+    /// `inbox`: the greatest number of items that wait to be applied, 16 to 4096.
     Inbox,
-    /// `outbox`.
+    /// `outbox`: the greatest number of replies that wait to be sent, 16 to 4096.
     Outbox,
 }
 
 impl Key {
-    /// The key as it stands in the text.
+    /// The key as it is written in the configuration.
     pub fn name(self) -> &'static str
         ensures { result.now ≡ key_name self }
     {
@@ -51,33 +51,34 @@ impl Key {
     }
 }
 
-/// What is wrong with a configuration.
+/// The first thing that is wrong with a configuration.
 #[derive(Debug, Drop, PartialEq, Eq)]
 pub enum ConfigFault {
-    /// The text is no TOML.
+    /// The text isn't TOML.
     Toml,
-    /// This key means nothing.
+    /// This key isn't known in its table.
     UnknownKey(String),
     /// The key is missing.
     Missing(Key),
-    /// The key's value is of the wrong kind.
+    /// The key's value has the wrong type.
     WrongKind(Key),
-    /// The key's value is outside its limits.
+    /// The key's value is outside its limits; for `route` the number of routes, for `mode` a text other than `live` and
+    /// `buffer`.
     OutOfRange(Key),
-    /// A route's name is of wrong form.
+    /// A route's name has a wrong form.
     BadName,
-    /// A route's name is that of a route before it.
+    /// A route has the name of an earlier route.
     RepeatedName,
     /// The secret is not 64 hexadecimal digits.
     BadSecret,
-    /// The address to bind is no address.
+    /// The address to bind isn't of the form `a.b.c.d:port`.
     BadAddress,
-    /// The memory was refused.
+    /// Memory was refused.
     OutOfMemory,
 }
 
 impl ConfigFault {
-    /// The number under which the fault is printed: 1 to 10.
+    /// The number of the fault in the program's output: 1 to 10, in the order above.
     pub fn number(&self) -> u8
         ensures { result ≡ number_of self.now }
     {
@@ -95,7 +96,7 @@ impl ConfigFault {
         }
     }
 
-    /// The key that the fault is at; `-` where it is at none.
+    /// The key that has the fault, or `-` if no key has it.
     pub fn key(&self) -> &str
         ensures { result.now ≡ key_text self.now }
     {

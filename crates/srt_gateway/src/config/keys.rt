@@ -28,7 +28,8 @@ fn least_unknown<'a>(keys: &[Key], table: &'a Table) -> Option<&'a str>
     None
 }
 
-/// That a table has no key but these.
+/// Checks that a table has no key but these. The error is `UnknownKey` with the first other key in the order of bytes;
+/// takes memory for its name alone.
 #[tactic(auto, unfolding(crate::specs::Keys::known))]
 pub(crate) fn only_known(alloc: Global, keys: &[Key], table: &Table) -> Result<(), ConfigFault>
     ensures { Gives (λ u. u) result (known keys.now (table_view table.now)) }
@@ -42,7 +43,7 @@ pub(crate) fn only_known(alloc: Global, keys: &[Key], table: &Table) -> Result<(
     }
 }
 
-/// The value at a key.
+/// The value at a key, or `Missing`.
 #[tactic(auto, unfolding(crate::specs::Keys::value_at))]
 pub(crate) fn value_at(table: &Table, key: Key) -> Result<&Value, ConfigFault>
     ensures { seen value_seen result ≡ value_at key (table_view table.now) }
@@ -53,7 +54,7 @@ pub(crate) fn value_at(table: &Table, key: Key) -> Result<&Value, ConfigFault>
     }
 }
 
-/// The text at a key.
+/// The text at a key, or `Missing` or `WrongKind`.
 #[tactic(auto, unfolding(crate::specs::Keys::text_at))]
 pub(crate) fn text_at(table: &Table, key: Key) -> Result<&str, ConfigFault>
     ensures { seen (λ t. t.now) result ≡ text_at key (table_view table.now) }
@@ -74,7 +75,7 @@ fn within(key: Key, low: u32, high: u32, number: i64) -> Result<u32, ConfigFault
     Ok(number as u32)
 }
 
-/// The number at a key, which is to lie within these limits.
+/// The number at a key, from `low` to `high`, or `Missing`, `WrongKind` or `OutOfRange`.
 #[tactic(auto, unfolding(crate::specs::Keys::number_at))]
 pub(crate) fn number_at(table: &Table, key: Key, low: u32, high: u32) -> Result<u32, ConfigFault>
     ensures value { seen (λ n. n) result ≡ number_at key low high (table_view table.now) }

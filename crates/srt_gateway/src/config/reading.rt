@@ -1,4 +1,4 @@
-//! Configurations read.
+//! Reads a configuration.
 
 ghost use Rattle.std.specs.Prelude.{◌≡◌};
 ghost use Rattle.toml.specs.Parse.{parse_document};
@@ -17,7 +17,7 @@ use toml::Table;
 /// The keys of the table.
 const TOP_KEYS: [Key; 4] = [Key::Secret, Key::Bind, Key::Workers, Key::Route];
 
-/// The configuration that a table says, or its first fault.
+/// The configuration in a table, or its first fault.
 #[tactic(auto, unfolding(crate::specs::Config::settings_at))]
 fn settings_at(alloc: Global, table: &Table) -> Result<Config, ConfigFault>
     ensures { Gives settings_of result (settings_at (table_view table.now)) }
@@ -35,9 +35,10 @@ fn settings_at(alloc: Global, table: &Table) -> Result<Config, ConfigFault>
     })
 }
 
-/// The configuration that a text says, or its first fault: that it is no TOML, its least unknown key, then what is wrong
-/// with `secret`, `bind`, `workers` and `route`, and then each route's in turn, its least unknown key first and then its
-/// keys in the order of [`Key`]. Where memory is refused, that can stand in place of any answer.
+/// Reads a configuration, or returns its first fault: that the text isn't TOML; the least unknown key; then what is
+/// wrong with `secret`, `bind`, `workers` and `route`; then for each route its least unknown key and its keys in the
+/// order of [`Key`]. Takes memory for the table, the entries and their names; if it is refused, the result can be
+/// `OutOfMemory` instead of any other.
 pub fn read_config(alloc: Global, text: &str) -> Result<Config, ConfigFault>
     ensures { Gives settings_of result (config_in (parse_document text.now)) }
 {

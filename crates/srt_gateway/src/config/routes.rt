@@ -27,7 +27,7 @@ const ROUTE_KEYS: [Key; 7] = [
     Key::Outbox,
 ];
 
-/// A name of the right form that no route before has.
+/// Checks a name: `BadName` if it has a wrong form, else `RepeatedName` if an earlier route has it.
 #[tactic(auto, unfolding(crate::specs::Routes::name_in))]
 fn read_name<'a>(before: &[Entry], text: &'a str) -> Result<&'a str, ConfigFault>
     ensures { seen (λ t. t.now) result ≡ name_in (map terms_of before.now) text.now }
@@ -68,7 +68,7 @@ fn mode_at(table: &Table) -> Result<Mode, ConfigFault>
     read_mode(text_at(table, Key::Mode)?)
 }
 
-/// The numbers of a route.
+/// The numbers of a route, within their limits.
 #[derive(Clone, Copy)]
 pub(crate) struct RouteNumbers {
     pub(crate) latency_ms: u32,
@@ -91,7 +91,7 @@ fn numbers_at(table: &Table) -> Result<RouteNumbers, ConfigFault>
     })
 }
 
-/// The entry of these terms.
+/// The entry with this name, mode and numbers. Takes memory for a copy of the name.
 fn entry_with(
     alloc: Global,
     name: &str,
@@ -114,7 +114,7 @@ fn entry_with(
     }
 }
 
-/// The route that a table says, where these stand before it.
+/// Reads a route's table, after the routes `before` it.
 #[tactic(auto, unfolding(crate::specs::Routes::terms_at))]
 fn entry_at(alloc: Global, before: &[Entry], table: &Table) -> Result<Entry, ConfigFault>
     ensures { Gives terms_of result (terms_at (map terms_of before.now) (table_view table.now)) }
@@ -146,7 +146,8 @@ fn is_count(values: &[Value]) -> bool
     is_between(1, 511, values.len())
 }
 
-/// The routes of these values.
+/// Reads these values as routes; `WrongKind` if one isn't a table, else `OutOfRange` if there are none or more than
+/// 511.
 #[tactic(auto, unfolding(crate::specs::Routes::routes_in))]
 fn read_routes(alloc: Global, values: &[Value]) -> Result<Vec<Entry>, ConfigFault>
     ensures { Gives entries_seen result (routes_in (items_view values.now)) }
@@ -160,7 +161,7 @@ fn read_routes(alloc: Global, values: &[Value]) -> Result<Vec<Entry>, ConfigFaul
     routes_from(alloc, values)
 }
 
-/// The routes of these values, which are tables.
+/// Reads these values, which are tables, as routes.
 fn routes_from(alloc: Global, values: &[Value]) -> Result<Vec<Entry>, ConfigFault>
     ensures { Gives entries_seen result (routes_from [] (items_view values.now)) }
 {
@@ -189,7 +190,7 @@ fn all_routes(alloc: Global, table: &Table) -> Result<Vec<Entry>, ConfigFault>
     }
 }
 
-/// The routes of a table.
+/// The routes of a configuration's table.
 pub(crate) fn routes_at(alloc: Global, table: &Table) -> Result<Vec<Entry>, ConfigFault>
     ensures gives { Gives entries_seen result (routes_at (table_view table.now)) }
     ensures sound { IfOk result (λ entries. fault_of (map terms_of entries.items) ≡ None) }

@@ -13,7 +13,7 @@ use super::keys::text_at;
 use srt_cookie::Secret;
 use toml::Table;
 
-/// The secret that 64 hexadecimal digits say.
+/// Reads a secret: 32 bytes in 64 hexadecimal digits, of either case.
 #[tactic(auto, unfolding(crate::specs::Config::secret_in))]
 fn read_secret(text: &str) -> Result<Secret, ConfigFault>
     ensures { seen secret_bytes result ≡ secret_in text.now }
@@ -25,7 +25,7 @@ fn read_secret(text: &str) -> Result<Secret, ConfigFault>
     }
 }
 
-/// The secret of a table.
+/// The secret of a configuration's table.
 #[tactic(auto, unfolding(crate::specs::Config::secret_at))]
 pub(crate) fn secret_at(table: &Table) -> Result<Secret, ConfigFault>
     ensures { seen secret_bytes result ≡ secret_at (table_view table.now) }
@@ -33,7 +33,7 @@ pub(crate) fn secret_at(table: &Table) -> Result<Secret, ConfigFault>
     read_secret(text_at(table, Key::Secret)?)
 }
 
-/// The address of a table.
+/// The address of a configuration's table.
 #[tactic(auto, unfolding(crate::specs::Config::bind_at))]
 pub(crate) fn bind_at(table: &Table) -> Result<BindAddress, ConfigFault>
     ensures { seen address_of result ≡ bind_at (table_view table.now) }

@@ -10,7 +10,7 @@ use std::test::Fail;
 /// The secret of the bytes 0 to 31.
 const SECRET: &str = "\"000102030405060708090a0b0c0d0e0f101112131415161718191A1B1C1D1E1F\"";
 
-/// The text, with the first place of one line changed to another.
+/// The text, with the first occurrence of one line replaced by another.
 fn changed(
     rt: &(impl AllocGlobal + Abort),
     text: &str,
@@ -28,7 +28,7 @@ fn changed(
     }
 }
 
-/// Asserts that a text has this fault, and how it is printed.
+/// Asserts that a text has this fault, and how the fault is printed.
 fn assert_fault(rt: &(impl AllocGlobal + Abort), text: &str, number: u8, key: &str) {
     match read_config(rt.alloc(), text) {
         Ok(_) => assert!(rt; false, "{text} was read"),
@@ -305,7 +305,7 @@ fn faults_of_the_routes(rt: HostRuntime) -> Result<(), Fail> {
     Ok(())
 }
 
-/// A configuration in which each key is wrong, and one of the table and one of each route is unknown.
+/// A configuration in which each key is wrong, and one key of the table and one of each route is unknown.
 const WRONG: &str = "\
 extra = 1
 secret = 5
@@ -336,7 +336,7 @@ outbox = 16
 #[test]
 fn the_first_fault_is_told(rt: HostRuntime) -> Result<(), Fail> {
     let mut text = String::from_str(rt.alloc(), WRONG)?;
-    // The first fault, and what mends it.
+    // The first fault, and the change that mends it.
     for (number, key, from, to) in [
         (2, "extra", "extra = 1\n", ""),
         (4, "secret", "5", "\"0\""),

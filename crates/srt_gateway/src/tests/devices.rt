@@ -1,10 +1,10 @@
-//! Readers and writers that are interrupted, give pieces and fail.
+//! Readers and writers that are interrupted, return few bytes at a time, or fail.
 
 ghost use Rattle.std.specs.Prelude.{◌≡◌, ◌≤◌, length};
 
 use std::io::{self, Error, ErrorKind, Read, Write};
 
-/// Gives its bytes one at a time, is interrupted before each, and fails in the end where it is told to.
+/// Returns its bytes one at a time, is interrupted before each, and fails at the end if it is set to.
 #[derive(Drop)]
 pub(super) struct Dripping<'a> {
     pub(super) bytes: &'a [u8],
@@ -34,7 +34,7 @@ impl Read for Dripping<'_> {
     }
 }
 
-/// Gives the same line so many times.
+/// Returns the same line this number of times.
 #[derive(Drop)]
 pub(super) struct Repeating<'a> {
     pub(super) line: &'a [u8],
@@ -63,7 +63,7 @@ impl Read for Repeating<'_> {
     }
 }
 
-/// Gives its bytes, and is interrupted ever after.
+/// Returns its bytes, and then is interrupted forever.
 #[derive(Drop)]
 pub(super) struct Stuck<'a> {
     pub(super) bytes: &'a [u8],
@@ -85,8 +85,8 @@ impl Read for Stuck<'_> {
     }
 }
 
-/// Takes bytes one at a time, is interrupted before each, and fails where its room is used up. Its flushes are
-/// interrupted this many times, and then done, or failed where it is told to.
+/// Takes bytes one at a time, is interrupted before each, and takes none once its room is used up. Its flushes are
+/// interrupted this many times, and then succeed, or fail if it is set to.
 #[derive(Drop)]
 pub(super) struct Narrow {
     pub(super) taken: Vec<u8>,

@@ -33,7 +33,7 @@ fn a_reader_that_fails_in_a_line(rt: HostRuntime) -> Result<(), Fail> {
     };
     let mut reader = CountedReader::new(BufReader::with_capacity(rt.alloc(), 7, reader)?);
     let mut writer = CountedWriter::new(narrow(rt.alloc(), 10));
-    // It is flushed, and not asked again.
+    // It is flushed, and not called again.
     for flushes in 1..3 {
         assert_eq!(rt;
             replay(rt.alloc(), &config, &mut reader, &mut writer),
@@ -50,7 +50,8 @@ fn a_reader_that_fails_in_a_line(rt: HostRuntime) -> Result<(), Fail> {
     Ok(())
 }
 
-/// Asserts how a replay that takes all of this number of reads ends, what it writes, and what the last read brought.
+/// Asserts the result of a replay that uses all of this number of reads, what it writes, and the result of its last
+/// read.
 fn assert_within<B: BufRead + Drop>(
     rt: &(impl AllocGlobal + Abort),
     reader: B,
@@ -80,7 +81,7 @@ fn each_look_is_one_read(rt: HostRuntime) -> Result<(), Fail> {
         is_ready: false,
         fails: false,
     };
-    // Each byte and the end come behind an interruption.
+    // Each byte, and the end, comes after an interruption.
     let reads = 2 * TWO_LINES.len() as u64 + 2;
     assert_within(
         &rt,
