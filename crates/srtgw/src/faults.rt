@@ -1,26 +1,26 @@
-//! What ends a run early, and the line that says so.
+//! The faults that end a run early, and the line that is printed for each.
 
 use srt_gateway::{ConfigFault, ReplayFault};
 use std::io;
 
-/// Why a run ended early. Each but `Output` prints one line; all give status 1.
+/// Why a run ended early. Each but `Output` prints one line on standard output; all give status 1.
 #[derive(Drop)]
 pub enum Fault {
-    /// A file can't be read, or is too large.
+    /// `file fault`: a file can't be read, or is larger than its limit.
     File,
-    /// The configuration is wrong.
+    /// `config fault N KEY`: the configuration has this fault.
     Config(ConfigFault),
-    /// The line of this number is no event.
+    /// `tape fault L`: the tape's line with this number, counted from 1, isn't an event.
     Tape(u32),
-    /// Memory was refused.
+    /// `memory`: memory was refused.
     Memory,
-    /// No socket could be bound.
+    /// `socket fault`: no UDP socket could be bound to the configuration's address.
     Socket,
-    /// A thread couldn't be started.
+    /// `thread fault`: a thread couldn't be started.
     Thread,
-    /// A route could not be settled, since a thread still had it.
+    /// `busy`: at the end a route couldn't be taken back, because another thread still held it.
     Busy,
-    /// The output can't be written.
+    /// The output can't be written. Nothing is printed.
     Output,
 }
 
@@ -42,7 +42,7 @@ impl From<ReplayFault> for Fault {
 }
 
 impl Fault {
-    /// Prints the line that names the fault.
+    /// Prints the fault's line on standard output. The error is that the output can't be written.
     pub fn print(&self, rt: &impl Print) -> io::Result<()> {
         match self {
             Fault::File => println!(rt; "file fault"),

@@ -5,13 +5,13 @@ use std::fs::File;
 use std::io::{self, ErrorKind, Read};
 use std::rt::Files;
 
-/// The most bytes of a configuration's file.
+/// The greatest size of a configuration's file, in bytes.
 pub const CONFIG_MAX: u64 = 65_536;
 
-/// The most bytes of a tape's file.
+/// The greatest size of a tape's file, in bytes: 64 MiB.
 pub const TAPE_MAX: u64 = 67_108_864;
 
-/// The fault of a file that could not be opened or read.
+/// The fault for an error of opening or reading a file.
 fn fault_of(error: &io::Error) -> Fault {
     if error.kind() == ErrorKind::OutOfMemory {
         return Fault::Memory;
@@ -19,8 +19,8 @@ fn fault_of(error: &io::Error) -> Fault {
     Fault::File
 }
 
-/// The bytes of a file. A file that can't be read, or has more bytes than the limit, is a fault; no more
-/// than the limit and one byte is read of it.
+/// Reads a whole file of at most `limit` bytes, and takes memory for them. `Fault::File` if it can't be read or is
+/// larger, `Fault::Memory` if memory is refused. At most `limit` + 1 bytes are read.
 pub fn read_file(
     rt: &(impl Files + AllocGlobal),
     path: &str,

@@ -1,4 +1,15 @@
-//! `srtgw`: the gateway's program. It reads files, hands their bytes on, and prints what comes back.
+//! `srtgw`: the gateway's program. It reads the command line and files, calls the crates that do the work, and prints
+//! what they return.
+//!
+//! It has no rules of the protocol or of the configuration: these are in `srt_gateway` and below. Nothing is kept on
+//! disk. A run ends with status 0 when its work is done, 1 with a fault, 2 with a wrong command line.
+//!
+//! Types: `Task` (`words.rt`), what the command line asks for; `Fault` (`faults.rt`), why a run ended early.
+//!
+//! Calls: `main` reads the words, `command` and `task_of` make a task of them, and `run` does it: `check` reads a
+//! configuration, `replay` runs a tape, `serve` (`serving.rt`) binds the UDP socket and runs threads until the rounds
+//! are over. `files.rt` reads whole files up to a limit. docs/OPERATING.md has the commands, docs/PROTOCOL.md each line
+//! of output and each status.
 #![tactic(auto)]
 
 mod faults;
@@ -19,6 +30,7 @@ use std::thread::Threads;
 use std::{env, str};
 use words::{Task, command, task_of};
 
+/// Reads a configuration's file, at most 65,536 bytes. A file that isn't UTF-8 isn't TOML.
 fn config_at(rt: &(impl Files + AllocGlobal), path: &str) -> Result<Config, Fault> {
     let bytes = read_file(rt, path, CONFIG_MAX)?;
     match str::from_utf8(&bytes) {
@@ -27,6 +39,7 @@ fn config_at(rt: &(impl Files + AllocGlobal), path: &str) -> Result<Config, Faul
     }
 }
 
+/// `srtgw replay CONFIG TAPE`: runs a tape's events, and prints the result of each.
 fn replay_file(
     rt: &(impl Print + Files + AllocGlobal),
     config: &str,
@@ -44,7 +57,7 @@ fn replay_file(
     }
 }
 
-/// `srtgw check CONFIG`: prints how many routes the configuration has.
+/// `srtgw check CONFIG`: prints the number of routes in the configuration.
 fn check_file(rt: &(impl Print + Files + AllocGlobal), config: &str) -> Result<(), Fault> {
     let config = config_at(rt, config)?;
     let routes = config.entries.len();
@@ -54,7 +67,7 @@ fn check_file(rt: &(impl Print + Files + AllocGlobal), config: &str) -> Result<(
     }
 }
 
-/// `srtgw serve CONFIG --rounds N`: serves callers, and prints the report of what it did.
+/// `srtgw serve CONFIG --rounds N`: serves callers for N rounds, and then prints the report.
 fn serve_file<R>(rt: &R, config: &str, rounds: u32) -> Result<(), Fault>
 where
     R: Print + Files + AllocGlobal + Net + Clock + Threads + Wait + Sync,
@@ -78,7 +91,7 @@ where
     }
 }
 
-/// The status of a run, whose fault is printed.
+/// The exit status of a run: 0, or 1 after a fault, whose line is printed.
 fn status_of(rt: &impl Print, ended: Result<(), Fault>) -> ExitCode {
     match ended {
         Ok(()) => ExitCode::SUCCESS,
@@ -89,7 +102,7 @@ fn status_of(rt: &impl Print, ended: Result<(), Fault>) -> ExitCode {
     }
 }
 
-/// Does what the words of the command line ask for.
+/// Runs the task of these words. Wrong words give status 2 and a text on standard error.
 fn obey<R>(rt: &R, words: &[String]) -> Result<ExitCode, Fault>
 where
     R: Print + Eprint + Files + AllocGlobal + Net + Clock + Threads + Wait + Sync,
@@ -106,7 +119,7 @@ where
         Err(error) => {
             let status = error.exit_code() as u8;
             match error.print(rt) {
-                // A text that was asked for is output. Wrong words are told by the status in any case.
+                // A text that was asked for is output. For wrong words the status suffices.
                 Err(_) if status == 0 => Err(Fault::Output),
                 _ => Ok(ExitCode::from(status)),
             }
@@ -114,7 +127,7 @@ where
     }
 }
 
-/// The words of the command line; None where one of them isn't UTF-8.
+/// The words of the command line; None if one of them isn't UTF-8.
 fn words_given(rt: &(impl Env + AllocGlobal)) -> Result<Option<Vec<String>>, Fault> {
     match env::args(rt) {
         Ok(words) => match words.collect(rt.alloc()) {
@@ -126,7 +139,7 @@ fn words_given(rt: &(impl Env + AllocGlobal)) -> Result<Option<Vec<String>>, Fau
     }
 }
 
-/// Does what the command line asks for. Words that aren't UTF-8 are refused as a wrong command line is.
+/// Runs the task of the command line. Words that aren't UTF-8 give status 2, as a wrong command line does.
 fn obey_words<R>(rt: &R) -> Result<ExitCode, Fault>
 where
     R: Env + Print + Eprint + Files + AllocGlobal + Net + Clock + Threads + Wait + Sync,

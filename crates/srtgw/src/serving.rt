@@ -14,14 +14,14 @@ use std::sync::Wait;
 use std::thread::{self, Threads};
 use std::time::{Clock, Duration, Instant};
 
-/// Moments are below it, in microseconds.
+/// The bound of moments, in microseconds: they are below it.
 const MOMENTS: u128 = 1 << 62;
 
-/// How long the ticking thread sleeps before each moment, in milliseconds.
+/// The time that the ticking thread sleeps before each moment, in milliseconds.
 const TICK: u64 = 10;
 
-/// A clock of the microseconds since the gateway's start. If the system doesn't tell the time it gives its last moment
-/// again.
+/// A clock of the microseconds since the gateway's start. If the system's clock can't be read, it returns its last
+/// moment again.
 #[derive(Drop)]
 struct Since<'a, R> {
     rt: &'a R,
@@ -35,7 +35,7 @@ impl<'a, R: Clock> Since<'a, R> {
         Since { rt, start, last: 0 }
     }
 
-    /// The moment now.
+    /// The present moment, in microseconds since the start; below 2^62.
     fn moment(&mut self) -> u64
         ensures { result < 2 ^ 62 }
     {
@@ -57,7 +57,7 @@ impl<R: Clock> srt_poller::Clock for Since<'_, R> {
     }
 }
 
-/// The same clock, which sleeps before each moment. It tells no moments.
+/// The same clock, but each call sleeps 10 ms first. The contracts don't state which moments it gives.
 #[derive(Drop)]
 struct Ticks<'a, R> {
     since: Since<'a, R>,
@@ -74,7 +74,7 @@ impl<R: Clock> Ticker for Ticks<'_, R> {
     }
 }
 
-/// A gate that always passes.
+/// A worker's gate that lets every turn pass.
 #[derive(Clone, Copy)]
 struct Open;
 
@@ -96,7 +96,9 @@ fn gates(alloc: Global, count: u32) -> Result<Vec<Open>, AllocError>
     vec![in alloc; Open; count as usize]
 }
 
-/// Serves the routes of a configuration for this many rounds.
+/// Serves the routes of a configuration for this number of rounds of the poller, and returns its report. Binds the UDP
+/// socket; starts a ticking thread and `workers` worker threads; the calling thread polls the socket. Errors: `Socket`,
+/// `Memory` and `Thread` before anything was read, `Busy` at the end. docs/OPERATING.md says how long a round is.
 pub fn serve<R: AllocGlobal + Net + Clock + Threads + Wait + Sync>(
     rt: &R,
     config: &Config,
@@ -139,7 +141,7 @@ pub fn serve<R: AllocGlobal + Net + Clock + Threads + Wait + Sync>(
     }
 }
 
-/// Prints the line of a report: its counts, each after its name.
+/// Prints a report as one line on standard output: each count after its name.
 pub fn print_report(rt: &impl Print, report: &Report) -> io::Result<()> {
     let Report {
         read,

@@ -4,18 +4,18 @@ use clap::builder::ValueParser;
 use clap::{Arg, ArgAction, ArgMatches, Command};
 use std::alloc::{AllocError, Global};
 
-/// The most rounds of a run.
+/// The greatest number of rounds of a run.
 const ROUNDS_MAX: u64 = 1_000_000_000;
 
-/// What the program is asked to do. Files go by their paths.
+/// What the command line asks for. Files are named by their paths.
 #[derive(Clone, Copy)]
 pub enum Task<'a> {
-    /// Say whether a configuration is right.
+    /// Check a configuration.
     Check {
         /// The configuration's file.
         config: &'a str,
     },
-    /// Answer the events of a tape.
+    /// Run a tape's events, and print their results.
     Replay {
         /// The configuration's file.
         config: &'a str,
@@ -26,7 +26,7 @@ pub enum Task<'a> {
     Serve {
         /// The configuration's file.
         config: &'a str,
-        /// How many rounds the socket is polled.
+        /// The number of rounds: how often the socket is polled, at most 1,000,000,000.
         rounds: u32,
     },
 }
@@ -69,7 +69,7 @@ fn rounds<'a>(alloc: Global) -> Arg<'a> {
         )
 }
 
-/// The commands that the program knows.
+/// The program's commands with their arguments and help. Takes memory; the only error is that it is refused.
 pub fn command<'a>(alloc: Global) -> Result<Command<'a>, AllocError> {
     let check = Command::new(alloc, "check")
         .about("Prints how many routes a configuration has, or its first fault")
@@ -103,7 +103,7 @@ pub fn command<'a>(alloc: Global) -> Result<Command<'a>, AllocError> {
         .subcommand(serve)
 }
 
-/// The task that a right command line names.
+/// The task of a command line that was parsed; None if a word is missing, which `command` doesn't accept.
 pub fn task_of<'a>(matches: &ArgMatches<'a>) -> Option<Task<'a>> {
     let (name, inner) = matches.subcommand()?;
     let config = inner.get_str("CONFIG")?;
