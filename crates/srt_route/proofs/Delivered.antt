@@ -125,7 +125,7 @@ delivered_is e index clock table media ss at s q places body here places_is =
     delivered_with e index clock table media ss at s q places (map payload_of (gives (terms_of e s).publisher (time_in s clock) places 64 q)) (leaves (terms_of e s).publisher (time_in s clock) places 64 q) body here places_is
     (ap (λ (arrivals : List Arrival). map payload_of arrivals) law.0) law.1
 
--- the slots of the table say who publishes
+-- whether a slot of the table has a publisher
 position_none : {A : Type 0} (p : A → Bool) (xs : List A) → position p xs ≡ None → (i : ℕ) (d : A) → i < length xs → p (get_or xs i d) ≡ false
 position_none p xs h i d below = elim (cases_lt (position_or_len p xs) (length xs)) [
   | inl inside ↦ absurd (let test = lt-ltb (position_or_len p xs) (length xs) inside in let bad : Some (position_or_len p xs) ≡ None = rw (test) at h in cc)

@@ -171,7 +171,7 @@ place_kept f keeps at places (s ∷ ss) alone = at_head (is_open_in at s) refl (
     at_head false e true g rest = absurd (let was : is_open_in at s ≡ true = open_kept f keeps at s g in cc)
     at_head false e false g rest = rest
 
--- where the session of a slot comes from
+-- the session of a slot after a change comes from one before it
 pub changed_from : (f : Session → Session) → Keeps f → (at places : ℕ) (ss : List Session) → AreAlone places ss → (t : Session) → find (is_open_in at) (map f ss) ≡ Some t → (s : Session) × (find (is_open_in at) ss ≡ Some s) × ((f s).is_open ≡ true) × (f s ≡ t)
 changed_from f keeps at places ss alone t h = from (find (is_open_in at) ss) refl (sym (place_kept f keeps at places ss alone) ∙ h)
   where

@@ -46,7 +46,7 @@ changed_output r (Says caller initial time report) = Says caller (r.initial init
 abbrev pub changed_reply : Change → Reply → Reply
 changed_reply r x = record { peer = x.peer; packet = changed_output r x.packet }
 
--- the other packet says the same to every session, and the same session is asked for with it
+-- the other packet has the same effect on every session, and is for the same session
 pub record IsChangedPacket (r : Change) (q p : Packet) : Type 0 where
   pub stamp_is : q.stamp ≡ r.stamp p.stamp
   pub dest_is : q.dest ≡ p.dest
@@ -126,7 +126,7 @@ took_same e r clock q p h s =
     ∙ ap (λ b. with_end (clock + r.later) b (took_past (terms_of e s) (r.initial i) time stamp q.body s.past) t) (ends_same r (terms_of e s) i q p h s.past)
     ∙ ap (λ past. with_end (clock + r.later) (ends_with (terms_of e s) i p.body s.past) past t) (past_same r (terms_of e s) i time stamp q p h s.past)
 
--- and says the same, with its own numbers
+-- and sends the same, with its own numbers
 map_replies : (r : Change) (time : ℕ) (s : Session) (xs : List Report) → map (said_by time (changed_session r s)) xs ≡ map (changed_reply r) (map (said_by time s) xs)
 map_replies r time s [] = refl
 map_replies r time s (x ∷ xs) = ap (λ ys. changed_reply r (said_by time s x) ∷ ys) (map_replies r time s xs)

@@ -1,5 +1,5 @@
--- Whatever its items are, all replies of a route can be sent and read: payloads have their lengths, loss lists have runs,
--- and congestion control blocks have few words.
+-- Whatever its items are, all replies of a route can be sent and read: payloads have their lengths, loss lists have
+-- runs, and congestion control blocks have few words.
 use Rattle.std.proofs.Common.{◌≡◌, ℕ, ◌-◌, ◌^◌, ◌<◌, ◌≤◌, ◌==◌, ◌&&◌, not, Bool, true, false, cond, Option, None, Some, List, [], ◌∷◌, ◌++◌, map, length, min, Result, Ok, Err, refl, ap, subst, arith}
 use Rattle.std.specs.Prelude.{⊤, IfSome, IfOk, find, filter_map, take_while, slice_get, drop, int_le, pos, ℤ, nat_le, nat_lt}
 use Rattle.std.specs.List.{list_any}

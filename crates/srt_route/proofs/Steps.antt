@@ -111,7 +111,7 @@ again_taken e index clock peer stamp c ss table new media replies s o h is heard
 pub first_taken : (e : Terms) (index clock : ℕ) (peer : Peer) (stamp : ℕ) (c : Conclusion) (ss : List Session) (table : Table) (media : Media) (replies : List Datagram) (o : Option Session) → o ≡ None → IsBodyTaken e index clock table media replies (considered e index clock peer stamp c ss (refused e.mode (list_any is_publisher ss) c)) → IsBodyTaken e index clock table media replies (concluded e index clock peer stamp c ss o)
 first_taken e index clock peer stamp c ss table media replies o is h = rw (is) h
 
--- what the definition says for each answer of the code
+-- the definition's case for each answer of the code
 pub is_refused : (e : Terms) (c : Conclusion) (ss : List Session) (reason : RefusalCode) → refused e.mode (list_any is_publisher ss) c ≡ Some reason → Err reason ≡ admitted e ss c
 is_refused e c ss reason is = ap (λ (o : Option RefusalCode). admitted_by e c o (free_slot e ss)) (sym is)
 

@@ -1,4 +1,4 @@
--- What the buffers of a route's sessions stand for.
+-- The sessions that a route's buffers stand for.
 use Rattle.std.specs.Prelude.{◌≡◌, ℕ, ◌-◌, ◌<◌, ◌≤◌, ◌^◌, true, false, Some, List, length, map, find, slice_index_or}
 use Rattle.srt_seq.specs.declared.shared.Peer.{Peer}
 use Rattle.srt_seq.specs.Terms.{Terms}

@@ -1,4 +1,4 @@
--- What a call does to the buffers and the slot of one session, whatever they stood for.
+-- The effect of a call on the buffers and the slot of one session, whatever they stood for.
 use Rattle.std.specs.Prelude.{◌≡◌, ℕ, ◌+◌, ◌-◌, ◌<◌, ◌≤◌, List, length, map}
 use Rattle.std.specs.Option.{is_some}
 use Rattle.srt_seq.specs.declared.shared.Peer.{Peer}

@@ -1,4 +1,4 @@
--- Other sequence numbers, other timestamps and later moments, in the bytes that a route is told and that it sends.
+-- Other sequence numbers, other timestamps and later moments, in the bytes of a route's items and replies.
 use Rattle.std.specs.Prelude.{ℕ, ◌+◌, ◌*◌, ◌/◌, ◌%◌, ◌^◌, List, [], ◌∷◌, ◌++◌, length, map, take, drop, is_ok, nat_lt, if◌then◌else◌, Result, Ok, Err}
 use Rattle.srt_seq.specs.Words.{word_at}
 use Rattle.srt_seq.specs.Items.{Datagram, Item, Received, Tick}

@@ -1,4 +1,4 @@
--- What the table of a route's sessions stands for.
+-- The sessions that a route's table stands for.
 use Rattle.std.specs.Prelude.{◌≡◌, ℕ, ◌-◌, ◌%◌, ◌<◌, Bool, true, false, Option, None, Some, List, [], ◌∷◌, map, length, find, slice_index_or, nat_le, not, ◌==◌, ◌&&◌, if◌then◌else◌, ⊤}
 use Rattle.std.specs.Option.{option_to_list}
 use Rattle.srt_seq.specs.declared.shared.Peer.{Peer}

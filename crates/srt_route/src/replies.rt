@@ -1,4 +1,4 @@
-//! What a route sends.
+//! The packets that a route sends.
 
 ghost use Rattle.std.specs.Prelude.{◌≡◌, true};
 ghost use Rattle.srt_route.specs.Writable.{is_writable};
@@ -6,7 +6,7 @@ ghost use Rattle.srt_route.specs.Writable.{is_writable};
 use srt_packet::{Body, Packet};
 use srt_seq::Peer;
 
-/// A packet that a route sends.
+/// A packet that a route sends, with its receiver.
 #[derive(Drop)]
 pub struct Reply {
     /// The address to which it is sent.

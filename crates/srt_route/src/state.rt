@@ -1,4 +1,4 @@
-//! What a route keeps. Its calls are in `route.rt`.
+//! A route's state. Its calls are in `route.rt`.
 
 ghost use Rattle.std.specs.Prelude.{◌<◌, ◌^◌};
 
@@ -7,7 +7,7 @@ use crate::reply_queue::{ReplyQueue, ScratchBoxes};
 use crate::table::Table;
 use srt_seq::Payload;
 
-/// A route of the gateway.
+/// A route: its sessions and their buffers, and the replies that wait. It takes no memory after `open`.
 #[derive(Drop)]
 pub struct Route {
     /// The greatest moment of any item so far, in microseconds.
@@ -16,8 +16,9 @@ pub struct Route {
     pub(crate) table: Table,
     /// Their buffers.
     pub(crate) media: Media,
-    /// The payload that is being delivered.
+    /// The buffer for the payload that is being delivered.
     pub(crate) payload: Payload,
+    /// The boxes that an event writes its packets into.
     pub(crate) scratch: ScratchBoxes,
     /// The replies that wait to be sent.
     pub(crate) waiting: ReplyQueue,

@@ -6,7 +6,7 @@ use crate::slot::Slot;
 use srt_seq::{Entry, Mode, OpenFault};
 use std::alloc::Global;
 
-/// The slots of a route, and the values of its entry that answers to conclusions are made of.
+/// The slots of a route, and the values of its entry that are needed to answer conclusions.
 #[derive(Drop)]
 pub struct Table {
     /// The route's index: below 511.

@@ -1,4 +1,5 @@
-//! Sessions open, are answered again and close, and each refusal. The cookie of the conclusions is free.
+//! Sessions open, get their answer again, and close; and each refusal. A route doesn't check a conclusion's cookie, so
+//! it is arbitrary here.
 
 use crate::{Reply, Route};
 use srt_packet::encode;
@@ -45,7 +46,7 @@ fn studio(alloc: Global) -> Result<Route, Fail> {
     }
 }
 
-/// These texts in a row.
+/// The concatenation of these texts.
 fn joined(alloc: Global, parts: &[&str]) -> Result<String, Fail> {
     let mut text = String::new(alloc);
     for part in parts {
