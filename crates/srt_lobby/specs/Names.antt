@@ -14,6 +14,6 @@ names_of n = map (λ name. name.items) n.set.keys
 abbrev pub index_of : (names : List (List ℕ)) → (name : List ℕ) → Option ℕ
 index_of names name = position (λ other. bytes_eq name other) names
 
--- no name stands twice
+-- no name appears twice
 abbrev pub AreDistinct : List (List ℕ) → Type 0
 AreDistinct names = (i j : ℕ) (name : List ℕ) → slice_get names i ≡ Some name → slice_get names j ≡ Some name → i ≡ j

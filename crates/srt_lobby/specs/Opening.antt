@@ -15,7 +15,7 @@ is_taken name entries = list_any (λ (e : Terms). bytes_eq e.name name) entries
 abbrev pub is_fresh : Terms → List Terms → Bool
 is_fresh e entries = is_name e.name && not (is_taken e.name entries)
 
--- each name has the right form, and none stands twice
+-- each name has the right form, and no name appears twice
 abbrev pub are_names : List Terms → Bool
 are_names [] = true
 are_names (e ∷ entries) = is_fresh e entries && are_names entries

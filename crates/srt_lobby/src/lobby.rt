@@ -165,8 +165,8 @@ fn of_packet(
     }
 }
 
-/// Sorts a datagram that came from `peer` at this moment, in microseconds. Linear in its length, whatever the number of
-/// routes. Takes no memory and changes nothing; the result depends on the arguments alone.
+/// Sorts a datagram that came from `peer` at this moment, in microseconds. Linear in its length; a name costs one
+/// look-up, for any number of routes. Takes no memory and changes nothing; the result depends on the arguments alone.
 #[tactic(auto, unfolding(crate::specs::Lobby::class_of))]
 pub fn classify(secret: &Secret, names: &Names, peer: Peer, bytes: &[u8], moment: u64) -> Class
     requires { moment < 2 ^ 62 }

@@ -5,9 +5,10 @@ use indexmap::IndexSet;
 use srt_seq::{Entry, OpenFault};
 use std::alloc::{AllocError, Global};
 
-/// The names of the routes, each with the route's index. A look-up costs the same for any number of routes.
+/// The names of the routes, each with the route's index, in a hash table.
 #[derive(Drop)]
 pub struct Names {
+    /// The names, in the order of the routes' indexes.
     pub(crate) set: IndexSet<Vec<u8>>,
 }
 
@@ -55,7 +56,7 @@ impl Names {
         self.set.len()
     }
 
-    /// The index of the route with this name, if there is one.
+    /// The index of the route with this name, if there is one. One look-up in the hash table, for any number of routes.
     pub(crate) fn find(&self, name: &[u8]) -> Option<usize>
         ensures { result ≡ index_of (names_of self.now) name.now }
     {
