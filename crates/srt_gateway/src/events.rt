@@ -26,15 +26,19 @@ pub(crate) enum Said {
     },
     /// `T`: a tick for a route, at a moment in microseconds, below 2^62.
     Tick {
+        /// The route's index.
         route: usize,
+        /// The moment.
         moment: u64,
     },
     /// `U`: a route moves a reply or applies an item.
     Turn {
+        /// The route's index.
         route: usize,
     },
     /// `S`: a route's oldest reply in the outbox is sent.
     Send {
+        /// The route's index.
         route: usize,
     },
 }

@@ -19,7 +19,9 @@ pub struct BindAddress {
 /// A text split at the first byte of some value, which belongs to neither part.
 #[derive(Clone, Copy)]
 pub(crate) struct Parts<'a> {
+    /// The text before the byte.
     pub(crate) before: &'a [u8],
+    /// The text after the byte.
     pub(crate) behind: &'a [u8],
 }
 
@@ -38,7 +40,9 @@ fn parted(at: u8, text: &[u8]) -> Option<Parts<'_>>
 /// An octet, and the text after the byte that ends it.
 #[derive(Clone, Copy)]
 pub(crate) struct Octet<'a> {
+    /// The octet's value.
     pub(crate) octet: u8,
+    /// The text after the octet and its end.
     pub(crate) behind: &'a [u8],
 }
 

@@ -71,10 +71,15 @@ fn mode_at(table: &Table) -> Result<Mode, ConfigFault>
 /// The numbers of a route, within their limits.
 #[derive(Clone, Copy)]
 pub(crate) struct RouteNumbers {
+    /// The least delay of a live session, in milliseconds: 20 to 8000.
     pub(crate) latency_ms: u32,
+    /// The size of each session's window, in packets: 32 to 8192.
     pub(crate) buffer: u32,
+    /// The greatest number of sessions at a time: 1 to 17.
     pub(crate) sessions: u32,
+    /// The capacity of the inbox, in items: 16 to 4096.
     pub(crate) inbox: u32,
+    /// The capacity of the outbox, in replies: 16 to 4096.
     pub(crate) outbox: u32,
 }
 

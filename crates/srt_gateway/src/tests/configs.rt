@@ -52,7 +52,7 @@ fn assert_changed(
     Ok(())
 }
 
-/// Asserts that the right configuration with this change has this fault, the change being made behind the first route.
+/// Asserts that the right configuration has this fault if this change is made after the first route.
 fn assert_second(
     rt: &(impl AllocGlobal + Abort),
     from: &str,

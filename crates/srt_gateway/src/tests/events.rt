@@ -1,4 +1,4 @@
-//! Lines of tapes and their answers.
+//! Lines of tapes and the lines that are written for them.
 
 use super::{assert_no_event, assert_replayed};
 use crate::ReplayFault;
