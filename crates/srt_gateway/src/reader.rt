@@ -174,7 +174,7 @@ impl<R> CountedReader<R> {
         self.budget.left
     }
 
-    /// What the last read brought.
+    /// The result of the last read.
     pub fn brought(&self) -> Brought
         ensures { result ≡ last_brought self.now }
     {

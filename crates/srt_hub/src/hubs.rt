@@ -65,7 +65,7 @@ impl<R: RouteStep, L: Lobby> Hub<R, L> {
     ghost use Rattle.srt_hub.specs.Hubs.{names, terms_at, lane_at, room_at};
 
     /// Opens the gateway of these entries, 1 to 511. Takes all memory except that for copies of datagrams. Errors:
-    /// `Names` if a name has a wrong form or stands twice, else `Limits` if the number of entries or a number of an
+    /// `Names` if a name has a wrong form or appears twice, else `Limits` if the number of entries or a number of an
     /// entry is outside its limits, else `OutOfMemory`. After an error nothing is kept.
     pub fn open(alloc: Global, secret: Secret, entries: &[Entry]) -> Result<Hub<R, L>, OpenFault>
         ensures stands { IfOk result (λ hub. ⟦<Hub<R, L> as Gateway>⟧.stands hub (secret_bytes secret) (map terms_of entries.now) []) }
@@ -91,7 +91,7 @@ impl<R: RouteStep, L: Lobby> Hub<R, L> {
         Ok(Hub { lobby, lanes })
     }
 
-    /// The number of routes; their indexes are 0 up to it. O(1).
+    /// The number of routes; their indexes are the numbers below it. O(1).
     pub fn routes(&self) -> usize
         ensures routes { result ≡ ⟦<Hub<R, L> as Gateway>⟧.routes self.now }
         ensures entries { (secret : List ℕ) (entries : List Terms) (events : List Event) → ⟦<Hub<R, L> as Gateway>⟧.stands self.now secret entries events → result ≡ length entries }

@@ -32,7 +32,7 @@ impl Names {
     }
 
     /// The names of these entries, 1 to 511. Takes memory for a copy of each name. Errors: `Names` if a name has a
-    /// wrong form or stands twice, else `Limits` if the number of entries or a number of an entry is outside its
+    /// wrong form or appears twice, else `Limits` if the number of entries or a number of an entry is outside its
     /// limits, else `OutOfMemory`. After an error nothing is kept.
     pub fn open(alloc: Global, entries: &[Entry]) -> Result<Names, OpenFault>
         ensures opened { IfOk result (λ names. names_of names ≡ map name_of (map terms_of entries.now)) }

@@ -56,7 +56,7 @@ fn are_in_limits(entries: &[Entry]) -> bool
 }
 
 /// The first reason why a gateway can't be opened with these entries, memory aside: `Names` if a name has a wrong form
-/// or stands twice, else `Limits` if there are no entries or more than 511, or if a number is outside its limits.
+/// or appears twice, else `Limits` if there are no entries or more than 511, or if a number is outside its limits.
 /// Quadratic in the number of entries.
 pub fn fault(entries: &[Entry]) -> Option<OpenFault>
     ensures { result ≡ fault_of (map terms_of entries.now) }

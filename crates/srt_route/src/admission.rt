@@ -61,7 +61,8 @@ fn agreed_ms(mode: Mode, ours: u16, theirs: u16) -> u16
     }
 }
 
-/// What a route and a conclusion agree on: in live mode the greater of both delays in each direction, and the lesser MTU.
+/// What a route and a conclusion agree on: in live mode the greater of both delays in each direction, in buffer mode
+/// none; and the lesser MTU, at most 1500.
 fn agree(mode: Mode, latency_ms: u16, c: &Conclusion) -> Agreement
     ensures { (e : Terms) → mode ≡ e.mode → latency_ms ≡ e.latency_ms → result ≡ agreement_of e c.now }
 {

@@ -77,8 +77,8 @@ fn conclusion_of(hs: &HsRef<'_>) -> Option<Conclusion>
     })
 }
 
-/// Reads a conclusion from the bytes after a packet's header. None if they are no conclusion of version 5 with an initial
-/// number below 2^31, an HSREQ and a Stream ID.
+/// Reads a conclusion from the bytes after a packet's header. None unless they are a conclusion of version 5 with an
+/// initial sequence number below 2^31, an HSREQ and a Stream ID without a fault.
 #[tactic(auto, unfolding(crate::specs::Conclusions::conclusion_in))]
 pub fn conclusion_in(info: &[u8]) -> Option<Conclusion>
     ensures value { result ≡ conclusion_in info.now }

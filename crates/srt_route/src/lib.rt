@@ -1,17 +1,19 @@
 //! A route: its sessions open and close, and payloads go from its publisher to its subscribers.
 //!
-//! It reads no clock and no socket: a datagram or a tick comes in as an item, replies wait to be taken. It chooses no
-//! route and checks no cookie (`srt_lobby` does), and what a session does by itself is in `srt_pub` and `srt_sub`.
+//! It reads no clock and no socket: a datagram or a tick comes in as an item, and replies wait to be taken. It doesn't
+//! choose the route of a datagram and checks no cookie (`srt_lobby` does), and what a session does by itself is in
+//! `srt_pub` and `srt_sub`.
 //!
-//! Types: `Route`; in it `Table`, the slots with their sessions, `Media`, their buffers, and `ReplyQueue`. A `Reply` is a
-//! packet and its peer; a `Conclusion` is what is read of a caller's handshake.
+//! Types: `Route`; in it `Table`, the slots with their sessions, `Media`, their buffers, and `ReplyQueue`. A `Reply` is
+//! a packet and its receiver; a `Conclusion` is what is read from a caller's handshake.
 //!
 //! Calls: `Route::open`; then `step` for each item, and `next_reply` until it returns false, before the next `step`.
 //!
 //! An event's six steps, as `step` in `route.rt` calls them: the clock; `idle.rt`, idle peers and what is too late;
 //! `dispatch.rt`, a packet for a session or a conclusion (`conclusion.rt` reads it, `admission.rt` has each refusal and
-//! what is agreed, `answer.rt` its answer); `delivery.rt`; `transmit.rt`, the publisher's packets and the subscribers'.
-//! Socket IDs are in `slot.rt`, waiting replies in `reply_queue.rt`, the definition of it all in `specs/Route.antt`.
+//! the agreement, `answer.rt` its answer); `delivery.rt`; `transmit.rt`, the publisher's packets and then the
+//! subscribers'. Socket IDs are in `slot.rt`, waiting replies in `reply_queue.rt`, the definition of all of it in
+//! `specs/Route.antt`.
 #![tactic(auto)]
 
 mod admission;

@@ -54,8 +54,8 @@ fn moment(item: &Item) -> u64
 impl Route {
     /// A route without sessions, at clock 0. `index` is the route's position in the configuration, below 511. Takes all
     /// memory that the route will ever need: the buffers of its sessions, 66 replies for each session and 4 more, and 4
-    /// scratch boxes. Errors: `Names` if the name has a wrong form, else `Limits` if a number is outside its limits,
-    /// else `OutOfMemory`.
+    /// scratch boxes. Errors: `Names` if the name has a wrong form, else `Limits` if the index or a number is outside
+    /// its limits, else `OutOfMemory`.
     pub fn open(alloc: Global, entry: &Entry, index: usize) -> Result<Route, OpenFault>
         ensures stands { IfOk result (λ route. stands route (terms_of entry.now) index []) }
         ensures none_waits { IfOk result (λ route. waiting route ≡ []) }
@@ -84,8 +84,9 @@ impl Route {
         })
     }
 
-    /// One event: applies one item (a datagram or a tick). Returns the number of replies that now wait, at most 4 + 66
-    /// * `sessions`; take them all with `next_reply` before the next call. Moments are microseconds. Takes no memory.
+    /// One event: applies one item, a datagram or a tick, whose moment is in microseconds. Returns the number of
+    /// replies that now wait: at most 66 for each session that the entry allows, and 4 more. Take them all with
+    /// `next_reply` before the next call. Takes no memory.
     pub fn step(&mut self, item: Item) -> usize
         requires none_waits { waiting self.old ≡ [] }
         requires timely { moment_of (told item) < 2 ^ 62 }
