@@ -19,7 +19,7 @@ pub told_last : (earlier : List Item) (taken : List Marked) (x : Marked) → tol
 told_last earlier [] x = refl
 told_last earlier (m ∷ ms) x = told_last (told m.item ∷ earlier) ms x
 
--- no reply was handed back where none waits
+-- no reply was handed back if none waits
 pub none_held : (held : Option (Box Reply)) (route : Route) → waiting_at held route ≡ [] → map written (replies_in (option_to_list held)) ≡ []
 none_held None route none = refl
 none_held (Some b) route none = absurd (let e : (written b.value ∷ (waiting route)) ≡ [] = none in cc)

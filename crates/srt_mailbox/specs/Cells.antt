@@ -1,11 +1,11 @@
--- Which route a cell holds, and between which queues.
+-- Which route a cell holds, and which two queues it is between.
 use Rattle.std.specs.Prelude.{◌≡◌, ℕ}
 use Rattle.atomic_table.specs.Seated.{TableId}
 use Rattle.srt_seq.specs.Terms.{Terms}
 use Rattle.srt_mailbox.specs.Ends.{Producer, Drained}
 use Rattle.srt_mailbox.specs.Runs.{Run}
 
--- the route's terms and index, and its two queues. A cell has this name from its making on
+-- The route's terms and index, and its two queues. Fixed when the cell is made
 pub record Name : Type 0 where
   pub terms : Terms
   pub index : ℕ
@@ -15,10 +15,10 @@ pub record Name : Type 0 where
 abbrev pub name_of : Terms → (index : ℕ) → (inbox outbox : TableId) → Name
 name_of e r i o = record { terms = e; index = r; inbox = i; outbox = o }
 
--- the route is the one that the name says
+-- the route is the one that the name gives, at the same queues
 abbrev pub Bears : Name → Run → Type 0
 Bears n r = (r.terms ≡ n.terms) × (r.index ≡ n.index) × (r.inbox.queue ≡ n.inbox) × (r.outbox.queue ≡ n.outbox)
 
--- the ends stand on the queues of this name
+-- the ends belong to the queues of this name
 abbrev pub AreEndsOf : Name → Producer → Producer → Drained → Type 0
 AreEndsOf n ingress clock drain = (ingress.queue ≡ n.inbox) × (clock.queue ≡ n.inbox) × (drain.queue ≡ n.outbox)

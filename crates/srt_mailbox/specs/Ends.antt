@@ -5,7 +5,7 @@ use Rattle.srt_seq.specs.declared.shared.Item.{Item}
 use Rattle.srt_route.specs.declared.replies.Reply.{Reply}
 use Rattle.srt_mailbox.specs.declared.inbox_rule.Marked.{Marked}
 
--- an end that offers items: which inbox, its capacity, and the items that were accepted, the oldest first
+-- an end that offers items: which inbox, its capacity, and the items of this end that were accepted, the oldest first
 pub record Producer : Type 0 where
   pub queue : TableId
   pub capacity : ℕ
@@ -14,7 +14,7 @@ pub record Producer : Type 0 where
 abbrev pub producer : TableId → (capacity : ℕ) → (offered : List Item) → Producer
 producer q c xs = record { queue = q; capacity = c; offered = xs }
 
--- the end that takes items
+-- the end that takes items: which inbox, its capacity, and the items that were taken, the oldest first
 pub record Consumer : Type 0 where
   pub queue : TableId
   pub capacity : ℕ
@@ -32,7 +32,8 @@ pub record Pipe : Type 0 where
 abbrev pub pipe : TableId → (capacity : ℕ) → (put : List Reply) → Pipe
 pipe q c xs = record { queue = q; capacity = c; put = xs }
 
--- the end that drains replies, and the reply that it drained last (before the first, an empty one)
+-- the end that drains replies: which outbox, its capacity, the replies that were drained, the oldest first, and the last of them (before
+-- the first, a blank one)
 pub record Drained : Type 0 where
   pub queue : TableId
   pub capacity : ℕ

@@ -1,4 +1,4 @@
--- The rule of the inbox: the items taken and then those held are what the poller and the clock offered, each in order.
+-- The rule of the inbox: the items taken, followed by those held, are what the poller and the clock offered, each in order.
 use Rattle.std.specs.Prelude.{◌≡◌, ℕ, Bool, true, false, List, [], ◌∷◌, ◌++◌}
 use mathlib.Core.Option.{some}
 use lib.ListN.{get_elem?}
@@ -25,7 +25,7 @@ abbrev pub ticked_of : List Marked → List Item
 ticked_of [] = []
 ticked_of (m ∷ ms) = skip m.polled m.item (ticked_of ms)
 
--- what the items told the route, the newest first
+-- the taken items as the route's definition sees them, the newest first
 abbrev pub told_before : List ToldItem → List Marked → List ToldItem
 told_before earlier [] = earlier
 told_before earlier (m ∷ ms) = told_before (told m.item ∷ earlier) ms
@@ -62,20 +62,20 @@ clock v = view_of false v.ticks false [] v.ticked []
 abbrev pub with_clock : InboxView → InboxView → InboxView
 with_clock v w = view_of v.polls w.ticks v.takes v.polled w.ticked v.taken
 
--- what a pass of this number knows, where the passes with the three rights have the numbers p, q and r
+-- what the pass of this number knows, if the passes that have the three rights are p, q and r
 abbrev pub Knows : (p q r : ℕ) → (taken items : List Marked) → (pass : ℕ) → InboxView → Type 0
 Knows p q r taken items pass v =
     (v.polls ≡ true → (pass ≡ p) × (v.polled ≡ polled_of (taken ++ items)))
     × (v.ticks ≡ true → (pass ≡ q) × (v.ticked ≡ ticked_of (taken ++ items)))
     × (v.takes ≡ true → (pass ≡ r) × (v.taken ≡ taken))
 
--- one pass at most has each right, and knows all that was done by it
+-- at most one pass has each right, and it knows all that was done by that right
 abbrev pub Kept : (items : List Marked) → (views : List InboxView) → Type 0
 Kept items views =
     (p : ℕ) × (q : ℕ) × (r : ℕ) × (taken : List Marked)
     × ((pass : ℕ) (v : InboxView) → get_elem? views pass ≡ some v → Knows p q r taken items pass v)
 
--- what a step of a pass makes of its view
+-- a pass's view before and after a step of that pass
 abbrev pub Polled : InboxView → Marked → InboxView → Type 0
 Polled v x w = w ≡ view_of v.polls v.ticks v.takes (v.polled ++ x.item ∷ []) v.ticked v.taken
 
@@ -85,7 +85,7 @@ Ticked v x w = w ≡ view_of v.polls v.ticks v.takes v.polled (v.ticked ++ x.ite
 abbrev pub Took : InboxView → Marked → InboxView → Type 0
 Took v x w = w ≡ view_of v.polls v.ticks v.takes v.polled v.ticked (v.taken ++ x ∷ [])
 
--- at one moment the rule stood with these items held, and a pass knew this
+-- at some moment the rule was true with these items held, and some pass knew this
 abbrev pub Stood : (items : List Marked) → (InboxView → Type 0) → Type 0
 Stood items knows = (views : List InboxView) × (pass : ℕ) × (v : InboxView) × Kept items views × (get_elem? views pass ≡ some v) × knows v
 

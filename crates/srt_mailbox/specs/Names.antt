@@ -2,6 +2,6 @@
 use Rattle.srt_mailbox.specs.declared.cells.RouteCell.{RouteCell}
 use Rattle.srt_mailbox.specs.Cells.{Name}
 
--- which route the cell holds, and between which queues
+-- which route the cell holds, and which two queues it is between
 abbrev pub name_in : RouteCell → Name
 name_in cell = cell.slot

@@ -1,4 +1,4 @@
--- The rule of the outbox: what was drained and then what is held is what was put, in order.
+-- The rule of the outbox: the replies drained, followed by those held, are those that were put, in order.
 use Rattle.std.specs.Prelude.{◌≡◌, ℕ, Bool, true, false, List, [], ◌∷◌, ◌++◌, map}
 use mathlib.Core.Option.{some}
 use lib.ListN.{get_elem?}
@@ -29,24 +29,24 @@ drain v = view_of false v.drains [] v.drained
 abbrev pub with_drain : OutboxView → OutboxView → OutboxView
 with_drain v w = view_of v.puts w.drains v.put w.drained
 
--- what a pass of this number knows, where the passes with the two rights have the numbers p and q
+-- what the pass of this number knows, if the passes that have the two rights are p and q
 abbrev pub Knows : (p q : ℕ) → (drained items : List (Box Reply)) → (pass : ℕ) → OutboxView → Type 0
 Knows p q drained items pass v = (v.puts ≡ true → (pass ≡ p) × (v.put ≡ drained ++ items)) × (v.drains ≡ true → (pass ≡ q) × (v.drained ≡ drained))
 
--- one pass at most has each right, and knows all that was done by it
+-- at most one pass has each right, and it knows all that was done by that right
 abbrev pub Kept : (items : List (Box Reply)) → (views : List OutboxView) → Type 0
 Kept items views =
     (p : ℕ) × (q : ℕ) × (drained : List (Box Reply))
     × ((pass : ℕ) (v : OutboxView) → get_elem? views pass ≡ some v → Knows p q drained items pass v)
 
--- what a step of a pass makes of its view
+-- a pass's view before and after a step of that pass
 abbrev pub Put : OutboxView → Box Reply → OutboxView → Type 0
 Put v x w = w ≡ view_of v.puts v.drains (v.put ++ x ∷ []) v.drained
 
 abbrev pub Drained : OutboxView → Box Reply → OutboxView → Type 0
 Drained v x w = w ≡ view_of v.puts v.drains v.put (v.drained ++ x ∷ [])
 
--- at one moment the rule stood with these boxes held, and a pass knew this
+-- at some moment the rule was true with these boxes held, and some pass knew this
 abbrev pub Stood : (items : List (Box Reply)) → (OutboxView → Type 0) → Type 0
 Stood items knows = (views : List OutboxView) × (pass : ℕ) × (v : OutboxView) × Kept items views × (get_elem? views pass ≡ some v) × knows v
 

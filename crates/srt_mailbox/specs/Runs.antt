@@ -1,4 +1,4 @@
--- A route between its queues, and what a turn makes of it.
+-- A route between its queues, before and after a turn.
 use Rattle.std.specs.Prelude.{◌≡◌, ℕ, Option, List, [], ◌∷◌, ◌++◌, map, option_to_list}
 use Rattle.std.specs.Global.{Box}
 use Rattle.crossbeam_queue.specs.Fifo.{Held}
@@ -27,21 +27,21 @@ pub record Run : Type 0 where
 abbrev pub run : Terms → (index : ℕ) → Consumer → Pipe → (waiting : List Datagram) → Run
 run e r c p ws = record { terms = e; index = r; inbox = c; outbox = p; waiting = ws }
 
--- the datagrams that wait: the reply that a full outbox handed back, and then those of the route
+-- the datagrams that wait: the reply that a full outbox handed back, if any, followed by those in the route
 abbrev pub waiting_at : Option (Box Reply) → TheRoute → List Datagram
 waiting_at held route = map written (replies_in (option_to_list held)) ++ waiting route
 
--- what was put and then what waits is all that the route, alone, replies to the items that were taken
+-- the replies put, followed by those that wait, are all that the route, alone, replies to the items that were taken
 abbrev pub Replays : Run → Type 0
 Replays r = map written r.outbox.put ++ r.waiting ≡ solo r.terms r.index (applied r.inbox.taken)
 
--- an item was taken, and what it is replied waits
+-- none waited; an item was taken, and now the route's replies to it wait
 abbrev pub AppliedOne : Run → Run → Type 0
 AppliedOne a b =
     (x : Marked) × (a.waiting ≡ [])
     × (b ≡ run a.terms a.index (consumer a.inbox.queue a.inbox.capacity (a.inbox.taken ++ x ∷ [])) a.outbox (reply a.terms a.index (told x.item ∷ applied a.inbox.taken)))
 
--- the first reply that waits was put
+-- the oldest reply that waited was put
 abbrev pub MovedOne : Run → Run → Type 0
 MovedOne a b =
     (y : Reply) × (rest : List Datagram) × (a.waiting ≡ written y ∷ rest)
@@ -57,6 +57,7 @@ WasBlocked a b =
 abbrev pub WasIdle : Run → Run → Type 0
 WasIdle a b = (a.waiting ≡ []) × (b ≡ a) × Held 0 (StoodAsTaken a.inbox.taken)
 
+-- what each outcome of a turn means
 abbrev pub TurnedAs : Turned → Run → Run → Type 0
 TurnedAs Applied a b = AppliedOne a b
 TurnedAs Moved a b = MovedOne a b

@@ -1,4 +1,4 @@
--- The account of a route.
+-- The account of a route that has ended.
 use Rattle.std.specs.Prelude.{◌≡◌, List, ◌++◌, length, map}
 use Rattle.srt_seq.specs.Items.{Datagram}
 use Rattle.srt_route.specs.declared.replies.Reply.{Reply}
@@ -11,8 +11,8 @@ use Rattle.srt_mailbox.specs.Ends.{Producer, Drained}
 use Rattle.srt_mailbox.specs.Cells.{Name}
 use Rattle.srt_mailbox.specs.Counts.{counted}
 
--- The items taken and then those left are what the two ends offered, each in order. The replies drained, then those queued, then those that
--- wait are all that the route, alone, replies to the items taken. The account has the numbers
+-- The items taken, followed by those left, are what the two ends offered, each in order. The replies drained, then those queued, then those
+-- that wait are all that the route, alone, replies to the items taken. The account has their numbers
 pub record Settles (a : Account) (n : Name) (ingress clock : Producer) (drain : Drained) : Type 0 where
   pub taken : List Marked
   pub left : List Marked

@@ -1,4 +1,4 @@
-//! The end of a route: its four ends come together, and it gives an account.
+//! Ends a route: takes its four ends and returns the final counts.
 
 ghost use Rattle.std.specs.Prelude.{◌≡◌, IfOk, IfErr};
 ghost use Rattle.srt_mailbox.specs.Cells.{AreEndsOf};
@@ -10,32 +10,36 @@ use crate::inbox::{ClockEnd, Ingress};
 use crate::outbox::Drain;
 use std::sync::Wait;
 
-/// What a route took and replied, and what is left in its queues.
+/// The final counts of a route: items applied and replies drained; then what is left in its queues.
 #[derive(Clone, Copy, Debug, PartialEq, Eq)]
 pub struct Account {
-    /// How many items the route took; it stops at 2^64 - 1.
+    /// Items that the route took from its inbox and applied. Saturates at 2^64 - 1.
     pub taken: u64,
-    /// How many items are left in the inbox.
+    /// Items left in the inbox, never applied.
     pub left: u64,
-    /// How many replies wait at the route.
+    /// Replies that wait at the route, not yet in the outbox.
     pub waiting: u64,
-    /// How many replies are left in the outbox.
+    /// Replies left in the outbox.
     pub queued: u64,
-    /// How many replies were drained; it stops at 2^64 - 1.
+    /// Replies taken out by `Drain::take`. Saturates at 2^64 - 1.
     pub drained: u64,
 }
 
-/// The four ends of a route that somebody else has, unchanged.
+/// The error of `settle`: another call had claimed the route. The four ends, unchanged.
 #[derive(Drop)]
 pub struct Unsettled {
+    /// The poller's end of the inbox.
     pub ingress: Ingress,
+    /// The clock's end of the inbox.
     pub clock: ClockEnd,
+    /// The route behind its claim word.
     pub cell: RouteCell,
+    /// The end of the outbox.
     pub drain: Drain,
 }
 
-/// Ends a route and returns its account. The four ends come from one `open_route`. If another call has the route, they
-/// come back unchanged. Takes no memory.
+/// Ends a route and returns its account. The four ends must come from one `open_route`. If another call has claimed the
+/// route, `Unsettled` hands them back unchanged. What is left in the queues is counted and discarded. Takes no memory.
 pub fn settle<R: Wait>(
     rt: &R,
     ingress: Ingress,

@@ -1,4 +1,5 @@
-//! The place where workers find a route: a claim word, for which nobody waits, and the route behind it.
+//! The cell in which workers find a route: the route and a claim word. A worker that finds the route claimed doesn't
+//! wait for it.
 
 ghost use Rattle.std.specs.Prelude.{◌≡◌, IfSome};
 ghost use Rattle.srt_seq.specs.Terms.{terms_of};
@@ -17,7 +18,7 @@ use std::marker::Model;
 use std::snapshot::Snapshot;
 use std::sync::{Arc, Wait};
 
-/// Which route a cell holds, and its two queues. Contracts see their names.
+/// Which route a cell holds, and its two queues. Fixed when the cell is made. Contracts see it as a `Name`.
 #[derive(Drop)]
 pub struct Label {
     pub(crate) inbox: Arc<Inbox>,
@@ -36,7 +37,7 @@ impl Model for Label {
     ghost view = { λ s. name_of (terms_of s.entry.value) s.index.value (arc_value s.inbox).table.shared.table_id (arc_value s.outbox).table.shared.table_id };
 }
 
-/// A route in its box: a claim moves the box twice, and the route stays where it is.
+/// A route in its box. A claim moves the box out and back; the route itself is never copied.
 #[derive(Drop)]
 pub struct Boxed {
     pub(crate) running: Box<Running>,
@@ -50,12 +51,12 @@ impl Fits for Boxed {
     ghost fits = { λ label boxed. Bears label boxed.running.value };
 }
 
-/// A route that workers share. Whoever has claimed it has it alone; the place is empty while a call has the route.
+/// A route that workers share. At most one call has the route at a time; the slot is empty meanwhile.
 #[derive(Drop)]
 pub struct RouteCell {
     index: usize,
     slot: Counted<Option<Boxed>>,
-    // 64 bytes between the words of two cells that lie side by side, which therefore share no cache line
+    // 64 bytes of padding, so that the claim words of two neighbouring cells share no cache line
     _apart: [u64; 8],
 }
 
@@ -71,7 +72,7 @@ impl RouteCell {
         }
     }
 
-    // Takes the route out, if nobody else has it.
+    // Takes the route out of the slot. `None` if another call has it. One compare-exchange; never waits.
     pub(crate) fn claim(&self) -> Option<Boxed>
         ensures { IfSome result (λ r. Bears (name_in self.now) r.running.value) }
     {
@@ -83,7 +84,8 @@ impl RouteCell {
         claim.put(None, PRESENT)
     }
 
-    // Puts the route back. No claim lasts long here, so this alone may try again.
+    // Puts the route back and frees the claim word. While a call has the route, no other call changes the word, so the
+    // first try succeeds. The proof doesn't know that, hence the loop.
     fn give_back<R: Wait>(&self, rt: &R, boxed: Boxed)
         requires { Bears (name_in self.now) boxed.running.value }
     {
@@ -97,9 +99,9 @@ impl RouteCell {
         }
     }
 
-    /// Lets the route make one turn, if nobody else has it and the gate passes. `Held` only if the gate refused, `Busy`
-    /// if another call had the route; neither makes a turn. Whatever is returned, the route is given back. Takes no
-    /// memory, and does not wait for the route.
+    /// Makes one turn of the route, if no other call has it and the gate lets it pass. `Held`: the gate refused.
+    /// `Busy`: another call had the route, and the gate wasn't asked. In both cases no turn is made. The route is given
+    /// back in every case. Takes no memory and doesn't wait for the route.
     pub fn serve<R: Wait, G: Gate>(&self, rt: &R, gate: &mut G) -> Served
         ensures held { result ≡ Held → Grew (G.held gate.old) (G.held gate.new) }
     {
@@ -116,9 +118,10 @@ impl RouteCell {
     }
 }
 
-/// What workers share. Code that hands a cell to threads is generic over this, so that it asks for `Sync` by a bound.
+/// A route that can be served: what `RouteCell` does for workers. Code that hands cells to threads is generic over this
+/// trait, so that it can ask for `Sync` by a bound.
 pub trait Serve {
-    /// Lets the route make one turn, as `RouteCell::serve`.
+    /// Makes one turn of the route, as `RouteCell::serve` does.
     fn serve<R: Wait, G: Gate>(&self, rt: &R, gate: &mut G) -> Served
         ensures held { result ≡ Held → Grew (G.held gate.old) (G.held gate.new) };
 }
@@ -131,7 +134,7 @@ impl Serve for RouteCell {
 
 fn is_sync<T: Sync + Send>(_it: &T) {}
 
-// Threads may share a cell.
+// Compiles only if threads may share a cell.
 fn cell_is_sync(cell: &RouteCell) {
     is_sync(cell);
 }

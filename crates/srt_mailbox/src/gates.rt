@@ -1,31 +1,32 @@
-//! Who may make a turn, and what serving a route did.
+//! Whether a turn may be made, and the outcome of serving a route.
 
 ghost use Rattle.std.specs.Prelude.{◌≡◌, ℕ, IsFalse};
 ghost use Rattle.srt_mailbox.specs.Counts.{Grew};
 
 use srt_seq::Turned;
 
-/// A worker's gate, asked before each turn while the worker has the route.
+/// Lets a worker's turn pass, or refuses it. It is asked before each turn, while the worker has the route; a gate that
+/// waits keeps that route from other workers. Each worker has a gate of its own.
 pub trait Gate {
-    /// How often it refused; the count stops at 2^64 - 1.
+    /// The number of refusals. Saturates at 2^64 - 1.
     ghost held: { Self → ℕ };
 
-    /// Whether a turn of the route with this index may be made now.
+    /// Whether a turn of the route with this index may be made now. If not, the refusals grow by one.
     fn pass(&mut self, route: usize) -> bool
         ensures { IsFalse result → Grew (held self.old) (held self.new) };
 
-    /// How often it refused.
+    /// The number of refusals. Saturates at 2^64 - 1.
     fn held(&self) -> u64
         ensures { result ≡ held self.now };
 }
 
-/// What serving a route did.
+/// The outcome of `RouteCell::serve`.
 #[derive(Clone, Copy, Debug, PartialEq, Eq)]
 pub enum Served {
-    /// The route made one turn.
+    /// The route made one turn, with this outcome.
     Turned(Turned),
     /// The gate refused; no turn was made.
     Held,
-    /// Another worker had the route; no turn was made.
+    /// Another call had the route; no turn was made.
     Busy,
 }

@@ -1,4 +1,4 @@
-//! The three ends of an inbox.
+//! The three ends of an inbox: two offer items (the poller, the clock), one takes them (the route).
 
 ghost use Rattle.std.specs.Prelude.{◌≡◌, ◌<◌, ◌^◌, List, [], ◌∷◌, ◌++◌, length, true, IfOk, OnOk, IfErr, MatchOption};
 ghost use Rattle.std.specs.Arc.{arc_value};
@@ -14,14 +14,15 @@ use std::alloc::{AllocError, Global};
 use std::marker::Model;
 use std::sync::{Arc, Wait};
 
-/// The inbox was full at some moment of the call; the item comes back.
+/// The error of `offer`: the inbox was full at some moment of the call. The item comes back.
 #[derive(Debug, Drop)]
 pub struct Full {
-    /// The item that was offered.
+    /// The item that was offered, unchanged.
     pub item: Item,
 }
 
-/// The poller's end of a route's inbox. Contracts see which inbox, its capacity and the items that it accepted.
+/// The poller's end of a route's inbox. Contracts see which inbox it is, its capacity, and the items of this end that
+/// it accepted.
 #[derive(Drop)]
 pub struct Ingress {
     queue: Arc<Inbox>,
@@ -41,7 +42,8 @@ impl Model for Ingress {
     ghost invariant = { λ s. IsPassOf (arc_value s.queue) s.pass × (s.pass.me.0.client.polls ≡ true) };
 }
 
-/// The clock's end of a route's inbox. Contracts see which inbox, its capacity and the items that it accepted.
+/// The clock's end of a route's inbox. Contracts see which inbox it is, its capacity, and the items of this end that it
+/// accepted.
 #[derive(Drop)]
 pub struct ClockEnd {
     queue: Arc<Inbox>,
@@ -61,7 +63,7 @@ impl Model for ClockEnd {
     ghost invariant = { λ s. IsPassOf (arc_value s.queue) s.pass × (s.pass.me.0.client.ticks ≡ true) };
 }
 
-/// The route's own end of its inbox.
+/// The route's own end of its inbox. Contracts see which inbox it is, its capacity, and the items that were taken.
 #[derive(Drop)]
 pub struct Taker {
     queue: Arc<Inbox>,
@@ -82,8 +84,8 @@ impl Model for Taker {
 }
 
 impl Ingress {
-    /// Puts an item last into the inbox. `Full` hands it back if the inbox was full at some moment of the call; then
-    /// nothing changed. The item's moment is in microseconds. Takes no memory.
+    /// Appends an item to the inbox. `Full` hands it back if the inbox was full at some moment of the call; then
+    /// nothing changed. The item's moment is in microseconds, below 2^62. Takes no memory.
     pub fn offer<R: Wait>(&mut self, rt: &R, item: Item) -> Result<(), Full>
         requires timely { moment_of (told item) < 2 ^ 62 }
         ensures ok { OnOk result (self.new ≡ producer self.old.queue self.old.capacity (self.old.offered ++ item ∷ [])) }
@@ -98,8 +100,8 @@ impl Ingress {
 }
 
 impl ClockEnd {
-    /// Puts an item last into the inbox. `Full` hands it back if the inbox was full at some moment of the call; then
-    /// nothing changed. The item's moment is in microseconds. Takes no memory.
+    /// Appends an item to the inbox. `Full` hands it back if the inbox was full at some moment of the call; then
+    /// nothing changed. The item's moment is in microseconds, below 2^62. Takes no memory.
     pub fn offer<R: Wait>(&mut self, rt: &R, item: Item) -> Result<(), Full>
         requires timely { moment_of (told item) < 2 ^ 62 }
         ensures ok { OnOk result (self.new ≡ producer self.old.queue self.old.capacity (self.old.offered ++ item ∷ [])) }
@@ -117,21 +119,21 @@ impl ClockEnd {
 }
 
 impl Taker {
-    /// Takes the first item. `None` only if the inbox was empty at some moment of the call.
+    /// Takes the oldest item. `None` only if the inbox was empty at some moment of the call. Takes no memory.
     pub fn take<R: Wait>(&mut self, rt: &R) -> Option<Marked>
         ensures { MatchOption result
             ((self.new ≡ self.old) × Held 0 (StoodAsTaken self.old.taken))
             (λ x. self.new ≡ consumer self.old.queue self.old.capacity (self.old.taken ++ x ∷ [])) }
     {
-        // Two loads show that an inbox is empty. A pop that finds nothing copies a place for an item all the same.
+        // Two loads tell whether the inbox is empty. A pop copies a whole cell of the queue even if it finds nothing.
         if self.queue.is_empty_as::<Takes>(&mut self.pass) {
             return None;
         }
         self.queue.pop_as::<Takes, R>(rt, &mut self.pass)
     }
 
-    /// Returns how many items are left, once the other two ends are here again. The items taken and then those left are
-    /// what the two ends offered, each in order.
+    /// Returns the number of items left in the inbox, and ends it; the other two ends must be of the same inbox. The
+    /// items taken, followed by those left, are what the two ends offered, each in order.
     pub fn settle<R: Wait>(self, rt: &R, ingress: Ingress, clock: ClockEnd) -> usize
         requires { (ingress.queue ≡ self.queue) × (clock.queue ≡ self.queue) }
         ensures { (left : List TheMarked) × (length left ≡ result) × (ingress.offered ≡ polled_of (self.taken ++ left)) × (clock.offered ≡ ticked_of (self.taken ++ left)) }
@@ -150,7 +152,7 @@ impl Taker {
         queue.len_as::<Left, R>(rt, &mut pass)
     }
 
-    /// The queue that this end stands on.
+    /// Another handle of this end's queue.
     pub fn share(&self) -> Result<Arc<Inbox>, AllocError>
         ensures { IfOk result (λ q. (arc_value q).table.shared.table_id ≡ self.now.queue) }
     {
@@ -158,7 +160,8 @@ impl Taker {
     }
 }
 
-/// The three ends of a new inbox, which holds nothing.
+/// The three ends of a new, empty inbox for at most `capacity` items, 1 or more. Takes memory for all of them; an error
+/// means that it was refused.
 pub fn open_inbox(alloc: Global, capacity: usize) -> Result<(Ingress, ClockEnd, Taker), AllocError>
     requires { 0 < capacity }
     ensures { IfOk result (λ r. (r.0 ≡ producer r.2.queue capacity []) × (r.1 ≡ producer r.2.queue capacity []) × (r.2 ≡ consumer r.2.queue capacity [])) }

@@ -1,4 +1,5 @@
-//! The rule of the inbox: who may do what with it, and what each of its ends knows.
+//! The rule of the inbox: which end may do what, and what each end knows of the items. A *pass* is the right to use the
+//! queue; each of the three ends has one. Views, rules, splits, outcomes and lessons are for proofs alone.
 
 ghost use Rattle.std.specs.Prelude.{◌<◌, ◌^◌};
 ghost use Rattle.srt_seq.specs.Items.{told, moment_of};
@@ -8,27 +9,33 @@ use crossbeam_queue::{Pass, RuledArrayQueue};
 use srt_seq::Item;
 use std::collections::LinkedList;
 
-/// An item in the inbox, with the mark of the end that offered it.
+/// An item in the inbox, marked with the end that offered it.
 #[derive(Drop)]
 pub struct Marked {
-    /// Whether the poller offered it; else the clock did.
+    /// True if the poller offered it, false if the clock did.
     pub polled: bool,
-    /// The item; its moment is below 2^62.
+    /// The item. Its moment is in microseconds, below 2^62.
     pub item: Item,
     pub ghost timely: { moment_of (told item) < 2 ^ 62 },
 }
 
-/// What a pass of the inbox may do and has done. No value of it is made.
+/// The rights of a pass of the inbox, and what was done by them, the oldest first. No value of it is ever made.
 pub struct InboxView {
+    /// It may offer as the poller.
     pub polls: bool,
+    /// It may offer as the clock.
     pub ticks: bool,
+    /// It may take.
     pub takes: bool,
+    /// The items that it offered as the poller.
     pub polled: LinkedList<Item>,
+    /// The items that it offered as the clock.
     pub ticked: LinkedList<Item>,
+    /// The items that it took.
     pub taken: LinkedList<Marked>,
 }
 
-/// The rule.
+/// The rule: the items taken, followed by those held, are what the poller and the clock offered, each in order.
 pub struct InboxRule;
 
 impl Protocol<Marked, InboxView> for InboxRule {
@@ -122,7 +129,7 @@ impl Lesson<Marked, InboxView> for Takes {
     ghost fact = { λ v items. StoodAsTaken v.taken items };
 }
 
-/// The pass with all three rights looks at what is left.
+/// The pass that has all three rights looks at the items left.
 pub struct Left;
 
 impl Lesson<Marked, InboxView> for Left {
@@ -131,6 +138,8 @@ impl Lesson<Marked, InboxView> for Left {
     ghost fact = { KnowsAll };
 }
 
+/// The queue of an inbox: bounded, first in, first out.
 pub type Inbox = RuledArrayQueue<Marked, InboxView, InboxRule>;
 
+/// A pass of an inbox.
 pub type InboxPass = Pass<Marked, InboxView>;

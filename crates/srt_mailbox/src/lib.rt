@@ -1,14 +1,18 @@
-//! A route of the running gateway between its two queues, behind a claim word.
+//! A route that threads share: behind a claim word, between a bounded inbox and a bounded outbox.
 //!
-//! `open_route` makes a route with its four ends: `Ingress` (the poller offers datagrams), `ClockEnd` (the clock offers
-//! ticks), `RouteCell` (workers serve the route) and `Drain` (the poller takes replies). A worker calls
-//! `RouteCell::serve`: it claims the route without waiting for it, asks its `Gate`, lets the route make one turn, and
-//! gives it back. `settle` brings the four ends together again and returns the route's account.
+//! It starts no thread (`srt_serve` does), uses no socket (`srt_poller` does), and doesn't define what a route replies
+//! (`srt_route` does). After `open_route` no call takes memory: replies travel in boxes that come back (`spares.rt`).
 //!
-//! Both queues stand under a rule (`specs/Inbox.antt`, `specs/Outbox.antt`) that says which items or replies went
-//! through each end. That a route, whoever serves it, replays as that route alone is `Replays` of `specs/Runs.antt`,
-//! an invariant of `Running`. Replies travel in boxes that come back (`spares`), so no call after `open_route` takes
-//! memory. What a route replies is `srt_route`'s; threads are started by `srt_gateway`.
+//! Types: the four ends of a route, which are `Ingress` (the poller offers datagrams), `ClockEnd` (the ticking thread
+//! offers ticks), `RouteCell` (workers serve the route) and `Drain` (the poller takes replies). A `Gate` may refuse a
+//! turn, `Served` is the outcome of `serve`, and `Account` has the counts of a route that has ended.
+//!
+//! Calls: `open_route`; then, each from its own thread, `offer` on `Ingress` and `ClockEnd`, `RouteCell::serve` (any
+//! number of workers), and `Drain::take` with `Drain::reply`; last `settle`, which takes all four ends.
+//!
+//! Files: the claim word is in `cells.rt`, one turn of a route in `running.rt`, the queues in `inbox.rt` and
+//! `outbox.rt`, what passes through them in `inbox_rule.rt` and `outbox_rule.rt` (`specs/Inbox.antt`,
+//! `specs/Outbox.antt`). That the replies don't depend on which worker serves is `Replays` in `specs/Runs.antt`.
 #![tactic(auto)]
 
 mod accounts;

@@ -1,4 +1,4 @@
-//! A new route between new queues.
+//! Opens a route with its two queues.
 
 ghost use Rattle.std.specs.Prelude.{◌≡◌, [], None, Some, Err, IfOk, IfErr};
 ghost use Rattle.srt_seq.specs.declared.shared.OpenFault.{OpenFault as TheFault};
@@ -18,7 +18,7 @@ use std::alloc::{AllocError, Global};
 use std::snapshot::Snapshot;
 use std::sync::Wait;
 
-// The ends of a route that can be opened.
+// Makes the queues and the cell of a route that was opened, and returns the four ends.
 fn joined<R: Wait>(
     rt: &R,
     alloc: Global,
@@ -54,9 +54,12 @@ fn joined<R: Wait>(
     Ok((ingress, clock, RouteCell::new(index, boxed, &label), drain))
 }
 
-/// A route that was told nothing, with the ends of its two empty queues: the poller's and the clock's of the inbox, the
-/// route behind its claim word, and the drain of the outbox. It takes all memory that the route will ever need. The
-/// name is looked at before the numbers, memory comes last; nothing is kept after a fault.
+/// Opens a route that has applied no item yet, with empty queues. Returns its four ends: the poller's and the clock's
+/// of the inbox, the route behind its claim word, and the drain of the outbox. The inbox has room for `entry.inbox`
+/// items and the outbox for `entry.outbox` replies. Takes all memory that the route will ever need.
+///
+/// Errors, in this order: `Names` if the route's name is malformed, `Limits` if a number or the index is out of range,
+/// `OutOfMemory`. Nothing is kept after an error.
 pub fn open_route<R: Wait>(
     rt: &R,
     alloc: Global,

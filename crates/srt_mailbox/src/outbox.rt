@@ -1,4 +1,4 @@
-//! The two ends of an outbox.
+//! The two ends of an outbox: the route puts replies, the poller drains them.
 
 ghost use Rattle.std.specs.Prelude.{◌≡◌, ◌<◌, ◌≤◌, List, [], ◌∷◌, ◌++◌, length, true, false, IfOk, OnOk, IfErr};
 ghost use Rattle.std.specs.Arc.{arc_value};
@@ -16,7 +16,7 @@ use std::marker::Model;
 use std::mem;
 use std::sync::{Arc, Wait};
 
-/// The route's own end of its outbox.
+/// The route's own end of its outbox. Contracts see which outbox it is, its capacity, and the replies that were put.
 #[derive(Drop)]
 pub struct Putter {
     queue: Arc<Outbox>,
@@ -37,15 +37,15 @@ impl Model for Putter {
     ghost invariant = { λ s. IsPassOf (arc_value s.queue) s.pass × (s.pass.me.0.client.puts ≡ true) };
 }
 
-/// The end of a route's outbox from which replies are drained. Contracts see which outbox, its capacity, the replies
-/// that were drained, and the last of them.
+/// The end of a route's outbox from which replies are drained. Contracts see which outbox it is, its capacity, the
+/// replies that were drained, and the last of them.
 #[derive(Drop)]
 pub struct Drain {
     queue: Arc<Outbox>,
     pass: OutboxPass,
     returned: Arc<Returned>,
     hand: Box<Reply>,
-    // how many replies were drained; it stops at 2^64 - 1
+    // the number of replies drained; saturates at 2^64 - 1
     count: u64,
 }
 
@@ -65,7 +65,8 @@ impl Model for Drain {
 }
 
 impl Putter {
-    /// Puts a reply last into the outbox. The box comes back only if the outbox was full at some moment of the call.
+    /// Appends a reply to the outbox. The error hands the box back; it comes only if the outbox was full at some moment
+    /// of the call. Takes no memory.
     pub fn put<R: Wait>(&mut self, rt: &R, reply: Box<Reply>) -> Result<(), Box<Reply>>
         ensures ok { OnOk result (self.new ≡ pipe self.old.queue self.old.capacity (self.old.put ++ reply.value ∷ [])) }
         ensures full { IfErr result (λ back. (back ≡ reply) × (self.new ≡ self.old) × Held self.old.capacity (StoodAsPut self.old.put)) }
@@ -73,8 +74,8 @@ impl Putter {
         self.queue.push_as::<Puts, R>(rt, &mut self.pass, reply)
     }
 
-    /// Returns how many replies are left, once the other end is here again. The replies drained and then those left
-    /// are what was put.
+    /// Returns the number of replies left and the number drained (saturated at 2^64 - 1), and ends the outbox; `drain`
+    /// must be of the same outbox. The replies drained, followed by those left, are what was put.
     pub fn settle<R: Wait>(self, rt: &R, drain: Drain) -> (usize, u64)
         requires { drain.queue ≡ self.queue }
         ensures left { (left : List TheReply) × (length left ≡ result.0) × (self.put ≡ drain.through ++ left) }
@@ -92,7 +93,7 @@ impl Putter {
         (queue.len_as::<Left, R>(rt, &mut pass), count)
     }
 
-    /// The queue that this end stands on.
+    /// Another handle of this end's queue.
     pub fn share(&self) -> Result<Arc<Outbox>, AllocError>
         ensures { IfOk result (λ q. (arc_value q).table.shared.table_id ≡ self.now.queue) }
     {
@@ -101,9 +102,8 @@ impl Putter {
 }
 
 impl Drain {
-    /// Takes the first reply out of the outbox, to be read by `reply`. False only if the outbox was empty at some
-    /// moment of the call; then nothing changed. Takes no memory: the box that held the reply before goes back to the
-    /// route.
+    /// Takes the oldest reply out of the outbox, to be read by `reply`. False only if the outbox was empty at some
+    /// moment of the call; then nothing changed. Takes no memory: the box of the reply before goes back to the route.
     pub fn take<R: Wait>(&mut self, rt: &R) -> bool
         ensures some { result ≡ true → self.new ≡ drained self.old.queue self.old.capacity (self.old.through ++ self.new.hand ∷ []) self.new.hand }
         ensures none { result ≡ false → (self.new ≡ self.old) × Held 0 (StoodAsDrained self.old.through) }
@@ -119,7 +119,7 @@ impl Drain {
         }
     }
 
-    /// The reply that was taken last; before the first, an empty one.
+    /// The reply that `take` took last. Before the first it is a blank one, which isn't to be sent.
     pub fn reply(&self) -> &Reply
         ensures { result.now ≡ self.now.hand }
     {
@@ -127,7 +127,8 @@ impl Drain {
     }
 }
 
-/// The two ends of a new outbox, which holds nothing, and the empty boxes between them.
+/// The two ends of a new, empty outbox for at most `capacity` replies (1 to 4096), and the empty boxes that go round
+/// between them. Takes memory for `capacity` + 3 boxes and both queues; an error means that it was refused.
 pub fn open_outbox<R: Wait>(
     rt: &R,
     alloc: Global,

@@ -1,19 +1,24 @@
-//! The rule of the outbox: who may do what with it, and what each of its ends knows.
+//! The rule of the outbox: which end may do what, and what each end knows of the replies. A *pass* is the right to use
+//! the queue; each of the two ends has one. Views, rules, splits, outcomes and lessons are for proofs alone.
 
 use crossbeam_queue::protocol::{Join, Lesson, Outcome, Protocol, Split};
 use crossbeam_queue::{Pass, RuledArrayQueue};
 use srt_route::Reply;
 use std::collections::LinkedList;
 
-/// What a pass of the outbox may do and has done. No value of it is made.
+/// The rights of a pass of the outbox, and what was done by them, the oldest first. No value of it is ever made.
 pub struct OutboxView {
+    /// It may put.
     pub puts: bool,
+    /// It may drain.
     pub drains: bool,
+    /// The replies that it put.
     pub put: LinkedList<Box<Reply>>,
+    /// The replies that it drained.
     pub drained: LinkedList<Box<Reply>>,
 }
 
-/// The rule.
+/// The rule: the replies drained, followed by those held, are the replies that were put, in order.
 pub struct OutboxRule;
 
 impl Protocol<Box<Reply>, OutboxView> for OutboxRule {
@@ -73,7 +78,7 @@ impl Lesson<Box<Reply>, OutboxView> for Drains {
     ghost fact = { λ v items. StoodAsDrained (replies_in v.drained) items };
 }
 
-/// The pass with both rights looks at what is left.
+/// The pass that has both rights looks at the replies left.
 pub struct Left;
 
 impl Lesson<Box<Reply>, OutboxView> for Left {
@@ -82,6 +87,8 @@ impl Lesson<Box<Reply>, OutboxView> for Left {
     ghost fact = { KnowsAll };
 }
 
+/// The queue of an outbox: bounded, first in, first out.
 pub type Outbox = RuledArrayQueue<Box<Reply>, OutboxView, OutboxRule>;
 
+/// A pass of an outbox.
 pub type OutboxPass = Pass<Box<Reply>, OutboxView>;

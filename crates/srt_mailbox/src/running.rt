@@ -1,4 +1,4 @@
-//! A route between its two queues, as the one who has claimed it holds it.
+//! A route with its ends of both queues: what a worker has while it has claimed the route, and one turn of it.
 
 ghost use Rattle.std.specs.Prelude.{◌≡◌, ◌<◌, ◌+◌, ℕ, List, [], ◌∷◌, None, length};
 ghost use Rattle.srt_seq.specs.Terms.{Terms, terms_of};
@@ -32,13 +32,13 @@ pub struct Running {
     putter: Putter,
     boxes: Boxes,
     route: Box<Route>,
-    // a reply that a full outbox handed back: the first that waits
+    // a reply that a full outbox handed back; it is the oldest that waits
     held: Option<Box<Reply>>,
-    // how many replies wait
+    // the number of replies that wait, `held` included
     waiting: usize,
-    // how many items were taken; it stops at 2^64 - 1
+    // the number of items taken; saturates at 2^64 - 1
     taken: u64,
-    // the entry and the index that the route was opened with; they have no bytes
+    // the entry and the index that the route was opened with, for contracts alone: no bytes at run time
     entry: Snapshot<Entry>,
     index: Snapshot<usize>,
 }
@@ -55,11 +55,11 @@ impl Model for Running {
 
     ghost view = { λ s. run (terms_of s.entry.value) s.index.value s.taker s.putter (waiting_at s.held s.route.value) };
 
-    // The route stands for the items that were taken, and it replays.
+    // The route is in the state that the taken items lead to, and what it replied is what it would reply alone.
     ghost invariant = { λ s. stands s.route.value (terms_of s.entry.value) s.index.value (applied s.taker.taken) × Replays (run (terms_of s.entry.value) s.index.value s.taker s.putter (waiting_at s.held s.route.value)) × (s.waiting ≡ length (waiting_at s.held s.route.value)) × (s.taken ≡ counted (length s.taker.taken)) };
 }
 
-// Takes the first reply that waits, in its box.
+// Takes the oldest reply that waits, in its box. There must be one.
 fn next_waiting<R: Wait>(
     rt: &R,
     held: &mut Option<Box<Reply>>,
@@ -80,7 +80,7 @@ fn next_waiting<R: Wait>(
 }
 
 impl Running {
-    /// A route that was told nothing, at ends that nothing went through.
+    /// A route that has applied no item, with ends that nothing has passed through.
     pub(crate) fn new(ends: Ends, route: Box<Route>, entry: &Entry, index: usize) -> Running
         requires fresh { stands route.value (terms_of entry.now) index [] }
         requires none_waits { waiting route.value ≡ [] }
@@ -105,7 +105,7 @@ impl Running {
         }
     }
 
-    // Moves the first reply that waits to the outbox, unless that is full.
+    // Moves the oldest reply that waits to the outbox, or returns `Blocked` if that is full.
     fn move_reply<R: Wait>(&mut self, rt: &R) -> Turned
         requires { 0 < length self.old.waiting }
         ensures { TurnedAs result self.old self.new }
@@ -123,7 +123,7 @@ impl Running {
         }
     }
 
-    // Applies the first item of the inbox, unless that is empty.
+    // Applies the oldest item of the inbox, or returns `Idle` if that is empty.
     fn apply_item<R: Wait>(&mut self, rt: &R) -> Turned
         requires { self.old.waiting ≡ [] }
         ensures { TurnedAs result self.old self.new }
@@ -138,8 +138,8 @@ impl Running {
         }
     }
 
-    /// Makes one turn: moves the first reply that waits to the outbox, or, if none waits, applies the first item of the
-    /// inbox. `Blocked` and `Idle` change nothing. Takes no memory.
+    /// Makes one turn: moves the oldest reply that waits to the outbox, or, if none waits, applies the oldest item of
+    /// the inbox. `Blocked` (full outbox) and `Idle` (empty inbox) change nothing. Takes no memory.
     pub fn turn<R: Wait>(&mut self, rt: &R) -> Turned
         ensures { TurnedAs result self.old self.new }
     {
@@ -150,15 +150,15 @@ impl Running {
         }
     }
 
-    /// What was put and then what waits is all that the route, alone, replies to the items that were taken, whoever
-    /// made its turns.
+    /// The replies put, followed by those that wait, are all that the route, running alone, replies to the items taken,
+    /// whichever workers made its turns. Does nothing: its contract is the statement.
     pub fn replays(&self)
         ensures { Replays self.now }
     {
         let _waiting = self.waiting;
     }
 
-    /// The two ends, how many items were taken, and how many replies wait.
+    /// Ends the route: its two ends, the number of items taken, and the number of replies that wait.
     pub(crate) fn into_parts(self) -> Parts
         ensures ends { (result.taker ≡ self.inbox) × (result.putter ≡ self.outbox) }
         ensures taken { result.taken ≡ counted (length self.inbox.taken) }
@@ -185,7 +185,7 @@ impl Running {
     }
 }
 
-/// What a route that ends leaves.
+/// What is left of a route that has ended.
 #[derive(Drop)]
 pub(crate) struct Parts {
     pub taker: Taker,

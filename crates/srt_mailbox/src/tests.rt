@@ -1,5 +1,5 @@
-//! A route between its queues: the turns of one thread, an inbox and an outbox that are full, the account, and several
-//! workers at once. The expected bytes are worked out from the rules by hand.
+//! A route between its queues: turns of one thread, a full inbox, a full outbox, the account, and several workers at
+//! once. The expected bytes were worked out from the rules by hand.
 
 ghost use Rattle.std.specs.Prelude.{◌≡◌, ◌<◌, ◌^◌, IfOk};
 ghost use Rattle.srt_seq.specs.Items.{told, moment_of};
@@ -53,14 +53,14 @@ const DELIVERY: u64 = 1_121_000;
 /// A reply: the peer's port, and the bytes.
 type Expected = (u16, &'static str);
 
-/// What the publisher's conclusion is answered with.
+/// The answer to the publisher's conclusion.
 const ANSWER: Expected = (
     5000,
     "80000000000000000000000000000001000000050000000100000005000005dc00000400ffffffff00100000000000000000000000000000000000000000000000020003000105000000003f00780078",
 );
 
-/// What the publisher, the data packet, the subscriber and the tick at the delivery are answered with: two answers, a
-/// Full ACK, another one at the delivery, and the data packet to the subscriber.
+/// The replies to the publisher's conclusion, the data packet, the subscriber's conclusion and the tick at the
+/// delivery: two answers, a Full ACK, another one at the delivery, and the data packet to the subscriber.
 const REPLIES: [Expected; 5] = [
     ANSWER,
     (
@@ -129,7 +129,7 @@ fn studio<R: Wait>(rt: &R, alloc: Global) -> Result<Ends, Fail>
     }
 }
 
-/// A gate that always passes, or never does.
+/// A gate that always lets turns pass, or never does.
 #[derive(Drop)]
 struct Fixed {
     passes: bool,
@@ -175,7 +175,7 @@ const BLOCKED: Served = Served::Turned(Turned::Blocked);
 
 const IDLE: Served = Served::Turned(Turned::Idle);
 
-/// Serves the route once for each of these, and asserts what each did.
+/// Serves the route once for each of these outcomes, and asserts it.
 fn assert_served<C: Serve>(rt: &(impl Wait + Abort), cell: &C, wanted: &[Served]) {
     let mut gate = Fixed::open();
     for served in wanted {
@@ -195,7 +195,7 @@ fn assert_drained(
     assert_at_hand(rt, drain, wanted)
 }
 
-/// Asserts what the reply that was drained last is sent as.
+/// Asserts the peer and the bytes of the reply that was drained last.
 fn assert_at_hand(
     rt: &(impl AllocGlobal + Abort),
     drain: &Drain,
@@ -216,7 +216,7 @@ fn tick<R: Wait>(rt: &R, clock: &mut ClockEnd, moment: u64) -> bool
     clock.offer(rt, Item::Tick { moment }).is_ok()
 }
 
-/// Offers a datagram n times, for all of which there is room.
+/// Offers a datagram n times, and asserts that each is accepted.
 fn offer_times(
     rt: &(impl AllocGlobal + Wait + Abort),
     ingress: &mut Ingress,
@@ -294,7 +294,7 @@ fn an_entry_out_of_its_limits_is_refused(rt: HostRuntime) -> Result<(), Fail> {
     Ok(())
 }
 
-/// 16 items find room and one does not; after a turn it does.
+/// An inbox of 16 places accepts 16 items and refuses one more; after a turn it accepts that one.
 #[test]
 fn what_meets_a_full_inbox_comes_back(rt: HostRuntime) -> Result<(), Fail> {
     let alloc = rt.alloc();
@@ -338,7 +338,7 @@ fn what_meets_a_full_inbox_comes_back(rt: HostRuntime) -> Result<(), Fail> {
     Ok(())
 }
 
-/// A drain that lags behind: 16 replies are put, one waits, and none is lost or doubled.
+/// The drain lags behind: 16 replies fill the outbox, one waits, and none is lost or doubled.
 #[test]
 fn a_full_outbox_blocks_the_route(rt: HostRuntime) -> Result<(), Fail> {
     let alloc = rt.alloc();
@@ -383,7 +383,7 @@ fn account_after(
     settled(rt, ingress, clock, cell, drain)
 }
 
-/// The account tells where each item and reply is.
+/// The account counts each item and each reply where it is.
 #[test]
 fn an_account_tells_where_all_is(rt: HostRuntime) -> Result<(), Fail> {
     for (turns, n, wanted) in [
@@ -437,7 +437,7 @@ fn an_account_tells_where_all_is(rt: HostRuntime) -> Result<(), Fail> {
     Ok(())
 }
 
-/// Serves a route until it is told to stop, at most a million times.
+/// Serves a route until the flag is set, at most a million times.
 fn serve_until<C: Serve, R: Wait>(rt: &R, cell: &C, stop: &AtomicBool) {
     let mut gate = Fixed::open();
     for _ in 0..1_000_000 {
@@ -466,8 +466,8 @@ fn await_drained(
     Err(Fail::from("a reply comes"))
 }
 
-/// Offers the stream's items, and then the publisher's conclusion 800 times over, and asserts each reply: a conclusion
-/// that comes again is answered again.
+/// Offers the stream's items, then the publisher's conclusion 800 times, and asserts each reply: a conclusion that
+/// comes again gets the same answer again.
 fn offer_and_await(
     rt: &(impl AllocGlobal + Wait + Abort),
     ingress: &mut Ingress,
@@ -525,14 +525,14 @@ fn two_workers_serve_as_one(rt: HostRuntime) -> Result<(), Fail> {
     Ok(())
 }
 
-/// A gate that stays until another thread was answered.
+/// A gate that waits until another thread got its reply.
 #[derive(Drop)]
 struct Staying<'a> {
     entered: &'a AtomicBool,
     answered: &'a AtomicBool,
 }
 
-/// Waits for the flag, but not for ever.
+/// Waits for the flag, for a limited number of turns.
 fn wait_for(flag: &AtomicBool) {
     for _ in 0..1_000_000 {
         if flag.load(Ordering::SeqCst) {
@@ -556,7 +556,8 @@ impl Gate for Staying<'_> {
     }
 }
 
-/// What a worker that stays in its gate got, and what another one got meanwhile, at the same route and at another.
+/// The outcome of a worker that waits in its gate, and those of another worker meanwhile, at the same route and at
+/// another one.
 fn serve_beside<C: Serve + Sync, R: Threads + Wait + Sync>(
     rt: &R,
     cell: &C,
@@ -579,7 +580,8 @@ fn serve_beside<C: Serve + Sync, R: Threads + Wait + Sync>(
     (stayed, busy, free)
 }
 
-/// Served by one thread a route is never busy; served by another one it is, and a worker goes on elsewhere.
+/// A route that only one thread serves is never busy. One that another thread has claimed is, and a worker can go on
+/// with another route.
 #[test]
 fn nobody_waits_for_a_route(rt: HostRuntime) -> Result<(), Fail> {
     let (_ingress, mut clock, cell, _drain) = studio(&rt, rt.alloc())?;
