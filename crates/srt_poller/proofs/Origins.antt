@@ -1,4 +1,4 @@
--- Where what the wire was handed comes from.
+-- The origins of what the wire was handed.
 use Rattle.std.proofs.Common.{◌≡◌, ℕ, ◌==◌, Bool, true, false, Option, None, Some, List, [], ◌∷◌, ◌++◌, refl, sym, ap, ◌∙◌, append_assoc, append-nil}
 use Rattle.srt_seq.specs.Items.{Datagram}
 use Rattle.srt_poller.specs.declared.devices.Sent.TheVariants.{Taken, Later, Failed}
@@ -33,7 +33,7 @@ in_front k r d hs = by_test (k == r) refl
     by_test true is = rw is refl
     by_test false is = rw is refl
 
--- what went is in front of what goes later
+-- what was sent is in front of what is sent later
 gone : (class : Sorting) (r s : ℕ) (d : Datagram) (o : Option Kept) (events : List Event) →
     of_route r (handed events) ++ kept_of r (kept_after o events) ≡ drained r events →
     of_route r (from (FromRoute s) d ∷ handed events) ++ kept_of r (kept_after o events) ≡ at_route s r d ++ drained r events

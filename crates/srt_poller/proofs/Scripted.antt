@@ -1,4 +1,4 @@
--- What devices in memory tell after a step.
+-- What devices in memory have recorded after a step.
 use Rattle.std.proofs.Common.{◌≡◌, ℕ, zero, suc, ◌+◌, ◌≤◌, ◌<◌, ◌⊎◌, inl, inr, Some, None, List, [], ◌∷◌, ◌++◌, take, length, refl, sym, ap, ◌∙◌, append_assoc, append-nil, arith, Bool, true, false}
 use Rattle.std.specs.Prelude.{slice_get, min, nat_le}
 use Rattle.std.proofs.lemmas.Bool.Decides.{nat_tests}

@@ -143,7 +143,7 @@ went_one class event x y fits gave handed ends kept report = went_once class eve
     owed (Sends r d s) = omega arith
     owed (Resends r d s) = omega arith
 
--- where one place of a list of ends changed
+-- if one element of a list of ends changed
 pub one_changed : (event : Event) (k : ℕ) (es : List Ends) (d z : Ends) → k < length es →
     ((r : ℕ) → r ≢ k → accepted r (event ∷ []) ≡ []) → ((r : ℕ) → r ≢ k → drained r (event ∷ []) ≡ []) →
     IsLater (accepted k (event ∷ [])) (drained k (event ∷ [])) (slice_index_or es k d) z → AreLater (event ∷ []) es (slice_set es k z)

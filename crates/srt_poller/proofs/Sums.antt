@@ -8,7 +8,7 @@ use Rattle.srt_poller.specs.declared.report.Report.{Report}
 use Rattle.srt_poller.specs.History.{Event, Waits, WaitFails, ReadsNothing, ReadFails, Answers, Accepts, Overflows, Refuses, Drops, Sends, Resends, Kept}
 use Rattle.srt_poller.specs.Reports.{one_more, nothing, counted_by, counted, with_kept, plus, part, total}
 
--- each count is below its limit by so much
+-- each count is below its limit by at least this much
 pub record HasRoom (n : Report) (room : ℕ) : Type 0 where
   pub read : n.read + room < 2 ^ 64
   pub answered : n.answered + room < 2 ^ 64

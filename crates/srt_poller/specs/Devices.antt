@@ -1,4 +1,4 @@
--- What a source and a wire tell.
+-- What a source and a wire record.
 use Rattle.std.specs.Prelude.{ℕ, ◌<◌, ◌≤◌, ◌^◌, Option, List, [], ◌∷◌, ◌++◌, take, option_map}
 use Rattle.srt_seq.specs.Items.{Datagram as TheDatagram}
 use Rattle.srt_mailbox.specs.Counts.{Grew}
@@ -7,29 +7,29 @@ use Rattle.srt_poller.specs.declared.devices.Read.TheVariants.{Datagram, Empty, 
 use Rattle.srt_poller.specs.declared.devices.Sent.{Sent}
 use Rattle.srt_poller.specs.declared.devices.Sent.TheVariants as sent
 
--- a datagram and the moment at which it came
+-- a datagram and the moment at which it came, in microseconds
 pub record Arrival : Type 0 where
   pub datagram : TheDatagram
   pub moment : ℕ
 
--- a length within the buffer and a moment within the limit; a failure only where the count grew
+-- a length within the buffer and a moment within the limit; a failure only if the count of failures grew
 abbrev pub ReadsWell : Read → ℕ → ℕ → Type 0
 ReadsWell (Datagram peer len moment) a b = (len ≤ 2048) × (moment < 2 ^ 62)
 ReadsWell Empty a b = Unit {0}
 ReadsWell Failed a b = Grew a b
 
--- what a read gave: it stands in the buffer
+-- the datagram that a read gave, if any: it is at the front of the buffer
 abbrev pub given_by_read : Read → (buffer : List ℕ) → List Arrival
 given_by_read (Datagram peer len moment) buffer = record { datagram = record { peer = peer; bytes = take len buffer }; moment = moment } ∷ []
 given_by_read Empty buffer = []
 given_by_read Failed buffer = []
 
--- what a send handed to the wire: where it answers Later, nothing
+-- what a send handed to the wire: nothing if it returned Later
 abbrev pub handed_by_send : {A : Type 0} → Sent → A → List A
 handed_by_send sent.Taken x = x ∷ []
 handed_by_send sent.Later x = []
 handed_by_send sent.Failed x = x ∷ []
 
--- a device that tells what passed through it, the oldest first, tells this too
+-- the record of a device, the oldest first, with these added; None stays None
 abbrev pub joined : {A : Type 0} → (told : Option (List A)) → (more : List A) → Option (List A)
 joined told more = option_map (λ xs. xs ++ more) told

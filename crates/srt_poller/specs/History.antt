@@ -1,4 +1,4 @@
--- What happened while a poller ran, the oldest first, and what follows from it alone.
+-- The events of a poller, the oldest first, and what follows from them alone.
 use Rattle.std.specs.Prelude.{◌≡◌, ℕ, ◌==◌, Bool, true, false, Option, None, Some, List, [], ◌∷◌, map, filter, if◌then◌else◌}
 use Rattle.std.specs.List.{flat_map, fold, sum_by}
 use Rattle.srt_seq.specs.Items.{Datagram, Item, Received}
@@ -9,7 +9,7 @@ use Rattle.srt_poller.specs.declared.devices.Sent.{Sent}
 use Rattle.srt_poller.specs.declared.devices.Sent.TheVariants.{Taken, Later, Failed}
 use Rattle.srt_poller.specs.Devices.{Arrival, handed_by_send}
 
--- what a lobby makes of a datagram that comes at a moment
+-- the class that a lobby gives to a datagram that comes at a moment
 abbrev pub Sorting : Type 0
 Sorting = Datagram → (moment : ℕ) → Class
 
@@ -22,22 +22,22 @@ pub data Event : Type 0 where
   ReadsNothing : Event
   -- a read of the source failed
   ReadFails : Event
-  -- a datagram came, and this is the lobby's answer, which the wire was handed
+  -- a datagram came, and the lobby's answer, these bytes, was sent with this outcome
   Answers : (arrival : Arrival) (bytes : List ℕ) (sent : Sent) → Event
   -- a datagram came, and its route's inbox accepted it
   Accepts : (arrival : Arrival) (route : ℕ) → Event
   -- a datagram came, and its route's inbox was full
   Overflows : (arrival : Arrival) (route : ℕ) → Event
-  -- a datagram came for a route, and there was no memory for its copy
+  -- a datagram came for a route, and the memory for its copy was refused
   Refuses : (arrival : Arrival) (route : ℕ) → Event
-  -- a datagram came and was dropped
+  -- a datagram came, and the lobby dropped it
   Drops : (arrival : Arrival) (cause : Cause) → Event
-  -- a reply was taken from a route's outbox, and the wire was handed it
+  -- a reply was taken from a route's outbox, and sent with this outcome
   Sends : (route : ℕ) (reply : Datagram) (sent : Sent) → Event
-  -- the wire was handed again the reply that was kept
+  -- the reply that was kept was sent again, with this outcome
   Resends : (route : ℕ) (reply : Datagram) (sent : Sent) → Event
 
--- a reply that the wire would take later
+-- a reply whose send returned Later
 pub record Kept : Type 0 where
   pub route : ℕ
   pub reply : Datagram
@@ -67,8 +67,7 @@ kept_by k (Resends route reply sent) = kept_if sent (kept route reply)
 abbrev pub kept_after : Option Kept → List Event → Option Kept
 kept_after k events = fold kept_by k events
 
--- Each datagram meets what the lobby makes of it. A reply is taken only where none is kept, and only the one that is kept is handed
--- again
+-- What happens to a datagram is what its class says. A reply is taken only if none is kept, and only the kept one is sent again
 abbrev pub Fits : Sorting → Option Kept → Event → Type 0
 Fits class k Waits = Unit {0}
 Fits class k WaitFails = Unit {0}
@@ -82,7 +81,7 @@ Fits class k (Drops arrival cause) = class arrival.datagram arrival.moment ≡ D
 Fits class k (Sends route reply sent) = k ≡ None
 Fits class k (Resends route reply sent) = k ≡ Some (kept route reply)
 
--- each event fits what is kept when it happens; first this is kept
+-- each event fits the reply that is kept when it happens; before the first event that is k
 abbrev pub Follow : Sorting → Option Kept → List Event → Type 0
 Follow class k [] = Unit {0}
 Follow class k (event ∷ events) = Fits class k event × Follow class (kept_by k event) events
@@ -141,7 +140,7 @@ drained_by r (Resends route reply sent) = []
 abbrev pub drained : (r : ℕ) → List Event → List Datagram
 drained r events = flat_map (drained_by r) events
 
--- the lobby's answers that didn't meet Later
+-- the lobby's answers whose send didn't return Later
 abbrev pub answered_by : Event → List Datagram
 answered_by Waits = []
 answered_by WaitFails = []
@@ -158,7 +157,7 @@ answered_by (Resends route reply sent) = []
 abbrev pub answered : List Event → List Datagram
 answered events = flat_map answered_by events
 
--- where a datagram that the wire was handed comes from
+-- the origin of a datagram that was sent
 pub data Origin : Type 0 where
   FromLobby : Origin
   FromRoute : (route : ℕ) → Origin
@@ -170,7 +169,7 @@ pub record Handed : Type 0 where
 abbrev pub from : Origin → Datagram → Handed
 from origin datagram = record { origin = origin; datagram = datagram }
 
--- what the wire was handed and didn't put off
+-- the datagrams whose send didn't return Later, with their origins
 abbrev pub handed_by : Event → List Handed
 handed_by Waits = []
 handed_by WaitFails = []
@@ -190,7 +189,7 @@ handed events = flat_map handed_by events
 abbrev pub datagrams : List Handed → List Datagram
 datagrams hs = map (λ h. h.datagram) hs
 
--- of these, those of one origin
+-- those of one origin
 abbrev pub is_lobby : Handed → Bool
 is_lobby h = elim h.origin [ FromLobby ↦ true | FromRoute route ↦ false ]
 
@@ -203,12 +202,12 @@ of_lobby hs = datagrams (filter is_lobby hs)
 abbrev pub of_route : (r : ℕ) → List Handed → List Datagram
 of_route r hs = datagrams (filter (is_route r) hs)
 
--- the kept reply, where it is this route's
+-- the kept reply, if it is this route's
 abbrev pub kept_of : (r : ℕ) → Option Kept → List Datagram
 kept_of r None = []
 kept_of r (Some k) = at_route k.route r k.reply
 
--- how often the source waited, how often without a failure, and how often it was read
+-- the number of the source's waits, of those without a failure, and of its reads
 abbrev pub waits_by : Event → ℕ
 waits_by Waits = 1
 waits_by WaitFails = 1

@@ -1,4 +1,4 @@
--- What the rounds of a poller did.
+-- The contract of a poller's rounds.
 use Rattle.std.specs.Prelude.{◌≡◌, ℕ, ◌+◌, ◌*◌, ◌≤◌, Option, None, List, ◌++◌, length}
 use Rattle.srt_seq.specs.Items.{Datagram}
 use Rattle.srt_poller.specs.declared.ends.Ends.{Ends}
@@ -8,13 +8,13 @@ use Rattle.srt_poller.specs.History.{Sorting, Event, Follow, kept_after, kept_of
 use Rattle.srt_poller.specs.Reports.{nothing, counted, with_kept, total}
 use Rattle.srt_poller.specs.Rounds.{AreLater}
 
--- Of the datagrams that the wire was handed, the lobby's are its answers that didn't meet Later. A route's, and then the reply that is kept
--- where it is the route's, are the replies that were taken from its outbox. All are in order
+-- Of the datagrams that were sent, those of the lobby are its answers whose send didn't return Later. Those of a route, followed by the
+-- kept reply if it is that route's, are the replies that were taken from its outbox. All are in order
 pub record HaveOrigins (events : List Event) : Type 0 where
   pub lobby : of_lobby (handed events) ≡ answered events
   pub route : (r : ℕ) → of_route r (handed events) ++ kept_of r (kept_after None events) ≡ drained r events
 
--- what the source tells that it gave, what the wire tells that it was handed, and the ends of all routes
+-- what the source recorded as given, what the wire recorded as handed to it, and the ends of all routes
 pub record Before : Type 0 where
   pub gave : Option (List Arrival)
   pub handed : Option (List Datagram)
@@ -23,7 +23,7 @@ pub record Before : Type 0 where
 abbrev pub before : Option (List Arrival) → Option (List Datagram) → List Ends → Before
 before gave handed ends = record { gave = gave; handed = handed; ends = ends }
 
--- and the report
+-- the same afterwards, and the report
 pub record After : Type 0 where
   pub gave : Option (List Arrival)
   pub handed : Option (List Datagram)
@@ -33,9 +33,9 @@ pub record After : Type 0 where
 abbrev pub after : Option (List Arrival) → Option (List Datagram) → List Ends → Report → After
 after gave handed ends report = record { gave = gave; handed = handed; ends = ends; report = report }
 
--- These events happened, the oldest first. The source gave the datagrams that they say, and each met what the lobby makes of it. The wire
--- was handed the datagrams that they say. Each route's inbox accepted the items, and each outbox gave the replies, that they say. The
--- report counts them; with 511 routes at most no count comes to its limit. The source waited once a round, and was read at least as
+-- These events happened, the oldest first. The source gave the datagrams of the events, and what happened to each is what its class says.
+-- The wire was handed the datagrams of the events. Each route's inbox accepted the items, and each outbox gave the replies, of the events.
+-- The report counts them; with at most 511 routes no count reaches its limit. The source waited once a round, and was read at least as
 -- often as it waited without a failure
 pub record PumpedBy (class : Sorting) (rounds : ℕ) (before : Before) (after : After) (events : List Event) : Type 0 where
   pub follow : Follow class None events

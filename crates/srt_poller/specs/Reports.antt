@@ -1,4 +1,4 @@
--- What a report counts.
+-- The counts of a report.
 use Rattle.std.specs.Prelude.{ℕ, ◌+◌, ◌-◌, ◌^◌, min, Option, None, Some, List, [], ◌∷◌}
 use Rattle.std.specs.List.{fold}
 use Rattle.srt_poller.specs.declared.devices.Sent.{Sent}
@@ -6,18 +6,18 @@ use Rattle.srt_poller.specs.declared.devices.Sent.TheVariants.{Taken, Later, Fai
 use Rattle.srt_poller.specs.declared.report.Report.{Report}
 use Rattle.srt_poller.specs.History.{Event, Waits, WaitFails, ReadsNothing, ReadFails, Answers, Accepts, Overflows, Refuses, Drops, Sends, Resends, Kept}
 
--- one more, where a 64-bit number can say so
+-- one more, or 2^64 - 1 if that is the count already
 abbrev pub one_more : ℕ → ℕ
 one_more n = min (n + 1) (2 ^ 64 - 1)
 
 abbrev pub nothing : Report
 nothing = record { read = 0; answered = 0; accepted = 0; full = 0; dropped = 0; memory = 0; sent = 0; lost = 0; faults = 0 }
 
--- a failure of the source
+-- a wait or a read failed
 abbrev pub with_fault : Report → Report
 with_fault n = record n { faults = one_more n.faults }
 
--- what the wire was handed: an answer that it would take later is lost, and a reply is kept
+-- an answer or a reply was sent: if the send returns Later an answer is lost, and a reply is kept
 abbrev pub with_answer : Report → Sent → Report
 with_answer n Taken = record n { read = one_more n.read; answered = one_more n.answered; sent = one_more n.sent }
 with_answer n Later = record n { read = one_more n.read; answered = one_more n.answered; lost = one_more n.lost }
@@ -61,7 +61,7 @@ abbrev pub with_kept : Report → Option Kept → Report
 with_kept n None = n
 with_kept n (Some k) = record n { lost = one_more n.lost }
 
--- the sums, with no limit
+-- the counts as sums without a limit
 
 abbrev pub plus : Report → Report → Report
 plus a b = record { read = a.read + b.read; answered = a.answered + b.answered; accepted = a.accepted + b.accepted; full = a.full + b.full; dropped = a.dropped + b.dropped; memory = a.memory + b.memory; sent = a.sent + b.sent; lost = a.lost + b.lost; faults = a.faults + b.faults }
@@ -90,7 +90,7 @@ part (Drops arrival cause) = record nothing { read = 1; dropped = 1 }
 part (Sends route reply sent) = part_of_reply sent
 part (Resends route reply sent) = part_of_reply sent
 
--- the sum of all parts, and one more that is lost where a reply is kept at the end
+-- the sum of all parts, and one more lost if a reply is kept at the end
 abbrev pub total : List Event → Option Kept → Report
 total [] None = nothing
 total [] (Some k) = record nothing { lost = 1 }

@@ -1,4 +1,4 @@
--- What some events made of everything that a poller touches.
+-- All that a poller touches, before and after some events.
 use Rattle.std.specs.Prelude.{◌≡◌, ℕ, ◌+◌, ◌<◌, ◌≤◌, Option, List, ◌++◌, length, map, slice_index_or}
 use Rattle.srt_seq.specs.Items.{Datagram, Item, told}
 use Rattle.srt_route.specs.Written.{written}
@@ -8,7 +8,7 @@ use Rattle.srt_poller.specs.Devices.{Arrival, joined}
 use Rattle.srt_poller.specs.History.{Sorting, Event, Kept, Follow, kept_after, given, handed, datagrams, accepted, drained, waits_in, ready_in, reads_in}
 use Rattle.srt_poller.specs.Reports.{counted}
 
--- what the source tells that it gave and the wire that it was handed, the ends of all routes, the kept reply, and the report
+-- what the source recorded as given, what the wire recorded as handed to it, the ends of all routes, the kept reply, and the report
 pub record World : Type 0 where
   pub gave : Option (List Arrival)
   pub handed : Option (List Datagram)
@@ -19,7 +19,7 @@ pub record World : Type 0 where
 abbrev pub world : Option (List Arrival) → Option (List Datagram) → List Ends → Option Kept → Report → World
 world gave handed ends kept report = record { gave = gave; handed = handed; ends = ends; kept = kept; report = report }
 
--- the ends of a route stand on the same queues; the inbox accepted these items more, and the outbox gave these replies more
+-- the ends of a route are of the same queues; the inbox accepted these items in addition, and the outbox gave these replies
 pub record IsLater (accepted : List Item) (drained : List Datagram) (old new : Ends) : Type 0 where
   pub inbox : new.ingress.queue ≡ old.ingress.queue
   pub inbox_capacity : new.ingress.capacity ≡ old.ingress.capacity
@@ -32,8 +32,8 @@ pub record AreLater (events : List Event) (old new : List Ends) : Type 0 where
   pub as_many : length new ≡ length old
   pub each : (r : ℕ) (e : Ends) → r < length old → IsLater (accepted r events) (drained r events) (slice_index_or old r e) (slice_index_or new r e)
 
--- These events happened and made the one world of the other. They are at most `most`, and `waits` of them are waits. To each wait that
--- didn't fail there is a read, but for `waits` waits, and to that come `reads` reads
+-- These events lead from the old world to the new one. They are at most `most`, and `waits` of them are waits. The number of reads plus
+-- `waits` is at least the number of waits without a failure plus `reads`
 pub record Happened (class : Sorting) (most waits reads : ℕ) (events : List Event) (old new : World) : Type 0 where
   pub follow : Follow class old.kept events
   pub gave : new.gave ≡ joined old.gave (given events)
@@ -45,6 +45,6 @@ pub record Happened (class : Sorting) (most waits reads : ℕ) (events : List Ev
   pub waited : waits_in events ≡ waits
   pub was_read : ready_in events + reads ≤ reads_in events + waits
 
--- some events happened
+-- some events lead from the old world to the new one
 abbrev pub Went : Sorting → (most waits reads : ℕ) → World → World → Type 0
 Went class most waits reads old new = (events : List Event) × Happened class most waits reads events old new

@@ -1,4 +1,4 @@
--- What devices in memory do and tell.
+-- What devices in memory do and record.
 use Rattle.std.specs.Prelude.{◌≡◌, ◌⊎◌, ℕ, ◌+◌, ◌-◌, ◌^◌, min, Option, None, Some, List, [], ◌∷◌, length, map, take, slice_get, slice_index}
 use Rattle.std.specs.List.{flat_map}
 use Rattle.srt_seq.specs.Items.{Datagram as TheDatagram}
@@ -17,7 +17,7 @@ use Rattle.srt_poller.specs.declared.scripts.SourceStep.{SourceStep}
 use Rattle.srt_poller.specs.declared.scripts.SourceStep.TheVariants.{Wait, WaitFails, Datagram, Empty, ReadFails}
 use Rattle.srt_poller.specs.Devices.{Arrival}
 
--- what comes of a datagram: 2048 bytes of it at most, at a moment below 2^62
+-- how a datagram of a script is given: at most its first 2048 bytes, at a moment below 2^62
 abbrev pub moment_given : ℕ → ℕ
 moment_given moment = min moment (2 ^ 62 - 1)
 
@@ -35,7 +35,7 @@ given_by_step ReadFails = []
 abbrev pub given_in : List SourceStep → List Arrival
 given_in steps = flat_map given_by_step steps
 
--- what a wait answers at this step, and what a read does
+-- what a wait returns at this step, and what a read returns
 abbrev pub wait_at : Option SourceStep → Polled
 wait_at (Some WaitFails) = polled.Failed
 wait_at (Some Wait) = polled.Ready
@@ -52,7 +52,7 @@ read_at (Some Wait) = read.Empty
 read_at (Some WaitFails) = read.Empty
 read_at None = read.Empty
 
--- which step comes after a wait, and which after a read
+-- the number of steps done after a wait at this step, and after a read
 abbrev pub after_wait : Option SourceStep → (at : ℕ) → ℕ
 after_wait (Some Wait) at = at + 1
 after_wait (Some WaitFails) at = at + 1
@@ -69,16 +69,16 @@ after_read (Some Wait) at = at
 after_read (Some WaitFails) at = at
 after_read None at = at
 
--- what a wire in memory noted
+-- a datagram as a wire in memory recorded it
 abbrev pub sent_as : SentDatagram → TheDatagram
 sent_as d = record { peer = d.to; bytes = d.bytes.items }
 
--- what it answers at this place of its script
+-- the outcome at this place of its script
 abbrev pub answer_at : Option Sent → Sent
 answer_at (Some sent) = sent
 answer_at None = Taken
 
--- what a clock in memory gives where this is the place that it has come to
+-- the moment that a clock in memory gives at this place of its script
 abbrev pub moment_at : (moments : List ℕ) → (at : ℕ) → ℕ
 moment_at moments at = moment_given (slice_index moments at)
 

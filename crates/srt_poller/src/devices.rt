@@ -1,70 +1,71 @@
-//! What a poller reads from and writes to.
+//! The devices of a poller: where it reads and sends datagrams, and a clock.
 
 ghost use Rattle.std.specs.Prelude.{◌≡◌, ◌<◌, ◌≤◌, ◌^◌, take};
 
 use srt_seq::Peer;
 
-/// What a wait for datagrams found.
+/// The outcome of a wait for datagrams.
 #[derive(Clone, Copy, Debug, PartialEq, Eq)]
 pub enum Polled {
-    /// There may be datagrams.
+    /// There may be datagrams; also if the time ran out.
     Ready,
     /// The device failed.
     Failed,
 }
 
-/// What a read found.
+/// The outcome of a read.
 #[derive(Clone, Copy, Debug, PartialEq, Eq)]
 pub enum Read {
-    /// A datagram: from whom, how many bytes of it stand in the buffer (at most 2048), and when it came, in
-    /// microseconds.
+    /// A datagram: its sender, the number of its bytes in the buffer (at most 2048), and the moment at which it came,
+    /// in microseconds, below 2^62.
     Datagram(Peer, usize, u64),
     /// There is none now.
     Empty,
-    /// The device failed.
+    /// The device failed, and no datagram was read.
     Failed,
 }
 
-/// What became of a datagram that the wire was handed.
+/// The outcome of a send.
 #[derive(Clone, Copy, Debug, PartialEq, Eq)]
 pub enum Sent {
-    /// It is on its way.
+    /// The device took the datagram.
     Taken,
-    /// There is no room now, and nothing was sent.
+    /// There is no room now: nothing was sent, and the datagram may be sent again later.
     Later,
-    /// The device failed, and the datagram is lost.
+    /// The device failed, and the datagram is lost. It isn't to be sent again.
     Failed,
 }
 
-/// Where datagrams come from.
+/// Gives datagrams.
 pub trait Source {
     ghost use Rattle.std.specs.Prelude.{ℕ, Option, List};
     ghost use Rattle.srt_mailbox.specs.Counts.{Grew};
     ghost use Rattle.srt_poller.specs.Devices.{Arrival, ReadsWell, given_by_read, joined};
     ghost use Rattle.srt_poller.specs.declared.devices.Polled.TheVariants.{Failed as PollFailed};
 
-    /// How often it failed, up to 2^64 - 1.
+    /// The number of failures of waits and reads. Saturates at 2^64 - 1.
     ghost failures: { Self → ℕ };
 
-    /// All datagrams that it gave, the oldest first, if it tells them.
+    /// All datagrams that it gave, the oldest first, or `None` for a device that doesn't record them, as a socket.
     ghost gave: { Self → Option (List Arrival) };
 
-    /// Waits until there may be datagrams, or for some time of the source's own.
+    /// Waits until there may be datagrams, or until the source's own limit of time is over.
     fn wait(&mut self) -> Polled
         ensures failed { result ≡ PollFailed → Grew (failures self.old) (failures self.new) }
         ensures tells { gave self.new ≡ gave self.old };
 
-    /// Reads the next datagram to the front of the buffer. A datagram of more than 2048 bytes may be cut to 2048.
+    /// Reads the next datagram to the front of the buffer, and doesn't wait for one. A datagram of more than 2048 bytes
+    /// may be cut to its first 2048.
     fn next(&mut self, buffer: &mut [u8; 2048]) -> Read
         ensures well { ReadsWell result (failures self.old) (failures self.new) }
         ensures tells { gave self.new ≡ joined (gave self.old) (given_by_read result buffer.new) };
 
-    /// How often it failed, up to 2^64 - 1.
+    /// The number of failures of waits and reads. Saturates at 2^64 - 1.
     fn failures(&self) -> u64
         ensures { result ≡ failures self.now };
 }
 
-/// Where datagrams go.
+/// Sends datagrams.
 pub trait Wire {
     ghost use Rattle.std.specs.Prelude.{ℕ, Option, List};
     ghost use Rattle.srt_seq.specs.Items.{Datagram};
@@ -72,27 +73,28 @@ pub trait Wire {
     ghost use Rattle.srt_poller.specs.Devices.{handed_by_send, joined};
     ghost use Rattle.srt_poller.specs.declared.devices.Sent.TheVariants.{Failed as SendFailed};
 
-    /// How often it failed, up to 2^64 - 1.
+    /// The number of failed sends. Saturates at 2^64 - 1.
     ghost failures: { Self → ℕ };
 
-    /// All datagrams that it was handed and didn't put off, the oldest first, if it tells them.
+    /// All datagrams of sends that returned `Taken` or `Failed`, the oldest first, or `None` for a device that doesn't
+    /// record them, as a socket.
     ghost handed: { Self → Option (List Datagram) };
 
-    /// Sends a datagram.
+    /// Sends a datagram, and doesn't wait for room.
     fn send(&mut self, to: Peer, bytes: &[u8]) -> Sent
         ensures failed { result ≡ SendFailed → Grew (failures self.old) (failures self.new) }
         ensures tells { handed self.new ≡ joined (handed self.old) (handed_by_send result (record { peer = to; bytes = bytes.now })) };
 
-    /// How often it failed, up to 2^64 - 1.
+    /// The number of failed sends. Saturates at 2^64 - 1.
     fn failures(&self) -> u64
         ensures { result ≡ failures self.now };
 }
 
-/// What tells the time.
+/// A clock.
 pub trait Clock {
     ghost use Rattle.std.specs.Prelude.{◌<◌, ◌^◌};
 
-    /// The next moment, in microseconds. It is below 2^62.
+    /// The time now, in microseconds, below 2^62.
     fn next(&mut self) -> u64
         ensures { result < 2 ^ 62 };
 }

@@ -10,27 +10,28 @@ use std::sync::Wait;
 /// The poller's ends of the queues of one route.
 #[derive(Drop)]
 pub struct Ends {
-    /// Where the route's datagrams are offered.
+    /// The inbox, to which the route's datagrams are offered.
     pub ingress: Ingress,
-    /// Where the route's replies are taken.
+    /// The outbox, from which the route's replies are taken.
     pub drain: Drain,
 }
 
-/// What became of a datagram that is for a route.
+/// The outcome of an offer to a route.
 #[derive(Clone, Copy, Debug, PartialEq, Eq)]
 pub(crate) enum Offered {
     /// The inbox accepted it.
     Accepted,
-    /// The inbox was full.
+    /// The inbox was full; the datagram is lost.
     Full,
-    /// There was no memory for its copy.
+    /// The memory for its copy was refused; the datagram is lost.
     Refused,
 }
 
 impl Ends {
     ghost use Rattle.srt_poller.specs.Pollers.{OfferedAs};
 
-    /// Offers a copy of a datagram to the route.
+    /// Offers a copy of a datagram of 16 bytes or more to the route. The moment is in microseconds. Takes memory for
+    /// the bytes after the first 16; this is the only memory that a poller takes.
     pub(crate) fn offer<R: Wait>(
         &mut self,
         rt: &R,

@@ -1,4 +1,18 @@
-//! The thread that reads datagrams, answers or offers each, and hands replies to the wire.
+//! The poller: reads datagrams, answers each or offers it to its route, and sends the routes' replies.
+//!
+//! It runs in the thread of its caller and starts none (`srt_serve` does). It doesn't decide where a datagram belongs
+//! (`srt_lobby` does) nor what a route replies (`srt_route`), and it serves no route (`srt_mailbox`).
+//!
+//! Types: a `Source` gives datagrams and a `Wire` takes them; `Ends` are the poller's ends of one route's queues; a
+//! `Report` has the counts; `Signals` are hints that save looks at empty outboxes. Devices in memory are
+//! `SourceScript`, `WireScript` and `ClockScript`; `MioSource` and `MioWire` share one UDP socket.
+//!
+//! Calls: open the routes (`srt_mailbox::open_route`), bind or make the devices, then `pump` once for n rounds; or
+//! `pump_under`, with hints.
+//!
+//! Files: a round is in `poller.rt` (order, limits, the reply that is kept), the rounds in `pumping.rt`, what is
+//! counted in `report.rt`, how long a socket's source waits in `pace.rt`. `specs/History.antt` has the events of a
+//! poller.
 #![tactic(auto)]
 
 mod devices;

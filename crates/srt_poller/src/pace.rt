@@ -1,15 +1,18 @@
-//! How long a source waits.
+//! How long a socket's source waits.
 
 ghost use Rattle.std.specs.Prelude.{◌≡◌, ◌-◌, true, false};
 ghost use Rattle.srt_poller.specs.Sockets.{pause};
 
-// After a datagram or a Later this many waits are short.
+// The number of short waits after a datagram came or a send returned Later.
 const SHORT_WAITS: u32 = 100;
 
-/// Waits are of no time while there may be more to read, short for a while after something happened, else of 10 ms.
+/// The limit of the next wait: 0 ms while there may be more to read, 1 ms for the 100 waits after a datagram came or a
+/// send returned Later, else 10 ms.
 #[derive(Clone, Copy, Debug, PartialEq, Eq)]
 pub(crate) struct Pace {
+    /// The last read gave a datagram, so there may be more.
     pub(crate) more: bool,
+    /// The number of short waits left.
     pub(crate) warm: u32,
 }
 
@@ -24,7 +27,7 @@ impl Pace {
         }
     }
 
-    /// How long the wait that begins may be, in milliseconds.
+    /// The limit of the wait that begins now, in milliseconds.
     pub(crate) fn wait(&mut self) -> u64
         ensures { result ≡ pause self.old }
     {
@@ -46,7 +49,7 @@ impl Pace {
         self.warm = SHORT_WAITS;
     }
 
-    /// There is none left.
+    /// A read found no datagram, or failed.
     pub(crate) fn ended(&mut self)
         ensures more { self.new.more ≡ false }
         ensures warm { self.new.warm ≡ self.old.warm }
@@ -54,7 +57,7 @@ impl Pace {
         self.more = false;
     }
 
-    /// A reply was put off, and is to go soon.
+    /// A send returned Later, and is to be tried again soon.
     pub(crate) fn put_off(&mut self)
         ensures { self.new.more ≡ self.old.more }
     {

@@ -1,4 +1,4 @@
-//! One round of a poller.
+//! One round of a poller. `round`, at the end, has the order.
 
 ghost use Rattle.std.specs.Prelude.{◌≡◌, ◌<◌, ◌≤◌, ◌+◌, ◌*◌, ◌^◌, true, false, None, Option, List, [], ◌∷◌, length};
 ghost use Rattle.srt_seq.specs.Items.{Datagram};
@@ -17,7 +17,7 @@ use srt_seq::Peer;
 use std::alloc::Global;
 use std::sync::Wait;
 
-/// A reply that the wire would take later. Its text stands in the poller's buffer.
+/// A reply for which a send returned Later. Its bytes are in the poller's `text`, `len` of them.
 #[derive(Clone, Copy)]
 pub(crate) struct KeptReply {
     pub(crate) route: usize,
@@ -26,25 +26,25 @@ pub(crate) struct KeptReply {
     ghost within: { len ≤ 1472 },
 }
 
-/// What became of a reply.
+/// The outcome of taking a reply from an outbox.
 #[derive(Clone, Copy, PartialEq, Eq)]
 enum Drained {
-    /// There was none.
+    /// The outbox was empty.
     Empty,
-    /// The wire was handed it.
+    /// The reply was sent, or the send failed and it is lost.
     Gone,
-    /// It is kept.
+    /// The send returned Later, and the reply is kept.
     Kept,
 }
 
-/// What a poller keeps between the calls of its devices.
+/// A poller between the calls of its devices: its buffers, the reply that is kept, and the counts.
 #[derive(Drop)]
 pub(crate) struct Poller {
     datagram: [u8; 2048],
     text: [u8; 1472],
     kept: Option<KeptReply>,
     report: Report,
-    // An outbox was left before it was found empty.
+    // Some outbox was left before it was found empty, so the next round looks at all of them.
     left: bool,
 }
 
@@ -69,7 +69,7 @@ impl Poller {
         }
     }
 
-    /// Hands the kept reply to the wire again, if there is one.
+    /// Sends the kept reply again, if there is one.
     fn resend<W: Wire>(&mut self, wire: &mut W)
         ensures { (class : Sorting) (gave : Option (List Arrival)) (ends : List TheEnds) → Went class 1 0 0 (world_of gave (W.handed wire.old) ends self.old) (world_of gave (W.handed wire.new) ends self.new) }
     {
@@ -84,7 +84,7 @@ impl Poller {
         }
     }
 
-    /// Waits for datagrams. False where the source failed.
+    /// Waits for datagrams. False if the wait failed.
     fn wait<S: Source>(&mut self, source: &mut S) -> bool
         ensures ready { result ≡ true → (class : Sorting) (handed : Option (List Datagram)) (ends : List TheEnds) → Went class 1 1 0 (world_of (S.gave source.old) handed ends self.old) (world_of (S.gave source.new) handed ends self.new) }
         ensures failed { result ≡ false → (class : Sorting) (handed : Option (List Datagram)) (ends : List TheEnds) → Went class 1 1 1 (world_of (S.gave source.old) handed ends self.old) (world_of (S.gave source.new) handed ends self.new) }
@@ -98,7 +98,7 @@ impl Poller {
         }
     }
 
-    /// The datagram that stands at the front of the buffer is offered to its route.
+    /// Offers the datagram at the front of the buffer to its route, and counts the outcome.
     fn offer<R: Wait, G: Signals>(
         &mut self,
         rt: &R,
@@ -127,7 +127,8 @@ impl Poller {
         }
     }
 
-    /// The datagram that stands at the front of the buffer is answered, offered or dropped.
+    /// Answers, offers or drops the datagram at the front of the buffer, as the lobby decides. An answer for which the
+    /// send returns Later is lost.
     fn arrive<R: Wait, W: Wire, G: Signals>(
         &mut self,
         rt: &R,
@@ -159,7 +160,7 @@ impl Poller {
         }
     }
 
-    /// Reads a datagram, if there is one. False where no more is to be read in this round.
+    /// Reads a datagram, if there is one. False if there was none, or if the read failed: this round reads no more.
     fn read_one<R: Wait, S: Source, W: Wire, G: Signals>(
         &mut self,
         rt: &R,
@@ -189,7 +190,7 @@ impl Poller {
         }
     }
 
-    /// Reads up to 256 datagrams.
+    /// Reads at most 256 datagrams.
     fn read<R: Wait, S: Source, W: Wire, G: Signals>(
         &mut self,
         rt: &R,
@@ -234,7 +235,7 @@ impl Poller {
         self.read(rt, alloc, secret, names, source, wire, ends, signals);
     }
 
-    /// Takes a reply from an outbox and hands it to the wire.
+    /// Takes a reply from an outbox and sends it. No reply may be kept.
     fn drain_one<R: Wait, W: Wire>(
         &mut self,
         rt: &R,
@@ -265,7 +266,7 @@ impl Poller {
         }
     }
 
-    /// Takes up to 64 replies from an outbox and hands them to the wire. True where the outbox was found empty.
+    /// Takes at most 64 replies from an outbox and sends them, until one is kept. True if the outbox was found empty.
     fn drain_route<R: Wait, W: Wire>(
         &mut self,
         rt: &R,
@@ -287,7 +288,7 @@ impl Poller {
         false
     }
 
-    /// Takes replies from an outbox, unless the hint says that it has none. With `all` it takes them in any case. True if
+    /// Sends replies of a route, unless the hint says that its outbox has none. With `all` the hint is ignored. True if
     /// no reply is kept.
     fn visit<R: Wait, W: Wire, G: Signals>(
         &mut self,
@@ -311,8 +312,8 @@ impl Poller {
         self.kept.is_none()
     }
 
-    /// Hands replies of all routes to the wire, until one is kept. It asks for no hints with `all`, nor if an outbox was
-    /// left in the round before.
+    /// Sends replies of all routes, in the order of their indexes, until one is kept. The hints are ignored with `all`,
+    /// and if an outbox was left in an earlier round before it was found empty.
     fn drain<R: Wait, W: Wire, G: Signals>(
         &mut self,
         rt: &R,
@@ -335,7 +336,7 @@ impl Poller {
         }
     }
 
-    /// One round: the kept reply, a wait, the reads, and the replies. With `all` it asks for no hints.
+    /// One round: sends the kept reply again, waits, reads, and sends replies. With `all` the hints are ignored.
     pub(crate) fn round<R: Wait, S: Source, W: Wire, G: Signals>(
         &mut self,
         rt: &R,
@@ -356,7 +357,7 @@ impl Poller {
         self.drain(rt, wire, ends, signals, all);
     }
 
-    /// What was counted. A reply that is still kept is lost.
+    /// The counts so far, in which a reply that is still kept counts as lost.
     pub(crate) fn report(&self) -> Report
         ensures { result ≡ with_kept self.now.report (kept_in self.now) }
     {

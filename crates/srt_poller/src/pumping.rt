@@ -15,13 +15,17 @@ use srt_lobby::Names;
 use std::alloc::Global;
 use std::sync::Wait;
 
-/// Does this many rounds, and reports what it counted. The ends are those of the routes of the names, in the order of
-/// their indexes.
+/// Does `rounds` rounds and returns the counts. `ends` are those of the routes of `names`, in the order of their
+/// indexes.
 ///
-/// In a round the kept reply is handed to the wire again. Then the source waits, and up to 256 datagrams are read, each
-/// answered by the lobby, offered to its route or dropped. Then up to 64 replies of each route are handed to the wire.
-/// A reply that the wire would take later is kept, and none is taken before it went; an answer is lost then, and so is
-/// what meets a failure. After a failed wait nothing is read in that round.
+/// A round first sends the kept reply again, if there is one. Then the source waits, and at most 256 datagrams are
+/// read; each is answered by the lobby, offered to its route or dropped. Then at most 64 replies of each route are
+/// sent.
+///
+/// A reply for which the send returns Later is kept, and no other reply is taken until it went. An answer of the lobby
+/// is lost in that case. A datagram whose send fails is lost. After a failed wait the round reads nothing; a failed
+/// read ends the reads of its round. Memory is taken only for the copy of a datagram that is offered; if it is refused,
+/// the datagram is lost.
 pub fn pump<R: Wait, S: Source, W: Wire>(
     rt: &R,
     alloc: Global,
@@ -48,8 +52,8 @@ pub fn pump<R: Wait, S: Source, W: Wire>(
     )
 }
 
-/// The same with hints. Routes whose outbox is said to have nothing are passed over, but for one round in 64, and for the
-/// round after one that left an outbox before it was found empty.
+/// As `pump`, with hints. A route whose outbox has nothing by the hint is passed over, except in every 64th round, the
+/// first among them, and in the round after one that left an outbox before it was found empty.
 pub fn pump_under<R: Wait, S: Source, W: Wire, G: Signals>(
     rt: &R,
     alloc: Global,

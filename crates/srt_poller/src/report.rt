@@ -5,33 +5,35 @@ ghost use Rattle.srt_poller.specs.declared.devices.Sent.{Sent as TheSent};
 
 use crate::devices::Sent;
 
-/// How many datagrams met what. Each count stops at 2^64 - 1.
+/// The counts of a poller. Each saturates at 2^64 - 1. `read` is the sum of `answered`, `accepted`, `full`, `dropped`
+/// and `memory`, unless a count is saturated.
 #[derive(Clone, Copy, Debug, PartialEq, Eq)]
 pub struct Report {
-    /// Datagrams that came.
+    /// Datagrams that were read.
     pub read: u64,
-    /// Of these, those that the lobby answered.
+    /// Of these, those that the lobby answered, whether or not the answer was sent.
     pub answered: u64,
-    /// Those that their route's inbox accepted.
+    /// Of these, those that their route's inbox accepted.
     pub accepted: u64,
-    /// Those that met a full inbox.
+    /// Of these, those for a route whose inbox was full.
     pub full: u64,
-    /// Those that were dropped.
+    /// Of these, those that the lobby dropped (`srt_lobby::Cause`).
     pub dropped: u64,
-    /// Those for whose copy there was no memory.
+    /// Of these, those for a route for whose copy memory was refused.
     pub memory: u64,
     /// Answers and replies that the wire took.
     pub sent: u64,
-    /// Answers and replies that are lost.
+    /// Answers and replies that are lost: a failed send, an answer whose send returned Later, and a reply still kept at
+    /// the end.
     pub lost: u64,
-    /// Failures of the source and of the wire.
+    /// Failed waits, reads and sends.
     pub faults: u64,
 }
 
 impl Report {
     ghost use Rattle.srt_poller.specs.Reports.{nothing, with_fault, with_answer, with_reply, with_accepted, with_full, with_refused, with_dropped};
 
-    /// Nothing happened.
+    /// All counts 0.
     pub(crate) fn new() -> Report
         ensures { result ≡ nothing }
     {
@@ -48,14 +50,14 @@ impl Report {
         }
     }
 
-    /// The source failed.
+    /// A wait or a read failed.
     pub(crate) fn count_fault(&mut self)
         ensures { self.new ≡ with_fault self.old }
     {
         self.faults = self.faults.saturating_add(1);
     }
 
-    /// A datagram came, and the wire was handed its answer.
+    /// A datagram came, and its answer was sent with this outcome.
     pub(crate) fn count_answer(&mut self, sent: Sent)
         ensures { self.new ≡ with_answer self.old sent }
     {
@@ -71,7 +73,7 @@ impl Report {
         }
     }
 
-    /// The wire was handed a reply.
+    /// A reply was sent with this outcome.
     pub(crate) fn count_reply(&mut self, sent: Sent)
         ensures { self.new ≡ with_reply self.old sent }
     {
@@ -101,7 +103,7 @@ impl Report {
         self.full = self.full.saturating_add(1);
     }
 
-    /// A datagram came, and there was no memory for its copy.
+    /// A datagram came, and the memory for its copy was refused.
     pub(crate) fn count_refused(&mut self)
         ensures { self.new ≡ with_refused self.old }
     {
@@ -109,7 +111,7 @@ impl Report {
         self.memory = self.memory.saturating_add(1);
     }
 
-    /// A datagram came and was dropped.
+    /// A datagram came, and the lobby dropped it.
     pub(crate) fn count_dropped(&mut self)
         ensures { self.new ≡ with_dropped self.old }
     {

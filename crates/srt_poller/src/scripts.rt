@@ -1,4 +1,4 @@
-//! Devices in memory, which do what their scripts say and tell their datagrams.
+//! Devices in memory, for tests: they follow a script, and record their datagrams.
 
 ghost use Rattle.std.specs.Prelude.{◌≡◌, ◌⊎◌, ℕ, ◌<◌, ◌≤◌, ◌+◌, ◌-◌, ◌^◌, Some, option_copied, true, false, [], ◌∷◌, ◌++◌, length, map, min, slice_get, take};
 
@@ -6,19 +6,19 @@ use crate::devices::{Clock, Polled, Read, Sent, Source, Wire};
 use srt_seq::Peer;
 use std::alloc::Global;
 
-/// A datagram that a source in memory gives.
+/// A datagram of a source in memory.
 #[derive(Debug, Drop)]
 pub struct ScriptDatagram {
-    /// From whom.
+    /// The sender.
     pub peer: Peer,
-    /// What it says; the first 2048 bytes are given.
+    /// The bytes, of which a read gives the first 2048.
     pub bytes: Vec<u8>,
-    /// When it comes, in microseconds; from 2^62 on it is given as 2^62 - 1.
+    /// When it comes, in microseconds. From 2^62 on it is given as 2^62 - 1.
     pub moment: u64,
 }
 
 impl ScriptDatagram {
-    /// Copies the first 2048 bytes to the front of the buffer, and returns how many they are.
+    /// Copies at most 2048 bytes, the first, to the front of the buffer, and returns their number.
     fn copy_to(&self, buffer: &mut [u8; 2048]) -> usize
         ensures len { result ≡ min (length self.now.bytes.items) 2048 }
         ensures bytes { take result buffer.new ≡ take 2048 self.now.bytes.items }
@@ -30,7 +30,7 @@ impl ScriptDatagram {
     }
 }
 
-/// What a source in memory does at one call.
+/// What a source in memory does in one call.
 #[derive(Debug, Drop)]
 pub enum SourceStep {
     /// A wait ends.
@@ -45,8 +45,8 @@ pub enum SourceStep {
     ReadFails,
 }
 
-/// A source in memory. A wait or a read does the next step if that is one of its own; if it isn't, or there is none,
-/// the wait ends, the read finds nothing, and the step stays.
+/// A source in memory. A wait does the next step if that is `Wait` or `WaitFails`, and a read does it if it is another.
+/// Otherwise, or if no step is left, the wait returns `Ready`, the read returns `Empty`, and the step stays.
 #[derive(Drop)]
 pub struct SourceScript {
     steps: Vec<SourceStep>,
@@ -57,7 +57,7 @@ pub struct SourceScript {
 impl SourceScript {
     ghost use Rattle.srt_poller.specs.Scripts.{steps_of, steps_done};
 
-    /// A source that does these steps.
+    /// A source that does these steps, in order.
     pub fn new(steps: Vec<SourceStep>) -> SourceScript
         ensures steps { steps_of result ≡ steps.items }
         ensures done { steps_done result ≡ 0 }
@@ -144,17 +144,17 @@ impl Source for SourceScript {
     }
 }
 
-/// A datagram that a wire in memory was handed and didn't put off.
+/// A datagram of a send that returned `Taken` or `Failed`, as a wire in memory recorded it.
 #[derive(Debug, Drop)]
 pub struct SentDatagram {
-    /// To whom.
+    /// The receiver.
     pub to: Peer,
-    /// What it says.
+    /// All its bytes.
     pub bytes: Vec<u8>,
 }
 
-/// A wire in memory. Its sends are answered in turn as its script says, and after that as taken. What it takes and
-/// what fails is copied; where there is no memory for the copy it answers Later.
+/// A wire in memory. Its sends return the outcomes of its script in turn, and `Taken` after those. A datagram whose
+/// outcome is `Taken` or `Failed` is copied, which takes memory; if that is refused, the send returns `Later`.
 #[derive(Drop)]
 pub struct WireScript {
     alloc: Global,
@@ -167,7 +167,7 @@ pub struct WireScript {
 impl WireScript {
     ghost use Rattle.srt_poller.specs.Scripts.{sent_as, answer_at, answers_of, answers_given};
 
-    /// A wire that answers so.
+    /// A wire whose sends return these outcomes, in order.
     pub fn new(alloc: Global, answers: Vec<Sent>) -> WireScript
         ensures answers { answers_of result ≡ answers.items }
         ensures given { answers_given result ≡ 0 }
@@ -183,14 +183,14 @@ impl WireScript {
         }
     }
 
-    /// What it was handed and didn't put off, the oldest first.
+    /// The datagrams of the sends that returned `Taken` or `Failed`, the oldest first.
     pub fn handed(&self) -> &[SentDatagram]
         ensures { Some (map sent_as result.now) ≡ ⟦<WireScript as Wire>⟧.handed self.now }
     {
         self.handed.as_slice()
     }
 
-    /// The next answer of the script.
+    /// The next outcome of the script.
     fn answer(&mut self) -> Sent
         ensures answer { result ≡ answer_at (slice_get self.old.answers.items self.old.at) }
         ensures handed { self.new.handed ≡ self.old.handed }
@@ -206,7 +206,7 @@ impl WireScript {
         }
     }
 
-    /// Notes a datagram. False where there is no memory for its copy.
+    /// Records a datagram. False if the memory for its copy was refused; then nothing was recorded.
     fn note(&mut self, to: Peer, bytes: &[u8]) -> bool
         ensures noted { result ≡ true → map sent_as self.new.handed.items ≡ map sent_as self.old.handed.items ++ record { peer = to; bytes = bytes.now } ∷ [] }
         ensures refused { result ≡ false → self.new.handed.items ≡ self.old.handed.items }
@@ -253,7 +253,7 @@ impl Wire for WireScript {
     }
 }
 
-/// A clock in memory. It gives its moments in turn, and then the last again; with none it gives 0.
+/// A clock in memory. It gives its moments in turn, then the last one again and again; with no moments it gives 0.
 #[derive(Drop)]
 pub struct ClockScript {
     moments: Vec<u64>,
@@ -263,7 +263,7 @@ pub struct ClockScript {
 impl ClockScript {
     ghost use Rattle.srt_poller.specs.Scripts.{moments_of, moments_given};
 
-    /// A clock that gives these moments, in microseconds; from 2^62 on they are given as 2^62 - 1.
+    /// A clock that gives these moments, in microseconds. From 2^62 on they are given as 2^62 - 1.
     pub fn new(moments: Vec<u64>) -> ClockScript
         ensures moments { moments_of result ≡ moments.items }
         ensures given { moments_given result ≡ 0 }

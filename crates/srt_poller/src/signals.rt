@@ -1,18 +1,20 @@
-//! Hints between a poller and those who serve the routes.
+//! Hints between a poller and the threads that serve the routes.
 
-/// Hints. Nothing rests on them: a poller that is told nothing does the same, only slower.
+/// Hints, in both directions. No contract depends on them: a wrong hint makes replies leave up to 64 rounds later, and
+/// loses nothing. Calls come from the poller's thread.
 pub trait Signals {
-    /// A datagram was offered to the route with this index.
+    /// The inbox of the route with this index accepted a datagram.
     fn offered(&self, route: usize);
 
-    /// The reads of a round are over; so many datagrams came.
+    /// The reads of a round are over; they gave this many datagrams, 0 to 256. Not called in a round whose wait failed.
     fn read_ended(&self, datagrams: u32);
 
-    /// Whether the outbox of the route with this index may have a reply.
+    /// Whether the outbox of the route with this index may have a reply. It may clear the hint, since the poller then
+    /// drains the outbox, and remembers if it left before that was empty.
     fn may_have(&self, route: usize) -> bool;
 }
 
-/// No hints: every outbox may have a reply.
+/// No hints: every outbox may have a reply, so each round looks at all of them.
 #[derive(Clone, Copy, Debug, PartialEq, Eq)]
 pub struct Unsignalled;
 

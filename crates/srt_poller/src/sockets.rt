@@ -1,4 +1,4 @@
-//! A source and a wire over one UDP socket.
+//! A source and a wire over one UDP socket, IPv4.
 
 ghost use Rattle.std.specs.Prelude.{◌≡◌, ◌++◌, IfOk};
 ghost use Rattle.std.specs.Net.Addr.{ipv4_octets};
@@ -18,26 +18,26 @@ use std::sync::Arc;
 use std::sync::atomic::{AtomicBool, Ordering};
 use std::time::Duration;
 
-// Bytes of datagrams that the system is asked to hold until they are read.
+// The receive buffer that is asked of the system, in bytes (SO_RCVBUF).
 const RECEIVE_BUFFER: u32 = 4_194_304;
 
-/// Why no socket could be bound. Nothing is kept then.
+/// Why a socket could not be bound. Nothing is kept then.
 #[derive(Clone, Copy, Debug, PartialEq, Eq)]
 pub enum BindFault {
-    /// The system gave no socket at this address.
+    /// The system refused a socket at this address, or refused to poll it.
     Socket,
-    /// The memory was refused.
+    /// Memory was refused.
     OutOfMemory,
 }
 
 #[derive(Drop)]
 struct Shared {
     socket: UdpSocket,
-    // A datagram was put off since the source last waited.
+    // A send returned Later since the source last waited.
     put_off: AtomicBool,
 }
 
-/// A source over a UDP socket. It tells no datagrams.
+/// A source over a UDP socket. It doesn't record its datagrams, so `gave` is `None`.
 #[derive(Drop)]
 pub struct MioSource<C: Clock> {
     poll: Poll,
@@ -48,14 +48,14 @@ pub struct MioSource<C: Clock> {
     failures: u64,
 }
 
-/// A wire over a UDP socket. It tells no datagrams.
+/// A wire over a UDP socket. It doesn't record its datagrams, so `handed` is `None`.
 #[derive(Drop)]
 pub struct MioWire {
     shared: Arc<Shared>,
     failures: u64,
 }
 
-/// Asks for room for datagrams that wait to be read. The system may give less.
+/// Asks for a larger receive buffer. The system may give less; that isn't checked.
 fn ask_for_room(socket: &UdpSocket) {
     let mut value = [0; 16];
     value[..4].copy_from_slice(&RECEIVE_BUFFER.to_ne_bytes());
@@ -70,7 +70,7 @@ fn ask_for_room(socket: &UdpSocket) {
     };
 }
 
-/// A peer as the gateway knows it.
+/// The peer with this IPv4 address, which becomes `::ffff:a.b.c.d`.
 fn peer_at(ip: Ipv4Addr, port: u16) -> Peer
     ensures ip { result.ip ≡ mapped (ipv4_octets ip) }
     ensures port { result.port ≡ port }
@@ -82,7 +82,7 @@ fn peer_at(ip: Ipv4Addr, port: u16) -> Peer
     }
 }
 
-/// Where a datagram came from.
+/// The peer that a datagram came from.
 fn peer_of(from: SocketAddr) -> Peer {
     match from.ip() {
         IpAddr::V4(ip) => peer_at(ip, from.port()),
@@ -93,7 +93,7 @@ fn peer_of(from: SocketAddr) -> Peer {
     }
 }
 
-/// Where a datagram to this peer goes, if it has an IPv4 address.
+/// The socket address of this peer. `None` if it isn't of the form `::ffff:a.b.c.d`.
 fn address_of(peer: Peer) -> Option<SocketAddr> {
     let [0, 0, 0, 0, 0, 0, 0, 0, 0, 0, 255, 255, a, b, c, d] = peer.ip else {
         return None;
@@ -117,8 +117,9 @@ impl Shared {
 }
 
 impl<C: Clock> MioSource<C> {
-    /// A source and a wire over one socket at this address. The clock stamps the datagrams. It asks the system to hold
-    /// 4 MiB of datagrams; whether it does isn't looked at.
+    /// Binds a UDP socket at this address and returns a source and a wire over it. With port 0 the system chooses the
+    /// port. The clock gives the moment of each datagram as it is read. The system is asked for a receive buffer of 4
+    /// MiB; whether it gives that isn't checked. Takes memory.
     pub fn bind<N: Net>(
         net: &N,
         alloc: Global,
@@ -165,7 +166,7 @@ impl<C: Clock> MioSource<C> {
         Ok((source, wire))
     }
 
-    /// The address at which the socket is, if the system says it.
+    /// The socket's own address, with the port that the system chose. `None` if the system doesn't give it.
     pub fn address(&self) -> Option<SocketAddr> {
         self.shared.socket.local_addr().ok()
     }
@@ -178,7 +179,7 @@ impl<C: Clock> Source for MioSource<C> {
 
     ghost gave = { λ s. None };
 
-    /// Waits at most 10 ms.
+    /// Waits at most 0, 1 or 10 ms, as `Pace` decides.
     fn wait(&mut self) -> Polled {
         if self.shared.put_off.swap(false, Ordering::SeqCst) {
             self.pace.put_off();
@@ -235,7 +236,7 @@ impl Wire for MioWire {
 
     ghost handed = { λ w. None };
 
-    /// Fails too if the peer has no IPv4 address.
+    /// Also fails if the peer has no IPv4 address.
     fn send(&mut self, to: Peer, bytes: &[u8]) -> Sent {
         let Some(target) = address_of(to) else {
             return self.fail();

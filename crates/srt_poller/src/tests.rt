@@ -126,7 +126,7 @@ fn open_routes<R: Wait>(rt: &R, alloc: Global) -> Result<Routes, Fail> {
     })
 }
 
-/// Passes always.
+/// A gate that lets every turn pass.
 #[derive(Drop)]
 struct Open;
 
@@ -142,7 +142,7 @@ impl Gate for Open {
     }
 }
 
-/// What this many rounds over these devices report.
+/// The report of this many rounds over these devices.
 fn reported(
     rt: &(impl AllocGlobal + Wait),
     routes: &mut Routes,
@@ -207,7 +207,7 @@ fn two_rounds_with_an_induction_and_a_failed_read(rt: HostRuntime) -> Result<(),
     assert_handed(&rt, &wire, &[INDUCTION_ANSWER])
 }
 
-/// What one round over an induction reports with a wire that answers so.
+/// The report of one round that reads an induction, if the wire's send returns `sent`.
 fn induction_with(
     rt: &(impl AllocGlobal + Wait),
     wait: SourceStep,
@@ -269,7 +269,7 @@ fn what_comes_is_answered_offered_or_dropped(rt: HostRuntime) -> Result<(), Fail
     assert_handed(&rt, &wire, &[INDUCTION_ANSWER])
 }
 
-/// Routes of which the first has this many replies in its outbox.
+/// Routes, the first of which has `count` replies in its outbox.
 fn with_replies(rt: &(impl AllocGlobal + Wait), count: u32) -> Result<Routes, Fail> {
     let alloc = rt.alloc();
     let mut routes = open_routes(rt, alloc)?;
@@ -378,8 +378,8 @@ impl<'a, R: Wait> Source for Serving<'a, R> {
     }
 }
 
-/// The first reply is kept and 16 stand in the outbox, so turns are blocked: the next reply waits, and 16 items more
-/// fill the inbox. Of 60 conclusions these 34 are answered once the wire takes.
+/// The first reply is kept and 16 more fill the outbox, so turns are blocked; the next reply waits, and 16 items fill
+/// the inbox. So of 60 conclusions 34 are answered, once the wire takes datagrams again.
 #[test]
 fn a_wire_that_puts_off_blocks_turns_and_fills_inboxes(rt: HostRuntime) -> Result<(), Fail> {
     let alloc = rt.alloc();
@@ -457,7 +457,7 @@ fn address(source: &MioSource<ClockScript>) -> Result<SocketAddr, Fail> {
     }
 }
 
-/// The next datagram within 100 waits: from whom, how many bytes, and whether each of them is this one.
+/// The next datagram within 100 waits: its sender, its length, and whether all its bytes are `byte`.
 fn received(
     source: &mut MioSource<ClockScript>,
     buffer: &mut [u8; 2048],

@@ -1,6 +1,6 @@
-//! One call of a device doesn't go well, at each place in turn of a script of several rounds. What is wanted is worked out
-//! by hand: a failed wait or read loses nothing, since what was to be read comes a round later; a failed send loses that
-//! datagram alone; a send that is put off loses an answer, and a reply goes with the next round.
+//! One call of a device fails or is put off, at each place of a script of several rounds in turn. The expected outcomes
+//! were worked out by hand. A failed wait or read loses nothing: what was to be read is read a round later. A failed
+//! send loses that datagram alone. A send that returns Later loses an answer, and delays a reply by a round.
 
 use super::{
     CONCLUSION, CONCLUSION_ANSWER, INDUCTION, INDUCTION_ANSWER, NOTHING, Routes, STRAY, Serving,
@@ -15,7 +15,7 @@ use std::test::Fail;
 const REFUSAL: &str =
     "80000000000000000000000000000000000000050000000000000005000005dc00002000000003ea000000010000000000000000000000000000000000000000";
 
-/// Which call doesn't go well, counted from 0.
+/// Which call fails or returns Later, counted from 0.
 #[derive(Clone, Copy, Debug, PartialEq, Eq)]
 enum Fault {
     Nothing,
@@ -25,8 +25,9 @@ enum Fault {
     Later(u32),
 }
 
-/// What came of the rounds: the report, how often the source and the wire failed, and what the wire was handed and
-/// didn't put off, in order, a digit each: 1 to 3 the answers to the inductions, 4 to 6 the replies to the conclusions.
+/// The outcome of the rounds: the report, the failures of the source and of the wire, and the datagrams that were not
+/// put off, in order, as decimal digits: 1 to 3 are the answers to the inductions, 4 to 6 the replies to the
+/// conclusions.
 #[derive(Clone, Copy, Debug, PartialEq, Eq)]
 struct Outcome {
     report: Report,
@@ -35,8 +36,8 @@ struct Outcome {
     handed: u32,
 }
 
-/// The bytes that these digits spell, with another one at this place. The caller's ID ends with byte 43 in a handshake,
-/// and with byte 15 in its answer.
+/// The bytes of these hex digits, with the byte at `at` replaced. The last byte of the caller's ID is byte 43 in a
+/// handshake, and byte 15 in its answer.
 fn with(alloc: Global, text: &str, at: usize, byte: u8) -> Result<Vec<u8>, Fail> {
     let mut bytes = hex::decode(alloc, text)?;
     if let Some(place) = bytes.as_mut_slice().get_mut(at) {
@@ -45,7 +46,7 @@ fn with(alloc: Global, text: &str, at: usize, byte: u8) -> Result<Vec<u8>, Fail>
     Ok(bytes)
 }
 
-/// This handshake of the caller whose ID ends with this byte.
+/// This handshake, from the caller whose ID ends with this byte.
 fn comes_of(alloc: Global, text: &str, caller: u8) -> Result<SourceStep, Fail> {
     let mut step = comes(alloc, text)?;
     if let SourceStep::Datagram(datagram) = &mut step {
@@ -54,7 +55,8 @@ fn comes_of(alloc: Global, text: &str, caller: u8) -> Result<SourceStep, Fail> {
     Ok(step)
 }
 
-/// Three rounds: in each a wait, four reads that give three datagrams, and all of them again where one fails.
+/// Three rounds: in each a wait, and four reads that give three datagrams. What a failed call would have given, a later
+/// one gives.
 fn script(alloc: Global, fault: Fault) -> Result<Vec<SourceStep>, Fail> {
     let mut steps = Vec::new(alloc);
     let mut reads = 0u32;
@@ -86,7 +88,7 @@ fn script(alloc: Global, fault: Fault) -> Result<Vec<SourceStep>, Fail> {
     Ok(steps)
 }
 
-/// What the wire does at each send.
+/// The outcome of each send.
 fn answers(alloc: Global, fault: Fault) -> Result<Vec<Sent>, Fail> {
     let mut answers = Vec::new(alloc);
     for send in 0..6u32 {
@@ -101,7 +103,7 @@ fn answers(alloc: Global, fault: Fault) -> Result<Vec<Sent>, Fail> {
     Ok(answers)
 }
 
-/// The digit of a datagram that the wire was handed; 9 if it is none of those.
+/// The digit of a datagram that was sent; 9 if it is none of the six.
 fn digit(alloc: Global, bytes: &Vec<u8>) -> Result<u32, Fail> {
     let mut digit = 1u32;
     for (text, caller) in [
@@ -120,7 +122,7 @@ fn digit(alloc: Global, bytes: &Vec<u8>) -> Result<u32, Fail> {
     Ok(9)
 }
 
-/// What comes of six rounds; the first route is served at each wait.
+/// The outcome of six rounds, in which the first route is served at each wait.
 fn played(rt: &(impl AllocGlobal + Wait), fault: Fault) -> Result<Outcome, Fail> {
     let alloc = rt.alloc();
     let Routes {
@@ -163,7 +165,7 @@ fn played(rt: &(impl AllocGlobal + Wait), fault: Fault) -> Result<Outcome, Fail>
     })
 }
 
-/// What is wanted, with this order of the datagrams that the wire is handed.
+/// The expected outcome, with this order of the datagrams.
 fn wanted(fault: Fault, handed: u32) -> Outcome {
     let all = Report {
         read: 9,
@@ -194,7 +196,7 @@ fn wanted(fault: Fault, handed: u32) -> Outcome {
 }
 
 /// In a round the answers go before the replies. A conclusion is served at the wait after it came, so its reply goes
-/// with the answer of the round after; where that round's answer is late, the reply goes before it.
+/// out in the round after, behind that round's answer; if that answer is late, the reply goes before it.
 #[test]
 fn one_call_fails_at_each_place_in_turn(rt: HostRuntime) -> Result<(), Fail> {
     for (fault, handed) in [
