@@ -33,7 +33,7 @@ were_again ms ns (a ∷ was) [] cs h k = absurd h
 were_again ms ns (a ∷ was) (b ∷ bs) [] h k = absurd k
 were_again ms ns (a ∷ was) (b ∷ bs) (c ∷ cs) h k = (was_again ms ns a b c h.0 k.0, were_again ms ns was bs cs h.1 k.1)
 
--- the first n were ticked, and the others are was they were
+-- the first n were ticked, and the others are as they were
 abbrev pub FirstTicked : (n : ℕ) → (moments : List ℕ) → List Producer → List Producer → Type 0
 FirstTicked zero ms was bs = bs ≡ was
 FirstTicked (suc n) ms [] [] = Unit {0}

@@ -8,7 +8,7 @@ use Rattle.srt_mailbox.specs.Settled.{Settles}
 use Rattle.srt_poller.specs.declared.ends.Ends.{Ends}
 use Rattle.srt_serve.specs.Settled.{AreJoined, AreSettled}
 
--- where there are no cells there are no other ends
+-- if there are no cells there are no other ends
 pub none_left : (ends : List Ends) (clocks : List Producer) → AreJoined ends clocks [] → AreSettled [] ends clocks []
 none_left [] [] h = tt
 none_left [] (c ∷ clocks) h = absurd h

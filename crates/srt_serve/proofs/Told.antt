@@ -1,4 +1,4 @@
--- Devices that tell more, and more again.
+-- Devices that record more, and more again.
 use Rattle.std.proofs.Common.{◌≡◌, Option, None, Some, List, [], ◌++◌, refl, sym, ap, append_assoc, append-nil}
 use Rattle.srt_poller.specs.Devices.{joined}
 

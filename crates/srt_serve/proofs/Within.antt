@@ -1,4 +1,4 @@
--- Lists with some left out.
+-- Lists with some elements left out.
 use Rattle.std.proofs.Common.{◌≡◌, ◌⊎◌, inl, inr, List, [], ◌∷◌, ◌++◌, refl}
 use Rattle.srt_serve.specs.Ticks.{IsWithin}
 

@@ -8,7 +8,7 @@ use Rattle.srt_mailbox.specs.Cells.{Name}
 use Rattle.srt_mailbox.specs.Names.{name_in}
 use Rattle.srt_poller.specs.declared.ends.Ends.{Ends}
 
--- The ends stand on the queues of this route, and nothing went through them
+-- The ends are of the queues of this route, and nothing has passed through them
 pub record IsOpened (terms : Terms) (index : ℕ) (ends : Ends) (clock : Producer) (cell : RouteCell) : Type 0 where
   pub terms_are : (name_in cell).terms ≡ terms
   pub index_is : (name_in cell).index ≡ index
@@ -16,7 +16,7 @@ pub record IsOpened (terms : Terms) (index : ℕ) (ends : Ends) (clock : Produce
   pub clock_is : clock ≡ producer (name_in cell).inbox terms.inbox []
   pub drain : ends.drain ≡ drained (name_in cell).outbox terms.outbox [] ends.drain.hand
 
--- so do those of all routes, in the order of their indexes
+-- so are those of all routes, in the order of their indexes
 pub record AreOpened (entries : List Terms) (ends : List Ends) (clocks : List Producer) (cells : List RouteCell) : Type 0 where
   pub as_many_ends : length ends ≡ length entries
   pub as_many_clocks : length clocks ≡ length entries

@@ -1,9 +1,9 @@
--- What a poller did, as one fact.
+-- What a poller did, as one statement.
 use Rattle.std.specs.Prelude.{◌≡◌, ℕ}
 use Rattle.srt_poller.specs.History.{Sorting}
 use Rattle.srt_poller.specs.Pumped.{Before, After, Pumped}
 
--- it did rounds, as its own contract says
+-- it did this many rounds, as its own contract says
 unfoldable pub Polled : Sorting → (rounds : ℕ) → Before → After → Type 0
 Polled class rounds before after = Pumped class rounds before after
 

@@ -15,10 +15,10 @@ use Rattle.srt_poller.specs.History.{Sorting, Event, Follow, kept_after, kept_of
 use Rattle.srt_poller.specs.Reports.{total}
 use Rattle.srt_serve.specs.Ticks.{IsWithin, tick}
 
--- Of one route, where these events happened at the poller and the ticker gave these moments. The items taken and then those left are, by
--- their marks, the datagrams that the poller put into the inbox and ticks of some of the moments, each in order. The replies that the wire
--- was handed, then the one that is kept, those queued and those that wait are all that the route, alone, replies to the items taken. The
--- account has the numbers
+-- One route, if these events happened at the poller and the ticker gave these moments. The items taken, followed by those left, are, by
+-- their marks, the datagrams that the inbox accepted from the poller and ticks of some of the moments, each in order. The replies of this
+-- route that were sent, then the kept one, those queued and those that wait are all that the route, alone, replies to the items taken. The
+-- account has their numbers
 pub record RouteRan (terms : Terms) (index : ℕ) (events : List Event) (moments : List ℕ) (a : Account) : Type 0 where
   pub taken : List Marked
   pub left : List Marked
@@ -35,7 +35,7 @@ pub record RouteRan (terms : Terms) (index : ℕ) (events : List Event) (moments
   pub queued_is : a.queued ≡ length queued
   pub drained_is : a.drained ≡ counted (length (drained index events))
 
--- what the source tells that it gave, the wire that it was handed, and the ticker that it gave
+-- what the source, the wire and the ticker have recorded
 pub record Told : Type 0 where
   pub gave : Option (List Arrival)
   pub handed : Option (List Datagram)
@@ -44,10 +44,10 @@ pub record Told : Type 0 where
 abbrev pub told_by : Option (List Arrival) → Option (List Datagram) → Option (List ℕ) → Told
 told_by gave handed moments = record { gave = gave; handed = handed; moments = moments }
 
--- These events happened at the poller, the oldest first, and the ticker gave these moments. The source gave the datagrams that the events
--- say, and each met what the lobby makes of it; the wire was handed the datagrams that they say; the report counts them. The source waited
--- once a round, and was read at least as often as it waited without a failure. There is an account for each route, in the order of their
--- indexes
+-- These events happened at the poller, the oldest first, and the ticker gave these moments. The source gave the datagrams of the events,
+-- and what happened to each is what its class says; the wire was handed the datagrams of the events; the report counts them. The source
+-- waited once a round, and was read at least as often as it waited without a failure. There is an account of each route, in the order of
+-- their indexes
 pub record RanBy (class : Sorting) (entries : List Terms) (rounds : ℕ) (old new : Told) (report : Report) (accounts : List Account) (events : List Event) (moments : List ℕ) : Type 0 where
   pub follow : Follow class None events
   pub gave : new.gave ≡ joined old.gave (given events)

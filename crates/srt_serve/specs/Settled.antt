@@ -8,7 +8,7 @@ use Rattle.srt_mailbox.specs.Names.{name_in}
 use Rattle.srt_mailbox.specs.Settled.{Settles}
 use Rattle.srt_poller.specs.declared.ends.Ends.{Ends}
 
--- the ends of each route stand on its queues
+-- the ends of each route are of its queues
 abbrev pub AreJoined : List Ends → List Producer → List RouteCell → Type 0
 AreJoined [] [] [] = Unit {0}
 AreJoined [] [] (k ∷ cells) = ⊥

@@ -1,6 +1,6 @@
-//! What the threads of a run tell each other: where there may be work, who is there, and when it is over. These are
-//! hints, and no contract rests on them. Each tick sets all `asked` marks and rings, so a hint that is lost costs one
-//! tick of time, and never an item.
+//! What the threads of a run share besides the routes: which routes may have work, how many threads are running, and
+//! whether the run is over. All of it is hints, and no contract depends on them. Each tick sets all `asked` marks and
+//! wakes a worker, so a lost hint delays work until the next tick and never loses an item.
 
 use crate::bell::Bell;
 use crate::marks::Marks;
@@ -10,40 +10,45 @@ use std::sync::Wait;
 use std::sync::atomic::{AtomicBool, AtomicU64, Ordering};
 use std::time::Duration;
 
-// So many datagrams in one round are worth waking a worker, even if another is awake.
+// A round that read at least this many datagrams wakes a worker, even if another is awake.
 const MANY: u32 = 64;
 
-// How long a worker that found nothing to do naps before it looks again, in microseconds.
+// How long a worker that found nothing to do sleeps at most before it looks again, in microseconds.
 const NAP: u64 = 500;
 
-// How long it then sleeps if nobody rings, in microseconds.
+// How long it sleeps at most if it found nothing again, in microseconds.
 const SLEEP: u64 = 100_000;
 
-// How many such sleeps the start of a thread may take, at least: each that is here ends one.
+// How many sleeps of `SLEEP` `gather` makes at most. Each of at most 17 threads that arrives ends one early, so it
+// waits for ten seconds or more.
 const PATIENCE: u32 = 120;
 
-/// What the threads of a run share beside the routes.
+/// What the threads of a run share besides the routes. Every method may be called from any thread.
 #[derive(Drop)]
 pub struct Hall {
-    // there may be something in the route's inbox
+    // the route's inbox may have an item
     asked: Marks,
-    // a worker is at the route
+    // a worker serves the route now
     visited: Marks,
-    // there may be something in the route's outbox
+    // the route's outbox may have a reply
     told: Marks,
     // wakes workers
     bell: Bell,
-    // wakes the calling thread while it waits for the others
+    // wakes the polling thread while it waits in `gather` for the others
     door: Bell,
+    // the number of workers, without the ticking thread
     workers: u64,
+    // the number of workers in `rest`
     resting: AtomicU64,
-    // how many threads are here: the ticking thread and the workers
+    // the number of threads that have arrived: the ticking thread and the workers
     here: AtomicU64,
+    // the run is over
     done: AtomicBool,
 }
 
 impl Hall {
-    /// A hall for this many routes and workers.
+    /// A hall for this many routes and workers. Takes memory for three marks a route; an error means that it was
+    /// refused.
     pub fn open(alloc: Global, routes: usize, workers: usize) -> Result<Hall, AllocError> {
         Ok(Hall {
             asked: Marks::open(alloc, routes)?,
@@ -58,13 +63,14 @@ impl Hall {
         })
     }
 
-    /// The calling thread is here.
+    /// Counts the calling thread as running. Each worker and the ticking thread call it once, first.
     pub fn arrive(&self) {
         self.here.fetch_add(1, Ordering::SeqCst);
         self.door.call_all();
     }
 
-    /// Waits until all threads are here. False if one can't be started, or is not here after ten seconds.
+    /// Waits until the ticking thread and all workers have arrived. False if one could not be started, or if they
+    /// haven't arrived after ten seconds or more.
     pub fn gather<R: Wait>(&self, rt: &R) -> bool {
         for _ in 0..PATIENCE {
             let heard = self.door.heard();
@@ -79,28 +85,30 @@ impl Hall {
         false
     }
 
-    /// Ends the work of all threads that look here.
+    /// Ends the run: all threads see it at their next look, and those that sleep are woken.
     pub fn finish(&self) {
         self.done.store(true, Ordering::SeqCst);
         self.bell.call_all();
         self.door.call_all();
     }
 
+    /// Whether the run is over.
     pub fn is_done(&self) -> bool {
         self.done.load(Ordering::SeqCst)
     }
 
-    /// How often the bell rang. A worker remembers it before it looks for work.
+    /// The number of the bell's calls. A worker reads it before it looks for work, and hands it to `nap` or `rest`.
     pub fn heard(&self) -> u64 {
         self.bell.heard()
     }
 
-    /// Whether the route asks for a worker.
+    /// Whether the route with this index may have an item to apply, or more to do.
     pub fn asks(&self, route: usize) -> bool {
         self.asked.is_set(route)
     }
 
-    /// Whether this call made the caller the route's visitor. The route's mark is clear then.
+    /// Makes the caller the route's visitor and clears the route's `asked` mark. False, with no change, if another
+    /// worker is its visitor.
     pub fn enter(&self, route: usize) -> bool {
         let entered = self.visited.set(route);
         if entered {
@@ -109,7 +117,7 @@ impl Hall {
         entered
     }
 
-    /// The visitor leaves the route, where something is left to do or not.
+    /// The visitor leaves the route. If `is_left`, there is more to do, and the route asks again.
     pub fn leave(&self, route: usize, is_left: bool) {
         self.visited.clear(route);
         if is_left {
@@ -117,30 +125,31 @@ impl Hall {
         }
     }
 
-    /// A reply was put into the route's outbox.
+    /// A reply was put into the outbox of the route.
     pub fn moved(&self, route: usize) {
         self.told.set(route);
     }
 
-    /// Wakes a worker, if one rests.
+    /// Wakes a worker, if one is in `rest`.
     pub fn share(&self) {
         if self.resting.load(Ordering::SeqCst) > 0 {
             self.bell.call_one();
         }
     }
 
-    /// Time went by for all routes.
+    /// All routes were ticked: each asks for a worker, and one worker is woken.
     pub fn ticked(&self) {
         self.asked.set_all();
         self.bell.call_one();
     }
 
-    /// A short rest.
+    /// Sleeps for at most 500 microseconds, or until the bell is called.
     pub fn nap<R: Wait>(&self, rt: &R, heard: u64) {
         self.bell.rest(rt, heard, Duration::from_micros(NAP));
     }
 
-    /// A rest until somebody rings. While a route asks that could not be served it is a short one.
+    /// Sleeps until the bell is called, for at most 100 milliseconds; at most 500 microseconds if a route still asks
+    /// that this worker could not serve. Linear in the number of routes.
     pub fn rest<R: Wait>(&self, rt: &R, heard: u64) {
         self.resting.fetch_add(1, Ordering::SeqCst);
         let most = if self.asked.any() { NAP } else { SLEEP };

@@ -1,4 +1,16 @@
-//! The running gateway: one thread polls, one ticks, and workers serve the routes.
+//! The running gateway: it starts the threads, stops them, and settles the routes.
+//!
+//! One thread polls, one ticks, and workers serve the routes. The crate reads no configuration (`srt_gateway` does),
+//! binds no socket and reads no clock (the program hands in a source, a wire and a ticker), and takes no signals.
+//!
+//! Types: a `Ticker` gives the moments at which all routes are ticked; `Ran` is the outcome of a run, a report of the
+//! poller and an account of each route; `RunFault` says why there is none.
+//!
+//! Calls: `run`, once. It returns when the given number of rounds is over and all its threads have ended.
+//!
+//! Files, in the order of a run: `opening.rt` opens all routes; `serving.rt` starts and joins the threads, which are
+//! `ticking.rt`, `working.rt` and `srt_poller::pump_under`; `settling.rt` settles the routes. How threads wake each
+//! other is `hall.rt`, with `bell.rt` and `marks.rt`; no contract depends on it. `specs/Ran.antt` says what a run did.
 #![tactic(auto)]
 
 mod bell;

@@ -1,4 +1,4 @@
-//! All routes of a run, before any thread is started.
+//! Opens all routes of a run, before any thread is started.
 
 ghost use Rattle.std.specs.Prelude.{◌≡◌, [], IfOk, map, length};
 ghost use Rattle.srt_seq.specs.Terms.{terms_of};
@@ -10,11 +10,14 @@ use srt_seq::Entry;
 use std::alloc::{AllocError, Global};
 use std::sync::Wait;
 
-/// The ends of all routes, each list in the order of their indexes.
+/// The ends of all routes, each list in the order of the routes' indexes.
 #[derive(Drop)]
 pub struct Opened {
+    /// The poller's ends: of the inbox and of the outbox.
     pub ends: Vec<Ends>,
+    /// The clock's ends of the inboxes.
     pub clocks: Vec<ClockEnd>,
+    /// The cells that workers serve.
     pub cells: Vec<RouteCell>,
 }
 
@@ -30,8 +33,8 @@ impl Opened {
     }
 }
 
-/// Opens the routes of these entries. It takes all memory that they will ever need. An error means that memory was
-/// refused.
+/// Opens the routes of these entries, in order. Takes all memory that they will ever need. An error means that memory
+/// was refused, or that an entry is out of its limits (`run` requires that none is). Nothing is kept then.
 pub fn open_routes<R: Wait>(rt: &R, alloc: Global, entries: &[Entry]) -> Result<Opened, AllocError>
     ensures { IfOk result (λ o. AreOpened (map terms_of entries.now) o.ends.items o.clocks.items o.cells.items) }
 {

@@ -1,4 +1,4 @@
-//! The running gateway.
+//! A run of the gateway, from the opening of its routes to their accounts.
 
 ghost use Rattle.std.specs.Prelude.{◌≡◌, ◌⊎◌, ◌≤◌, None, Err, [], IfOk, map, length};
 ghost use Rattle.std.specs.Vec.{vec_len, vec_capacity};
@@ -24,25 +24,27 @@ use std::alloc::{AllocError, Global};
 use std::sync::Wait;
 use std::thread::Threads;
 
-/// Why a run came to nothing.
+/// Why a run failed.
 #[derive(Clone, Copy, Debug, PartialEq, Eq)]
 pub enum RunFault {
     /// Memory was refused. Nothing was read.
     OutOfMemory,
-    /// A thread could not be started. Nothing was read, and the threads that were started have ended.
+    /// A thread could not be started, or wasn't running after ten seconds. Nothing was read, and the threads that were
+    /// started have ended.
     Thread,
-    /// A route could not be settled, since somebody else had it. What was sent stands.
+    /// A route could not be settled, since another call had claimed it. Datagrams were read and sent, but there are no
+    /// report and no accounts.
     Busy,
 }
 
-/// What a run gives back.
+/// The outcome of a run.
 #[derive(Drop)]
 pub struct Ran<K: Drop> {
-    /// What the poller counted.
+    /// The counts of the poller.
     pub report: Report,
-    /// An account for each route, in the order of their indexes.
+    /// An account of each route, in the order of their indexes.
     pub accounts: Vec<Account>,
-    /// The ticker that was handed in.
+    /// The ticker that `run` was given, after its last moment.
     pub ticker: K,
 }
 
@@ -76,12 +78,14 @@ fn open_stage<R: Wait>(
     })
 }
 
-/// Runs the gateway of these entries for this many rounds of its poller, and returns what it counted and an account of
-/// each route.
+/// Runs the gateway of these entries for `rounds` rounds of its poller, and returns the poller's report and an account
+/// of each route. The entries must be right as a whole: names distinct, numbers within their limits. `workers` has a
+/// gate for each worker, 1 to 16.
 ///
-/// First all routes are opened and all threads are started. Then the calling thread polls the source and the wire, one
-/// thread ticks all routes at each moment that the ticker gives, and a worker for each gate goes round the routes and
-/// serves them. After the rounds all threads end, and each route is settled.
+/// First all routes are opened, which takes all memory but that of threads and of arriving datagrams. Then one thread
+/// for each worker and one ticking thread are started. Once all of them run, the calling thread polls the source and
+/// the wire, the ticking thread ticks all routes at each moment that the ticker gives, and the workers serve the
+/// routes. After the rounds all threads end, and each route is settled. A ticker that waits delays that end.
 #[tactic(auto, unfolding(crate::specs::Polled::AreUntouched))]
 pub fn run<R, S, W, K, G>(
     rt: &R,

@@ -1,4 +1,4 @@
-//! The threads of a run, from the first to the last.
+//! Starts the threads of a run, and joins them.
 
 ghost use Rattle.std.specs.Prelude.{◌≡◌, IfSome, IfNone, length};
 ghost use Rattle.srt_lobby.specs.Names.{names_of};
@@ -19,7 +19,7 @@ use std::sync::Wait;
 use std::thread::{Threads, join_mut};
 use std::{mem, thread};
 
-// Starts a worker for each gate, and waits until all have ended. If one can't be started the run is over.
+// Starts a worker for each gate, and waits until all have ended. If one can't be started, the run ends.
 fn start_workers<R, G, C>(rt: &R, alloc: Global, cells: &[C], workers: &mut Vec<G>, hall: &Hall)
 where
     R: Threads + Wait + Sync,
@@ -42,7 +42,8 @@ where
     });
 }
 
-// Polls for this many rounds, once all threads are here. If they don't come it reads nothing.
+// Waits until all threads have arrived, polls for `rounds` rounds, and ends the run. `None` if they don't arrive; then
+// nothing was read.
 #[tactic(auto, unfolding(crate::specs::Polled::Polled, crate::specs::Polled::AreUntouched))]
 fn poll<R: Wait, S: Source, W: Wire>(
     rt: &R,
@@ -68,7 +69,7 @@ fn poll<R: Wait, S: Source, W: Wire>(
     Some(report)
 }
 
-// Ticks in a thread, and polls in this one.
+// Ticks in a new thread, and polls in this one. Returns when both have ended.
 fn tick_and_poll<R, S, W, K>(
     rt: &R,
     alloc: Global,
@@ -99,8 +100,8 @@ where
     report
 }
 
-/// Starts the workers and the ticking thread, and then polls for this many rounds. All threads have ended when it
-/// returns. `None` if one could not be started; then nothing was read.
+/// Starts the workers and the ticking thread, and then polls for `rounds` rounds. All threads have ended when it
+/// returns. `None` if one could not be started, or wasn't running after ten seconds; then nothing was read.
 pub fn serve_routes<R, S, W, K, G, C>(
     rt: &R,
     alloc: Global,

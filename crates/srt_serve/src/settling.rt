@@ -1,4 +1,4 @@
-//! The end of a run: each route is settled.
+//! Settles all routes at the end of a run.
 
 ghost use Rattle.std.specs.Prelude.{◌≡◌, ◌≤◌, [], IfOk, length};
 ghost use Rattle.std.specs.Vec.{vec_capacity};
@@ -8,11 +8,12 @@ use srt_mailbox::{Account, ClockEnd, RouteCell, settle};
 use srt_poller::Ends;
 use std::sync::Wait;
 
-/// A route could not be settled, since somebody else had it.
+/// A route could not be settled, since another call had claimed it.
 #[derive(Clone, Copy, Debug, PartialEq, Eq)]
 pub struct Busy;
 
-/// Settles all routes in the order of their indexes. The accounts have room for them.
+/// Settles all routes and returns their accounts, in the order of their indexes. The lists must be in that order too.
+/// `accounts` must be empty and have room for all of them, so that no memory is taken.
 pub fn settle_routes<R: Wait>(
     rt: &R,
     ends: Vec<Ends>,

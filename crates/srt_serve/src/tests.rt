@@ -34,10 +34,10 @@ const MOMENT: u64 = 1_000_000;
 /// The most rounds of a run, and the most turns that a gate waits.
 const LIMIT: u32 = 1_000_000;
 
-/// After so many waits without an answer a conclusion comes again.
+/// The number of waits without an answer after which a conclusion comes again.
 const PAUSE: u64 = 1_000;
 
-/// The most answers that are asked for.
+/// The number of answers after which no conclusion comes again.
 const ANSWERS: u64 = 100;
 
 const NOTHING: Report = Report {
@@ -52,7 +52,7 @@ const NOTHING: Report = Report {
     faults: 0,
 };
 
-/// What the threads of a test tell each other.
+/// What the threads of a test share.
 #[derive(Drop)]
 struct Meeting {
     /// The source's second wait has begun.
@@ -61,9 +61,9 @@ struct Meeting {
     entered: AtomicBool,
     /// The wire took a reply for the second caller.
     answered: AtomicBool,
-    /// Somebody waited too long.
+    /// A thread waited too long.
     is_late: AtomicBool,
-    /// How many replies the wire took.
+    /// The number of replies that the wire took.
     taken: AtomicU64,
 }
 
@@ -99,8 +99,8 @@ impl Meeting {
     }
 }
 
-/// A source whose waits yield. Its first round gives one datagram of each of these texts; then the first comes again
-/// for each answer that the wire took, and after a pause, until the wire took enough.
+/// A source whose waits yield. In its first round it gives one datagram of each of these texts. Then it gives the first
+/// again after each answer that the wire took, and after a pause without one, until the wire took `ANSWERS` answers.
 #[derive(Drop)]
 struct Callers {
     meeting: Arc<Meeting>,
@@ -197,7 +197,7 @@ impl Wire for Taking {
     }
 }
 
-/// A ticker that always gives one moment, first when the source waits for the second time.
+/// A ticker that always gives the same moment. It waits before the first until the source waits for the second time.
 #[derive(Drop)]
 struct Standing {
     meeting: Arc<Meeting>,
@@ -218,7 +218,7 @@ impl Ticker for Standing {
     }
 }
 
-/// A gate that always passes.
+/// A gate that lets every turn pass.
 #[derive(Clone, Copy)]
 struct Open;
 
@@ -234,8 +234,8 @@ impl Gate for Open {
     }
 }
 
-/// A gate that passes on the first route once the second caller was answered, and on the second route once a gate was
-/// asked about the first.
+/// A gate that lets a turn of the first route pass once the second caller was answered, and a turn of the second route
+/// once a gate was asked about the first.
 #[derive(Drop)]
 struct Meets {
     meeting: Arc<Meeting>,
@@ -415,7 +415,7 @@ fn a_hundred_answers_are_sent(rt: HostRuntime) -> Result<(), Fail> {
     Ok(())
 }
 
-/// As many routes and workers as there can be; one caller is heard by the last route, and the others have nothing to say.
+/// As many routes and workers as there can be. One caller calls the last route; nobody calls the others.
 #[test]
 fn all_routes_and_workers_run(rt: HostRuntime) -> Result<(), Fail> {
     let alloc = rt.alloc();

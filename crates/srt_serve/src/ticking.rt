@@ -1,4 +1,4 @@
-//! The ticking thread: it tells all routes the time.
+//! The ticking thread: it offers the time to all routes.
 
 ghost use Rattle.std.specs.Prelude.{◌≡◌, ◌⊎◌, ◌<◌, ◌^◌, [], ◌∷◌, ◌++◌};
 ghost use Rattle.srt_mailbox.specs.Ends.{producer};
@@ -10,28 +10,31 @@ use srt_seq::Item;
 use std::sync::Wait;
 use std::thread;
 
-/// What tells the ticking thread when to tick. It may wait before it does.
+/// Gives the moments at which the ticking thread ticks, and decides how often: `next` is called again at once after
+/// each tick, and may wait before it returns.
 pub trait Ticker {
     ghost use Rattle.std.specs.Prelude.{◌<◌, ◌^◌, ℕ, Option, List, [], ◌∷◌};
     ghost use Rattle.srt_poller.specs.Devices.{joined};
 
-    /// All moments that it gave, the oldest first, if it tells them.
+    /// All moments that it gave, the oldest first, or `None` for a ticker that doesn't record them.
     ghost gave: { Self → Option (List ℕ) };
 
-    /// The next moment, in microseconds. It is below 2^62.
+    /// The next moment, in microseconds, below 2^62. A run doesn't end before this call returns.
     fn next(&mut self) -> u64
         ensures timely { result < 2 ^ 62 }
         ensures tells { gave self.new ≡ joined (gave self.old) (result ∷ []) };
 }
 
-/// The clock's ends of all routes, in the order of their indexes, and what they are ticked by.
+/// The clock's ends of all routes, and their ticker.
 #[derive(Drop)]
 pub struct Clocks<K: Ticker + Drop> {
+    /// In the order of the routes' indexes.
     pub ends: Vec<ClockEnd>,
+    /// Gives the moments.
     pub ticker: K,
 }
 
-// Offers a tick to one route. A tick that meets a full inbox is given up.
+// Offers a tick to one route. If the inbox is full, the tick is discarded.
 fn tick_one<R: Wait>(rt: &R, end: &mut ClockEnd, moment: u64)
     requires { moment < 2 ^ 62 }
     ensures { (end.new ≡ end.old) ⊎ (end.new ≡ producer end.old.queue end.old.capacity (end.old.offered ++ tick moment ∷ [])) }
@@ -39,7 +42,7 @@ fn tick_one<R: Wait>(rt: &R, end: &mut ClockEnd, moment: u64)
     let _ = end.offer(rt, Item::Tick { moment });
 }
 
-// Offers a tick to every route.
+// Offers a tick to every route, in the order of their indexes.
 fn tick_all<R: Wait>(rt: &R, ends: &mut [ClockEnd], moment: u64)
     requires { moment < 2 ^ 62 }
     ensures { WereTicked (moment ∷ []) ends.old ends.new }

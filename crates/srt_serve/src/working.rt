@@ -1,23 +1,24 @@
-//! A worker thread: it goes round the routes and serves those that ask.
+//! A worker thread: it goes round the routes and serves those that may have work.
 
 use crate::hall::Hall;
 use srt_mailbox::{Gate, Serve, Served};
 use srt_seq::Turned;
 use std::sync::Wait;
 
-// The most turns that a worker makes at a route before it goes on.
+// The most turns that a worker makes at a route before it goes on to the next.
 const TURNS: u32 = 64;
 
-// What a visit of a route came to.
+// The outcome of a visit to a route.
 #[derive(Clone, Copy)]
 struct Visit {
-    // a turn was made
+    // at least one turn was made that applied an item or moved a reply
     is_served: bool,
-    // something is left to do
+    // more may be left to do, so the route is to ask again
     is_left: bool,
 }
 
-// Serves a route until it has nothing to do, or can't go on, or has had its turns.
+// Serves a route until it is idle, blocked by a full outbox, held by the gate or claimed by another call, and for at
+// most `TURNS` turns.
 fn serve_route<R: Wait, C: Serve, G: Gate>(
     rt: &R,
     cell: &C,
@@ -53,7 +54,8 @@ fn serve_route<R: Wait, C: Serve, G: Gate>(
     }
 }
 
-// Goes once round the routes from this one. Whether a turn was made.
+// Goes once round the routes, from the route `first`, and serves each that asks and has no visitor. When it finds the
+// second that asks, it wakes another worker. True if it applied an item or moved a reply.
 fn go_round<R: Wait, C: Serve, G: Gate>(
     rt: &R,
     cells: &[C],
@@ -88,8 +90,8 @@ fn go_round<R: Wait, C: Serve, G: Gate>(
     is_served
 }
 
-/// Serves the routes that ask, from this one on and round again, until the run is over. After a round in which no turn
-/// was made it naps, and after another it rests until somebody rings.
+/// Serves the routes that ask, round after round from the route `first` on, until the run is over. After a round that
+/// found nothing to do it sleeps for at most 500 microseconds, and after each further one until the bell is called.
 pub fn work<R: Wait, C: Serve, G: Gate + Drop>(
     rt: &R,
     cells: &[C],
