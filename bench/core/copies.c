@@ -1,4 +1,4 @@
-/* Counts the copies and fills of about a payload's size that a program asks the C library for, when it is loaded before it. */
+/* Loaded before a program (LD_PRELOAD), counts its copies and fills of 1316 to 2047 bytes by the C library. */
 #define _GNU_SOURCE
 #include <dlfcn.h>
 #include <stddef.h>

@@ -1,8 +1,9 @@
 // A bare relay and a load for it, over UDP on this machine.
 //
-// `relay COUNT` binds a socket, says its port, and sends 16 bytes back to the sender of each datagram until so many came.
-// `load FD PORT COUNT BURST MICROSECONDS` sends datagrams of 44 bytes from a bound socket, so many at a time. It waits for
-// the answers to one burst before it sends the next, if no time between bursts is given.
+// `relay COUNT` binds a socket, prints its port, and sends 16 bytes back to the sender of each datagram, COUNT times.
+// `load FD PORT COUNT BURST MICROSECONDS` sends COUNT datagrams of 44 bytes from the bound socket FD, in bursts of
+// BURST datagrams, one burst each MICROSECONDS. With 0 it waits for the replies to a burst before it sends the next. It
+// prints the number of replies.
 #include <arpa/inet.h>
 #include <stdio.h>
 #include <stdlib.h>
@@ -42,7 +43,8 @@ static long long now(void) {
     return it.tv_sec * 1000000000LL + it.tv_nsec;
 }
 
-// The answers that came, up to so many; it looks for them until this moment, without a rest, so that none wakes it.
+// The number of replies that came, `most` at most. Polls until the moment `end` without sleeping, so that no arrival
+// has to wake it.
 static long answers(int fd, long most, long long end) {
     unsigned char bytes[2048];
     long came = 0;

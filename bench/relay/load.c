@@ -1,20 +1,20 @@
-/* Callers of a relay, and the judge of what they get: one thread sends, one receives.
+/* Callers of a relay, and the measurement of what they get. One thread sends, one receives.
 
    load MODE IN OUT ROUTES SUBSCRIBERS RATE SECONDS LATENCY_MS PID
 
    MODE srt: SRT callers (draft-sharabayko-srt-01): a publisher and SUBSCRIBERS subscribers of each of ROUTES routes, which
    are named r0, r1 and so on. Publishers call port IN, subscribers port OUT of 127.0.0.1.
    MODE raw: the same datagrams without handshakes, for relay.c.
-   MODE plain: UDP payloads to port IN; they are expected at port OUT of this machine, to which nobody calls.
+   MODE plain: UDP payloads to port IN; they are expected at port OUT of this machine, with no calls.
 
-   RATE packets a second in all, of 1316 bytes, each with its number and the moment when it was sent. A publisher answers
-   each ACK by an ACKACK, and sends nothing again. A subscriber acknowledges each 64th packet, and each 10 ms if there was
-   one, as if none were missing, so what is lost stays lost. Both threads rest between their turns and then take what is
-   there; latencies are reckoned from the kernel's stamp of the arrival, without the first and the last tenth of the packets:
-   when nothing more arrives, what is held back comes out at ticks alone.
+   RATE is the number of packets a second over all routes. Each has 1316 bytes, with its number and the moment when it was
+   sent. A publisher replies to each ACK with an ACKACK, and never retransmits. A subscriber acknowledges each 64th packet,
+   and every 10 ms if one came, as if none were missing, so what is lost stays lost. Both threads sleep between their turns
+   and then take all that has arrived. Latencies are computed from the kernel's timestamp of the arrival, and leave out the
+   first and the last tenth of the packets: when nothing more arrives, what is held back comes out at ticks only.
 
-   Prints one line: names and numbers. cpu_ns is the processor time of PID between the first half second and the end of
-   sending, relayed and datagrams what came out and all that went either way between these moments. */
+   Prints one line of names and numbers. cpu_ns is the processor time of PID from half a second after the start to the end
+   of sending; relayed is the number of packets that came out in that time, datagrams that of all datagrams, both ways. */
 #define _GNU_SOURCE
 #include <arpa/inet.h>
 #include <dirent.h>
@@ -33,9 +33,9 @@ enum { PAYLOAD = 1316, BATCH = 64, FIRST_ID = 0x1000, WINDOW = 8192 };
 enum mode { SRT, RAW, PLAIN };
 
 struct sub {
-    uint32_t peer;        /* where its packets go */
-    uint32_t next;        /* one more than the greatest number that came */
-    uint32_t acked;       /* next, when it was last acknowledged */
+    uint32_t peer;        /* the destination socket ID of what it sends */
+    uint32_t next;        /* one more than the greatest sequence number that came */
+    uint32_t acked;       /* the value of `next` in the last ACK */
     uint32_t ack_number;
     int64_t ack_time;
     uint64_t got, doubled;
@@ -45,8 +45,8 @@ struct sub {
 static enum mode mode;
 static int routes, subscribers, latency_ms, rate, pid, in_port, out_port;
 static double seconds;
-static uint64_t packets;          /* of all routes */
-static uint32_t each;             /* of each route */
+static uint64_t packets;          /* the number of packets of all routes */
+static uint32_t each;             /* the number of packets of each route */
 static int pub_socket, sub_socket;
 static int64_t began;
 static uint32_t *pub_peers;
@@ -112,7 +112,7 @@ static size_t control(uint8_t *at, uint32_t kind, uint32_t info, uint32_t to) {
     return 16;
 }
 
-/* Handshakes (section 4.3.1): one induction of a socket gives the cookie for all its sessions. */
+/* Handshakes (section 4.3.1). One induction from a socket gives the cookie for all its sessions. */
 
 static size_t handshake(uint8_t *at, int version, int extension, uint32_t kind, uint32_t id, uint32_t cookie) {
     size_t length = control(at, 0, 0, 0);
@@ -140,7 +140,7 @@ static size_t conclusion(uint8_t *at, uint32_t id, uint32_t cookie, int route, i
     return length + 4 + 4 * words;
 }
 
-/* Waits up to 100 ms for a handshake's answer of this kind; 0 if none came. */
+/* Waits at most 100 ms for the answer to a handshake of this kind. Returns 0 if none came. */
 static int answered(int socket, uint32_t kind, uint8_t *bytes) {
     struct timeval most = {0, 100000};
     setsockopt(socket, SOL_SOCKET, SO_RCVTIMEO, &most, sizeof most);
@@ -202,7 +202,7 @@ static void register_all(int socket) {
     rest(50000000);
 }
 
-/* Takes what is there, a batch at a time. */
+/* Receives all that has arrived, a batch at a time. */
 
 struct batch {
     struct mmsghdr heads[BATCH];
@@ -295,7 +295,7 @@ static void *receive_all(void *unused) {
     return unused;
 }
 
-/* The processor time of a process, in nanoseconds. */
+/* The processor time of all threads of a process, in nanoseconds. */
 static int64_t cpu_of(int process) {
     char name[300];
     int64_t sum = 0;

@@ -1,10 +1,10 @@
-/* A relay in one bare loop, on PORT of 127.0.0.1: one datagram is received, copied once for each who gets it, and sent.
+/* A relay in one bare loop, on PORT of 127.0.0.1: it receives a datagram, and copies and sends it to each subscriber.
 
    relay PORT
 
-   The datagrams have the sizes and the places of SRT's, and as many of them go either way: a data packet of a route is
-   acknowledged when it is the 64th, or 10 ms after the last that was; an ACK is answered by an ACKACK. A control packet of
-   type 7fff registers its sender for the route that its second word names, with the ID in its third word. */
+   The datagrams have SRT's sizes and fields, and each way there are as many as with SRT: a route acknowledges each 64th
+   data packet, and one that comes 10 ms or more after the last ACK; the reply to an ACK is an ACKACK. A control packet of
+   type 7fff registers its sender with the route in its second word, under the ID in its third word. */
 #include <arpa/inet.h>
 #include <stdint.h>
 #include <stdlib.h>

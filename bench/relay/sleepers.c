@@ -1,4 +1,4 @@
-/* Three threads that only sleep, 10 ms at a time. */
+/* Three threads that do nothing but sleep, 10 ms at a time. */
 #include <pthread.h>
 #include <time.h>
 

@@ -1,4 +1,4 @@
-//! Decodes and encodes data packets of 1316 bytes of payload, in plain Rust: what `srt_packet` is measured beside.
+//! Decodes and encodes data packets of 1316 bytes of payload in plain Rust, as a measure for `srt_packet`.
 
 use std::hint::black_box;
 use std::time::Instant;

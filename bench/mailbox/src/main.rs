@@ -1,6 +1,6 @@
-//! The mailbox's structure in plain Rust: a route between two bounded queues of many producers and consumers, behind a
-//! claim word, with replies in boxes that come back and of which the last is used first. The route replies to each item by
-//! writing a whole box, as the gateway's does.
+//! The mailbox's structure in plain Rust: a route behind a claim word, between two bounded queues for many producers
+//! and consumers, with replies in boxes that come back; the one that came back last is used first. The route replies to
+//! each item by writing a whole box, as the gateway's does.
 use std::cell::UnsafeCell;
 use std::mem::MaybeUninit;
 use std::sync::atomic::{AtomicBool, AtomicU64, AtomicUsize, Ordering::SeqCst};
@@ -14,7 +14,7 @@ struct Slot<T> {
     value: UnsafeCell<MaybeUninit<T>>,
 }
 
-/// A bounded queue: each slot has a stamp that says in which lap it may be written or read.
+/// A bounded queue. The stamp of each slot is the lap in which it may be written or read.
 struct Queue<T> {
     head: AtomicUsize,
     tail: AtomicUsize,
@@ -85,7 +85,7 @@ impl<T> Queue<T> {
     }
 }
 
-/// A datagram, as large as the gateway's.
+/// A datagram, of the size that the gateway's has in memory.
 const DATAGRAM: usize = 1472;
 
 struct Reply {
@@ -97,7 +97,7 @@ fn blank() -> Box<Reply> {
     Box::new(Reply { peer: [0; 18], bytes: [0; DATAGRAM] })
 }
 
-/// Empty boxes that come back, and a stock.
+/// Free boxes: the queue of those that come back, and a stack of those collected.
 struct Boxes {
     returned: Arc<Queue<Box<Reply>>>,
     stock: Vec<Box<Reply>>,
@@ -113,7 +113,7 @@ impl Boxes {
     }
 }
 
-/// An item of the inbox, as large as the gateway's.
+/// An item of the inbox, of the size that the gateway's has in memory.
 struct Item {
     polled: bool,
     moment: u64,
@@ -122,7 +122,7 @@ struct Item {
     body: Vec<u8>,
 }
 
-/// What the route stands for here: it replies to an item with a datagram that it has at hand.
+/// A stand-in for the route: it replies to each item with the same datagram.
 struct Route {
     clock: u64,
     datagram: [u8; DATAGRAM],
@@ -209,7 +209,7 @@ impl Running {
     }
 }
 
-/// Two of them share no cache line.
+/// Padded, so that two of them share no cache line.
 #[repr(align(128))]
 struct Cell {
     word: AtomicU64,
@@ -270,7 +270,7 @@ fn shown(name: &str, start: Instant, calls: u64) {
     println!("{name} {} ns", start.elapsed().as_nanos() as u64 * 100 / calls);
 }
 
-/// The same items without the queues: what the route itself costs, and the copy of each body.
+/// The same items without the queues: the cost of the route itself and of the copy of each body.
 fn alone() {
     let mut route = Route::new();
     let mut place = blank();

@@ -1,5 +1,5 @@
-//! A poller's round in plain Rust over the same kind of devices in memory: a datagram is read, classified, copied and put
-//! into a bounded queue; a reply is taken from one, its box goes back by a third, and it is written and sent.
+//! A poller's round in plain Rust, over the same kind of devices in memory: a datagram is read, classified, copied and
+//! put into a bounded queue; a reply is taken from a second queue, encoded and sent, and its box goes back by a third.
 use std::cell::UnsafeCell;
 use std::mem::MaybeUninit;
 use std::sync::atomic::{AtomicUsize, Ordering::SeqCst};
@@ -14,7 +14,7 @@ struct Slot<T> {
     value: UnsafeCell<MaybeUninit<T>>,
 }
 
-/// A bounded queue: each slot has a stamp that says in which lap it may be written or read.
+/// A bounded queue. The stamp of each slot is the lap in which it may be written or read.
 struct Queue<T> {
     head: AtomicUsize,
     tail: AtomicUsize,
@@ -94,7 +94,7 @@ struct Item {
     body: Vec<u8>,
 }
 
-/// As large as the gateway's replies.
+/// A reply, of the size that the gateway's has in memory.
 #[allow(dead_code)]
 enum Body {
     Media { number: u32, message: u32, len: usize, payload: [u8; 1456] },
@@ -184,7 +184,7 @@ fn word(bytes: &[u8], at: usize) -> u32 {
     u32::from_be_bytes(bytes[at..at + 4].try_into().unwrap())
 }
 
-/// The route that a datagram is for; handshakes aren't read here.
+/// The route that a datagram is for, by its destination socket ID. Handshakes aren't read here.
 fn classify(bytes: &[u8], routes: usize) -> Option<usize> {
     if bytes.len() < 16 || bytes.len() > 1472 {
         return None;

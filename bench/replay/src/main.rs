@@ -1,4 +1,4 @@
-//! Answers a tape of inductions, in plain Rust: what `srtgw replay` is measured beside.
+//! Answers a tape of inductions in plain Rust, as a measure for `srtgw replay`.
 
 mod sha256;
 
@@ -28,7 +28,7 @@ fn word(bytes: &[u8], at: usize) -> u32 {
     u32::from_be_bytes(bytes[at..at + 4].try_into().unwrap())
 }
 
-/// The answer to a line that is a right induction; None for all else.
+/// The answer to a line that is a well-formed induction; None for every other line.
 fn answer(secret: &[u8; 32], line: &[u8]) -> Option<[u8; 64]> {
     let mut fields = line.split(|b| *b == b' ');
     if fields.next()? != b"A" {
