@@ -1,7 +1,7 @@
-"""Callers of SRT in the publisher's and the subscriber's role, written from draft-sharabayko-srt-01 alone.
+"""SRT callers in the publisher's and the subscriber's role, written from draft-sharabayko-srt-01 alone.
 
-Each caller is a thread round one UDP socket. It counts packets as whole numbers from its initial number on and writes
-them modulo 2^31. Sections named in comments are the draft's."""
+Each caller is a thread with one UDP socket. It numbers packets from its initial number on without a limit, and writes the
+numbers modulo 2^31. Sections named in comments are the draft's."""
 import random
 import select
 import socket
@@ -16,12 +16,12 @@ SECOND = 1_000_000
 
 
 def now():
-    """Microseconds of the clock that callers share."""
+    """The time in microseconds, by the clock that all callers share."""
     return time.monotonic_ns() // 1000
 
 
 class Refused(Exception):
-    """The handshake was refused with a code."""
+    """The handshake was refused with this code (section 4.3)."""
 
     def __init__(self, code):
         super().__init__(f"refused with {code}")
@@ -33,7 +33,7 @@ class Silent(Exception):
 
 
 class Caller(threading.Thread):
-    """What both roles share: the handshake, the clock of timestamps, KEEPALIVE and the end of a session."""
+    """What both roles share: the handshake, timestamps, KEEPALIVE and the end of a session."""
 
     def __init__(self, address, stream_id=None, mode="live", receiver_ms=120, sender_ms=0, mtu=1500, window=8192,
                  initial=None, version=5, flags=None, asks=True, more=b"", congestion=None):
@@ -77,7 +77,7 @@ class Caller(threading.Thread):
         self.send(wire.control(kind, info, self.stamp(), self.peer_id, body))
 
     def receive(self, seconds):
-        """The next packet within so many seconds, or None."""
+        """The next packet, or None if none comes within `seconds`."""
         if not select.select([self.socket], [], [], max(0, seconds))[0]:
             return None
         try:
@@ -86,7 +86,7 @@ class Caller(threading.Thread):
             return None
 
     def asked(self, body, wanted, until):
-        """Sends a handshake each 250 ms until an answer of the wanted type, or a refusal, has come."""
+        """Sends a handshake every 250 ms until an answer of the wanted type comes. Raises Refused, or Silent after `until`."""
         while now() < until:
             self.send(wire.control(wire.HANDSHAKE, 0, self.stamp(), 0, body))
             again = min(until, now() + SECOND // 4)
@@ -104,14 +104,14 @@ class Caller(threading.Thread):
         raise Silent()
 
     def induce(self, seconds=5):
-        """The induction, which gives the cookie."""
+        """Makes the induction, which gives the cookie."""
         body = wire.handshake(4, 2, self.initial, self.mtu, self.window, wire.INDUCTION, self.socket_id, 0)
         answer = self.asked(body, wire.INDUCTION, now() + int(seconds * SECOND))
         self.cookie = answer.cookie
         return answer
 
     def conclude(self, seconds=5):
-        """The conclusion, which opens the session."""
+        """Makes the conclusion, which opens the session."""
         body = wire.handshake(self.version, self.extension, self.initial, self.mtu, self.window, wire.CONCLUSION,
                               self.socket_id, self.cookie, self.blocks)
         self.answer = self.asked(body, wire.CONCLUSION, now() + int(seconds * SECOND))
@@ -119,13 +119,13 @@ class Caller(threading.Thread):
         return self.answer
 
     def call(self, seconds=5):
-        """Opens the session, and returns the answer; the caller's thread isn't started yet."""
+        """Opens the session, and returns the conclusion's answer. Doesn't start the caller's thread."""
         until = now() + int(seconds * SECOND)
         self.induce(seconds)
         return self.conclude((until - now()) / SECOND)
 
     def delays(self):
-        """The receiver's and the sender's delay in milliseconds as answered (section 4.4)."""
+        """The receiver's and the sender's delay of the answer, in milliseconds (section 4.4)."""
         return struct.unpack("!2H", self.answer.blocks[wire.HSRSP][8:12])
 
     # The session.
@@ -145,7 +145,7 @@ class Caller(threading.Thread):
             self.error = error
 
     def rest(self):
-        """Seconds until there is something to do."""
+        """The seconds until there is something to do."""
         return 0.005
 
     def on_packet(self, packet):
@@ -172,12 +172,12 @@ class Caller(threading.Thread):
             self.send_control(wire.KEEPALIVE)
 
     def sample(self, trip):
-        """A round trip's time goes into both means (section 4.10)."""
+        """Adds the time of a round trip, in microseconds, to both means (section 4.10)."""
         self.variance = (3 * self.variance + abs(self.rtt - trip)) // 4
         self.rtt = (7 * self.rtt + trip) // 8
 
     def stop(self):
-        """Ends the thread without a word to the peer."""
+        """Ends the thread, and sends nothing to the peer. Raises the thread's error, if it had one."""
         self.stops.set()
         if self.ident is not None:
             self.join(10)
@@ -192,7 +192,7 @@ class Caller(threading.Thread):
 
 
 class Publisher(Caller):
-    """Sends the payloads of an iterator, one each `interval` microseconds, or as fast as the flow window lets it."""
+    """Sends the payloads of an iterator, one every `interval` microseconds, or with 0 as fast as the flow window allows."""
 
     def __init__(self, address, stream_id, payloads, interval=10_000, **others):
         super().__init__(address, stream_id, **others)
@@ -242,7 +242,7 @@ class Publisher(Caller):
             self.due = self.due + self.interval if self.interval else now()
 
     def expire(self):
-        """Live packets that are too old are given up, with a drop request (section 3.2.9)."""
+        """Gives up live packets that are too old, and sends a drop request for them (section 3.2.9)."""
         if self.mode != "live":
             return
         oldest = self.stamp() - max(SECOND, 1250 * self.delays()[0])
@@ -255,7 +255,7 @@ class Publisher(Caller):
             self.advance(last + 1)
 
     def advance(self, to):
-        """Packets below `to` are no longer kept."""
+        """Forgets all packets below `to`."""
         for number in range(self.base, min(to, self.next)):
             self.flight.pop(number, None)
             self.lost.discard(number)
@@ -280,11 +280,11 @@ class Publisher(Caller):
                 self.lost.update(number for number in range(first, last + 1) if number in self.flight)
 
     def wait_all(self, seconds):
-        """Waits until each payload was sent and acknowledged, and returns whether that is so."""
+        """Waits until all payloads are sent and acknowledged, for at most `seconds`. Returns whether they are."""
         return self.wait(seconds, lambda: self.exhausted and not self.flight)
 
     def wait_delivered(self, seconds):
-        """Waits until the peer says that its window is free again, and returns whether it did."""
+        """Waits until an ACK shows that the peer's window is free again, for at most `seconds`. Returns whether one did."""
         return self.wait(seconds, lambda: self.exhausted and self.delivered == self.next)
 
     def wait(self, seconds, test):
@@ -295,10 +295,10 @@ class Publisher(Caller):
 
 
 class Subscriber(Caller):
-    """Takes packets in, acknowledges them, asks again for lost ones, and keeps payloads in order.
+    """Receives packets, acknowledges them, sends NAKs for lost ones, and keeps payloads in order.
 
-    `got` has a pair for each payload: the payload, and the moment when its packet came. A payload stands in it as soon
-    as all before it stand there or were dropped by the sender."""
+    `got` has a pair for each payload: the payload, and the moment when its packet came, in microseconds. A payload is
+    added once each one before it was added or dropped by the sender."""
 
     def __init__(self, address, stream_id, **others):
         super().__init__(address, stream_id, **others)
@@ -371,26 +371,26 @@ class Subscriber(Caller):
             self.nak = now()
 
     def wait(self, seconds, count):
-        """Waits until so many payloads are there, and returns whether they are."""
+        """Waits until `count` payloads are in `got`, for at most `seconds`. Returns whether they are."""
         until = now() + int(seconds * SECOND)
         while now() < until and len(self.got) < count and self.is_alive():
             time.sleep(0.005)
         return len(self.got) >= count
 
 
-# Payloads that say which they are and when they were sent.
+# Payloads that have their number and the moment when they were sent.
 
 def payload(index, size=1316):
     return struct.pack("!2Q", index, now()) + bytes([index % 251]) * (size - 16)
 
 
 def stream(count, first=0, size=1316):
-    """Payloads with the numbers from `first` on."""
+    """`count` payloads with the numbers from `first` on. Each is made when it is taken."""
     return (payload(index, size) for index in range(first, first + count))
 
 
 def indexes(got):
-    """The numbers of payloads; ValueError if one isn't a payload as it was sent."""
+    """The numbers of payloads. Raises ValueError if one has other bytes than were sent."""
     found = []
     for body, _ in got:
         index, _ = struct.unpack_from("!2Q", body)
@@ -401,5 +401,5 @@ def indexes(got):
 
 
 def delays_of(got):
-    """How many microseconds each payload took from its publisher to its subscriber."""
+    """The microseconds that each payload took from its publisher to its subscriber."""
     return [came - struct.unpack_from("!2Q", body)[1] for body, came in got]

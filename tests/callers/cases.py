@@ -1,5 +1,5 @@
-"""The cases. Each is a function of the gateway's address, with the routes that it needs to itself; it raises Wrong if
-something isn't as it should be."""
+"""The cases. Each is a function of the gateway's address, and has the routes that it names to itself. It raises Wrong if it
+fails."""
 import random
 import socket
 import struct
@@ -24,7 +24,7 @@ def expect(test, text):
 
 
 def case(name, *routes, needs=()):
-    """Adds a case to the list; `needs` are tools without which it is skipped."""
+    """Adds a case to the list. It is skipped if one of the tools `needs` isn't installed."""
     def adding(play):
         CASES.append((name, routes, needs, play))
         return play
@@ -40,7 +40,7 @@ def publish(name):
 
 
 def refusal(call):
-    """The code with which a call is refused; 0 if it is accepted."""
+    """The code with which a call is refused, or 0 if it is accepted."""
     try:
         call()
     except Refused as refused:
@@ -54,7 +54,7 @@ def expect_refusal(code, caller, what):
 
 
 def expect_run(got, first, count, who="the subscriber"):
-    """The payloads are those from `first` on, each once, in order, none left out."""
+    """Expects the `count` payloads from `first` on, each once and in order."""
     found = indexes(got)
     if found != list(range(first, first + count)):
         missing = sorted(set(range(first, first + count)) - set(found))
@@ -62,7 +62,7 @@ def expect_run(got, first, count, who="the subscriber"):
 
 
 def expect_delays(got, least_ms, slack_ms=100):
-    """No payload came before its time, and half of them at most `slack_ms` after it."""
+    """Expects that no payload came before its time, and at least half of them at most `slack_ms` after it."""
     delays = sorted(delays_of(got))
     expect(delays[0] >= 1000 * least_ms, f"a payload came after {delays[0]} us, before its {least_ms} ms")
     middle = delays[len(delays) // 2]
@@ -70,7 +70,7 @@ def expect_delays(got, least_ms, slack_ms=100):
 
 
 def relay(address, name, count=300, interval=5_000, subscribers=1, towards=None, least_ms=120):
-    """A publisher and subscribers of a route; each subscriber gets each payload once, in order and in time."""
+    """Plays a publisher and subscribers of a route. Each subscriber must get each payload once, in order and in time."""
     publisher = Publisher(address, publish(name), stream(count), interval)
     others = [Subscriber(towards or address, request(name)) for _ in range(subscribers)]
     for one in [publisher, *others]:
@@ -291,7 +291,7 @@ def wrong_cookie(address):
 
 
 def over_a_line(address, name, least_ms, counts, **chances):
-    """A stream whose publisher and subscriber each sit behind a line of their own, which is bad for the middle part."""
+    """Plays a stream whose publisher and subscriber each have a line of their own, which is bad for the middle part."""
     before, during = 200, 1000
     there, back = Proxy(address, 1), Proxy(address, 2)
     publisher = Publisher(there.address, publish(name), stream(before + during + 150), 4_000)
@@ -368,7 +368,7 @@ def pieces(contents, size=1456):
 
 
 def hand_over(address, name, contents, towards=None, seconds=20):
-    """A file goes through a route in buffer mode, and comes out byte for byte."""
+    """Sends a file through a route in buffer mode. It must come out byte for byte."""
     publisher = Publisher(towards or address, publish(name), pieces(contents), 0, mode="buffer", congestion=b"file")
     subscriber = Subscriber(towards or address, request(name), mode="buffer", congestion=b"file")
     for one in (subscriber, publisher):
@@ -491,7 +491,7 @@ def many_routes(_):
 
 
 def settle(outlets, inlet, first=0):
-    """Feeds a tool until something has come out at each outlet; returns the number of the next payload."""
+    """Feeds a tool until something has come out at each outlet. Returns the number of the next payload."""
     for index in range(first, first + 2000):
         inlet.feed([payload(index)], 0.005)
         if all(it.got for it in outlets):
@@ -500,13 +500,13 @@ def settle(outlets, inlet, first=0):
 
 
 def expect_stream(outlet, end, who="the tool"):
-    """What came out is an unbroken run of payloads that ends with the last."""
+    """Expects an unbroken run of payloads at the outlet, the last with the number `end` - 1."""
     found = indexes(list(outlet.got))
     expect(found and found == list(range(found[0], end)), f"{who} got {len(found)} payloads, {found[:1]} to {found[-1:]}, with gaps or others")
 
 
 def tools_relay(source, sinks, least_ms, count=400, calm=None):
-    """srt-live-transmit publishes at `source`, and others play at each of `sinks`."""
+    """Plays an srt-live-transmit that publishes to `source`, and one that subscribes at each of `sinks`."""
     inlet, outlets = tools.Inlet(), [tools.Outlet() for _ in sinks]
     ran = [tools.transmit(inlet.address, source)]
     ran += [tools.transmit(sink, outlet.address) for sink, outlet in zip(sinks, outlets)]
@@ -639,7 +639,7 @@ def transmit_file(address):
 
 
 def continuous(contents):
-    """How many packets a transport stream has, and how often its continuity counters break (ISO 13818-1, 2.4.3)."""
+    """The number of packets of a transport stream, and of breaks in its continuity counters (ISO 13818-1, 2.4.3)."""
     counters, breaks, packets = {}, 0, 0
     for at in range(0, len(contents) - 187, 188):
         if contents[at] != 0x47:

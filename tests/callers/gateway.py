@@ -16,12 +16,12 @@ SECRET = bytes(range(32)).hex()
 
 
 def live(name, latency_ms=120, buffer=1024, sessions=5, inbox=256, outbox=256):
-    """A live route's table."""
+    """The configuration's table of a live route."""
     return route(name, "live", latency_ms, buffer, sessions, inbox, outbox)
 
 
 def files(name, buffer=1024, sessions=5, inbox=256, outbox=256):
-    """The table of a route in buffer mode."""
+    """The configuration's table of a route in buffer mode."""
     return route(name, "buffer", 120, buffer, sessions, inbox, outbox)
 
 
@@ -36,8 +36,8 @@ def configuration(routes, port, workers=2):
 
 
 def room_for(threads):
-    """What a process does before the program runs, so that beside the program itself its address space holds the stacks of
-    so many threads and no more."""
+    """A function for a process to call before it runs the program: it limits the address space, so that besides the program
+    it has room for the stacks of this many threads and no more."""
     def limit():
         resource.setrlimit(resource.RLIMIT_STACK, (STACK, STACK))
         resource.setrlimit(resource.RLIMIT_AS, (STACK // 2 + threads * STACK,) * 2)
@@ -45,7 +45,7 @@ def room_for(threads):
 
 
 class Gateway:
-    """A gateway that serves routes for a number of rounds; if `threads` is given, with room for so many more threads."""
+    """A gateway that serves routes for a number of rounds. If `threads` is given, it has room for that many more threads."""
 
     def __init__(self, routes, rounds=1_000_000_000, workers=2, port=None, threads=None):
         self.address = ("127.0.0.1", free_port() if port is None else port)
@@ -59,7 +59,7 @@ class Gateway:
         self.process = subprocess.Popen(words, **pipes)
 
     def is_up(self, seconds=10):
-        """Waits until an induction is answered, and returns whether one was."""
+        """Waits until an induction gets an answer, for at most `seconds`. Returns whether one did."""
         until = time.monotonic() + seconds
         while time.monotonic() < until and self.process.poll() is None:
             try:
@@ -73,7 +73,8 @@ class Gateway:
         return self.process.poll() is None
 
     def ended(self, seconds):
-        """Waits for the end: the status, standard output and standard error; None if it doesn't come in time."""
+        """Waits for the process's end. Returns its status, standard output and standard error, or None if it goes on for more
+        than `seconds`; then it is killed."""
         try:
             output, errors = self.process.communicate(timeout=seconds)
             return self.process.returncode, output, errors
@@ -91,7 +92,7 @@ class Gateway:
 
 
 def report(line):
-    """The counts of a report's line; None if it has another form."""
+    """The counts of a report's line, or None if it isn't of that form."""
     words = line.split(" ")
     if words[::2] != NAMES or len(words) != 2 * len(NAMES) or not all(it.isdigit() for it in words[1::2]):
         return None

@@ -8,8 +8,8 @@ import time
 
 
 class Proxy(threading.Thread):
-    """Hands each datagram on, in both directions. `loss`, `double` and `late` are chances from 0 to 1 and may be set
-    while it runs; a late datagram is held for up to `hold` seconds, so that others overtake it."""
+    """Forwards datagrams in both directions. `loss`, `double` and `late` are probabilities from 0 to 1, and may be set while
+    it runs. A late datagram is held for at most `hold` seconds, so that others overtake it."""
 
     def __init__(self, target, seed, loss=0.0, double=0.0, late=0.0, hold=0.02):
         super().__init__(daemon=True)
@@ -24,7 +24,7 @@ class Proxy(threading.Thread):
         self.start()
 
     def back(self, peer):
-        """The socket that stands for a caller towards the gateway."""
+        """The socket that forwards a caller's datagrams to the gateway."""
         if peer not in self.backs:
             back = socket.socket(socket.AF_INET, socket.SOCK_DGRAM)
             back.connect(self.target)

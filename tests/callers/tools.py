@@ -1,4 +1,4 @@
-"""Real callers: srt-live-transmit and ffmpeg, where they are installed."""
+"""Real callers: srt-live-transmit and ffmpeg, if they are installed."""
 import shutil
 import socket
 import subprocess
@@ -20,7 +20,7 @@ def free_port():
 
 
 class Tool:
-    """A process whose standard output is kept, and whose standard error is kept as text."""
+    """A process whose standard output and standard error are kept."""
 
     def __init__(self, words, fed=False):
         self.process = subprocess.Popen(words, stdin=subprocess.PIPE if fed else subprocess.DEVNULL, stdout=subprocess.PIPE, stderr=subprocess.PIPE)
@@ -40,7 +40,7 @@ class Tool:
             kept.extend(piece)
 
     def feed(self, contents):
-        """Writes to the standard input; it stays open."""
+        """Writes to the standard input, and leaves it open."""
         self.process.stdin.write(contents)
         self.process.stdin.flush()
 
@@ -48,21 +48,21 @@ class Tool:
         return self.text.decode(errors="replace")
 
     def wait_output(self, length, seconds):
-        """Waits until so many bytes came out, and returns whether they did."""
+        """Waits until `length` bytes came out, for at most `seconds`. Returns whether they did."""
         until = time.monotonic() + seconds
         while time.monotonic() < until and len(self.output) < length and self.process.poll() is None:
             time.sleep(0.01)
         return len(self.output) >= length
 
     def wait_errors(self, text, seconds):
-        """Waits until standard error has a text, and returns whether it came."""
+        """Waits until standard error contains a text, for at most `seconds`. Returns whether it does."""
         until = time.monotonic() + seconds
         while time.monotonic() < until and text not in self.errors():
             time.sleep(0.01)
         return text in self.errors()
 
     def ended(self, seconds):
-        """Waits for the process's own end, and returns whether it came in time."""
+        """Waits until the process ends by itself, for at most `seconds`. Returns whether it did."""
         try:
             self.process.wait(seconds)
             return True
@@ -70,7 +70,7 @@ class Tool:
             return False
 
     def end(self, seconds=5):
-        """Ends the process if it hasn't ended, and returns its status."""
+        """Ends the process if it still runs, and returns its status."""
         if self.process.stdin is not None:
             try:
                 self.process.stdin.close()
@@ -95,7 +95,7 @@ class Tool:
 
 
 class Inlet:
-    """A UDP port from which a tool takes its payloads, one a datagram."""
+    """A UDP socket that sends payloads to a tool, one in each datagram."""
 
     def __init__(self):
         self.port = free_port()
@@ -103,7 +103,7 @@ class Inlet:
         self.socket = socket.socket(socket.AF_INET, socket.SOCK_DGRAM)
 
     def feed(self, payloads, interval):
-        """Sends payloads, one each `interval` seconds."""
+        """Sends payloads, one every `interval` seconds."""
         due = time.monotonic()
         for one in payloads:
             self.socket.sendto(one, ("127.0.0.1", self.port))
@@ -112,7 +112,7 @@ class Inlet:
 
 
 class Outlet(threading.Thread):
-    """A UDP port to which a tool hands its payloads; `got` has each with the moment when it came, in microseconds."""
+    """A UDP socket to which a tool sends its payloads. `got` has each with the moment when it came, in microseconds."""
 
     def __init__(self):
         super().__init__(daemon=True)
@@ -128,7 +128,7 @@ class Outlet(threading.Thread):
             self.got.append((self.socket.recv(2048), time.monotonic_ns() // 1000))
 
     def wait(self, seconds, count):
-        """Waits until so many payloads came, and returns whether they did."""
+        """Waits until `count` payloads came, for at most `seconds`. Returns whether they did."""
         until = time.monotonic() + seconds
         while time.monotonic() < until and len(self.got) < count:
             time.sleep(0.005)
@@ -136,11 +136,11 @@ class Outlet(threading.Thread):
 
 
 def transmit(source, sink, fed=False):
-    """srt-live-transmit from one address to another."""
+    """An srt-live-transmit that forwards from one address to another."""
     return Tool([SRT, "-chunk:1316", source, sink], fed)
 
 
 def srt(address, **options):
-    """The address of the gateway as srt-live-transmit and ffmpeg have it."""
+    """The gateway's address in the form that srt-live-transmit and ffmpeg take."""
     host, port = address
     return f"srt://{host}:{port}?" + "&".join(f"{key}={value}" for key, value in options.items())

@@ -17,7 +17,7 @@ Handshake = namedtuple("Handshake", "version encryption extension initial mtu wi
 
 
 def data(number, message, stamp, destination, payload, again=False):
-    """A data packet that is a message of its own (PP 11), unencrypted, with R set if it is sent again."""
+    """A data packet with a whole message (PP 11), unencrypted, with the flag R if it is retransmitted."""
     word = 0xC0000000 | (0x04000000 if again else 0) | message
     return struct.pack("!4I", number, word, stamp, destination) + payload
 
@@ -37,17 +37,17 @@ def read(datagram):
 
 
 def words_of(body):
-    """The whole words of a body."""
+    """The 32-bit words of a body. One to three bytes after the last whole word are ignored."""
     return struct.unpack_from(f"!{len(body) // 4}I", body)
 
 
 def block(kind, contents):
-    """An extension block, whose contents are whole words."""
+    """An extension block. The length of its contents must be a multiple of four bytes."""
     return struct.pack("!2H", kind, len(contents) // 4) + contents
 
 
 def text_words(text):
-    """A text as Stream IDs are stored: padded with zeros, each group of four bytes reversed (section 3.2.1.3)."""
+    """A text in the form of Stream IDs: padded with zeros, each group of four bytes reversed (section 3.2.1.3)."""
     padded = text + bytes(-len(text) % 4)
     return b"".join(padded[at:at + 4][::-1] for at in range(0, len(padded), 4))
 
@@ -62,7 +62,7 @@ def handshake(version, extension, initial, mtu, window, kind, socket_id, cookie,
 
 
 def read_handshake(body):
-    """The handshake of a body, its blocks as a dictionary from types to contents; None if it is too short."""
+    """The handshake of a body, or None if it is too short. Its blocks are a dictionary from types to contents."""
     if len(body) < 48:
         return None
     fields = struct.unpack_from("!IHH6I", body)
@@ -75,7 +75,7 @@ def read_handshake(body):
 
 
 def loss_list(runs):
-    """The loss list that names runs of numbers, each a pair of its first and last."""
+    """The loss list of runs of numbers, each a pair of its first and its last number (appendix A)."""
     body = b""
     for first, last in runs:
         body += struct.pack("!I", first) if first == last else struct.pack("!2I", 0x80000000 | first, last)
@@ -83,7 +83,7 @@ def loss_list(runs):
 
 
 def runs_of(body):
-    """The runs that a loss list names."""
+    """The runs of a loss list, each a pair of its first and its last number."""
     runs, first = [], None
     for word in words_of(body):
         if first is not None:
@@ -97,5 +97,5 @@ def runs_of(body):
 
 
 def near(word, expected, size=NUMBERS):
-    """The whole number that is `word` modulo `size` and lies nearest to the expected one."""
+    """The number congruent to `word` modulo `size` that is nearest to `expected`."""
     return expected + (word - expected + size // 2) % size - size // 2
