@@ -7,10 +7,12 @@ use Rattle.srt_seq.specs.Items.{Item as ToldItem, told}
 use Rattle.srt_mailbox.specs.declared.inbox_rule.Marked.{Marked}
 use Rattle.srt_mailbox.specs.declared.inbox_rule.InboxView.{InboxView}
 
+-- the item in front of the others, if the poller offered it
 abbrev pub keep : Bool → Item → List Item → List Item
 keep true i is = i ∷ is
 keep false i is = is
 
+-- the item in front of the others, if the clock offered it
 abbrev pub skip : Bool → Item → List Item → List Item
 skip true i is = is
 skip false i is = i ∷ is
@@ -36,9 +38,11 @@ applied taken = told_before [] taken
 abbrev pub view_of : (polls ticks takes : Bool) → (polled ticked : List Item) → (taken : List Marked) → InboxView
 view_of p q r ps qs ts = record { polls = p; ticks = q; takes = r; polled = ps; ticked = qs; taken = ts }
 
+-- the first pass: all rights, and nothing done yet
 abbrev pub fresh : InboxView
 fresh = view_of true true true [] [] []
 
+-- a pass without rights
 abbrev pub nobody : InboxView
 nobody = view_of false false false [] [] []
 

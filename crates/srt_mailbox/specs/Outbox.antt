@@ -13,9 +13,11 @@ replies_in boxes = map (λ b. b.value) boxes
 abbrev pub view_of : (puts drains : Bool) → (put drained : List (Box Reply)) → OutboxView
 view_of a b put drained = record { puts = a; drains = b; put = put; drained = drained }
 
+-- the first pass: both rights, and nothing done yet
 abbrev pub fresh : OutboxView
 fresh = view_of true true [] []
 
+-- a pass without rights
 abbrev pub nobody : OutboxView
 nobody = view_of false false [] []
 

@@ -61,6 +61,7 @@ pub struct RouteCell {
 }
 
 impl RouteCell {
+    /// A cell that holds this route, with a free claim word. `index` is what gates are asked about.
     pub(crate) fn new(index: usize, boxed: Boxed, label: &Label) -> RouteCell
         requires { Bears label.now boxed.running.value }
         ensures { name_in result ≡ label.now }

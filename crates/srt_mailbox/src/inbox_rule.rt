@@ -25,7 +25,7 @@ pub struct InboxView {
     pub polls: bool,
     /// It may offer as the clock.
     pub ticks: bool,
-    /// It may take.
+    /// It may take items.
     pub takes: bool,
     /// The items that it offered as the poller.
     pub polled: LinkedList<Item>,

@@ -8,9 +8,9 @@ use std::collections::LinkedList;
 
 /// The rights of a pass of the outbox, and what was done by them, the oldest first. No value of it is ever made.
 pub struct OutboxView {
-    /// It may put.
+    /// It may put replies.
     pub puts: bool,
-    /// It may drain.
+    /// It may drain replies.
     pub drains: bool,
     /// The replies that it put.
     pub put: LinkedList<Box<Reply>>,

@@ -20,8 +20,11 @@ use std::sync::Wait;
 /// A route's own ends of its two queues, and its empty boxes.
 #[derive(Drop)]
 pub(crate) struct Ends {
+    /// The end of the inbox.
     pub taker: Taker,
+    /// The end of the outbox.
     pub putter: Putter,
+    /// The free boxes for replies.
     pub boxes: Boxes,
 }
 
@@ -188,8 +191,12 @@ impl Running {
 /// What is left of a route that has ended.
 #[derive(Drop)]
 pub(crate) struct Parts {
+    /// The end of the inbox.
     pub taker: Taker,
+    /// The end of the outbox.
     pub putter: Putter,
+    /// The number of items taken, saturated at 2^64 - 1.
     pub taken: u64,
+    /// The number of replies that wait.
     pub waiting: usize,
 }

@@ -45,6 +45,7 @@ pub record Kept : Type 0 where
 abbrev pub kept : ℕ → Datagram → Kept
 kept route reply = record { route = route; reply = reply }
 
+-- the reply that is kept after it was sent with this outcome
 abbrev pub kept_if : Sent → Kept → Option Kept
 kept_if Taken k = None
 kept_if Later k = Some k

@@ -49,5 +49,6 @@ pub record PumpedBy (class : Sorting) (rounds : ℕ) (before : Before) (after : 
   pub reads : ready_in events ≤ reads_in events
   pub few : length events ≤ rounds * (258 + 64 * length before.ends)
 
+-- some events happened, and this is what they did
 abbrev pub Pumped : Sorting → (rounds : ℕ) → Before → After → Type 0
 Pumped class rounds before after = (events : List Event) × PumpedBy class rounds before after events

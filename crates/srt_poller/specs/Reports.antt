@@ -40,6 +40,7 @@ with_refused n = record n { read = one_more n.read; memory = one_more n.memory }
 abbrev pub with_dropped : Report → Report
 with_dropped n = record n { read = one_more n.read; dropped = one_more n.dropped }
 
+-- the counts after an event
 abbrev pub counted_by : Report → Event → Report
 counted_by n Waits = n
 counted_by n WaitFails = with_fault n

@@ -17,6 +17,7 @@ pub(crate) struct Pace {
 }
 
 impl Pace {
+    /// The first wait is long.
     pub(crate) fn new() -> Pace
         ensures more { result.more ≡ false }
         ensures warm { result.warm ≡ 0 }

@@ -20,8 +20,11 @@ use std::sync::Wait;
 /// A reply for which a send returned Later. Its bytes are in the poller's `text`, `len` of them.
 #[derive(Clone, Copy)]
 pub(crate) struct KeptReply {
+    /// The index of the route that it is from.
     pub(crate) route: usize,
+    /// The receiver.
     pub(crate) peer: Peer,
+    /// The number of its bytes, 1472 at most.
     pub(crate) len: usize,
     ghost within: { len ≤ 1472 },
 }
@@ -40,11 +43,13 @@ enum Drained {
 /// A poller between the calls of its devices: its buffers, the reply that is kept, and the counts.
 #[derive(Drop)]
 pub(crate) struct Poller {
+    // the last datagram that was read
     datagram: [u8; 2048],
+    // the last reply that was encoded, which is the kept one if there is one
     text: [u8; 1472],
     kept: Option<KeptReply>,
     report: Report,
-    // Some outbox was left before it was found empty, so the next round looks at all of them.
+    // some outbox was left before it was found empty, so the next round looks at all of them
     left: bool,
 }
 
@@ -56,6 +61,7 @@ impl Poller {
     ghost use Rattle.srt_poller.specs.Rounds.{Went};
     ghost use Rattle.srt_poller.specs.Pollers.{sorting, came, kept_in, world_of};
 
+    /// A poller with no reply kept and all counts 0. Takes no memory.
     pub(crate) fn new() -> Poller
         ensures kept { result.kept ≡ None }
         ensures report { result.report ≡ nothing }
