@@ -40,6 +40,16 @@ enum Drained {
     Kept,
 }
 
+/// The first route from this one on to take replies from: with `all` this one, else the first one with a hint.
+fn next_route<G: Signals>(signals: &G, all: bool, route: usize) -> usize
+    ensures { route ≤ result }
+{
+    if all {
+        return route;
+    }
+    signals.next_from(route).max(route)
+}
+
 /// A poller between the calls of its devices: its buffers, the reply that is kept, and the counts.
 #[derive(Drop)]
 pub(crate) struct Poller {
@@ -335,10 +345,16 @@ impl Poller {
         }
         let all = all | self.left;
         self.left = false;
-        for route in 0..ends.len() {
-            if !self.visit(rt, wire, ends, route, signals, all) {
+        let mut route = 0;
+        while route < ends.len() {
+            let at = next_route(signals, all, route);
+            if at >= ends.len() {
                 return;
             }
+            if !self.visit(rt, wire, ends, at, signals, all) {
+                return;
+            }
+            route = at + 1;
         }
     }
 

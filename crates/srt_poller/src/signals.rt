@@ -12,6 +12,10 @@ pub trait Signals {
     /// Whether the outbox of the route with this index may have a reply. It may clear the hint, since the poller then
     /// drains the outbox, and remembers if it left before that was empty.
     fn may_have(&self, route: usize) -> bool;
+
+    /// The least index from this one on for which `may_have` may return true; any number past the last route if there is
+    /// none.
+    fn next_from(&self, route: usize) -> usize;
 }
 
 /// No hints: every outbox may have a reply, so each round looks at all of them.
@@ -25,5 +29,9 @@ impl Signals for Unsignalled {
 
     fn may_have(&self, _route: usize) -> bool {
         true
+    }
+
+    fn next_from(&self, route: usize) -> usize {
+        route
     }
 }

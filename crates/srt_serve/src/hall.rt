@@ -179,4 +179,8 @@ impl Signals for Hall {
         }
         is_told
     }
+
+    fn next_from(&self, route: usize) -> usize {
+        self.told.next_from(route)
+    }
 }

@@ -52,6 +52,17 @@ impl Marks {
         }
     }
 
+    /// The first mark from this one on that is set; the number of routes if there is none. Linear in the routes that it
+    /// passes over.
+    pub fn next_from(&self, route: usize) -> usize {
+        for at in route..self.marks.len() {
+            if self.is_set(at) {
+                return at;
+            }
+        }
+        self.marks.len()
+    }
+
     /// Whether any mark is set. Linear in the number of routes.
     pub fn any(&self) -> bool {
         for mark in &self.marks {

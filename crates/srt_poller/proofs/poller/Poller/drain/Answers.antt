@@ -8,15 +8,18 @@ returns-then-is_some g c class gave = went_more {m = 0} (omega arith) (omega ari
 pub loop-route-init : goal.loop-route-init
 loop-route-init g c =
     let none : c.args.self.now.kept ≡ None = none_is _ (sym c.if-is_some.ensures) in
-    (none, λ class gave. went_none _ _ _)
+    (none, omega arith, λ class gave. went_none _ _ _)
+
+pub returns-then-at-ends : goal.returns-then-at-ends
+returns-then-at-ends g c class gave = went_more (omega (arith, c.loop-route.invariant.1, c.loop-route.auto.ends)) (omega arith) (c.loop-route.invariant.2 class gave)
 
 pub returns-then-not-visit : goal.returns-then-not-visit
-returns-then-not-visit g c class gave = went_more (omega arith) (omega (arith, c.loop-route-test.true)) (went_then (c.loop-route.invariant.1 class gave) (c.visit.ensures.went class gave))
+returns-then-not-visit g c class gave = went_more (omega (arith, c.next_route-at.ensures, c.if-at-ends.false, c.loop-route.auto.ends)) (omega arith) (went_then (c.loop-route.invariant.2 class gave) (c.visit.ensures.went class gave))
 
 pub loop-route-preserved : goal.loop-route-preserved
 loop-route-preserved g c =
     let none : c.visit.new.self.kept ≡ None = search c.visit.ensures.none in
-    (none, λ class gave. went_more (omega arith) (omega arith) (went_then (c.loop-route.invariant.1 class gave) (c.visit.ensures.went class gave)))
+    (none, omega (arith, c.if-at-ends.false, c.visit.auto.ends), λ class gave. went_more (omega (arith, c.next_route-at.ensures)) (omega arith) (went_then (c.loop-route.invariant.2 class gave) (c.visit.ensures.went class gave)))
 
 pub returns : goal.returns
-returns g c class gave = went_more (omega arith) (omega (arith, c.loop-route-test.false)) (c.loop-route.invariant.1 class gave)
+returns g c class gave = went_more (omega (arith, c.loop-route.invariant.1, c.loop-route.auto.ends)) (omega arith) (c.loop-route.invariant.2 class gave)
