@@ -154,6 +154,30 @@ def publisher_comes_back(address):
     expect_run(subscriber.got, 0, 300)
 
 
+@case("a backup encoder takes over", live("backup"))
+def backup_takes_over(address):
+    """The subscriber gets the main encoder's payloads, 0 to 99, and then those that the backup sends from its end on."""
+    subscriber = Subscriber(address, request("backup"))
+    main = Publisher(address, publish("backup"), stream(100), 5_000)
+    backup = Publisher(address, publish("backup"), stream(400, 1000), 5_000)
+    for one in (subscriber, main, backup):
+        one.call()
+    expect_refusal(1002, Publisher(address, publish("backup"), stream(1), 5_000), "a third publisher")
+    for one in (subscriber, main, backup):
+        one.start()
+    expect(main.wait_delivered(5), "the main encoder's window didn't become free")
+    main.close()
+    expect(backup.wait_delivered(10), "the backup's window didn't become free")
+    backup.close()
+    time.sleep(0.2)
+    subscriber.close()
+    found = indexes(subscriber.got)
+    expect(found[:100] == list(range(100)), f"of the main encoder's payloads {len([index for index in found if index < 1000])} came")
+    rest = found[100:]
+    expect(len(rest) >= 100 and rest == list(range(1400 - len(rest), 1400)), f"of the backup's payloads came {len(rest)}, {rest[:1]} to {rest[-1:]}")
+    expect_delays(subscriber.got, 120)
+
+
 @case("a publisher's last payloads at its SHUTDOWN are given up", live("tail", latency_ms=1000))
 def tail(address):
     subscriber = Subscriber(address, request("tail"))
@@ -170,19 +194,21 @@ def tail(address):
 
 @case("a session nobody hears of for five seconds ends", live("idle"))
 def idle_session(address):
-    silent = Publisher(address, publish("idle"), stream(10), 5_000)
-    silent.call()
-    silent.start()
-    silent.wait_all(2)
-    silent.stop()
-    began = silent.sent
+    silent = [Publisher(address, publish("idle"), stream(10), 5_000) for _ in range(2)]
+    for one in silent:
+        one.call()
+        one.start()
+    for one in silent:
+        one.wait_all(2)
+        one.stop()
+    first, last = min(one.sent for one in silent), max(one.sent for one in silent)
     later = Publisher(address, publish("idle"), stream(50), 5_000)
     later.induce()
-    while now() - began < 4_500_000:
-        expect(refusal(lambda: later.conclude(1)) == 1002, "a second publisher was accepted beside an open one")
+    while now() - first < 4_500_000:
+        expect(refusal(lambda: later.conclude(1)) == 1002, "a third publisher was accepted beside two open ones")
         time.sleep(0.5)
-    time.sleep(max(0, (began + 5_500_000 - now()) / 1e6))
-    expect(refusal(lambda: later.conclude(2)) == 0, "the session was still open after five seconds and a half")
+    time.sleep(max(0, (last + 5_500_000 - now()) / 1e6))
+    expect(refusal(lambda: later.conclude(2)) == 0, "the sessions were still open after five seconds and a half")
     later.close()
 
 
@@ -261,14 +287,14 @@ def refusals(address):
     expect_refusal(1015, Caller(address, "codes", more=wire.block(wire.GROUP, bytes(8))), "a group")
     expect_refusal(1012, Caller(address, "codes", mode="buffer"), "buffer mode on a live route")
     expect_refusal(1012, Caller(address, "codes.files", mode="live"), "live mode on a route in buffer mode")
-    first = Publisher(address, publish("codes"), [])
-    first.call()
-    expect_refusal(1002, Publisher(address, publish("codes"), []), "a second publisher")
-    others = [Subscriber(address, request("codes")) for _ in range(2)]
-    for one in others:
+    open_callers = [Publisher(address, publish("codes"), []) for _ in range(2)]
+    for one in open_callers:
         one.call()
+    expect_refusal(1002, Publisher(address, publish("codes"), []), "a third publisher")
+    open_callers.append(Subscriber(address, request("codes")))
+    open_callers[-1].call()
     expect_refusal(1003, Subscriber(address, request("codes")), "a fourth session of three")
-    for one in [first, *others]:
+    for one in open_callers:
         one.close()
 
 
@@ -607,9 +633,9 @@ REASONS = [
 ]
 
 
-@case("srt-live-transmit reports each refusal", live("slt.codes", sessions=2), needs=[tools.SRT])
+@case("srt-live-transmit reports each refusal", live("slt.codes", sessions=3), needs=[tools.SRT])
 def transmit_refusals(address):
-    held = [Publisher(address, publish("slt.codes"), []), Subscriber(address, "slt.codes")]
+    held = [*(Publisher(address, publish("slt.codes"), []) for _ in range(2)), Subscriber(address, "slt.codes")]
     for one in held:
         one.call()
         one.start()

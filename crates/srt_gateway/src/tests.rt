@@ -34,6 +34,9 @@ inbox = 16
 outbox = 16
 ";
 
+/// The line of a datagram that isn't a packet.
+const DROPPED: &str = "A 0 00000000000000000000ffff7f000001 5000 \n";
+
 /// The configuration of a text.
 fn config_of(rt: &(impl AllocGlobal + Abort), text: &str) -> Result<Config, Fail> {
     match read_config(rt.alloc(), text) {
@@ -61,17 +64,16 @@ fn assert_replayed(
     }
 }
 
-/// Asserts that a line isn't an event. The line before it is a datagram that is dropped because it isn't a packet.
-fn assert_no_event(rt: &(impl AllocGlobal + Abort), line: &str) -> Result<(), Fail> {
-    let mut tape = Vec::new(rt.alloc());
-    tape.extend_from_slice(b"A 0 00000000000000000000ffff7f000001 5000 \n")?;
-    tape.extend_from_slice(line.as_bytes())?;
-    tape.extend_from_slice(b"\nA 0 00000000000000000000ffff7f000001 5000 \n")?;
-    assert_replayed(
-        rt,
-        tape.as_slice(),
-        "dropped 1\n",
-        Err(ReplayFault::Tape(2)),
-    );
+/// Asserts that none of these lines is an event. Each comes after a datagram that is dropped because it isn't a packet.
+fn assert_no_events(rt: &(impl AllocGlobal + Abort), lines: &[&str]) -> Result<(), Fail> {
+    for line in lines {
+        let tape = format!(in rt.alloc(); "{DROPPED}{line}\n{DROPPED}")?;
+        assert_replayed(
+            rt,
+            tape.as_bytes(),
+            "dropped 1\n",
+            Err(ReplayFault::Tape(2)),
+        );
+    }
     Ok(())
 }

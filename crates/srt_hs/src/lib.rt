@@ -8,8 +8,8 @@
 //! [`BlocksRef`] (types in `handshake.rt`), or the first [`HsFault`]. Then [`stream_id`] and [`congestion`], in
 //! `contents.rt`, copy the contents of two blocks.
 //!
-//! Writing: fill an [`HsAnswer`] with an [`AnswerKind`] and [`write`] it, all in `writing.rt`. [`RefusalCode`] lists
-//! each reason for a refusal with its causes.
+//! Writing: fill an [`HsAnswer`] with an [`AnswerKind`] and [`write`] it, all in `writing.rt`. [`RefusalCode`], in
+//! `refusals.rt`, lists each reason for a refusal with its causes.
 //!
 //! `specs/Grammar.antt` defines which bytes are which handshake, and the faults; `specs/Text.antt` what is written.
 #![tactic(auto)]
@@ -18,6 +18,7 @@ mod contents;
 mod handshake;
 pub mod laws;
 mod reading;
+mod refusals;
 mod writing;
 
 pub use contents::{congestion, stream_id};
@@ -25,7 +26,8 @@ pub use handshake::{
     BlocksRef, CongestionRef, CongestionText, HsFault, HsKind, HsRef, HsReq, StreamIdRef,
 };
 pub use reading::read;
-pub use writing::{AnswerKind, HsAnswer, RefusalCode, write};
+pub use refusals::RefusalCode;
+pub use writing::{AnswerKind, HsAnswer, write};
 
 #[cfg(test)]
 mod tests;

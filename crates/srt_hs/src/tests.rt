@@ -258,74 +258,67 @@ fn the_first_fault_counts(rt: HostRuntime) -> Result<(), Fail> {
     Ok(())
 }
 
-fn text_of(answer: &HsAnswer, alloc: Global) -> Result<Vec<u8>, Fail> {
+fn written(alloc: Global, initial: u32, what: AnswerKind) -> Result<Vec<u8>, Fail> {
     let mut out = [0xff; 84];
-    let len = write(answer, &mut out);
+    let len = write(&HsAnswer { initial, what }, &mut out);
     let mut bytes = Vec::new(alloc);
     bytes.extend_from_slice(&out[..len])?;
     Ok(bytes)
 }
 
+/// The answer to a conclusion that asks for buffer mode with this CONGESTION block.
+fn buffer_answer(congestion: CongestionText) -> AnswerKind {
+    AnswerKind::Conclusion {
+        mtu: 1500,
+        window: 32,
+        id: 0x0020_0000,
+        mode: Mode::Buffer,
+        recv_ms: 0,
+        send_ms: 0,
+        congestion: Some(congestion),
+    }
+}
+
+/// Its bytes before that block.
+const BUFFER_ANSWER: &str =
+    "00000005 00000005 00000005 000005dc 00000020 ffffffff 00200000 00000000 00000000 00000000 00000000 00000000 00020003 00010500 00000074 00000000";
+
 #[test]
 fn answers_are_written(rt: HostRuntime) -> Result<(), Fail> {
-    let answer = HsAnswer {
-        initial: 5,
-        what: AnswerKind::Induction(0x89ab_cdef),
-    };
     let wanted =
         "00000005 00004a17 00000005 000005dc 00002000 00000001 00000001 89abcdef 00000000 00000000 00000000 00000000";
     assert_eq!(rt;
-        text_of(&answer, rt.alloc())?,
+        written(rt.alloc(), 5, AnswerKind::Induction(0x89ab_cdef))?,
         bytes_of(rt.alloc(), &[wanted])?
     );
-    let answer = HsAnswer {
-        initial: 9,
-        what: AnswerKind::Refusal(RefusalCode::Peer),
-    };
     let wanted =
         "00000005 00000000 00000009 000005dc 00002000 000003ea 00000001 00000000 00000000 00000000 00000000 00000000";
     assert_eq!(rt;
-        text_of(&answer, rt.alloc())?,
+        written(rt.alloc(), 9, AnswerKind::Refusal(RefusalCode::Peer))?,
         bytes_of(rt.alloc(), &[wanted])?
     );
-    let answer = HsAnswer {
-        initial: 5,
-        what: AnswerKind::Conclusion {
-            mtu: 1500,
-            window: 1024,
-            id: 0x0010_0000,
-            mode: Mode::Live,
-            recv_ms: 200,
-            send_ms: 120,
-            congestion: None,
-        },
+    let live = AnswerKind::Conclusion {
+        mtu: 1500,
+        window: 1024,
+        id: 0x0010_0000,
+        mode: Mode::Live,
+        recv_ms: 200,
+        send_ms: 120,
+        congestion: None,
     };
     let wanted =
         "00000005 00000001 00000005 000005dc 00000400 ffffffff 00100000 00000000 00000000 00000000 00000000 00000000 00020003 00010500 0000003f 00c80078";
     assert_eq!(rt;
-        text_of(&answer, rt.alloc())?,
+        written(rt.alloc(), 5, live)?,
         bytes_of(rt.alloc(), &[wanted])?
     );
-    let answer = HsAnswer {
-        initial: 5,
-        what: AnswerKind::Conclusion {
-            mtu: 1500,
-            window: 32,
-            id: 0x0020_0000,
-            mode: Mode::Buffer,
-            recv_ms: 0,
-            send_ms: 0,
-            congestion: Some(CongestionText {
-                first: 0x656c_6966,
-                others: ArrayVec::new(),
-            }),
-        },
+    let one_word = CongestionText {
+        first: 0x656c_6966,
+        others: ArrayVec::new(),
     };
-    let wanted =
-        "00000005 00000005 00000005 000005dc 00000020 ffffffff 00200000 00000000 00000000 00000000 00000000 00000000 00020003 00010500 00000074 00000000 00060001 656c6966";
     assert_eq!(rt;
-        text_of(&answer, rt.alloc())?,
-        bytes_of(rt.alloc(), &[wanted])?
+        written(rt.alloc(), 5, buffer_answer(one_word))?,
+        bytes_of(rt.alloc(), &[BUFFER_ANSWER, "00060001 656c6966"])?
     );
     Ok(())
 }
@@ -342,23 +335,9 @@ fn four_words_of_congestion(rt: HostRuntime) -> Result<(), Fail> {
         text.others.as_slice(),
         [0x3837_3635, 0x6362_6139, 0x6665_6463].as_slice()
     );
-    let answer = HsAnswer {
-        initial: 5,
-        what: AnswerKind::Conclusion {
-            mtu: 1500,
-            window: 32,
-            id: 0x0020_0000,
-            mode: Mode::Buffer,
-            recv_ms: 0,
-            send_ms: 0,
-            congestion: Some(text),
-        },
-    };
-    let wanted =
-        "00000005 00000005 00000005 000005dc 00000020 ffffffff 00200000 00000000 00000000 00000000 00000000 00000000 00020003 00010500 00000074 00000000";
     assert_eq!(rt;
-        text_of(&answer, rt.alloc())?,
-        bytes_of(rt.alloc(), &[wanted, block])?
+        written(rt.alloc(), 5, buffer_answer(text))?,
+        bytes_of(rt.alloc(), &[BUFFER_ANSWER, block])?
     );
     Ok(())
 }

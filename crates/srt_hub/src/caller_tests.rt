@@ -1,54 +1,87 @@
 //! The gateway with its lobby and its routes, from bytes to bytes. The cookies were computed by Python's hashlib.
 //! Refused memory is shown by `rt try --test --fail-alloc N`: each test then ends in its own error, or as it should.
 
-ghost use Rattle.std.specs.Prelude.{◌^◌, ◌<◌};
-
-use crate::{Arrived, Cause, Hub, SrtGateway};
+use crate::tests::{assert_floods, assert_sends, assert_sends_nothing, assert_turns};
+use crate::{Arrived, Cause, Hub, SrtGateway, Ticked};
 use srt_cookie::Secret;
 use srt_seq::{Entry, Mode, OpenFault, Peer, Turned};
 use std::alloc::Global;
 use std::process::Abort;
 use std::test::Fail;
 
-/// A conclusion with caller ID 1 and initial number 5, up to its cookie.
-const CONCLUSION: &str =
-    "80000000 00000000 00000000 00000000 00000005 00000005 00000005 000005dc 00002000 ffffffff 00000001";
+/// A caller: its port, the time of its conclusion in microseconds, its conclusion up to the cookie, its cookie of minute
+/// 0, and the answer up to the session's ID.
+#[derive(Clone, Copy)]
+struct Caller {
+    port: u16,
+    micros: u32,
+    conclusion: &'static str,
+    cookie: &'static str,
+    answer: &'static str,
+}
 
-/// One with caller ID 2 and initial number 9.
-const OTHER_CONCLUSION: &str =
-    "80000000 00000000 00000000 00000000 00000005 00000005 00000009 000005dc 00002000 ffffffff 00000002";
+/// The caller with ID 1 and initial number 5.
+const FIRST: Caller = Caller {
+    port: 5000,
+    micros: 1_000_000,
+    conclusion: "80000000 00000000 00000000 00000000 00000005 00000005 00000005 000005dc 00002000 ffffffff 00000001",
+    cookie: "ecc958a6",
+    answer: "80000000 00000000 00000000 00000001 00000005 00000001 00000005 000005dc 00000400 ffffffff",
+};
+
+/// The caller with ID 2 and initial number 9.
+const SECOND: Caller = Caller {
+    port: 5001,
+    micros: 1_010_000,
+    conclusion: "80000000 00000000 00000000 00000000 00000005 00000005 00000009 000005dc 00002000 ffffffff 00000002",
+    cookie: "6e4680bd",
+    answer: "80000000 00000000 00000000 00000002 00000005 00000001 00000009 000005dc 00000400 ffffffff",
+};
+
+/// The caller with ID 3 and initial number 20.
+const THIRD: Caller = Caller {
+    port: 5002,
+    micros: 1_020_000,
+    conclusion: "80000000 00000000 00000000 00000000 00000005 00000005 00000014 000005dc 00002000 ffffffff 00000003",
+    cookie: "3b93c3d7",
+    answer: "80000000 00000000 00000000 00000003 00000005 00000001 00000014 000005dc 00000400 ffffffff",
+};
+
+/// The first caller's cookie of minute 3.
+const COOKIE_3: &str = "c3ac78a5";
 
 /// Address and HSREQ.
 const REST: &str = "00000000 00000000 00000000 00000000 00010003 00010500 000000bf 00780078";
 
-/// `studio`
+/// The Stream ID `studio`.
 const STUDIO: &str = "00050002 64757473 00006f69";
 
-/// `#!::r=studio,m=publish`
+/// The Stream ID `#!::r=studio,m=publish`.
 const PUBLISH_STUDIO: &str = "00050006 3a3a2123 74733d72 6f696475 703d6d2c 696c6275 00006873";
 
-/// The answer to a conclusion, up to the session's ID, and after it.
-const ANSWER: &str =
-    "80000000 00000000 00000000 00000001 00000005 00000001 00000005 000005dc 00000400 ffffffff";
-
+/// An answer after the session's ID.
 const ANSWER_REST: &str =
     "00000000 00000000 00000000 00000000 00000000 00020003 00010500 0000003f 00780078";
 
-/// The answer of 1002 to the other caller.
+/// The answer of 1002 to the third caller.
 const REFUSED: &str =
-    "80000000 00000000 00000000 00000002 00000005 00000000 00000009 000005dc 00002000 000003ea 00000001 00000000 00000000 00000000 00000000 00000000";
+    "80000000 00000000 00000000 00000003 00000005 00000000 00000014 000005dc 00002000 000003ea 00000001 00000000 00000000 00000000 00000000 00000000";
+
+/// Packet 9 of the second caller's session `00100001`, with timestamp 1000.
+const DATA: &str = "00000009 e0000001 000003e8 00100001 6869";
+
+/// A Full ACK to the second caller: its number and timestamp stand between the first part and the second, the available
+/// buffer size between the second and the third.
+const ACK: [&str; 3] = [
+    "80020000",
+    "00000002 0000000a 000186a0 0000c350",
+    "00000000 00000000 00000000",
+];
 
 const SHUTDOWN: &str = "80050000 00000000 00000000 00100000";
 
 /// A data packet of one byte for a session of the second route.
 const FLOOD: &str = "00000000 e0000001 00000000 00200000 00";
-
-/// Cookies of port 5000 by the minute, and of port 5001.
-const COOKIE_0: &str = "ecc958a6";
-
-const COOKIE_3: &str = "c3ac78a5";
-
-const OTHER_COOKIE_0: &str = "6e4680bd";
 
 fn near(port: u16) -> Peer {
     Peer {
@@ -57,7 +90,7 @@ fn near(port: u16) -> Peer {
     }
 }
 
-fn bytes_of(alloc: Global, parts: &[&str]) -> Result<Vec<u8>, Fail> {
+fn bytes_of(alloc: Global, parts: &[&'static str]) -> Result<Vec<u8>, Fail> {
     let mut bytes = Vec::new(alloc);
     for part in parts {
         for word in part.split(' ') {
@@ -100,174 +133,199 @@ fn opened(alloc: Global) -> Result<SrtGateway, Fail> {
     }
 }
 
-/// Asserts the result of these words as a datagram from this port.
+/// A datagram: the port that it comes from, the time in microseconds, and the words of its bytes.
+#[derive(Clone, Copy)]
+struct Words<'a> {
+    port: u16,
+    micros: u32,
+    parts: &'a [&'static str],
+}
+
+/// Asserts the result of a datagram.
 fn assert_arrives(
     rt: &(impl AllocGlobal + Abort),
     gateway: &mut SrtGateway,
-    port: u16,
-    moment: u64,
-    parts: &[&str],
+    datagram: &Words<'_>,
     becomes: Arrived,
-) -> Result<(), Fail>
-    requires { moment < 2 ^ 62 }
-{
-    let bytes = bytes_of(rt.alloc(), parts)?;
+) -> Result<(), Fail> {
+    let bytes = bytes_of(rt.alloc(), datagram.parts)?;
+    let moment = u64::from(datagram.micros);
     assert_eq!(rt;
-        gateway.arrive(rt.alloc(), near(port), &bytes, moment),
+        gateway.arrive(rt.alloc(), near(datagram.port), &bytes, moment),
         Ok(becomes)
     );
     Ok(())
 }
 
 /// Asserts that the first route applies its only item and sends these words alone.
-fn assert_sends(
+fn assert_answers(
     rt: &(impl AllocGlobal + Abort),
     gateway: &mut SrtGateway,
     port: u16,
-    parts: &[&str],
+    parts: &[&'static str],
 ) -> Result<(), Fail> {
     let wanted = bytes_of(rt.alloc(), parts)?;
-    let mut out = [0; 1472];
-    assert_eq!(rt; gateway.routes(), 2);
-    assert_eq!(rt; gateway.turn(0), Turned::Applied);
-    assert_eq!(rt; gateway.turn(0), Turned::Moved);
-    assert_eq!(rt; gateway.turn(0), Turned::Idle);
-    let Some((to, len)) = gateway.send(0, &mut out) else {
-        return Err(Fail::from("nothing to send"));
-    };
-    assert!(rt; to == near(port));
-    assert_eq!(rt; &out[..len], wanted.as_slice());
-    assert!(rt; gateway.send(0, &mut out).is_none());
+    assert_turns(
+        rt,
+        gateway,
+        0,
+        &[Turned::Applied, Turned::Moved, Turned::Idle],
+    );
+    assert_sends(rt, gateway, 0, near(port), &wanted);
+    assert_sends_nothing(rt, gateway, 0);
     Ok(())
 }
 
-/// A session opens, is ended, and opens again in the next generation.
+/// Asserts that a caller's conclusion with this Stream ID is answered with these words alone.
+fn assert_concludes(
+    rt: &(impl AllocGlobal + Abort),
+    gateway: &mut SrtGateway,
+    caller: &Caller,
+    stream_id: &'static str,
+    answer: &[&'static str],
+) -> Result<(), Fail> {
+    let conclusion = Words {
+        port: caller.port,
+        micros: caller.micros,
+        parts: &[caller.conclusion, caller.cookie, REST, stream_id],
+    };
+    assert_arrives(rt, gateway, &conclusion, Arrived::Accepted(0))?;
+    assert_answers(rt, gateway, caller.port, answer)
+}
+
+/// The answer to this caller with this session ID.
+fn opening(caller: &Caller, session: &'static str) -> [&'static str; 3] {
+    [caller.answer, session, ANSWER_REST]
+}
+
+/// A session opens, its answer is repeated, it is ended, and it opens again in the next generation.
 #[test]
 fn a_caller_comes_and_comes_again(rt: HostRuntime) -> Result<(), Fail> {
     let mut gateway = opened(rt.alloc())?;
-    let conclusion = [CONCLUSION, COOKIE_0, REST, STUDIO];
-    assert_arrives(
-        &rt,
-        &mut gateway,
-        5000,
-        1_000_000,
-        &conclusion,
-        Arrived::Accepted(0),
-    )?;
-    assert_sends(&rt, &mut gateway, 5000, &[ANSWER, "00100000", ANSWER_REST])?;
-    assert_arrives(
-        &rt,
-        &mut gateway,
-        5000,
-        1_000_000,
-        &conclusion,
-        Arrived::Accepted(0),
-    )?;
-    assert_sends(&rt, &mut gateway, 5000, &[ANSWER, "00100000", ANSWER_REST])?;
-    assert_arrives(
-        &rt,
-        &mut gateway,
-        5000,
-        1_000_000,
-        &[SHUTDOWN],
-        Arrived::Accepted(0),
-    )?;
+    let shutdown = Words {
+        port: FIRST.port,
+        micros: 1_000_000,
+        parts: &[SHUTDOWN],
+    };
     assert_eq!(rt; gateway.routes(), 2);
-    assert_eq!(rt; gateway.turn(0), Turned::Applied);
-    assert_eq!(rt; gateway.turn(0), Turned::Idle);
-    assert_arrives(
-        &rt,
-        &mut gateway,
-        5000,
-        1_000_000,
-        &conclusion,
-        Arrived::Accepted(0),
-    )?;
-    assert_sends(&rt, &mut gateway, 5000, &[ANSWER, "00100100", ANSWER_REST])
+    for _ in 0..2 {
+        assert_concludes(&rt, &mut gateway, &FIRST, STUDIO, &opening(&FIRST, "00100000"))?;
+    }
+    assert_arrives(&rt, &mut gateway, &shutdown, Arrived::Accepted(0))?;
+    assert_turns(&rt, &mut gateway, 0, &[Turned::Applied, Turned::Idle]);
+    assert_concludes(&rt, &mut gateway, &FIRST, STUDIO, &opening(&FIRST, "00100100"))
 }
 
-/// A second publisher is refused.
+/// The first and the second caller publish.
+fn two_publish(rt: &(impl AllocGlobal + Abort), gateway: &mut SrtGateway) -> Result<(), Fail> {
+    let first = opening(&FIRST, "00100000");
+    assert_concludes(rt, gateway, &FIRST, PUBLISH_STUDIO, &first)?;
+    let second = opening(&SECOND, "00100001");
+    assert_concludes(rt, gateway, &SECOND, PUBLISH_STUDIO, &second)
+}
+
+/// A second publisher stands by, and a third one is refused.
 #[test]
-fn one_publisher_to_a_route(rt: HostRuntime) -> Result<(), Fail> {
+fn a_third_publisher_is_refused(rt: HostRuntime) -> Result<(), Fail> {
     let mut gateway = opened(rt.alloc())?;
-    let first = [CONCLUSION, COOKIE_0, REST, PUBLISH_STUDIO];
-    assert_arrives(
-        &rt,
-        &mut gateway,
-        5000,
-        1_000_000,
-        &first,
-        Arrived::Accepted(0),
-    )?;
-    assert_sends(&rt, &mut gateway, 5000, &[ANSWER, "00100000", ANSWER_REST])?;
-    let second = [OTHER_CONCLUSION, OTHER_COOKIE_0, REST, PUBLISH_STUDIO];
-    assert_arrives(
-        &rt,
-        &mut gateway,
-        5001,
-        1_000_000,
-        &second,
-        Arrived::Accepted(0),
-    )?;
-    assert_sends(&rt, &mut gateway, 5001, &[REFUSED])
+    two_publish(&rt, &mut gateway)?;
+    assert_concludes(&rt, &mut gateway, &THIRD, PUBLISH_STUDIO, &[REFUSED])
+}
+
+/// The first and the second caller publish and the third subscribes; the second, who stands by, sends a packet that is
+/// due at 1131000.
+fn stands_by(rt: &(impl AllocGlobal + Abort), gateway: &mut SrtGateway) -> Result<(), Fail> {
+    two_publish(rt, gateway)?;
+    let third = opening(&THIRD, "00100002");
+    assert_concludes(rt, gateway, &THIRD, STUDIO, &third)?;
+    let data = Words {
+        port: SECOND.port,
+        micros: 1_021_000,
+        parts: &[DATA],
+    };
+    assert_arrives(rt, gateway, &data, Arrived::Accepted(0))?;
+    let ack = [ACK[0], "00000001 00002af8", ACK[1], "000003ff", ACK[2]];
+    assert_answers(rt, gateway, SECOND.port, &ack)
+}
+
+/// The first caller ends its session at this time in microseconds.
+fn shuts_down(
+    rt: &(impl AllocGlobal + Abort),
+    gateway: &mut SrtGateway,
+    micros: u32,
+) -> Result<(), Fail> {
+    let shutdown = Words {
+        port: FIRST.port,
+        micros,
+        parts: &[SHUTDOWN],
+    };
+    assert_arrives(rt, gateway, &shutdown, Arrived::Accepted(0))
+}
+
+/// The first route is ticked at this time in microseconds.
+fn ticks(rt: &impl Abort, gateway: &mut SrtGateway, micros: u32) {
+    assert!(rt; gateway.routes() > 0);
+    assert_eq!(rt; gateway.tick(0, u64::from(micros)), Ticked::Accepted);
+}
+
+/// If the active publisher ends before the packet is due, the subscriber gets it at its time.
+#[test]
+fn a_standby_takes_over(rt: HostRuntime) -> Result<(), Fail> {
+    let mut gateway = opened(rt.alloc())?;
+    stands_by(&rt, &mut gateway)?;
+    shuts_down(&rt, &mut gateway, 1_130_500)?;
+    let ack = [ACK[0], "00000002 0001d6b4", ACK[1], "000003ff", ACK[2]];
+    assert_answers(&rt, &mut gateway, SECOND.port, &ack)?;
+    ticks(&rt, &mut gateway, 1_131_000);
+    let data = ["00000014 e0000001 0001b198 00000003 6869"];
+    assert_answers(&rt, &mut gateway, THIRD.port, &data)
+}
+
+/// If the active publisher ends after the packet was due, nobody gets it.
+#[test]
+fn a_standby_delivers_to_nobody(rt: HostRuntime) -> Result<(), Fail> {
+    let mut gateway = opened(rt.alloc())?;
+    stands_by(&rt, &mut gateway)?;
+    ticks(&rt, &mut gateway, 1_131_000);
+    let ack = [ACK[0], "00000002 0001d8a8", ACK[1], "00000400", ACK[2]];
+    assert_answers(&rt, &mut gateway, SECOND.port, &ack)?;
+    shuts_down(&rt, &mut gateway, 1_141_000)?;
+    let again = [ACK[0], "00000003 0001ffb8", ACK[1], "00000400", ACK[2]];
+    assert_answers(&rt, &mut gateway, SECOND.port, &again)
 }
 
 /// A flood of the second route between two events of the first changes nothing of the first.
 #[test]
 fn a_flood_changes_no_other_route(rt: HostRuntime) -> Result<(), Fail> {
     let mut gateway = opened(rt.alloc())?;
-    let conclusion = [CONCLUSION, COOKIE_0, REST, STUDIO];
-    assert_arrives(
-        &rt,
-        &mut gateway,
-        5000,
-        1_000_000,
-        &conclusion,
-        Arrived::Accepted(0),
-    )?;
+    let conclusion = Words {
+        port: FIRST.port,
+        micros: 1_000_000,
+        parts: &[FIRST.conclusion, FIRST.cookie, REST, STUDIO],
+    };
+    assert_arrives(&rt, &mut gateway, &conclusion, Arrived::Accepted(0))?;
     let flood = bytes_of(rt.alloc(), &[FLOOD])?;
-    let mut accepted = 0u32;
-    let mut full = 0u32;
-    for _ in 0..1000 {
-        match gateway.arrive(rt.alloc(), near(5001), &flood, 1_000_000) {
-            Ok(Arrived::Accepted(1)) => accepted = accepted.wrapping_add(1),
-            Ok(Arrived::Full(1)) => full = full.wrapping_add(1),
-            _ => return Err(Fail::from("another answer")),
-        }
-    }
-    assert_eq!(rt; (accepted, full), (16, 984));
-    assert_sends(&rt, &mut gateway, 5000, &[ANSWER, "00100000", ANSWER_REST])
+    assert_floods(&rt, &mut gateway, near(SECOND.port), 1, &flood)?;
+    assert_answers(&rt, &mut gateway, FIRST.port, &opening(&FIRST, "00100000"))
 }
 
-/// A cookie is valid in its minute and in the next.
+/// A cookie is valid in its minute and in the next, from the port that it was made for.
 #[test]
 fn a_cookie_ends(rt: HostRuntime) -> Result<(), Fail> {
     let mut gateway = opened(rt.alloc())?;
-    let conclusion = [CONCLUSION, COOKIE_3, REST, STUDIO];
-    assert_arrives(
-        &rt,
-        &mut gateway,
-        5000,
-        240_000_000,
-        &conclusion,
-        Arrived::Accepted(0),
-    )?;
-    assert_arrives(
-        &rt,
-        &mut gateway,
-        5000,
-        300_000_000,
-        &conclusion,
-        Arrived::Dropped(Cause::WrongCookie),
-    )?;
-    assert_arrives(
-        &rt,
-        &mut gateway,
-        5001,
-        240_000_000,
-        &conclusion,
-        Arrived::Dropped(Cause::WrongCookie),
-    )
+    for (port, micros, becomes) in [
+        (5000, 240_000_000, Arrived::Accepted(0)),
+        (5000, 300_000_000, Arrived::Dropped(Cause::WrongCookie)),
+        (5001, 240_000_000, Arrived::Dropped(Cause::WrongCookie)),
+    ] {
+        let conclusion = Words {
+            port,
+            micros,
+            parts: &[FIRST.conclusion, COOKIE_3, REST, STUDIO],
+        };
+        assert_arrives(&rt, &mut gateway, &conclusion, becomes)?;
+    }
+    Ok(())
 }
 
 /// Entries with a fault open no gateway.
@@ -304,10 +362,7 @@ fn every_length_arrives(rt: HostRuntime) -> Result<(), Fail> {
             gateway.arrive(rt.alloc(), near(5000), &bytes[..len], 1_000_000),
             Ok(Arrived::Accepted(0))
         );
-        if gateway.routes() == 0 {
-            return Err(Fail::from("no route"));
-        }
-        assert_eq!(rt; gateway.turn(0), Turned::Applied);
+        assert_turns(&rt, &mut gateway, 0, &[Turned::Applied]);
     }
     Ok(())
 }

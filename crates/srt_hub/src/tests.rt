@@ -12,6 +12,7 @@ use srt_lobby::Names;
 use srt_packet::{Body, Packet};
 use srt_seq::{Entry, Item, Mode, OpenFault, Peer, Turned};
 use std::alloc::Global;
+use std::process::Abort;
 use std::test::Fail;
 
 /// Sorts by the first byte.
@@ -138,37 +139,109 @@ const FIRST: [u8; 16] = [0x80, 1, 0, 0, 0, 0, 0, 0, 0, 0, 0, 1, 0, 0, 0, 5];
 
 const SECOND: [u8; 16] = [0x80, 1, 0, 0, 0, 0, 0, 0, 0, 0, 0, 2, 0, 0, 0, 5];
 
+/// The results of turns of a route with one item: it is applied, its two replies are moved, and nothing is left.
+const TWO_MOVED_AND_IDLE: [Turned; 4] = [
+    Turned::Applied,
+    Turned::Moved,
+    Turned::Moved,
+    Turned::Idle,
+];
+
+/// Asserts the results of turns of a route, one after the other.
+pub(crate) fn assert_turns<R: RouteStep, L: Lobby>(
+    rt: &impl Abort,
+    hub: &mut Hub<R, L>,
+    route: usize,
+    turns: &[Turned],
+) {
+    for turned in turns {
+        assert!(rt; route < hub.routes());
+        assert_eq!(rt; hub.turn(route), *turned);
+    }
+}
+
+/// Asserts the receiver and the bytes of the next datagram that a route sends.
+pub(crate) fn assert_sends<R: RouteStep, L: Lobby>(
+    rt: &impl Abort,
+    hub: &mut Hub<R, L>,
+    route: usize,
+    to: Peer,
+    bytes: &[u8],
+) {
+    let mut out = [0; 1472];
+    assert!(rt; route < hub.routes());
+    match hub.send(route, &mut out) {
+        Some((peer, len)) => {
+            assert!(rt; peer == to);
+            assert_eq!(rt; &out[..len], bytes);
+        }
+        None => assert!(rt; false, "nothing is sent"),
+    }
+}
+
+/// Asserts that a route has nothing to send.
+pub(crate) fn assert_sends_nothing<R: RouteStep, L: Lobby>(
+    rt: &impl Abort,
+    hub: &mut Hub<R, L>,
+    route: usize,
+) {
+    let mut out = [0; 1472];
+    assert!(rt; route < hub.routes());
+    assert!(rt; hub.send(route, &mut out).is_none());
+}
+
+/// Asserts that of 1000 copies of this datagram at this time in seconds, the inbox of route 1 accepts 16.
+pub(crate) fn assert_floods<R: RouteStep, L: Lobby>(
+    rt: &(impl AllocGlobal + Abort),
+    hub: &mut Hub<R, L>,
+    peer: Peer,
+    seconds: u32,
+    bytes: &[u8],
+) -> Result<(), Fail> {
+    let moment = u64::from(seconds) * 1_000_000;
+    let mut accepted = 0u32;
+    let mut full = 0u32;
+    for _ in 0..1000 {
+        match hub.arrive(rt.alloc(), peer, bytes, moment) {
+            Ok(Arrived::Accepted(1)) => accepted = accepted.wrapping_add(1),
+            Ok(Arrived::Full(1)) => full = full.wrapping_add(1),
+            _ => return Err(Fail::from("another answer")),
+        }
+    }
+    assert_eq!(rt; (accepted, full), (16, 984));
+    Ok(())
+}
+
+/// Asserts the result of a datagram from the caller.
+fn assert_arrives(
+    rt: &(impl AllocGlobal + Abort),
+    hub: &mut Hub<Twice, FirstByte>,
+    bytes: &[u8],
+    becomes: Arrived,
+) {
+    assert_eq!(rt; hub.arrive(rt.alloc(), CALLER, bytes, 1), Ok(becomes));
+}
+
+/// Asserts the result of a tick of a route.
+fn assert_ticks(rt: &impl Abort, hub: &mut Hub<Twice, FirstByte>, route: usize, becomes: Ticked) {
+    assert!(rt; route < hub.routes());
+    assert_eq!(rt; hub.tick(route, 2), becomes);
+}
+
 #[test]
 fn arrivals_and_ticks_become_datagrams(rt: HostRuntime) -> Result<(), Fail> {
-    let alloc = rt.alloc();
-    let mut hub = two_routes(alloc)?;
-    let mut out = [0; 1472];
+    let mut hub = two_routes(rt.alloc())?;
     assert_eq!(rt; hub.routes(), 2);
-    assert_eq!(rt;
-        hub.arrive(alloc, CALLER, &[0; 15], 1),
-        Ok(Arrived::Dropped(Cause::Packet))
-    );
-    assert_eq!(rt;
-        hub.arrive(alloc, CALLER, &[9; 16], 1),
-        Ok(Arrived::Answer([9; 64]))
-    );
-    assert_eq!(rt;
-        hub.arrive(alloc, CALLER, &[0; 17], 1),
-        Ok(Arrived::Accepted(0))
-    );
-    assert_eq!(rt; hub.tick(1, 2), Ticked::Accepted);
-    for r in 0..2 {
-        assert!(rt; r < hub.routes());
-        assert_eq!(rt; hub.send(r, &mut out), None);
-        assert_eq!(rt; hub.turn(r), Turned::Applied);
-        assert_eq!(rt; hub.turn(r), Turned::Moved);
-        assert_eq!(rt; hub.turn(r), Turned::Moved);
-        assert_eq!(rt; hub.turn(r), Turned::Idle);
-        assert_eq!(rt; hub.send(r, &mut out), Some((CALLER, 16)));
-        assert_eq!(rt; &out[..16], FIRST.as_slice());
-        assert_eq!(rt; hub.send(r, &mut out), Some((CALLER, 16)));
-        assert_eq!(rt; &out[..16], SECOND.as_slice());
-        assert_eq!(rt; hub.send(r, &mut out), None);
+    assert_arrives(&rt, &mut hub, &[0; 15], Arrived::Dropped(Cause::Packet));
+    assert_arrives(&rt, &mut hub, &[9; 16], Arrived::Answer([9; 64]));
+    assert_arrives(&rt, &mut hub, &[0; 17], Arrived::Accepted(0));
+    assert_ticks(&rt, &mut hub, 1, Ticked::Accepted);
+    for route in 0..2 {
+        assert_sends_nothing(&rt, &mut hub, route);
+        assert_turns(&rt, &mut hub, route, &TWO_MOVED_AND_IDLE);
+        assert_sends(&rt, &mut hub, route, CALLER, &FIRST);
+        assert_sends(&rt, &mut hub, route, CALLER, &SECOND);
+        assert_sends_nothing(&rt, &mut hub, route);
     }
     Ok(())
 }
@@ -176,79 +249,53 @@ fn arrivals_and_ticks_become_datagrams(rt: HostRuntime) -> Result<(), Fail> {
 /// A flood of one route fills that route's inbox, and the other route goes on as it does without the flood.
 #[test]
 fn a_flood_stays_in_its_own_inbox(rt: HostRuntime) -> Result<(), Fail> {
-    let alloc = rt.alloc();
-    let mut hub = two_routes(alloc)?;
-    let mut out = [0; 1472];
-    let mut accepted = 0u32;
-    let mut full = 0u32;
+    let mut hub = two_routes(rt.alloc())?;
     let mut flood = [0; 17];
     flood[0] = 1;
-    assert_eq!(rt;
-        hub.arrive(alloc, CALLER, &[0; 17], 1),
-        Ok(Arrived::Accepted(0))
-    );
-    for _ in 0..1000 {
-        match hub.arrive(alloc, CALLER, &flood, 1) {
-            Ok(Arrived::Accepted(1)) => accepted = accepted.wrapping_add(1),
-            Ok(Arrived::Full(1)) => full = full.wrapping_add(1),
-            _ => return Err(Fail::from("another answer")),
-        }
-    }
-    assert_eq!(rt; (accepted, full), (16, 984));
+    assert_arrives(&rt, &mut hub, &[0; 17], Arrived::Accepted(0));
+    assert_floods(&rt, &mut hub, CALLER, 0, &flood)?;
     assert_eq!(rt; hub.routes(), 2);
-    assert_eq!(rt; hub.tick(1, 2), Ticked::Full);
-    assert_eq!(rt; hub.turn(0), Turned::Applied);
-    assert_eq!(rt; hub.turn(0), Turned::Moved);
-    assert_eq!(rt; hub.send(0, &mut out), Some((CALLER, 16)));
-    assert_eq!(rt; &out[..16], FIRST.as_slice());
+    assert_ticks(&rt, &mut hub, 1, Ticked::Full);
+    assert_turns(&rt, &mut hub, 0, &[Turned::Applied, Turned::Moved]);
+    assert_sends(&rt, &mut hub, 0, CALLER, &FIRST);
     Ok(())
 }
 
 /// If the outbox is full, turns are blocked, and nothing is dropped.
 #[test]
 fn a_full_outbox_blocks(rt: HostRuntime) -> Result<(), Fail> {
-    let alloc = rt.alloc();
-    let mut hub = two_routes(alloc)?;
-    let mut out = [0; 1472];
+    let mut hub = two_routes(rt.alloc())?;
     for _ in 0..8 {
-        assert_eq!(rt; hub.routes(), 2);
-        assert_eq!(rt; hub.tick(0, 1), Ticked::Accepted);
-        assert_eq!(rt; hub.turn(0), Turned::Applied);
-        assert_eq!(rt; hub.turn(0), Turned::Moved);
-        assert_eq!(rt; hub.turn(0), Turned::Moved);
+        assert_ticks(&rt, &mut hub, 0, Ticked::Accepted);
+        assert_turns(&rt, &mut hub, 0, &TWO_MOVED_AND_IDLE[..3]);
     }
     assert_eq!(rt; hub.routes(), 2);
-    assert_eq!(rt; hub.turn(0), Turned::Idle);
-    assert_eq!(rt; hub.tick(0, 1), Ticked::Accepted);
-    assert_eq!(rt; hub.turn(0), Turned::Applied);
-    assert_eq!(rt; hub.turn(0), Turned::Blocked);
-    assert_eq!(rt; hub.turn(0), Turned::Blocked);
-    assert_eq!(rt; hub.send(0, &mut out), Some((CALLER, 16)));
-    assert_eq!(rt; hub.turn(0), Turned::Moved);
-    assert_eq!(rt; hub.turn(0), Turned::Blocked);
+    assert_turns(&rt, &mut hub, 0, &[Turned::Idle]);
+    assert_ticks(&rt, &mut hub, 0, Ticked::Accepted);
+    assert_turns(
+        &rt,
+        &mut hub,
+        0,
+        &[Turned::Applied, Turned::Blocked, Turned::Blocked],
+    );
+    assert_sends(&rt, &mut hub, 0, CALLER, &FIRST);
+    assert_turns(&rt, &mut hub, 0, &[Turned::Moved, Turned::Blocked]);
     Ok(())
 }
 
 /// The boxes of an outbox are used again: more replies are sent than there are boxes, in order.
 #[test]
-fn boxes_go_round(rt: HostRuntime) -> Result<(), Fail> {
-    let alloc = rt.alloc();
-    let mut hub = two_routes(alloc)?;
-    let mut out = [0; 1472];
+fn boxes_are_used_again(rt: HostRuntime) -> Result<(), Fail> {
+    let mut hub = two_routes(rt.alloc())?;
     assert_eq!(rt; hub.routes(), 2);
-    assert_eq!(rt; hub.tick(0, 1), Ticked::Accepted);
-    assert_eq!(rt; hub.turn(0), Turned::Applied);
-    assert_eq!(rt; hub.turn(0), Turned::Moved);
+    assert_ticks(&rt, &mut hub, 0, Ticked::Accepted);
+    assert_turns(&rt, &mut hub, 0, &[Turned::Applied, Turned::Moved]);
     for _ in 0..20 {
-        assert_eq!(rt; hub.routes(), 2);
-        assert_eq!(rt; hub.turn(0), Turned::Moved);
-        assert_eq!(rt; hub.send(0, &mut out), Some((CALLER, 16)));
-        assert_eq!(rt; &out[..16], FIRST.as_slice());
-        assert_eq!(rt; hub.tick(0, 1), Ticked::Accepted);
-        assert_eq!(rt; hub.turn(0), Turned::Applied);
-        assert_eq!(rt; hub.turn(0), Turned::Moved);
-        assert_eq!(rt; hub.send(0, &mut out), Some((CALLER, 16)));
-        assert_eq!(rt; &out[..16], SECOND.as_slice());
+        assert_turns(&rt, &mut hub, 0, &[Turned::Moved]);
+        assert_sends(&rt, &mut hub, 0, CALLER, &FIRST);
+        assert_ticks(&rt, &mut hub, 0, Ticked::Accepted);
+        assert_turns(&rt, &mut hub, 0, &[Turned::Applied, Turned::Moved]);
+        assert_sends(&rt, &mut hub, 0, CALLER, &SECOND);
     }
     Ok(())
 }
@@ -265,9 +312,6 @@ fn a_refused_arrival_may_come_again(rt: HostRuntime) -> Result<(), Fail> {
     }
     assert_eq!(rt; came, Ok(Arrived::Accepted(0)));
     assert_eq!(rt; hub.routes(), 2);
-    assert_eq!(rt; hub.turn(0), Turned::Applied);
-    assert_eq!(rt; hub.turn(0), Turned::Moved);
-    assert_eq!(rt; hub.turn(0), Turned::Moved);
-    assert_eq!(rt; hub.turn(0), Turned::Idle);
+    assert_turns(&rt, &mut hub, 0, &TWO_MOVED_AND_IDLE);
     Ok(())
 }

@@ -11,20 +11,20 @@
 //!
 //! Files: `lobby.rt` has the checks in their order (docs/PROTOCOL.md, "Where a datagram goes"): destination, handshake,
 //! cookie, and the refusals 1008, 1004, 1011, 1014, 1015 and 1002. `classes.rt` has the classes and causes, `names.rt`
-//! the look-up, `opening.rt` the limits of entries, `laws.rt` what is proved of all of it. The definition is
-//! `specs/Lobby.antt`.
+//! the look-up, `entry_faults.rt` which entries a gateway can't be opened with, `laws.rt` what is proved of all of it. The
+//! definition is `specs/Lobby.antt`.
 #![tactic(auto)]
 
 mod classes;
+mod entry_faults;
 pub mod laws;
 mod lobby;
 mod names;
-mod opening;
 
 pub use classes::{Cause, Class};
+pub use entry_faults::is_taken;
 pub use lobby::classify;
 pub use names::Names;
-pub use opening::is_taken;
 
 #[cfg(test)]
 mod tests;

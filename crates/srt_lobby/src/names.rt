@@ -1,6 +1,6 @@
 //! The names of the routes.
 
-use crate::opening::fault;
+use crate::entry_faults::fault;
 use indexmap::IndexSet;
 use srt_seq::{Entry, OpenFault};
 use std::alloc::{AllocError, Global};

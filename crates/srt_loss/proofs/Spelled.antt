@@ -5,7 +5,8 @@ use Rattle.std.specs.Result.{result_err, result_unwrap_or}
 use Rattle.srt_seq.specs.Runs.{Range, span}
 use Rattle.srt_loss.specs.declared.reading.LossFault.{LossFault}
 use Rattle.srt_loss.specs.declared.reading.LossFault.TheVariants.{Ragged, Dangling, Backward}
-use Rattle.srt_loss.specs.Reading.{words_of, then_those, alone, ranges_in, losses_in}
+use Rattle.srt_seq.specs.Words.{words_in}
+use Rattle.srt_loss.specs.Reading.{then_those, alone, ranges_in, losses_in}
 use Rattle.srt_loss.specs.Spelling.{Begins, Single, FirstAndLast, SpellsUpTo, Spells, IsDangling, IsBackward, HasFault, SpelledIsRead, FaultIsRead}
 use Rattle.srt_loss.proofs.Words.{whole_read, ragged_read, alone_read, both_read, backward_read, dangling_read, last_read, range_read}
 
@@ -36,7 +37,7 @@ all_err [] fault = refl
 all_err (r ∷ rs) fault = ap (λ x. then_those r x) (all_err rs fault)
 
 pub spelled_read : (bytes : List ℕ) (rs : List Range) → Spells bytes rs → losses_in bytes ≡ Ok rs
-spelled_read bytes rs s = whole_read bytes s.whole ∙ up_to_read (words_of bytes) rs [] s.words ∙ all_ok rs
+spelled_read bytes rs s = whole_read bytes s.whole ∙ up_to_read (words_in bytes) rs [] s.words ∙ all_ok rs
 
 is_dangling_read : (ws : List ℕ) → IsDangling ws → ranges_in None ws ≡ Err Dangling
 is_dangling_read [] h = absurd h
@@ -51,9 +52,9 @@ is_backward_read (first ∷ last ∷ ws) h = backward_read first last ws h.0 h.1
 pub fault_read : (bytes : List ℕ) (fault : LossFault) → HasFault bytes fault → losses_in bytes ≡ Err fault
 fault_read bytes Ragged h = ragged_read bytes h
 fault_read bytes Dangling (whole, rs, rest, s, h) =
-    whole_read bytes whole ∙ up_to_read (words_of bytes) rs rest s ∙ ap (λ x. all_those rs x) (is_dangling_read rest h) ∙ all_err rs Dangling
+    whole_read bytes whole ∙ up_to_read (words_in bytes) rs rest s ∙ ap (λ x. all_those rs x) (is_dangling_read rest h) ∙ all_err rs Dangling
 fault_read bytes Backward (whole, rs, rest, s, h) =
-    whole_read bytes whole ∙ up_to_read (words_of bytes) rs rest s ∙ ap (λ x. all_those rs x) (is_backward_read rest h) ∙ all_err rs Backward
+    whole_read bytes whole ∙ up_to_read (words_in bytes) rs rest s ∙ ap (λ x. all_those rs x) (is_backward_read rest h) ∙ all_err rs Backward
 
 -- what follows for the words from the result of reading them
 Outcome : List ℕ → Result (List Range) LossFault → Type 0
@@ -100,19 +101,19 @@ outcome (w ∷ v ∷ ws) =
       ]
     ]
 
-outcome_spells : (bytes : List ℕ) → length bytes % 4 ≡ 0 → (rs : List Range) → ranges_in None (words_of bytes) ≡ Ok rs → Spells bytes rs
+outcome_spells : (bytes : List ℕ) → length bytes % 4 ≡ 0 → (rs : List Range) → ranges_in None (words_in bytes) ≡ Ok rs → Spells bytes rs
 unfolding Outcome
 outcome_spells bytes whole rs e =
-    record { whole = whole; words = subst (λ (x : Result (List Range) LossFault). Outcome (words_of bytes) x) e (outcome (words_of bytes)) }
+    record { whole = whole; words = subst (λ (x : Result (List Range) LossFault). Outcome (words_in bytes) x) e (outcome (words_in bytes)) }
 
-outcome_fault : (bytes : List ℕ) → length bytes % 4 ≡ 0 → (fault : LossFault) → ranges_in None (words_of bytes) ≡ Err fault → HasFault bytes fault
+outcome_fault : (bytes : List ℕ) → length bytes % 4 ≡ 0 → (fault : LossFault) → ranges_in None (words_in bytes) ≡ Err fault → HasFault bytes fault
 unfolding Outcome
-outcome_fault bytes whole Ragged e = absurd (subst (λ (x : Result (List Range) LossFault). Outcome (words_of bytes) x) e (outcome (words_of bytes)))
+outcome_fault bytes whole Ragged e = absurd (subst (λ (x : Result (List Range) LossFault). Outcome (words_in bytes) x) e (outcome (words_in bytes)))
 outcome_fault bytes whole Dangling e =
-    let (rs, rest, s, h) = subst (λ (x : Result (List Range) LossFault). Outcome (words_of bytes) x) e (outcome (words_of bytes)) in
+    let (rs, rest, s, h) = subst (λ (x : Result (List Range) LossFault). Outcome (words_in bytes) x) e (outcome (words_in bytes)) in
     (whole, rs, rest, s, h)
 outcome_fault bytes whole Backward e =
-    let (rs, rest, s, h) = subst (λ (x : Result (List Range) LossFault). Outcome (words_of bytes) x) e (outcome (words_of bytes)) in
+    let (rs, rest, s, h) = subst (λ (x : Result (List Range) LossFault). Outcome (words_in bytes) x) e (outcome (words_in bytes)) in
     (whole, rs, rest, s, h)
 
 cases_whole : (bytes : List ℕ) → (length bytes % 4 ≡ 0) ⊎ (length bytes % 4 ≢ 0)

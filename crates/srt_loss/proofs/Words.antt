@@ -3,13 +3,13 @@ use Rattle.std.proofs.Common.{◌≡◌, ℕ, ◌+◌, ◌-◌, ◌%◌, ◌^◌
 use Rattle.std.proofs.lemmas.Bool.Decides.{nat_tests}
 use Rattle.std.proofs.lemmas.List.{length-drop}
 use Rattle.std.specs.Int.{w32, from_be_bytes}
-use Rattle.srt_seq.specs.Words.{word_at}
+use Rattle.srt_seq.specs.Words.{word_at, words_in}
 use Rattle.srt_seq.specs.Runs.{Range, span}
 use Rattle.srt_loss.specs.declared.reading.LossFault.TheVariants.{Ragged, Dangling, Backward}
-use Rattle.srt_loss.specs.Reading.{words_of, then_those, alone, ranges_in, losses_in}
+use Rattle.srt_loss.specs.Reading.{then_those, alone, ranges_in, losses_in}
 
 -- a first word, and the bytes after it
-pub words_front : (text : List ℕ) → 4 ≤ length text → words_of text ≡ word_at text 0 ∷ words_of (drop 4 text)
+pub words_front : (text : List ℕ) → 4 ≤ length text → words_in text ≡ word_at text 0 ∷ words_in (drop 4 text)
 words_front [] h = absurd (omega arith)
 words_front (a ∷ []) h = absurd (omega arith)
 words_front (a ∷ b ∷ []) h = absurd (omega arith)
@@ -17,7 +17,7 @@ words_front (a ∷ b ∷ c ∷ []) h = absurd (omega arith)
 words_front (a ∷ b ∷ c ∷ d ∷ bytes) h = refl
 
 -- whole words
-pub whole_read : (bytes : List ℕ) → length bytes % 4 ≡ 0 → losses_in bytes ≡ ranges_in None (words_of bytes)
+pub whole_read : (bytes : List ℕ) → length bytes % 4 ≡ 0 → losses_in bytes ≡ ranges_in None (words_in bytes)
 whole_read bytes h = grind (arith, nat_tests)
 
 pub ragged_read : (bytes : List ℕ) → length bytes % 4 ≢ 0 → losses_in bytes ≡ Err Ragged
@@ -50,7 +50,7 @@ range_read r ws h n =
     subst P e (λ m. both_read (r.first + 2 ^ 31) r.last ws (omega arith) h m) n
 
 -- two words, and the bytes after them
-words_two : (text : List ℕ) → 8 ≤ length text → words_of text ≡ word_at text 0 ∷ word_at text 4 ∷ words_of (drop 8 text)
+words_two : (text : List ℕ) → 8 ≤ length text → words_in text ≡ word_at text 0 ∷ word_at text 4 ∷ words_in (drop 8 text)
 words_two [] h = absurd (omega arith)
 words_two (a ∷ []) h = absurd (omega arith)
 words_two (a ∷ b ∷ []) h = absurd (omega arith)
@@ -62,5 +62,5 @@ pub both_front : (text : List ℕ) (first last : ℕ) → 8 ≤ length text → 
 both_front text first last long whole f l small near =
     let r : Range = record { first = first; last = last } in
     let rest : length (drop 8 text) % 4 ≡ 0 = simp length-drop (omega arith) in
-    let front : words_of text ≡ (first + 2 ^ 31) ∷ last ∷ words_of (drop 8 text) = words_two text long ∙ cc in
-    whole_read text whole ∙ ap (λ x. ranges_in None x) front ∙ range_read r (words_of (drop 8 text)) small near ∙ ap (λ x. then_those r x) (sym (whole_read (drop 8 text) rest))
+    let front : words_in text ≡ (first + 2 ^ 31) ∷ last ∷ words_in (drop 8 text) = words_two text long ∙ cc in
+    whole_read text whole ∙ ap (λ x. ranges_in None x) front ∙ range_read r (words_in (drop 8 text)) small near ∙ ap (λ x. then_those r x) (sym (whole_read (drop 8 text) rest))

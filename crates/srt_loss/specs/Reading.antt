@@ -1,14 +1,9 @@
 -- Loss lists as a function of their bytes (appendix A, packet sequence list coding).
 use Rattle.std.specs.Prelude.{ℕ, ◌-◌, ◌%◌, ◌^◌, Option, None, Some, Result, Ok, Err, List, [], ◌∷◌, length, nat_lt, ◌==◌, if◌then◌else◌}
-use Rattle.std.specs.Int.{w32, from_be_bytes}
+use Rattle.srt_seq.specs.Words.{words_in}
 use Rattle.srt_seq.specs.Runs.{Range, span}
 use Rattle.srt_loss.specs.declared.reading.LossFault.{LossFault}
 use Rattle.srt_loss.specs.declared.reading.LossFault.TheVariants.{Ragged, Dangling, Backward}
-
--- the words of a list of bytes, four bytes each
-abbrev pub words_of : List ℕ → List ℕ
-words_of (a ∷ b ∷ c ∷ d ∷ bytes) = from_be_bytes w32 (a ∷ b ∷ c ∷ d ∷ []) ∷ words_of bytes
-words_of _ = []
 
 -- a range, and then the ranges that were read after it, or their fault
 abbrev pub then_those : Range → Result (List Range) LossFault → Result (List Range) LossFault
@@ -36,4 +31,4 @@ ranges_in (Some first) (word ∷ words) =
 
 -- the ranges that bytes spell, or the first fault
 abbrev pub losses_in : List ℕ → Result (List Range) LossFault
-losses_in bytes = if length bytes % 4 == 0 then ranges_in None (words_of bytes) else Err Ragged
+losses_in bytes = if length bytes % 4 == 0 then ranges_in None (words_in bytes) else Err Ragged

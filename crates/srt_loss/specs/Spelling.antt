@@ -4,7 +4,8 @@ use Rattle.srt_seq.specs.Window.{offset_of}
 use Rattle.srt_seq.specs.Runs.{Range, span}
 use Rattle.srt_loss.specs.declared.reading.LossFault.{LossFault}
 use Rattle.srt_loss.specs.declared.reading.LossFault.TheVariants.{Ragged, Dangling, Backward}
-use Rattle.srt_loss.specs.Reading.{words_of, losses_in}
+use Rattle.srt_seq.specs.Words.{words_in}
+use Rattle.srt_loss.specs.Reading.{losses_in}
 
 -- the words begin with this range, and rest follows
 pub data Begins (words : List ℕ) (r : Range) (rest : List ℕ) : Type 0 where
@@ -21,7 +22,7 @@ SpellsUpTo words (r ∷ rs) rest = (next : List ℕ) × Begins words r next × S
 -- the bytes spell these ranges
 pub record Spells (bytes : List ℕ) (ranges : List Range) : Type 0 where
   pub whole : length bytes % 4 ≡ 0
-  pub words : SpellsUpTo (words_of bytes) ranges []
+  pub words : SpellsUpTo (words_in bytes) ranges []
 
 -- the words begin with a first word that no last word follows
 abbrev pub IsDangling : List ℕ → Type 0
@@ -37,7 +38,7 @@ IsBackward (first ∷ last ∷ words) = (2 ^ 31 ≤ first) × (last < 2 ^ 31) ×
 
 -- after some well-formed ranges the rest of the words has this property
 abbrev pub GoesOn : List ℕ → (List ℕ → Type 0) → Type 0
-GoesOn bytes IsWrong = (length bytes % 4 ≡ 0) × (ranges : List Range) × (rest : List ℕ) × SpellsUpTo (words_of bytes) ranges rest × IsWrong rest
+GoesOn bytes IsWrong = (length bytes % 4 ≡ 0) × (ranges : List Range) × (rest : List ℕ) × SpellsUpTo (words_in bytes) ranges rest × IsWrong rest
 
 -- the fault of the bytes: the first from the left
 abbrev pub HasFault : List ℕ → LossFault → Type 0

@@ -8,6 +8,7 @@ ghost use Rattle.srt_loss.specs.Spelling.{Spells, HasFault};
 ghost use Rattle.srt_loss.specs.Text.{range_of};
 
 use crate::circle::{number_of, steps};
+use srt_seq::limits::RANGE_END;
 use srt_seq::{Seq31, read_word};
 use std::marker::Model;
 
@@ -95,7 +96,7 @@ fn read_front(text: &[u8]) -> Result<Front<'_>, LossFault>
         return Err(LossFault::Dangling);
     }
     let last = number_of(end);
-    if steps(first, last) >= 1 << 30 {
+    if steps(first, last) >= RANGE_END {
         return Err(LossFault::Backward);
     }
     Ok(Front {

@@ -1,3 +1,4 @@
+pub mod Rights
 pub mod Offers
 pub mod Moves
 pub mod Turns

@@ -1,3 +1,4 @@
+pub mod Marks
 pub mod Inbox
 pub mod Outbox
 pub mod Ends

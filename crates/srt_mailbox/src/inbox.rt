@@ -27,6 +27,7 @@ pub struct Full {
 pub struct Ingress {
     queue: Arc<Inbox>,
     pass: InboxPass,
+    alloc: Global,
 }
 
 impl Model for Ingress {
@@ -48,6 +49,7 @@ impl Model for Ingress {
 pub struct ClockEnd {
     queue: Arc<Inbox>,
     pass: InboxPass,
+    alloc: Global,
 }
 
 impl Model for ClockEnd {
@@ -91,10 +93,12 @@ impl Ingress {
         ensures ok { OnOk result (self.new ≡ producer self.old.queue self.old.capacity (self.old.offered ++ item ∷ [])) }
         ensures full { IfErr result (λ full. (full.item ≡ item) × (self.new ≡ self.old) × Held self.old.capacity (StoodAsPolled self.old.offered)) }
     {
-        let marked = Marked { polled: true, item };
+        let marked = Marked::new(self.alloc, true, item);
         match self.queue.push_as::<Polls, R>(rt, &mut self.pass, marked) {
             Ok(()) => Ok(()),
-            Err(back) => Err(Full { item: back.item }),
+            Err(back) => Err(Full {
+                item: back.into_item(),
+            }),
         }
     }
 }
@@ -107,13 +111,12 @@ impl ClockEnd {
         ensures ok { OnOk result (self.new ≡ producer self.old.queue self.old.capacity (self.old.offered ++ item ∷ [])) }
         ensures full { IfErr result (λ full. (full.item ≡ item) × (self.new ≡ self.old) × Held self.old.capacity (StoodAsTicked self.old.offered)) }
     {
-        let marked = Marked {
-            polled: false,
-            item,
-        };
+        let marked = Marked::new(self.alloc, false, item);
         match self.queue.push_as::<Ticks, R>(rt, &mut self.pass, marked) {
             Ok(()) => Ok(()),
-            Err(back) => Err(Full { item: back.item }),
+            Err(back) => Err(Full {
+                item: back.into_item(),
+            }),
         }
     }
 }
@@ -142,10 +145,12 @@ impl Taker {
         let Ingress {
             queue: _,
             pass: polls,
+            alloc: _,
         } = ingress;
         let ClockEnd {
             queue: _,
             pass: ticks,
+            alloc: _,
         } = clock;
         queue.absorb::<Poller>(&mut pass, polls);
         queue.absorb::<Clock>(&mut pass, ticks);
@@ -175,10 +180,12 @@ pub fn open_inbox(alloc: Global, capacity: usize) -> Result<(Ingress, ClockEnd, 
     let ingress = Ingress {
         queue: polls,
         pass: poller,
+        alloc,
     };
     let end = ClockEnd {
         queue: ticks,
         pass: clock,
+        alloc,
     };
     let taker = Taker { queue: ours, pass };
     Ok((ingress, end, taker))

@@ -1,22 +1,111 @@
 //! The rule of the inbox: which end may do what, and what each end knows of the items. A *pass* is the right to use the
 //! queue; each of the three ends has one. Views, rules, splits, outcomes and lessons are for proofs alone.
 
-ghost use Rattle.std.specs.Prelude.{◌<◌, ◌^◌};
+ghost use Rattle.std.specs.Prelude.{◌≡◌, ◌<◌, ◌^◌};
 ghost use Rattle.srt_seq.specs.Items.{told, moment_of};
+ghost use Rattle.srt_mailbox.specs.Marks.{marked_item};
 
 use crossbeam_queue::protocol::{Join, Lesson, Outcome, Protocol, Split};
 use crossbeam_queue::{Pass, RuledArrayQueue};
-use srt_seq::Item;
+use srt_seq::{Item, Peer};
+use std::alloc::Global;
 use std::collections::LinkedList;
+use std::marker::Model;
 
-/// An item in the inbox, marked with the end that offered it.
+/// An item in the inbox, marked with the end that offered it. Contracts see it as a `MarkedItem`. Its fields lie side by
+/// side with neither an enum's tag nor padding before or between them, since those make each copy slow.
 #[derive(Drop)]
 pub struct Marked {
-    /// True if the poller offered it, false if the clock did.
-    pub polled: bool,
-    /// The item. Its moment is in microseconds, below 2^62.
-    pub item: Item,
-    pub ghost timely: { moment_of (told item) < 2 ^ 62 },
+    // a datagram's header and sender; without meaning if it is a tick
+    head: [u8; 16],
+    peer: Peer,
+    // true if the poller offered it, false if the clock did
+    polled: bool,
+    // true if it is a tick, false if it is a datagram
+    tick: bool,
+    // fills the eight bytes that end with this field
+    _apart: [u8; 4],
+    // microseconds, below 2^62
+    moment: u64,
+    // a datagram's bytes after the header; empty if it is a tick
+    body: Vec<u8>,
+}
+
+impl Model for Marked {
+    ghost use Rattle.std.specs.Prelude.{◌<◌, ◌^◌, if◌then◌else◌};
+    ghost use Rattle.srt_seq.specs.declared.shared.Item.TheVariants.{Datagram, Tick};
+    ghost use Rattle.srt_mailbox.specs.Marks.{MarkedItem, marked_item};
+
+    ghost Value = { MarkedItem };
+
+    ghost view = { λ s. marked_item s.polled (if s.tick then Tick s.moment else Datagram s.peer s.moment s.head s.body) };
+
+    ghost invariant = { λ s. s.moment < 2 ^ 62 };
+}
+
+const NOWHERE: Peer = Peer {
+    ip: [0; 16],
+    port: 0,
+};
+
+impl Marked {
+    /// Marks an item. Its moment is in microseconds, below 2^62. Takes no memory; `alloc` is that of a tick's empty body.
+    pub fn new(alloc: Global, polled: bool, item: Item) -> Marked
+        requires timely { moment_of (told item) < 2 ^ 62 }
+        ensures { result ≡ marked_item polled item }
+    {
+        match item {
+            Item::Datagram {
+                peer,
+                moment,
+                head,
+                body,
+            } => Marked {
+                head,
+                peer,
+                polled,
+                tick: false,
+                _apart: [0; 4],
+                moment,
+                body,
+            },
+            Item::Tick { moment } => Marked {
+                head: [0; 16],
+                peer: NOWHERE,
+                polled,
+                tick: true,
+                _apart: [0; 4],
+                moment,
+                body: Vec::new(alloc),
+            },
+        }
+    }
+
+    /// The item. Its moment is below 2^62.
+    pub fn into_item(self) -> Item
+        ensures item { result ≡ self.item }
+        ensures timely { moment_of (told result) < 2 ^ 62 }
+    {
+        let Marked {
+            head,
+            peer,
+            polled: _,
+            tick,
+            _apart: _,
+            moment,
+            body,
+        } = self;
+        if tick {
+            Item::Tick { moment }
+        } else {
+            Item::Datagram {
+                peer,
+                moment,
+                head,
+                body,
+            }
+        }
+    }
 }
 
 /// The rights of a pass of the inbox, and what was done by them, the oldest first. No value of it is ever made.

@@ -133,7 +133,7 @@ impl Running {
     {
         match self.taker.take(rt) {
             Some(marked) => {
-                self.waiting = self.route.step(marked.item);
+                self.waiting = self.route.step(marked.into_item());
                 self.taken = self.taken.saturating_add(1);
                 Turned::Applied
             }

@@ -5,6 +5,7 @@ ghost use Rattle.srt_packet.specs.Grammar.{Packet as ThePacket, Spells};
 ghost use Rattle.srt_packet.specs.Reading.{data_in, control_in, body_in, packet_after, packet_in, IsFirstFault};
 ghost use Rattle.srt_packet.specs.View.{body_read, packet_of, packet_read};
 
+use srt_seq::limits::{MAX_DATAGRAM, MAX_PAYLOAD};
 use srt_seq::{PayloadRef, read_word};
 
 /// Why bytes are no packet. If several apply, the first of this list is returned (this profile's order).
@@ -182,7 +183,7 @@ pub fn decode(bytes: &[u8]) -> Result<PacketRef<'_>, PacketFault>
     if bytes.len() < 16 {
         return Err(PacketFault::Short);
     }
-    if bytes.len() > 1472 {
+    if bytes.len() > MAX_DATAGRAM {
         return Err(PacketFault::Long);
     }
     packet_of_parts(bytes, &bytes[16..])
@@ -200,7 +201,7 @@ pub fn decode_parts<'a>(head: &[u8; 16], body: &'a [u8]) -> Result<PacketRef<'a>
     // The fault is the first that applies.
     ensures fault { IfErr result (λ fault. IsFirstFault (head.now ++ body.now) fault) }
 {
-    if body.len() > 1456 {
+    if body.len() > MAX_PAYLOAD {
         return Err(PacketFault::Long);
     }
     packet_of_parts(head, body)

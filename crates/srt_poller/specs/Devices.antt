@@ -1,5 +1,6 @@
 -- What a source and a wire record.
 use Rattle.std.specs.Prelude.{ℕ, ◌<◌, ◌≤◌, ◌^◌, Option, List, [], ◌∷◌, ◌++◌, take, option_map}
+use Rattle.srt_seq.specs.declared.shared.Peer.{Peer}
 use Rattle.srt_seq.specs.Items.{Datagram as TheDatagram}
 use Rattle.srt_mailbox.specs.Counts.{Grew}
 use Rattle.srt_poller.specs.declared.devices.Read.{Read}
@@ -7,10 +8,16 @@ use Rattle.srt_poller.specs.declared.devices.Read.TheVariants.{Datagram, Empty, 
 use Rattle.srt_poller.specs.declared.devices.Sent.{Sent}
 use Rattle.srt_poller.specs.declared.devices.Sent.TheVariants as sent
 
+abbrev pub datagram : Peer → (bytes : List ℕ) → TheDatagram
+datagram peer bytes = record { peer = peer; bytes = bytes }
+
 -- a datagram and the moment at which it came, in microseconds
 pub record Arrival : Type 0 where
   pub datagram : TheDatagram
   pub moment : ℕ
+
+abbrev pub arrival : Peer → (bytes : List ℕ) → (moment : ℕ) → Arrival
+arrival peer bytes moment = record { datagram = datagram peer bytes; moment = moment }
 
 -- a length within the buffer and a moment within the limit; a failure only if the count of failures grew
 abbrev pub ReadsWell : Read → ℕ → ℕ → Type 0
@@ -20,7 +27,7 @@ ReadsWell Failed a b = Grew a b
 
 -- the datagram that a read gave, if any: it is at the front of the buffer
 abbrev pub given_by_read : Read → (buffer : List ℕ) → List Arrival
-given_by_read (Datagram peer len moment) buffer = record { datagram = record { peer = peer; bytes = take len buffer }; moment = moment } ∷ []
+given_by_read (Datagram peer len moment) buffer = arrival peer (take len buffer) moment ∷ []
 given_by_read Empty buffer = []
 given_by_read Failed buffer = []
 

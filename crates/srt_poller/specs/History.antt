@@ -53,27 +53,15 @@ kept_if Failed k = None
 
 -- the reply that is kept after an event
 abbrev pub kept_by : Option Kept → Event → Option Kept
-kept_by k Waits = k
-kept_by k WaitFails = k
-kept_by k ReadsNothing = k
-kept_by k ReadFails = k
-kept_by k (Answers arrival bytes sent) = k
-kept_by k (Accepts arrival route) = k
-kept_by k (Overflows arrival route) = k
-kept_by k (Refuses arrival route) = k
-kept_by k (Drops arrival cause) = k
 kept_by k (Sends route reply sent) = kept_if sent (kept route reply)
 kept_by k (Resends route reply sent) = kept_if sent (kept route reply)
+kept_by k _ = k
 
 abbrev pub kept_after : Option Kept → List Event → Option Kept
 kept_after k events = fold kept_by k events
 
 -- What happens to a datagram is what its class says. A reply is taken only if none is kept, and only the kept one is sent again
 abbrev pub Fits : Sorting → Option Kept → Event → Type 0
-Fits class k Waits = Unit {0}
-Fits class k WaitFails = Unit {0}
-Fits class k ReadsNothing = Unit {0}
-Fits class k ReadFails = Unit {0}
 Fits class k (Answers arrival bytes sent) = class arrival.datagram arrival.moment ≡ Answer bytes
 Fits class k (Accepts arrival route) = class arrival.datagram arrival.moment ≡ Route route
 Fits class k (Overflows arrival route) = class arrival.datagram arrival.moment ≡ Route route
@@ -81,6 +69,7 @@ Fits class k (Refuses arrival route) = class arrival.datagram arrival.moment ≡
 Fits class k (Drops arrival cause) = class arrival.datagram arrival.moment ≡ Dropped cause
 Fits class k (Sends route reply sent) = k ≡ None
 Fits class k (Resends route reply sent) = k ≡ Some (kept route reply)
+Fits class k _ = Unit {0}
 
 -- each event fits the reply that is kept when it happens; before the first event that is k
 abbrev pub Follow : Sorting → Option Kept → List Event → Type 0
@@ -89,17 +78,12 @@ Follow class k (event ∷ events) = Fits class k event × Follow class (kept_by 
 
 -- the datagrams that the source gave
 abbrev pub given_by : Event → List Arrival
-given_by Waits = []
-given_by WaitFails = []
-given_by ReadsNothing = []
-given_by ReadFails = []
 given_by (Answers arrival bytes sent) = arrival ∷ []
 given_by (Accepts arrival route) = arrival ∷ []
 given_by (Overflows arrival route) = arrival ∷ []
 given_by (Refuses arrival route) = arrival ∷ []
 given_by (Drops arrival cause) = arrival ∷ []
-given_by (Sends route reply sent) = []
-given_by (Resends route reply sent) = []
+given_by _ = []
 
 abbrev pub given : List Event → List Arrival
 given events = flat_map given_by events
@@ -109,51 +93,24 @@ abbrev pub at_route : {A : Type 0} → (route r : ℕ) → A → List A
 at_route route r x = if route == r then x ∷ [] else []
 
 abbrev pub accepted_by : (r : ℕ) → Event → List Item
-accepted_by r Waits = []
-accepted_by r WaitFails = []
-accepted_by r ReadsNothing = []
-accepted_by r ReadFails = []
-accepted_by r (Answers arrival bytes sent) = []
 accepted_by r (Accepts arrival route) = at_route route r (Received arrival.datagram arrival.moment)
-accepted_by r (Overflows arrival route) = []
-accepted_by r (Refuses arrival route) = []
-accepted_by r (Drops arrival cause) = []
-accepted_by r (Sends route reply sent) = []
-accepted_by r (Resends route reply sent) = []
+accepted_by r _ = []
 
 abbrev pub accepted : (r : ℕ) → List Event → List Item
 accepted r events = flat_map (accepted_by r) events
 
 -- the replies that were taken from this route's outbox
 abbrev pub drained_by : (r : ℕ) → Event → List Datagram
-drained_by r Waits = []
-drained_by r WaitFails = []
-drained_by r ReadsNothing = []
-drained_by r ReadFails = []
-drained_by r (Answers arrival bytes sent) = []
-drained_by r (Accepts arrival route) = []
-drained_by r (Overflows arrival route) = []
-drained_by r (Refuses arrival route) = []
-drained_by r (Drops arrival cause) = []
 drained_by r (Sends route reply sent) = at_route route r reply
-drained_by r (Resends route reply sent) = []
+drained_by r _ = []
 
 abbrev pub drained : (r : ℕ) → List Event → List Datagram
 drained r events = flat_map (drained_by r) events
 
 -- the lobby's answers whose send didn't return Later
 abbrev pub answered_by : Event → List Datagram
-answered_by Waits = []
-answered_by WaitFails = []
-answered_by ReadsNothing = []
-answered_by ReadFails = []
 answered_by (Answers arrival bytes sent) = handed_by_send sent (record { peer = arrival.datagram.peer; bytes = bytes })
-answered_by (Accepts arrival route) = []
-answered_by (Overflows arrival route) = []
-answered_by (Refuses arrival route) = []
-answered_by (Drops arrival cause) = []
-answered_by (Sends route reply sent) = []
-answered_by (Resends route reply sent) = []
+answered_by _ = []
 
 abbrev pub answered : List Event → List Datagram
 answered events = flat_map answered_by events
@@ -172,17 +129,10 @@ from origin datagram = record { origin = origin; datagram = datagram }
 
 -- the datagrams whose send didn't return Later, with their origins
 abbrev pub handed_by : Event → List Handed
-handed_by Waits = []
-handed_by WaitFails = []
-handed_by ReadsNothing = []
-handed_by ReadFails = []
 handed_by (Answers arrival bytes sent) = handed_by_send sent (from FromLobby (record { peer = arrival.datagram.peer; bytes = bytes }))
-handed_by (Accepts arrival route) = []
-handed_by (Overflows arrival route) = []
-handed_by (Refuses arrival route) = []
-handed_by (Drops arrival cause) = []
 handed_by (Sends route reply sent) = handed_by_send sent (from (FromRoute route) reply)
 handed_by (Resends route reply sent) = handed_by_send sent (from (FromRoute route) reply)
+handed_by _ = []
 
 abbrev pub handed : List Event → List Handed
 handed events = flat_map handed_by events
@@ -212,38 +162,19 @@ kept_of r (Some k) = at_route k.route r k.reply
 abbrev pub waits_by : Event → ℕ
 waits_by Waits = 1
 waits_by WaitFails = 1
-waits_by ReadsNothing = 0
-waits_by ReadFails = 0
-waits_by (Answers arrival bytes sent) = 0
-waits_by (Accepts arrival route) = 0
-waits_by (Overflows arrival route) = 0
-waits_by (Refuses arrival route) = 0
-waits_by (Drops arrival cause) = 0
-waits_by (Sends route reply sent) = 0
-waits_by (Resends route reply sent) = 0
+waits_by _ = 0
 
 abbrev pub waits_in : List Event → ℕ
 waits_in events = sum_by waits_by events
 
 abbrev pub ready_by : Event → ℕ
 ready_by Waits = 1
-ready_by WaitFails = 0
-ready_by ReadsNothing = 0
-ready_by ReadFails = 0
-ready_by (Answers arrival bytes sent) = 0
-ready_by (Accepts arrival route) = 0
-ready_by (Overflows arrival route) = 0
-ready_by (Refuses arrival route) = 0
-ready_by (Drops arrival cause) = 0
-ready_by (Sends route reply sent) = 0
-ready_by (Resends route reply sent) = 0
+ready_by _ = 0
 
 abbrev pub ready_in : List Event → ℕ
 ready_in events = sum_by ready_by events
 
 abbrev pub reads_by : Event → ℕ
-reads_by Waits = 0
-reads_by WaitFails = 0
 reads_by ReadsNothing = 1
 reads_by ReadFails = 1
 reads_by (Answers arrival bytes sent) = 1
@@ -251,8 +182,7 @@ reads_by (Accepts arrival route) = 1
 reads_by (Overflows arrival route) = 1
 reads_by (Refuses arrival route) = 1
 reads_by (Drops arrival cause) = 1
-reads_by (Sends route reply sent) = 0
-reads_by (Resends route reply sent) = 0
+reads_by _ = 0
 
 abbrev pub reads_in : List Event → ℕ
 reads_in events = sum_by reads_by events

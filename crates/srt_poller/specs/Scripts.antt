@@ -88,11 +88,19 @@ steps_of s = s.steps.items
 abbrev pub steps_done : SourceScript → ℕ
 steps_done s = s.at
 
+-- the step that is done next, if one is left
+abbrev pub next_step : SourceScript → Option SourceStep
+next_step s = slice_get (steps_of s) (steps_done s)
+
 abbrev pub answers_of : WireScript → List Sent
 answers_of w = w.answers.items
 
 abbrev pub answers_given : WireScript → ℕ
 answers_given w = w.at
+
+-- the outcome of the next send
+abbrev pub next_answer : WireScript → Sent
+next_answer w = answer_at (slice_get (answers_of w) (answers_given w))
 
 abbrev pub moments_of : ClockScript → List ℕ
 moments_of c = c.moments.items

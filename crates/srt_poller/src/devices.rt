@@ -70,7 +70,7 @@ pub trait Wire {
     ghost use Rattle.std.specs.Prelude.{ℕ, Option, List};
     ghost use Rattle.srt_seq.specs.Items.{Datagram};
     ghost use Rattle.srt_mailbox.specs.Counts.{Grew};
-    ghost use Rattle.srt_poller.specs.Devices.{handed_by_send, joined};
+    ghost use Rattle.srt_poller.specs.Devices.{datagram, handed_by_send, joined};
     ghost use Rattle.srt_poller.specs.declared.devices.Sent.TheVariants.{Failed as SendFailed};
 
     /// The number of failed sends. Saturates at 2^64 - 1.
@@ -83,7 +83,7 @@ pub trait Wire {
     /// Sends a datagram, and doesn't wait for room.
     fn send(&mut self, to: Peer, bytes: &[u8]) -> Sent
         ensures failed { result ≡ SendFailed → Grew (failures self.old) (failures self.new) }
-        ensures tells { handed self.new ≡ joined (handed self.old) (handed_by_send result (record { peer = to; bytes = bytes.now })) };
+        ensures tells { handed self.new ≡ joined (handed self.old) (handed_by_send result (datagram to bytes.now)) };
 
     /// The number of failed sends. Saturates at 2^64 - 1.
     fn failures(&self) -> u64

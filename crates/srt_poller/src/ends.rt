@@ -2,9 +2,9 @@
 
 ghost use Rattle.std.specs.Prelude.{◌≡◌, ◌<◌, ◌≤◌, ◌^◌, length};
 
+use crate::context::Context;
 use srt_mailbox::{Drain, Ingress};
 use srt_seq::{Item, Peer};
-use std::alloc::Global;
 use std::sync::Wait;
 
 /// The poller's ends of the queues of one route.
@@ -17,7 +17,7 @@ pub struct Ends {
 }
 
 /// The outcome of an offer to a route.
-#[derive(Clone, Copy, Debug, PartialEq, Eq)]
+#[derive(Clone, Copy)]
 pub(crate) enum Offered {
     /// The inbox accepted it.
     Accepted,
@@ -28,26 +28,26 @@ pub(crate) enum Offered {
 }
 
 impl Ends {
+    ghost use Rattle.srt_poller.specs.Devices.{arrival};
     ghost use Rattle.srt_poller.specs.Pollers.{OfferedAs};
 
     /// Offers a copy of a datagram of 16 bytes or more to the route. The moment is in microseconds. Takes memory for
     /// the bytes after the first 16; this is the only memory that a poller takes.
-    pub(crate) fn offer<R: Wait>(
+    pub(crate) fn offer<R: Wait, G>(
         &mut self,
-        rt: &R,
-        alloc: Global,
+        context: &Context<R, G>,
         peer: Peer,
         bytes: &[u8],
         moment: u64,
     ) -> Offered
         requires header { 16 ≤ length bytes.now }
         requires timely { moment < 2 ^ 62 }
-        ensures offered { OfferedAs result (record { datagram = record { peer = peer; bytes = bytes.now }; moment = moment }) self.old.ingress self.new.ingress }
+        ensures offered { OfferedAs result (arrival peer bytes.now moment) self.old.ingress self.new.ingress }
         ensures drain { self.new.drain ≡ self.old.drain }
     {
         let mut head = [0; 16];
         head.copy_from_slice(&bytes[..16]);
-        let Ok(body) = Vec::from_slice(alloc, &bytes[16..]) else {
+        let Ok(body) = Vec::from_slice(context.alloc, &bytes[16..]) else {
             return Offered::Refused;
         };
         let item = Item::Datagram {
@@ -56,7 +56,7 @@ impl Ends {
             head,
             body,
         };
-        match self.ingress.offer(rt, item) {
+        match self.ingress.offer(context.rt, item) {
             Ok(()) => Offered::Accepted,
             Err(_) => Offered::Full,
         }

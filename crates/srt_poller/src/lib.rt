@@ -10,11 +10,12 @@
 //! Calls: open the routes (`srt_mailbox::open_route`), bind or make the devices, then `pump` once for n rounds; or
 //! `pump_under`, with hints.
 //!
-//! Files: a round is in `poller.rt` (order, limits, the reply that is kept), the rounds in `pumping.rt`, what is
-//! counted in `report.rt`, how long a socket's source waits in `pace.rt`. `specs/History.antt` has the events of a
-//! poller.
+//! Files: a round is in `poller.rt` (order, limits, the reply that is kept), what it uses in `context.rt`, the rounds in
+//! `pumping.rt`, what is counted in `report.rt`, how long a socket's source waits in `pace.rt`. `specs/History.antt`
+//! has the events of a poller.
 #![tactic(auto)]
 
+mod context;
 mod devices;
 mod ends;
 mod pace;

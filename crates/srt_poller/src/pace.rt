@@ -8,7 +8,7 @@ const SHORT_WAITS: u32 = 100;
 
 /// The limit of the next wait: 0 ms while there may be more to read, 1 ms for the 100 waits after a datagram came or a
 /// send returned Later, else 10 ms.
-#[derive(Clone, Copy, Debug, PartialEq, Eq)]
+#[derive(Clone, Copy)]
 pub(crate) struct Pace {
     /// The last read gave a datagram, so there may be more.
     pub(crate) more: bool,

@@ -5,6 +5,7 @@ ghost use Rattle.srt_lobby.specs.Names.{names_of};
 ghost use Rattle.srt_poller.specs.Pollers.{sorting};
 ghost use Rattle.srt_poller.specs.Pumped.{Pumped, before, after};
 
+use crate::context::{Context, Lobby};
 use crate::devices::{Source, Wire};
 use crate::ends::Ends;
 use crate::poller::Poller;
@@ -37,7 +38,9 @@ pub fn pump<R: Wait, S: Source, W: Wire>(
     rounds: u32,
 ) -> Report
     requires { length ends.old ≡ length (names_of names.now) }
-    ensures { Pumped (sorting secret.now names.now) rounds (before (S.gave source.old) (W.handed wire.old) ends.old) (after (S.gave source.new) (W.handed wire.new) ends.new result) }
+    ensures { Pumped (sorting secret.now names.now) rounds
+        (before (S.gave source.old) (W.handed wire.old) ends.old)
+        (after (S.gave source.new) (W.handed wire.new) ends.new result) }
 {
     pump_under(
         rt,
@@ -66,12 +69,21 @@ pub fn pump_under<R: Wait, S: Source, W: Wire, G: Signals>(
     signals: &G,
 ) -> Report
     requires { length ends.old ≡ length (names_of names.now) }
-    ensures { Pumped (sorting secret.now names.now) rounds (before (S.gave source.old) (W.handed wire.old) ends.old) (after (S.gave source.new) (W.handed wire.new) ends.new result) }
+    ensures { Pumped (sorting secret.now names.now) rounds
+        (before (S.gave source.old) (W.handed wire.old) ends.old)
+        (after (S.gave source.new) (W.handed wire.new) ends.new result) }
 {
     let mut poller = Poller::new();
     for round in 0..rounds {
-        let all = round % 64 == 0;
-        poller.round(rt, alloc, secret, names, source, wire, ends, signals, all);
+        let due = round % 64 == 0;
+        let context = Context {
+            rt,
+            alloc,
+            lobby: Lobby { secret, names },
+            signals,
+            all: due | poller.looks_at_all(),
+        };
+        poller.round(&context, source, wire, ends);
     }
     poller.report()
 }

@@ -31,24 +31,20 @@ pub struct Report {
 }
 
 impl Report {
-    ghost use Rattle.srt_poller.specs.Reports.{nothing, with_fault, with_answer, with_reply, with_accepted, with_full, with_refused, with_dropped};
+    ghost use Rattle.srt_poller.specs.Reports.{with_fault, with_answer, with_reply, with_accepted, with_full, with_refused, with_dropped};
 
     /// All counts 0.
-    pub(crate) fn new() -> Report
-        ensures { result ≡ nothing }
-    {
-        Report {
-            read: 0,
-            answered: 0,
-            accepted: 0,
-            full: 0,
-            dropped: 0,
-            memory: 0,
-            sent: 0,
-            lost: 0,
-            faults: 0,
-        }
-    }
+    pub const NOTHING: Report = Report {
+        read: 0,
+        answered: 0,
+        accepted: 0,
+        full: 0,
+        dropped: 0,
+        memory: 0,
+        sent: 0,
+        lost: 0,
+        faults: 0,
+    };
 
     /// A wait or a read failed.
     pub(crate) fn count_fault(&mut self)

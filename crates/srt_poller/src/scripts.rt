@@ -1,6 +1,7 @@
 //! Devices in memory, for tests: they follow a script, and record their datagrams.
 
-ghost use Rattle.std.specs.Prelude.{◌≡◌, ◌⊎◌, ℕ, ◌<◌, ◌≤◌, ◌+◌, ◌-◌, ◌^◌, Some, option_copied, true, false, [], ◌∷◌, ◌++◌, length, map, min, slice_get, take};
+ghost use Rattle.std.specs.Prelude.{◌≡◌, ◌⊎◌, ℕ, ◌<◌, ◌≤◌, ◌+◌, ◌-◌, ◌^◌, Some, true, false, [], ◌∷◌, ◌++◌};
+ghost use Rattle.std.specs.Prelude.{option_copied, length, map, min, slice_get, take};
 
 use crate::devices::{Clock, Polled, Read, Sent, Source, Wire};
 use srt_seq::Peer;
@@ -84,7 +85,7 @@ impl Source for SourceScript {
     ghost use Rattle.srt_mailbox.specs.Counts.{Grew};
     ghost use Rattle.srt_poller.specs.Devices.{ReadsWell, given_by_read, joined};
     ghost use Rattle.srt_poller.specs.declared.devices.Polled.TheVariants.{Failed as PollFailed};
-    ghost use Rattle.srt_poller.specs.Scripts.{given_in, wait_at, read_at, after_wait, after_read, steps_of, steps_done};
+    ghost use Rattle.srt_poller.specs.Scripts.{given_in, next_step, wait_at, read_at, after_wait, after_read, steps_of, steps_done};
 
     ghost failures = { λ s. s.failures };
 
@@ -93,8 +94,8 @@ impl Source for SourceScript {
     fn wait(&mut self) -> Polled
         ensures failed { result ≡ PollFailed → Grew self.old.failures self.new.failures }
         ensures tells { ⟦<SourceScript as Source>⟧.gave self.new ≡ ⟦<SourceScript as Source>⟧.gave self.old }
-        ensures does { result ≡ wait_at (slice_get (steps_of self.old) (steps_done self.old)) }
-        ensures done { steps_done self.new ≡ after_wait (slice_get (steps_of self.old) (steps_done self.old)) (steps_done self.old) }
+        ensures does { result ≡ wait_at (next_step self.old) }
+        ensures done { steps_done self.new ≡ after_wait (next_step self.old) (steps_done self.old) }
         ensures steps { steps_of self.new ≡ steps_of self.old }
     {
         match self.step() {
@@ -113,9 +114,10 @@ impl Source for SourceScript {
 
     fn next(&mut self, buffer: &mut [u8; 2048]) -> Read
         ensures well { ReadsWell result self.old.failures self.new.failures }
-        ensures tells { ⟦<SourceScript as Source>⟧.gave self.new ≡ joined (⟦<SourceScript as Source>⟧.gave self.old) (given_by_read result buffer.new) }
-        ensures does { result ≡ read_at (slice_get (steps_of self.old) (steps_done self.old)) }
-        ensures done { steps_done self.new ≡ after_read (slice_get (steps_of self.old) (steps_done self.old)) (steps_done self.old) }
+        ensures tells { ⟦<SourceScript as Source>⟧.gave self.new ≡
+            joined (⟦<SourceScript as Source>⟧.gave self.old) (given_by_read result buffer.new) }
+        ensures does { result ≡ read_at (next_step self.old) }
+        ensures done { steps_done self.new ≡ after_read (next_step self.old) (steps_done self.old) }
         ensures steps { steps_of self.new ≡ steps_of self.old }
     {
         match self.step() {
@@ -165,6 +167,7 @@ pub struct WireScript {
 }
 
 impl WireScript {
+    ghost use Rattle.srt_poller.specs.Devices.{datagram};
     ghost use Rattle.srt_poller.specs.Scripts.{sent_as, answer_at, answers_of, answers_given};
 
     /// A wire whose sends return these outcomes, in order.
@@ -208,7 +211,8 @@ impl WireScript {
 
     /// Records a datagram. False if the memory for its copy was refused; then nothing was recorded.
     fn note(&mut self, to: Peer, bytes: &[u8]) -> bool
-        ensures noted { result ≡ true → map sent_as self.new.handed.items ≡ map sent_as self.old.handed.items ++ record { peer = to; bytes = bytes.now } ∷ [] }
+        ensures noted { result ≡ true → map sent_as self.new.handed.items ≡
+            map sent_as self.old.handed.items ++ datagram to bytes.now ∷ [] }
         ensures refused { result ≡ false → self.new.handed.items ≡ self.old.handed.items }
         ensures failures { self.new.failures ≡ self.old.failures }
     {
@@ -222,9 +226,9 @@ impl WireScript {
 impl Wire for WireScript {
     ghost use Rattle.std.specs.Prelude.{Some, map};
     ghost use Rattle.srt_mailbox.specs.Counts.{Grew};
-    ghost use Rattle.srt_poller.specs.Devices.{handed_by_send, joined};
+    ghost use Rattle.srt_poller.specs.Devices.{datagram, handed_by_send, joined};
     ghost use Rattle.srt_poller.specs.declared.devices.Sent.TheVariants.{Later, Failed as SendFailed};
-    ghost use Rattle.srt_poller.specs.Scripts.{sent_as, answer_at, answers_of, answers_given};
+    ghost use Rattle.srt_poller.specs.Scripts.{sent_as, next_answer};
 
     ghost failures = { λ w. w.failures };
 
@@ -232,8 +236,9 @@ impl Wire for WireScript {
 
     fn send(&mut self, to: Peer, bytes: &[u8]) -> Sent
         ensures failed { result ≡ SendFailed → Grew self.old.failures self.new.failures }
-        ensures tells { ⟦<WireScript as Wire>⟧.handed self.new ≡ joined (⟦<WireScript as Wire>⟧.handed self.old) (handed_by_send result (record { peer = to; bytes = bytes.now })) }
-        ensures does { (result ≡ Later) ⊎ (result ≡ answer_at (slice_get (answers_of self.old) (answers_given self.old))) }
+        ensures tells { ⟦<WireScript as Wire>⟧.handed self.new ≡
+            joined (⟦<WireScript as Wire>⟧.handed self.old) (handed_by_send result (datagram to bytes.now)) }
+        ensures does { (result ≡ Later) ⊎ (result ≡ next_answer self.old) }
     {
         let sent = self.answer();
         if sent == Sent::Later {

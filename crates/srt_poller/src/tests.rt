@@ -40,17 +40,11 @@ const CONCLUSION_ANSWER: &str =
 /// A SHUTDOWN to a socket ID that is no route's.
 const STRAY: &str = "80050000000000000000000000400000";
 
-const NOTHING: Report = Report {
-    read: 0,
-    answered: 0,
-    accepted: 0,
-    full: 0,
-    dropped: 0,
-    memory: 0,
-    sent: 0,
-    lost: 0,
-    faults: 0,
-};
+/// The bytes 0 to 31.
+const SECRET: [u8; 32] = [
+    0, 1, 2, 3, 4, 5, 6, 7, 8, 9, 10, 11, 12, 13, 14, 15, 16, 17, 18, 19, 20, 21, 22, 23, 24, 25,
+    26, 27, 28, 29, 30, 31,
+];
 
 fn peer(port: u16) -> Peer {
     Peer {
@@ -79,23 +73,20 @@ fn entry(alloc: Global, name: &str, mode: Mode, buffer: u32) -> Result<Entry, Fa
     })
 }
 
-/// The bytes 0 to 31.
-fn secret() -> Secret {
-    let mut bytes = [0u8; 32];
-    for i in 0..32 {
-        bytes[i] = i as u8;
-    }
-    Secret::new(bytes)
-}
-
-/// Two routes with their ends.
+/// What a poller is given besides its devices.
 #[derive(Drop)]
-struct Routes {
+struct Lobby {
     secret: Secret,
     names: Names,
     ends: Vec<Ends>,
-    cells: Vec<RouteCell>,
     ghost paired: { length ends.items ≡ length (names_of names) },
+}
+
+/// Two routes: what the poller is given of them, and their cells.
+#[derive(Drop)]
+struct Routes {
+    lobby: Lobby,
+    cells: Vec<RouteCell>,
 }
 
 /// The routes `studio` and `files`.
@@ -118,12 +109,12 @@ fn open_routes<R: Wait>(rt: &R, alloc: Global) -> Result<Routes, Fail> {
         cells.push(cell)?;
         r += 1;
     }
-    Ok(Routes {
-        secret: secret(),
+    let lobby = Lobby {
+        secret: Secret::new(SECRET),
         names,
         ends,
-        cells,
-    })
+    };
+    Ok(Routes { lobby, cells })
 }
 
 /// A gate that lets every turn pass.
@@ -143,6 +134,26 @@ impl Gate for Open {
 }
 
 /// The report of this many rounds over these devices.
+fn pumped<S: Source, W: Wire>(
+    rt: &(impl AllocGlobal + Wait),
+    lobby: &mut Lobby,
+    source: &mut S,
+    wire: &mut W,
+    rounds: u32,
+) -> Report {
+    pump(
+        rt,
+        rt.alloc(),
+        &lobby.secret,
+        &lobby.names,
+        source,
+        wire,
+        lobby.ends.as_mut_slice(),
+        rounds,
+    )
+}
+
+/// The report of this many rounds in which the source does these steps.
 fn reported(
     rt: &(impl AllocGlobal + Wait),
     routes: &mut Routes,
@@ -150,15 +161,11 @@ fn reported(
     wire: &mut WireScript,
     rounds: u32,
 ) -> Report {
-    let mut source = SourceScript::new(steps);
-    pump(
+    pumped(
         rt,
-        rt.alloc(),
-        &routes.secret,
-        &routes.names,
-        &mut source,
+        &mut routes.lobby,
+        &mut SourceScript::new(steps),
         wire,
-        routes.ends.as_mut_slice(),
         rounds,
     )
 }
@@ -188,7 +195,7 @@ fn assert_handed(
 }
 
 #[test]
-fn two_rounds_with_an_induction_and_a_failed_read(rt: HostRuntime) -> Result<(), Fail> {
+fn an_induction_is_answered_and_a_failed_read_is_counted(rt: HostRuntime) -> Result<(), Fail> {
     let alloc = rt.alloc();
     let mut routes = open_routes(&rt, alloc)?;
     let mut wire = WireScript::new(alloc, Vec::new(alloc));
@@ -201,7 +208,7 @@ fn two_rounds_with_an_induction_and_a_failed_read(rt: HostRuntime) -> Result<(),
             answered: 1,
             sent: 1,
             faults: 1,
-            ..NOTHING
+            ..Report::NOTHING
         }
     );
     assert_handed(&rt, &wire, &[INDUCTION_ANSWER])
@@ -221,12 +228,14 @@ fn induction_with(
 }
 
 #[test]
-fn one_call_of_a_device_fails(rt: HostRuntime) -> Result<(), Fail> {
+fn an_answer_that_is_not_sent_is_lost_and_after_a_failed_wait_nothing_is_read(
+    rt: HostRuntime,
+) -> Result<(), Fail> {
     let late = Report {
         read: 1,
         answered: 1,
         lost: 1,
-        ..NOTHING
+        ..Report::NOTHING
     };
     let failed = Report { faults: 1, ..late };
     assert_eq!(&rt; induction_with(&rt, SourceStep::Wait, Sent::Later)?, late);
@@ -238,14 +247,16 @@ fn one_call_of_a_device_fails(rt: HostRuntime) -> Result<(), Fail> {
         induction_with(&rt, SourceStep::WaitFails, Sent::Taken)?,
         Report {
             faults: 1,
-            ..NOTHING
+            ..Report::NOTHING
         }
     );
     Ok(())
 }
 
 #[test]
-fn what_comes_is_answered_offered_or_dropped(rt: HostRuntime) -> Result<(), Fail> {
+fn what_comes_is_answered_offered_or_dropped_and_a_full_inbox_loses_it(
+    rt: HostRuntime,
+) -> Result<(), Fail> {
     let alloc = rt.alloc();
     let mut routes = open_routes(&rt, alloc)?;
     let mut wire = WireScript::new(alloc, Vec::new(alloc));
@@ -263,7 +274,7 @@ fn what_comes_is_answered_offered_or_dropped(rt: HostRuntime) -> Result<(), Fail
             full: 1,
             dropped: 1,
             sent: 1,
-            ..NOTHING
+            ..Report::NOTHING
         }
     );
     assert_handed(&rt, &wire, &[INDUCTION_ANSWER])
@@ -288,13 +299,15 @@ fn with_replies(rt: &(impl AllocGlobal + Wait), count: u32) -> Result<Routes, Fa
 fn a_reply_that_is_put_off_goes_first_and_once(rt: HostRuntime) -> Result<(), Fail> {
     let alloc = rt.alloc();
     let mut routes = with_replies(&rt, 3)?;
-    let mut answers = Vec::new(alloc);
-    for _ in 0..10_000 {
-        answers.push(Sent::Later)?;
-    }
-    let mut wire = WireScript::new(alloc, answers);
+    let mut wire = WireScript::new(alloc, vec![in alloc; Sent::Later; 10_000]?);
     let report = reported(&rt, &mut routes, Vec::new(alloc), &mut wire, 10_001);
-    assert_eq!(&rt; report, Report { sent: 3, ..NOTHING });
+    assert_eq!(&rt;
+        report,
+        Report {
+            sent: 3,
+            ..Report::NOTHING
+        }
+    );
     assert_handed(
         &rt,
         &wire,
@@ -308,11 +321,23 @@ fn a_reply_that_is_kept_at_the_end_is_lost(rt: HostRuntime) -> Result<(), Fail> 
     let mut routes = with_replies(&rt, 2)?;
     let mut wire = WireScript::new(alloc, vec![in alloc; Sent::Later, Sent::Later]?);
     let report = reported(&rt, &mut routes, Vec::new(alloc), &mut wire, 2);
-    assert_eq!(&rt; report, Report { lost: 1, ..NOTHING });
+    assert_eq!(&rt;
+        report,
+        Report {
+            lost: 1,
+            ..Report::NOTHING
+        }
+    );
     assert_handed(&rt, &wire, &[])?;
     // The other one was not taken.
     let report = reported(&rt, &mut routes, Vec::new(alloc), &mut wire, 1);
-    assert_eq!(&rt; report, Report { sent: 1, ..NOTHING });
+    assert_eq!(&rt;
+        report,
+        Report {
+            sent: 1,
+            ..Report::NOTHING
+        }
+    );
     assert_handed(&rt, &wire, &[CONCLUSION_ANSWER])
 }
 
@@ -328,7 +353,7 @@ fn a_reply_that_meets_a_failure_is_lost(rt: HostRuntime) -> Result<(), Fail> {
             sent: 1,
             lost: 1,
             faults: 1,
-            ..NOTHING
+            ..Report::NOTHING
         }
     );
     assert_eq!(&rt; wire.failures(), 1);
@@ -357,6 +382,25 @@ struct Serving<'a, R: Wait> {
     blocked: u32,
 }
 
+impl<'a, R: Wait> Serving<'a, R> {
+    /// A source that does these steps, and serves the first of these routes.
+    fn first(
+        rt: &'a R,
+        cells: &'a [RouteCell],
+        steps: Vec<SourceStep>,
+    ) -> Result<Serving<'a, R>, Fail> {
+        match cells.first() {
+            Some(cell) => Ok(Serving {
+                rt,
+                cell,
+                script: SourceScript::new(steps),
+                blocked: 0,
+            }),
+            None => Err(Fail::from("a first route")),
+        }
+    }
+}
+
 impl<'a, R: Wait> Source for Serving<'a, R> {
     ghost failures = { λ s. ⟦<SourceScript as Source>⟧.failures s.script };
 
@@ -383,41 +427,15 @@ impl<'a, R: Wait> Source for Serving<'a, R> {
 #[test]
 fn a_wire_that_puts_off_blocks_turns_and_fills_inboxes(rt: HostRuntime) -> Result<(), Fail> {
     let alloc = rt.alloc();
-    let Routes {
-        secret,
-        names,
-        mut ends,
-        cells,
-    } = open_routes(&rt, alloc)?;
-    let mut answers = Vec::new(alloc);
-    for _ in 0..10_000 {
-        answers.push(Sent::Later)?;
-    }
-    let mut wire = WireScript::new(alloc, answers);
-    let Some(cell) = cells.first() else {
-        return Err(Fail::from("a first route"));
-    };
+    let Routes { mut lobby, cells } = open_routes(&rt, alloc)?;
+    let mut wire = WireScript::new(alloc, vec![in alloc; Sent::Later; 10_000]?);
     let mut steps = Vec::new(alloc);
     for _ in 0..60 {
         steps.push(comes(alloc, CONCLUSION)?)?;
         steps.push(SourceStep::Empty)?;
     }
-    let mut source = Serving {
-        rt: &rt,
-        cell,
-        script: SourceScript::new(steps),
-        blocked: 0,
-    };
-    let report = pump(
-        &rt,
-        alloc,
-        &secret,
-        &names,
-        &mut source,
-        &mut wire,
-        ends.as_mut_slice(),
-        10_100,
-    );
+    let mut source = Serving::first(&rt, &cells, steps)?;
+    let report = pumped(&rt, &mut lobby, &mut source, &mut wire, 10_100);
     assert!(&rt; source.blocked > 9_000);
     assert_eq!(&rt;
         report,
@@ -426,7 +444,7 @@ fn a_wire_that_puts_off_blocks_turns_and_fills_inboxes(rt: HostRuntime) -> Resul
             accepted: 34,
             full: 26,
             sent: 34,
-            ..NOTHING
+            ..Report::NOTHING
         }
     );
     for sent in wire.handed() {
@@ -515,32 +533,18 @@ fn a_socket_reads_datagrams_of_several_peers(rt: HostRuntime) -> Result<(), Fail
 #[test]
 fn a_socket_answers_an_induction(rt: HostRuntime) -> Result<(), Fail> {
     let alloc = rt.alloc();
-    let Routes {
-        secret,
-        names,
-        mut ends,
-        cells: _,
-    } = open_routes(&rt, alloc)?;
+    let mut lobby = open_routes(&rt, alloc)?.lobby;
     let (mut source, mut wire) = bound(&rt, alloc, 0)?;
     let client = UdpSocket::bind(&rt, SocketAddr::V4(local(0)))?;
     client.send_to(&hex::decode(alloc, INDUCTION)?, address(&source)?)?;
-    let report = pump(
-        &rt,
-        alloc,
-        &secret,
-        &names,
-        &mut source,
-        &mut wire,
-        ends.as_mut_slice(),
-        10,
-    );
+    let report = pumped(&rt, &mut lobby, &mut source, &mut wire, 10);
     assert_eq!(&rt;
         report,
         Report {
             read: 1,
             answered: 1,
             sent: 1,
-            ..NOTHING
+            ..Report::NOTHING
         }
     );
     let mut answer = [0u8; 100];
@@ -551,7 +555,7 @@ fn a_socket_answers_an_induction(rt: HostRuntime) -> Result<(), Fail> {
 }
 
 #[test]
-fn a_wire_sends_to_ipv4_alone(rt: HostRuntime) -> Result<(), Fail> {
+fn a_send_to_a_peer_without_an_ipv4_address_fails(rt: HostRuntime) -> Result<(), Fail> {
     let (_source, mut wire) = bound(&rt, rt.alloc(), 0)?;
     let client = UdpSocket::bind(&rt, SocketAddr::V4(local(0)))?;
     assert_eq!(&rt;

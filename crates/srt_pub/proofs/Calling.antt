@@ -30,7 +30,7 @@ good_after : (terms : Terms) (m : Publishing) (a : Arrival) (more : List Arrival
 good_after terms m a more g w =
     let r = m.receiving in
     let k = first_waiting (λ (x : Arrival). 0 < length x.payload) r a more g.orderly.filled w in
-    let s = settles terms.width (record r { position = a.number + 1 }) in
+    let s = settles terms.width (record r { front = a.number + 1 }) in
     record { orderly = orderly_passed terms.mode terms.width r a k.low g.orderly; beyond = λ n le. g.beyond n (omega (arith, le, s.0, k.low)) }
 
 passed_more : (terms : Terms) (m : Publishing) (a : Arrival) (xs : List Arrival) → IsGood terms (after_delivery terms (Some a) m) → passed terms.width xs (passed terms.width (a ∷ []) m.receiving) ≡ passed terms.width (a ∷ xs) m.receiving
@@ -116,7 +116,7 @@ live_step terms time live calls room m g = by (waiting m.receiving) refl
 
 -- buffer mode: the payloads without a gap, as long as there is room
 pub buffer_step : (terms : Terms) (time : ℕ) → terms.mode ≡ Buffer → (calls room : ℕ) (m : Publishing) → IsGood terms m → Step terms time room m (take (min (suc calls) room) (unbroken terms.width m.receiving)) (λ p. take (min calls (room_after terms.mode room)) (unbroken terms.width p.receiving))
-buffer_step terms time buffer calls room m g = elim (cases_lt m.receiving.position (ack_point terms.width m.receiving)) [
+buffer_step terms time buffer calls room m g = elim (cases_lt m.receiving.front (ack_point terms.width m.receiving)) [
   | inl lt ↦ by (unbroken_one_by_one terms.width m.receiving in_buffer.0 g.beyond lt)
   | inr ge ↦ Nothing (buffer_none terms time room m buffer (omega (arith, ge))) (nothing_unbroken (omega (arith, ge)))
 ]
@@ -124,8 +124,8 @@ buffer_step terms time buffer calls room m g = elim (cases_lt m.receiving.positi
     in_buffer : IsInMode Buffer m.receiving
     in_buffer = subst (λ (d : Mode). IsInMode d m.receiving) buffer g.orderly.in_mode
 
-    nothing_unbroken : ack_point terms.width m.receiving - m.receiving.position ≡ 0 → take (min (suc calls) room) (unbroken terms.width m.receiving) ≡ []
-    nothing_unbroken e = ap (λ (k : ℕ). take (min (suc calls) room) (filter_map (arrival_of m.receiving.arrivals) (numbers_from m.receiving.position k))) e ∙ taken_nothing (min (suc calls) room)
+    nothing_unbroken : ack_point terms.width m.receiving - m.receiving.front ≡ 0 → take (min (suc calls) room) (unbroken terms.width m.receiving) ≡ []
+    nothing_unbroken e = ap (λ (k : ℕ). take (min (suc calls) room) (filter_map (arrival_of m.receiving.arrivals) (numbers_from m.receiving.front k))) e ∙ taken_nothing (min (suc calls) room)
 
     by : (a : Arrival) × (more : List Arrival) × (waiting m.receiving ≡ a ∷ more) × (unbroken terms.width m.receiving ≡ a ∷ unbroken terms.width (passed terms.width (a ∷ []) m.receiving)) → Step terms time room m (take (min (suc calls) room) (unbroken terms.width m.receiving)) (λ p. take (min calls (room_after terms.mode room)) (unbroken terms.width p.receiving))
     by u = elim (cases_eq room 0) [

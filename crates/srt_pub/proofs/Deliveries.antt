@@ -39,10 +39,10 @@ take_nothing : (n : ℕ) → first_of (take n []) ≡ None
 take_nothing zero = refl
 take_nothing (suc n) = refl
 
-pub buffer_none : (terms : Terms) (time room : ℕ) (m : Publishing) → terms.mode ≡ Buffer → ack_point terms.width m.receiving - m.receiving.position ≡ 0 → next_delivery terms time room m ≡ None
+pub buffer_none : (terms : Terms) (time room : ℕ) (m : Publishing) → terms.mode ≡ Buffer → ack_point terms.width m.receiving - m.receiving.front ≡ 0 → next_delivery terms time room m ≡ None
 buffer_none terms time room m e none =
     buffer_is terms time room m e
-    ∙ ap (λ (k : ℕ). first_of (take (min most room) (filter_map (arrival_of m.receiving.arrivals) (numbers_from m.receiving.position k)))) none
+    ∙ ap (λ (k : ℕ). first_of (take (min most room) (filter_map (arrival_of m.receiving.arrivals) (numbers_from m.receiving.front k)))) none
     ∙ take_nothing (min most room)
 
 take_first : (n : ℕ) (a : Arrival) (xs : List Arrival) → 0 < n → first_of (take n (a ∷ xs)) ≡ Some a
@@ -65,7 +65,7 @@ due_ones r h = h.1
 no_requests : (r : Receiving) → IsInMode Buffer r → r.requests ≡ []
 no_requests r h = h.0
 
-pub buffer_next : (terms : Terms) (time room : ℕ) (m : Publishing) → terms.mode ≡ Buffer → NothingBeyond terms.width m.receiving → IsOrderly Buffer terms.width m.receiving → m.receiving.position < ack_point terms.width m.receiving → next_delivery terms time room m ≡ next_due time room m.receiving
+pub buffer_next : (terms : Terms) (time room : ℕ) (m : Publishing) → terms.mode ≡ Buffer → NothingBeyond terms.width m.receiving → IsOrderly Buffer terms.width m.receiving → m.receiving.front < ack_point terms.width m.receiving → next_delivery terms time room m ≡ next_due time room m.receiving
 buffer_next terms time room m e beyond h lt =
     let r = m.receiving in
     let u = unbroken_one_by_one terms.width r (no_requests r h.in_mode) beyond lt in

@@ -31,8 +31,8 @@ acks_first width =
       came_is = refl;
     }
 
-pub acks_came : (width position point came' : ℕ) (notes : List Note) (known : Bool) (same last came : ℕ) → came' ≡ min (came + 1) 64 → AreAcks width position point notes known same last came → AreAcks width position point (Came ∷ notes) known same last came'
-acks_came width position point came' notes known same last came more h =
+pub acks_came : (width front point came' : ℕ) (notes : List Note) (known : Bool) (same last came : ℕ) → came' ≡ min (came + 1) 64 → AreAcks width front point notes known same last came → AreAcks width front point (Came ∷ notes) known same last came'
+acks_came width front point came' notes known same last came more h =
     record {
       inside = h.inside;
       sent = h.sent;
@@ -43,56 +43,52 @@ acks_came width position point came' notes known same last came more h =
       came_is = omega (arith, h.came_is, more);
     }
 
-pub acks_light : (width position point time said : ℕ) (notes : List Note) (known : Bool) (same last came : ℕ) → AreAcks width position point notes known same last came → AreAcks width position point (Sent time (LightAck said) ∷ notes) known same last 0
-acks_light width position point time said notes known same last came h =
+-- a report that isn't a Full ACK
+acks_said : (width front point time came' : ℕ) (r : Report) (notes : List Note) (known : Bool) (same last came : ℕ) → fulls (Sent time r ∷ notes) ≡ fulls notes → came' ≡ min (came_since_ack (Sent time r ∷ notes)) 64 → AreAcks width front point notes known same last came → AreAcks width front point (Sent time r ∷ notes) known same last came'
+acks_said width front point time came' r notes known same last came fs_are came_is h =
+    let F : List Full → Type 0 = λ fs. AreFulls width front point fs in
     record {
       inside = h.inside;
-      sent = h.sent;
-      confirmed = record { latest = h.confirmed.latest; below = h.confirmed.below };
+      sent = subst F (sym fs_are) h.sent;
+      confirmed =
+          record {
+            latest = λ f e. let k = h.confirmed.latest f e in (k.0, ap (λ fs. slice_get fs k.0) fs_are ∙ k.1);
+            below = λ index le. h.confirmed.below index (subst (λ (fs : List Full). length fs ≤ index) fs_are le);
+          };
       known_is = h.known_is;
-      same_is = h.same_is;
-      last_is = h.last_is;
-      came_is = refl;
+      same_is = λ d f lt e. h.same_is d f lt (sym (ap (λ fs. slice_get fs d) fs_are) ∙ e);
+      last_is = h.last_is ∙ sym (ap time_of fs_are);
+      came_is = came_is;
     }
+
+pub acks_light : (width front point time said : ℕ) (notes : List Note) (known : Bool) (same last came : ℕ) → AreAcks width front point notes known same last came → AreAcks width front point (Sent time (LightAck said) ∷ notes) known same last 0
+acks_light width front point time said notes known same last came h = acks_said width front point time 0 (LightAck said) notes known same last came refl refl h
 
 -- a report that isn't an ACK
 pub record IsNoAck (time : ℕ) (r : Report) (notes : List Note) : Type 0 where
   pub fulls_are : fulls (Sent time r ∷ notes) ≡ fulls notes
   pub came_is : came_since_ack (Sent time r ∷ notes) ≡ came_since_ack notes
 
-pub acks_other : (width position point time : ℕ) (r : Report) (notes : List Note) (known : Bool) (same last came : ℕ) → IsNoAck time r notes → AreAcks width position point notes known same last came → AreAcks width position point (Sent time r ∷ notes) known same last came
-acks_other width position point time r notes known same last came n h =
-    let F : List Full → Type 0 = λ fs. AreFulls width position point fs in
-    record {
-      inside = h.inside;
-      sent = subst F (sym n.fulls_are) h.sent;
-      confirmed =
-          record {
-            latest = λ f e. let k = h.confirmed.latest f e in (k.0, ap (λ fs. slice_get fs k.0) n.fulls_are ∙ k.1);
-            below = λ index le. h.confirmed.below index (subst (λ (fs : List Full). length fs ≤ index) n.fulls_are le);
-          };
-      known_is = h.known_is;
-      same_is = λ d f lt e. h.same_is d f lt (sym (ap (λ fs. slice_get fs d) n.fulls_are) ∙ e);
-      last_is = h.last_is ∙ sym (ap time_of n.fulls_are);
-      came_is = h.came_is ∙ sym (ap (λ k. min k 64) n.came_is);
-    }
+pub acks_other : (width front point time : ℕ) (r : Report) (notes : List Note) (known : Bool) (same last came : ℕ) → IsNoAck time r notes → AreAcks width front point notes known same last came → AreAcks width front point (Sent time r ∷ notes) known same last came
+acks_other width front point time r notes known same last came n h =
+    acks_said width front point time came r notes known same last came n.fulls_are (h.came_is ∙ sym (ap (λ k. min k 64) n.came_is)) h
 
 -- the front or the acknowledgement point moves on: none of the Full ACKs reported the new pair
-no_pair : (width position a front point fp fa : ℕ) → 0 < front + point → a + point ≤ position + front + width → fp ≤ a → fp + fa ≤ position + width → ((a + point == fp) && (position + front + width - (a + point) == fa)) ≡ false
-no_pair width position a front point fp fa more inside le up = grind (arith, nat_tests)
+no_pair : (width front a front_steps point fp fa : ℕ) → 0 < front_steps + point → a + point ≤ front + front_steps + width → fp ≤ a → fp + fa ≤ front + width → ((a + point == fp) && (front + front_steps + width - (a + point) == fa)) ≡ false
+no_pair width front a front_steps point fp fa more inside le up = grind (arith, nat_tests)
 
-unknown : (width position a front point : ℕ) (fs : List Full) (latest : Option Full) → 0 < front + point → a + point ≤ position + front + width → AreFulls width position a fs → ((f : Full) → latest ≡ Some f → (d : ℕ) × (slice_get fs d ≡ Some f)) → is_known width (a + point) (position + front + width - (a + point)) latest ≡ false
-unknown width position a front point fs None more inside h among = no_pair width position a front point 0 width more inside (omega arith) (omega arith)
-unknown width position a front point fs (Some f) more inside h among =
+unknown : (width front a front_steps point : ℕ) (fs : List Full) (latest : Option Full) → 0 < front_steps + point → a + point ≤ front + front_steps + width → AreFulls width front a fs → ((f : Full) → latest ≡ Some f → (d : ℕ) × (slice_get fs d ≡ Some f)) → is_known width (a + point) (front + front_steps + width - (a + point)) latest ≡ false
+unknown width front a front_steps point fs None more inside h among = no_pair width front a front_steps point 0 width more inside (omega arith) (omega arith)
+unknown width front a front_steps point fs (Some f) more inside h among =
     let k = among f refl in
     let high = h.high k.0 f k.1 in
-    no_pair width position a front point f.point f.available more inside high.0 high.1
+    no_pair width front a front_steps point f.point f.available more inside high.0 high.1
 
 none_below : (d : ℕ) (b : Bool) → b ≡ false → nat_lt d 0 ≡ b
 none_below d b e = grind (arith, nat_tests)
 
-pub acks_moved : (width position a front point : ℕ) (notes : List Note) (known : Bool) (same last came : ℕ) → 0 < front + point → a + point ≤ position + front + width → AreAcks width position a notes known same last came → AreAcks width (position + front) (a + point) notes false 0 last came
-acks_moved width position a front point notes known same last came more inside h =
+pub acks_moved : (width front a front_steps point : ℕ) (notes : List Note) (known : Bool) (same last came : ℕ) → 0 < front_steps + point → a + point ≤ front + front_steps + width → AreAcks width front a notes known same last came → AreAcks width (front + front_steps) (a + point) notes false 0 last came
+acks_moved width front a front_steps point notes known same last came more inside h =
     record {
       inside = inside;
       sent =
@@ -103,8 +99,8 @@ acks_moved width position a front point notes known same last came more inside h
             high = λ d f e. let k = h.sent.high d f e in (omega (arith, k.0), omega (arith, k.1));
           };
       confirmed = h.confirmed;
-      known_is = sym (unknown width position a front point (fulls notes) (latest_confirmed notes) more inside h.sent h.confirmed.latest);
-      same_is = λ d f lt e. let k = h.sent.high d f e in none_below d _ (no_pair width position a front point f.point f.available more inside k.0 k.1);
+      known_is = sym (unknown width front a front_steps point (fulls notes) (latest_confirmed notes) more inside h.sent h.confirmed.latest);
+      same_is = λ d f lt e. let k = h.sent.high d f e in none_below d _ (no_pair width front a front_steps point f.point f.available more inside k.0 k.1);
       last_is = h.last_is;
       came_is = h.came_is;
     }
@@ -117,8 +113,8 @@ reads (suc d) x f fs e = inr (d, omega arith, e)
 not_past_itself : (x y : Full) → x ≡ y → IsNotPast x y
 not_past_itself x y e = let p = ap (λ (f : Full). f.point) e in let a = ap (λ (f : Full). f.available) e in record { point = omega (arith, p); window = omega (arith, p, a) }
 
-fulls_more : (width position a : ℕ) (x : Full) (fs : List Full) → x.index ≡ length fs → x.point ≡ a → x.point + x.available ≡ position + width → a ≤ position + width → AreFulls width position a fs → AreFulls width position a (x ∷ fs)
-fulls_more width position a x fs index point window inside h =
+fulls_more : (width front a : ℕ) (x : Full) (fs : List Full) → x.index ≡ length fs → x.point ≡ a → x.point + x.available ≡ front + width → a ≤ front + width → AreFulls width front a fs → AreFulls width front a (x ∷ fs)
+fulls_more width front a x fs index point window inside h =
     record {
       numbered = λ d f e. elim (reads d x f fs e) [
         | inl z ↦ let i = ap (λ (g : Full). g.index) z.1 in omega (arith, z.0, i, index)
@@ -157,12 +153,12 @@ one_more d e same b i lt h = grind (arith, nat_tests)
 at_first : (d same : ℕ) (b : Bool) → d ≡ 0 → b ≡ true → nat_lt d (min (same + 1) 64) ≡ b
 at_first d same b i h = grind (arith, nat_tests)
 
-pub acks_full : (width position a time rtt variance room same' : ℕ) (notes : List Note) (known : Bool) (same last came : ℕ) → room ≡ position + width - a → same' ≡ min (same + 1) 64 → AreAcks width position a notes known same last came → AreAcks width position a (Sent time (FullAck (length (fulls notes)) a rtt variance room) ∷ notes) known same' time 0
-acks_full width position a time rtt variance room same' notes known same last came is more h =
+pub acks_full : (width front a time rtt variance room same' : ℕ) (notes : List Note) (known : Bool) (same last came : ℕ) → room ≡ front + width - a → same' ≡ min (same + 1) 64 → AreAcks width front a notes known same last came → AreAcks width front a (Sent time (FullAck (length (fulls notes)) a rtt variance room) ∷ notes) known same' time 0
+acks_full width front a time rtt variance room same' notes known same last came is more h =
     let x : Full = record { index = length (fulls notes); time = time; point = a; available = room } in
     record {
       inside = h.inside;
-      sent = fulls_more width position a x (fulls notes) refl refl (omega (arith, is, h.inside)) h.inside h.sent;
+      sent = fulls_more width front a x (fulls notes) refl refl (omega (arith, is, h.inside)) h.inside h.sent;
       confirmed =
           record {
             latest = λ f e. let k = h.confirmed.latest f e in (suc k.0, k.1);
@@ -173,7 +169,7 @@ acks_full width position a time rtt variance room same' notes known same last ca
         | inl z ↦
             let p = ap (λ (q : Full). q.point) z.1 in
             let v = ap (λ (q : Full). q.available) z.1 in
-            at_first d same _ z.0 (says_it a (position + width - a) f.point f.available (sym p) (sym v ∙ is))
+            at_first d same _ z.0 (says_it a (front + width - a) f.point f.available (sym p) (sym v ∙ is))
         | inr k ↦ one_more d k.0 same _ k.1 lt (h.same_is k.0 f (omega (arith, k.1, lt)) k.2)
       ]);
       last_is = refl;
@@ -181,20 +177,20 @@ acks_full width position a time rtt variance room same' notes known same last ca
     }
 
 -- a Full ACK is confirmed
-none_before : (k s : Bool) (width position a fp fa : ℕ) → k ≡ ((a == 0) && (position + width - a == width)) → s ≡ ((a == fp) && (position + width - a == fa)) → a ≤ position + width → fp ≤ a → fp + fa ≤ position + width → width ≤ fp + fa → (k || s) ≡ s
-none_before k s width position a fp fa ki si inside le up low = grind (arith, nat_tests)
+none_before : (k s : Bool) (width front a fp fa : ℕ) → k ≡ ((a == 0) && (front + width - a == width)) → s ≡ ((a == fp) && (front + width - a == fa)) → a ≤ front + width → fp ≤ a → fp + fa ≤ front + width → width ≤ fp + fa → (k || s) ≡ s
+none_before k s width front a fp fa ki si inside le up low = grind (arith, nat_tests)
 
-stays : (k s : Bool) (width position a fp fa gp ga : ℕ) → k ≡ ((a == gp) && (position + width - a == ga)) → s ≡ ((a == fp) && (position + width - a == fa)) → a ≤ position + width → fp ≤ gp → fp + fa ≤ gp + ga → gp ≤ a → gp + ga ≤ position + width → (k || s) ≡ k
-stays k s width position a fp fa gp ga ki si inside p w le up = grind (arith, nat_tests)
+stays : (k s : Bool) (width front a fp fa gp ga : ℕ) → k ≡ ((a == gp) && (front + width - a == ga)) → s ≡ ((a == fp) && (front + width - a == fa)) → a ≤ front + width → fp ≤ gp → fp + fa ≤ gp + ga → gp ≤ a → gp + ga ≤ front + width → (k || s) ≡ k
+stays k s width front a fp fa gp ga ki si inside p w le up = grind (arith, nat_tests)
 
-takes_over : (k s : Bool) (width position a fp fa gp ga : ℕ) → k ≡ ((a == gp) && (position + width - a == ga)) → s ≡ ((a == fp) && (position + width - a == fa)) → a ≤ position + width → gp ≤ fp → gp + ga ≤ fp + fa → fp ≤ a → fp + fa ≤ position + width → (k || s) ≡ s
-takes_over k s width position a fp fa gp ga ki si inside p w le up = grind (arith, nat_tests)
+takes_over : (k s : Bool) (width front a fp fa gp ga : ℕ) → k ≡ ((a == gp) && (front + width - a == ga)) → s ≡ ((a == fp) && (front + width - a == fa)) → a ≤ front + width → gp ≤ fp → gp + ga ≤ fp + fa → fp ≤ a → fp + fa ≤ front + width → (k || s) ≡ s
+takes_over k s width front a fp fa gp ga ki si inside p w le up = grind (arith, nat_tests)
 
-known_with : (width position a d : ℕ) (fs : List Full) (f : Full) (latest : Option Full) (k s : Bool) → AreFulls width position a fs → a ≤ position + width → slice_get fs d ≡ Some f → ((g : Full) → latest ≡ Some g → (e : ℕ) × (slice_get fs e ≡ Some g)) → k ≡ is_known width a (position + width - a) latest → s ≡ says_pair a (position + width - a) f → (k || s) ≡ is_known width a (position + width - a) (later_of f latest)
-known_with width position a d fs f None k s h inside at among ki si =
+known_with : (width front a d : ℕ) (fs : List Full) (f : Full) (latest : Option Full) (k s : Bool) → AreFulls width front a fs → a ≤ front + width → slice_get fs d ≡ Some f → ((g : Full) → latest ≡ Some g → (e : ℕ) × (slice_get fs e ≡ Some g)) → k ≡ is_known width a (front + width - a) latest → s ≡ says_pair a (front + width - a) f → (k || s) ≡ is_known width a (front + width - a) (later_of f latest)
+known_with width front a d fs f None k s h inside at among ki si =
     let high = h.high d f at in
-    none_before k s width position a f.point f.available ki si inside high.0 high.1 (h.low d f at) ∙ si
-known_with width position a d fs f (Some g) k s h inside at among ki si =
+    none_before k s width front a f.point f.available ki si inside high.0 high.1 (h.low d f at) ∙ si
+known_with width front a d fs f (Some g) k s h inside at among ki si =
     let e = among g refl in
     let i = h.numbered d f at in
     let j = h.numbered e.0 g e.1 in
@@ -202,13 +198,13 @@ known_with width position a d fs f (Some g) k s h inside at among ki si =
       | inl lt ↦
           let n = h.rising e.0 d g f (omega (arith, i, j, lt)) e.1 at in
           let high = h.high e.0 g e.1 in
-          stays k s width position a f.point f.available g.point g.available ki si inside n.point n.window high.0 high.1 ∙ ki
-          ∙ sym (ap (λ (b : Bool). is_known width a (position + width - a) (cond b (Some g) (Some f))) (lt-ltb _ _ lt))
+          stays k s width front a f.point f.available g.point g.available ki si inside n.point n.window high.0 high.1 ∙ ki
+          ∙ sym (ap (λ (b : Bool). is_known width a (front + width - a) (cond b (Some g) (Some f))) (lt-ltb _ _ lt))
       | inr ge ↦
           let n = h.rising d e.0 f g (omega (arith, i, j, ge)) at e.1 in
           let high = h.high d f at in
-          takes_over k s width position a f.point f.available g.point g.available ki si inside n.point n.window high.0 high.1 ∙ si
-          ∙ sym (ap (λ (b : Bool). is_known width a (position + width - a) (cond b (Some g) (Some f))) (le-ltb _ _ ge))
+          takes_over k s width front a f.point f.available g.point g.available ki si inside n.point n.window high.0 high.1 ∙ si
+          ∙ sym (ap (λ (b : Bool). is_known width a (front + width - a) (cond b (Some g) (Some f))) (le-ltb _ _ ge))
     ]
 
 among_later : (f g : Full) (latest : Option Full) (fs : List Full) (d : ℕ) → slice_get fs d ≡ Some f → ((x : Full) → latest ≡ Some x → (e : ℕ) × (slice_get fs e ≡ Some x)) → later_of f latest ≡ Some g → (e : ℕ) × (slice_get fs e ≡ Some g)
@@ -221,8 +217,8 @@ among_later f g (Some x) fs d at among is = elim (cases_lt f.index x.index) [
 not_it : (a b : ℕ) (c : Bool) → a < b → c ≡ false → ((a == b) || c) ≡ false
 not_it a b c lt e = grind (arith, nat_tests)
 
-pub acks_confirmed : (width position a d sample : ℕ) (f : Full) (notes : List Note) (known known' : Bool) (same last came : ℕ) → d < 64 → slice_get (fulls notes) d ≡ Some f → known' ≡ (known || nat_lt d same) → AreAcks width position a notes known same last came → AreAcks width position a (Confirmed f sample ∷ notes) known' same last came
-acks_confirmed width position a d sample f notes known known' same last came lt at is h =
+pub acks_confirmed : (width front a d sample : ℕ) (f : Full) (notes : List Note) (known known' : Bool) (same last came : ℕ) → d < 64 → slice_get (fulls notes) d ≡ Some f → known' ≡ (known || nat_lt d same) → AreAcks width front a notes known same last came → AreAcks width front a (Confirmed f sample ∷ notes) known' same last came
+acks_confirmed width front a d sample f notes known known' same last came lt at is h =
     record {
       inside = h.inside;
       sent = h.sent;
@@ -231,7 +227,7 @@ acks_confirmed width position a d sample f notes known known' same last came lt 
             latest = λ g e. among_later f g (latest_confirmed notes) (fulls notes) d at h.confirmed.latest e;
             below = λ index le. let n = h.sent.numbered d f at in not_it f.index index (is_confirmed notes index) (omega (arith, n, le)) (h.confirmed.below index le);
           };
-      known_is = is ∙ known_with width position a d (fulls notes) f (latest_confirmed notes) known (nat_lt d same) h.sent h.inside at h.confirmed.latest h.known_is (h.same_is d f lt at);
+      known_is = is ∙ known_with width front a d (fulls notes) f (latest_confirmed notes) known (nat_lt d same) h.sent h.inside at h.confirmed.latest h.known_is (h.same_is d f lt at);
       same_is = h.same_is;
       last_is = h.last_is;
       came_is = h.came_is;
@@ -252,23 +248,23 @@ due_when_unknown known b e = rw e (by b)
     by false = refl
 
 -- whether a Full ACK is due
-pub full_not_due : (width position point time : ℕ) (notes : List Note) (known : Bool) (same last came : ℕ) → known ≡ true → AreAcks width position point notes known same last came → false ≡ is_full_due width point (position + width - point) time notes
+pub full_not_due : (width front point time : ℕ) (notes : List Note) (known : Bool) (same last came : ℕ) → known ≡ true → AreAcks width front point notes known same last came → false ≡ is_full_due width point (front + width - point) time notes
 unfolding is_full_due
-full_not_due width position point time notes known same last came k h = due_when_known (is_known width point (position + width - point) (latest_confirmed notes)) _ (sym h.known_is ∙ k)
+full_not_due width front point time notes known same last came k h = due_when_known (is_known width point (front + width - point) (latest_confirmed notes)) _ (sym h.known_is ∙ k)
 
-pub full_due : (width position point time since : ℕ) (notes : List Note) (known : Bool) (same last came : ℕ) → known ≡ false → since ≡ time - last → AreAcks width position point notes known same last came → nat_le 10_000 since ≡ is_full_due width point (position + width - point) time notes
+pub full_due : (width front point time since : ℕ) (notes : List Note) (known : Bool) (same last came : ℕ) → known ≡ false → since ≡ time - last → AreAcks width front point notes known same last came → nat_le 10_000 since ≡ is_full_due width point (front + width - point) time notes
 unfolding is_full_due
-full_due width position point time since notes known same last came k s h =
+full_due width front point time since notes known same last came k s h =
     ap (nat_le 10_000) (s ∙ ap (λ x. time - x) h.last_is)
-    ∙ due_when_unknown (is_known width point (position + width - point) (latest_confirmed notes)) _ (sym h.known_is ∙ k)
+    ∙ due_when_unknown (is_known width point (front + width - point) (latest_confirmed notes)) _ (sym h.known_is ∙ k)
 
-pub light_due : (width position point : ℕ) (notes : List Note) (known : Bool) (same last came : ℕ) → AreAcks width position point notes known same last came → nat_le 64 came ≡ is_light_due notes
-light_due width position point notes known same last came h = let e = h.came_is in grind (arith, nat_tests)
+pub light_due : (width front point : ℕ) (notes : List Note) (known : Bool) (same last came : ℕ) → AreAcks width front point notes known same last came → nat_le 64 came ≡ is_light_due notes
+light_due width front point notes known same last came h = let e = h.came_is in grind (arith, nat_tests)
 
 pub acks_by : (width a available time : ℕ) (notes : List Note) (full light : Bool) → is_full_due width a available time notes ≡ full → is_light_due notes ≡ light → acks_at width a available time notes ≡ ack_of full light (full_ack a available notes) (LightAck a)
 unfolding acks_at
 acks_by width a available time notes full light f l = ap (λ b. ack_of b (is_light_due notes) (full_ack a available notes) (LightAck a)) f ∙ ap (λ b. ack_of full b (full_ack a available notes) (LightAck a)) l
 
-pub acks_still : (width position position' a a' : ℕ) (notes : List Note) (known : Bool) (same last came : ℕ) → position ≡ position' → a ≡ a' → AreAcks width position a notes known same last came → AreAcks width position' a' notes known same last came
-acks_still width position position' a a' notes known same last came p q h =
-    subst (λ (x : ℕ). AreAcks width position' x notes known same last came) q (subst (λ (x : ℕ). AreAcks width x a notes known same last came) p h)
+pub acks_still : (width front front' a a' : ℕ) (notes : List Note) (known : Bool) (same last came : ℕ) → front ≡ front' → a ≡ a' → AreAcks width front a notes known same last came → AreAcks width front' a' notes known same last came
+acks_still width front front' a a' notes known same last came p q h =
+    subst (λ (x : ℕ). AreAcks width front' x notes known same last came) q (subst (λ (x : ℕ). AreAcks width x a notes known same last came) p h)

@@ -33,12 +33,12 @@ least_of test from (suc places) = by (test from) refl (least_of test (from + 1) 
     by false is h = is_least test from (suc places) _ _ (found test from places false is) (record { low = omega (arith, h.low); high = omega (arith, h.high); here = λ lt. h.here (omega (arith, lt)) })
 
 -- a missing number can be received, and no number becomes missing
-pub goes : (width : ℕ) (r s : Receiving) → r.position ≤ s.position → s.position ≤ r.position + 2 ^ 30 → ((n : ℕ) → is_missing width r n ≡ false → is_missing width s n ≡ false) → end_of r.arrivals ≤ end_of s.arrivals → GoesOn width r s
+pub goes : (width : ℕ) (r s : Receiving) → r.front ≤ s.front → s.front ≤ r.front + 2 ^ 30 → ((n : ℕ) → is_missing width r n ≡ false → is_missing width s n ≡ false) → end_of r.arrivals ≤ end_of s.arrivals → GoesOn width r s
 goes width r s on near kept ends =
     let h = ack_points width r in
     let k = ack_points width s in
     record {
-      position = on;
+      front = on;
       near = near;
       point = elim (cases_lt (ack_point width s) (ack_point width r)) [
         | inl lt ↦
@@ -54,10 +54,10 @@ pub stays_put : (width : ℕ) (r : Receiving) → GoesOn width r r
 stays_put width r = goes width r r (omega arith) (omega arith) (λ n e. e) (omega arith)
 
 -- settling
-pub settles : (width : ℕ) (r : Receiving) → (r.position ≤ (settled width r).position) × ((settled width r).position ≤ r.position + width)
-settles width r = let h = least_of (λ n. not (is_dropped width r n)) r.position width in (h.low, h.high)
+pub settles : (width : ℕ) (r : Receiving) → (r.front ≤ (settled width r).front) × ((settled width r).front ≤ r.front + width)
+settles width r = let h = least_of (λ n. not (is_dropped width r n)) r.front width in (h.low, h.high)
 
-pub goes_settled : (width : ℕ) (r s : Receiving) → width ≤ 8192 → r.position ≤ s.position → s.position ≤ r.position + 3 * 8192 → ((n : ℕ) → is_missing width r n ≡ false → is_missing width s n ≡ false) → end_of r.arrivals ≤ end_of s.arrivals → GoesOn width r (settled width s)
+pub goes_settled : (width : ℕ) (r s : Receiving) → width ≤ 8192 → r.front ≤ s.front → s.front ≤ r.front + 3 * 8192 → ((n : ℕ) → is_missing width r n ≡ false → is_missing width s n ≡ false) → end_of r.arrivals ≤ end_of s.arrivals → GoesOn width r (settled width s)
 goes_settled width r s narrow on near kept ends =
     let k = settles width s in
     goes width r (settled width s) (omega (arith, k.0, on)) (omega (arith, k.1, near, narrow)) kept ends
@@ -81,63 +81,63 @@ fronts_on a b [] le all = tt
 fronts_on a b (q ∷ qs) le all = (omega (arith, le, all.0), fronts_on a b qs le all.1)
 
 -- after settling, the number at the position isn't dropped
-pub settled_stays : (width : ℕ) (r : Receiving) → Each (λ (q : Request). q.front ≤ r.position) r.requests → is_dropped width (settled width r) (settled width r).position ≡ false
+pub settled_stays : (width : ℕ) (r : Receiving) → Each (λ (q : Request). q.front ≤ r.front) r.requests → is_dropped width (settled width r) (settled width r).front ≡ false
 settled_stays width r fronts =
-    let h = least_of (λ n. not (is_dropped width r n)) r.position width in
-    let n = (settled width r).position in
-    elim (cases_lt n (r.position + width)) [
+    let h = least_of (λ n. not (is_dropped width r n)) r.front width in
+    let n = (settled width r).front in
+    elim (cases_lt n (r.front + width)) [
       | inl lt ↦ not-true (is_dropped width r n) (h.here lt)
-      | inr ge ↦ and_left _ _ (not_beyond width n r.requests (fronts_below width r.position n r.requests ge fronts))
+      | inr ge ↦ and_left _ _ (not_beyond width n r.requests (fronts_below width r.front n r.requests ge fronts))
     ]
 
-pub settled_already : (width : ℕ) (r : Receiving) → is_dropped width r r.position ≡ false → settled width r ≡ r
+pub settled_already : (width : ℕ) (r : Receiving) → is_dropped width r r.front ≡ false → settled width r ≡ r
 settled_already zero r e = refl
-settled_already (suc width) r e = ap (λ n. moved_to n r) (found (λ n. not (is_dropped (suc width) r n)) r.position width true (ap not e))
+settled_already (suc width) r e = ap (λ n. moved_to n r) (found (λ n. not (is_dropped (suc width) r n)) r.front width true (ap not e))
 
 in_mode_moved : (mode : Mode) (n : ℕ) (r : Receiving) → IsInMode mode r → IsInMode mode (moved_to n r)
 in_mode_moved Live n r h = tt
 in_mode_moved Buffer n r h = h
 
 -- a payload is delivered
-pub orderly_passed : (mode : Mode) (width : ℕ) (r : Receiving) (a : Arrival) → r.position ≤ a.number → IsOrderly mode width r → IsOrderly mode width (passed width (a ∷ []) r)
+pub orderly_passed : (mode : Mode) (width : ℕ) (r : Receiving) (a : Arrival) → r.front ≤ a.number → IsOrderly mode width r → IsOrderly mode width (passed width (a ∷ []) r)
 orderly_passed mode width r a le h =
     let s = moved_to (a.number + 1) r in
     let k = settles width s in
-    let fronts = fronts_on r.position (a.number + 1) r.requests (omega (arith, le)) h.fronts in
+    let fronts = fronts_on r.front (a.number + 1) r.requests (omega (arith, le)) h.fronts in
     record {
-      fronts = fronts_on (a.number + 1) (settled width s).position r.requests k.0 fronts;
+      fronts = fronts_on (a.number + 1) (settled width s).front r.requests k.0 fronts;
       settled = settled_stays width s fronts;
       filled = h.filled;
-      in_mode = in_mode_moved mode (settled width s).position s (in_mode_moved mode (a.number + 1) r h.in_mode);
+      in_mode = in_mode_moved mode (settled width s).front s (in_mode_moved mode (a.number + 1) r h.in_mode);
     }
 
-pub goes_passed : (width : ℕ) (r : Receiving) (a : Arrival) → width ≤ 8192 → r.position ≤ a.number → a.number ≤ r.position + width → GoesOn width r (passed width (a ∷ []) r)
+pub goes_passed : (width : ℕ) (r : Receiving) (a : Arrival) → width ≤ 8192 → r.front ≤ a.number → a.number ≤ r.front + width → GoesOn width r (passed width (a ∷ []) r)
 goes_passed width r a narrow low high = goes_settled width r (moved_to (a.number + 1) r) narrow (omega (arith, low)) (omega (arith, high, narrow)) (λ n e. e) (omega arith)
 
 -- numbers are dropped
 with_range : Range → Receiving → Receiving
-with_range q r = record r { requests = record { front = r.position; range = q } ∷ r.requests }
+with_range q r = record r { requests = record { front = r.front; range = q } ∷ r.requests }
 
 missing_range : (a b c : Bool) → not (a || b) ≡ false → not (a || (c || b)) ≡ false
 missing_range a b c e = grind (arith, nat_tests)
 
-orderly_range : (width : ℕ) (q : Range) (r : Receiving) → IsOrderly Live width r → IsOrderly Live width (settled width (record r { requests = record { front = r.position; range = q } ∷ r.requests }))
+orderly_range : (width : ℕ) (q : Range) (r : Receiving) → IsOrderly Live width r → IsOrderly Live width (settled width (record r { requests = record { front = r.front; range = q } ∷ r.requests }))
 orderly_range width q r h =
-    let s : Receiving = record r { requests = record { front = r.position; range = q } ∷ r.requests } in
+    let s : Receiving = record r { requests = record { front = r.front; range = q } ∷ r.requests } in
     let k = settles width s in
-    let fronts : Each (λ (q : Request). q.front ≤ r.position) s.requests = (omega arith, h.fronts) in
-    record { fronts = fronts_on r.position (settled width s).position s.requests k.0 fronts; settled = settled_stays width s fronts; filled = h.filled; in_mode = tt }
+    let fronts : Each (λ (q : Request). q.front ≤ r.front) s.requests = (omega arith, h.fronts) in
+    record { fronts = fronts_on r.front (settled width s).front s.requests k.0 fronts; settled = settled_stays width s fronts; filled = h.filled; in_mode = tt }
 
-goes_range : (width : ℕ) (q : Range) (r : Receiving) → width ≤ 8192 → GoesOn width r (settled width (record r { requests = record { front = r.position; range = q } ∷ r.requests }))
+goes_range : (width : ℕ) (q : Range) (r : Receiving) → width ≤ 8192 → GoesOn width r (settled width (record r { requests = record { front = r.front; range = q } ∷ r.requests }))
 goes_range width q r narrow =
-    let s : Receiving = record r { requests = record { front = r.position; range = q } ∷ r.requests } in
+    let s : Receiving = record r { requests = record { front = r.front; range = q } ∷ r.requests } in
     goes_settled width r s narrow (omega arith) (omega arith) (λ n e. missing_range (is_received r n) (is_requested width r.requests n) _ e) (omega arith)
 
 pub record IsAfterRequest (width : ℕ) (r s : Receiving) : Type 0 where
   pub orderly : IsOrderly Live width s
   pub goes_on : GoesOn width r s
 
-by_test : (width : ℕ) (q : Range) (r : Receiving) (b : Bool) → width ≤ 8192 → IsOrderly Live width r → IsAfterRequest width r (cond b (settled width (record r { requests = record { front = r.position; range = q } ∷ r.requests })) r)
+by_test : (width : ℕ) (q : Range) (r : Receiving) (b : Bool) → width ≤ 8192 → IsOrderly Live width r → IsAfterRequest width r (cond b (settled width (record r { requests = record { front = r.front; range = q } ∷ r.requests })) r)
 by_test width q r true narrow h = record { orderly = orderly_range width q r h; goes_on = goes_range width q r narrow }
 by_test width q r false narrow h = record { orderly = h; goes_on = stays_put width r }
 
@@ -146,10 +146,10 @@ after_request width q r narrow h = by_test width q r _ narrow h
 
 -- words with their top bit set drop nothing
 pub no_request : (width : ℕ) (q : Range) (r : Receiving) → (2 ^ 31 ≤ q.first) ⊎ (2 ^ 31 ≤ q.last) → requested width q r ≡ r
-no_request width q r (inl e) = ap (λ (b : Bool). cond (b && nat_lt q.last (2 ^ 31) && nat_lt (span q) (2 ^ 30)) (settled width (record r { requests = record { front = r.position; range = q } ∷ r.requests })) r) (le-ltb q.first (2 ^ 31) e)
+no_request width q r (inl e) = ap (λ (b : Bool). cond (b && nat_lt q.last (2 ^ 31) && nat_lt (span q) (2 ^ 30)) (settled width (record r { requests = record { front = r.front; range = q } ∷ r.requests })) r) (le-ltb q.first (2 ^ 31) e)
 no_request width q r (inr e) =
-    ap (λ (b : Bool). cond (nat_lt q.first (2 ^ 31) && b && nat_lt (span q) (2 ^ 30)) (settled width (record r { requests = record { front = r.position; range = q } ∷ r.requests })) r) (le-ltb q.last (2 ^ 31) e)
-    ∙ ap (λ (b : Bool). cond b (settled width (record r { requests = record { front = r.position; range = q } ∷ r.requests })) r) (none_of_three (nat_lt q.first (2 ^ 31)) (nat_lt (span q) (2 ^ 30)))
+    ap (λ (b : Bool). cond (nat_lt q.first (2 ^ 31) && b && nat_lt (span q) (2 ^ 30)) (settled width (record r { requests = record { front = r.front; range = q } ∷ r.requests })) r) (le-ltb q.last (2 ^ 31) e)
+    ∙ ap (λ (b : Bool). cond b (settled width (record r { requests = record { front = r.front; range = q } ∷ r.requests })) r) (none_of_three (nat_lt q.first (2 ^ 31)) (nat_lt (span q) (2 ^ 30)))
   where
     none_of_three : (a b : Bool) → (a && false && b) ≡ false
     none_of_three true b = refl
@@ -190,7 +190,7 @@ with_one mode width a r some due h =
       orderly =
           record {
             fronts = h.fronts;
-            settled = not_dropped (is_requested width r.requests r.position) (is_received r r.position) _ h.settled (still_received a r.arrivals r.position);
+            settled = not_dropped (is_requested width r.requests r.front) (is_received r r.front) _ h.settled (still_received a r.arrivals r.front);
             filled = (some, h.filled);
             in_mode = in_mode_more mode a r due h.in_mode;
           };
@@ -206,7 +206,7 @@ by_number mode width None payload due r some d h = record { orderly = h; goes_on
 by_number mode width (Some n) payload due r some d h = by_received mode width n payload due r (is_received r n) some d h
 
 pub after_data : (mode : Mode) (width word : ℕ) (payload : List ℕ) (due : ℤ) (r : Receiving) → 0 < length payload → (mode ≡ Buffer → due ≡ pos 0) → IsOrderly mode width r → IsAfterData mode width r (received width word payload due r)
-after_data mode width word payload due r some d h = by_number mode width (in_window word r.position width) payload due r some d h
+after_data mode width word payload due r some d h = by_number mode width (in_window word r.front width) payload due r some d h
 
 -- the received numbers end within the window
 ends_below : (bound : ℕ) (xs : List Arrival) → ((n : ℕ) → bound ≤ n → is_some (arrival_of xs n) ≡ false) → end_of xs ≤ bound
@@ -224,8 +224,8 @@ ends_below bound (a ∷ xs) none =
       | inr z ↦ z
     ]
 
-pub end_within : (width : ℕ) (r : Receiving) → NothingBeyond width r → end_of r.arrivals ≤ r.position + width
-end_within width r beyond = ends_below (r.position + width) r.arrivals (λ n le. beyond n le)
+pub end_within : (width : ℕ) (r : Receiving) → NothingBeyond width r → end_of r.arrivals ≤ r.front + width
+end_within width r beyond = ends_below (r.front + width) r.arrivals (λ n le. beyond n le)
 
 -- the first waiting packet was received, and its number is from the position on and below the end
 pub record IsOneOf (P : Arrival → Type 0) (from end : ℕ) (a : Arrival) : Type 0 where
@@ -256,8 +256,8 @@ first_is_one P xs from (suc count) end a more inside all e = by (arrival_of xs f
         let n : a.number ≡ from = sym (ap (λ (y : Arrival). y.number) same) ∙ k.0 in
         record { low = omega (arith, n); high = omega (arith, n, inside); holds = subst P same k.1 }
 
-pub first_waiting : (P : Arrival → Type 0) (r : Receiving) (a : Arrival) (more : List Arrival) → Each P r.arrivals → waiting r ≡ a ∷ more → IsOneOf P r.position (max r.position (end_of r.arrivals)) a
-first_waiting P r a more all e = first_is_one P r.arrivals r.position (end_of r.arrivals - r.position) (max r.position (end_of r.arrivals)) a more (omega arith) all e
+pub first_waiting : (P : Arrival → Type 0) (r : Receiving) (a : Arrival) (more : List Arrival) → Each P r.arrivals → waiting r ≡ a ∷ more → IsOneOf P r.front (max r.front (end_of r.arrivals)) a
+first_waiting P r a more all e = first_is_one P r.arrivals r.front (end_of r.arrivals - r.front) (max r.front (end_of r.arrivals)) a more (omega arith) all e
 
 pub first_point : (width : ℕ) → ack_point width nothing_yet ≡ 0
 first_point zero = refl
@@ -282,7 +282,7 @@ next_waits time room r a e = by (room == 0) e
     by true k = cc
     by false k = first_due_is time (waiting r) a k
 
-pub after_one : (mode : Mode) (width time room : ℕ) (r : Receiving) (o : Option Arrival) → next_due time room r ≡ o → width ≤ 8192 → end_of r.arrivals ≤ r.position + width → IsOrderly mode width r → IsAfterData mode width r (after_next width o r)
+pub after_one : (mode : Mode) (width time room : ℕ) (r : Receiving) (o : Option Arrival) → next_due time room r ≡ o → width ≤ 8192 → end_of r.arrivals ≤ r.front + width → IsOrderly mode width r → IsAfterData mode width r (after_next width o r)
 after_one mode width time room r None e narrow ends h = record { orderly = h; goes_on = stays_put width r }
 after_one mode width time room r (Some a) e narrow ends h =
     let w = next_waits time room r a e in

@@ -7,5 +7,4 @@ pub mod Windows
 pub mod Sendings
 pub mod Deliveries
 pub mod Calling
-pub mod Spelled
 pub mod Rows

@@ -35,15 +35,15 @@ no_ack : (all : Bool) (time : ℕ) (rs : List Run) (notes : List Note) → IsNoA
 no_ack true time rs notes = record { fulls_are = refl; came_is = refl }
 no_ack false time rs notes = record { fulls_are = refl; came_is = refl }
 
-acks_after : (width position point time : ℕ) (r : Report) (acks : Acks) (notes : List Note) → IsNoAck time r notes → AcksStandFor width position point acks notes → AcksStandFor width position point acks (Sent time r ∷ notes)
-acks_after width position point time r acks notes n h = (subst (book.StandsFor acks.book) (sym (book_sent time r notes n.fulls_are)) h.0, acks_other width position point time r notes _ _ _ _ n h.1)
+acks_after : (width front point time : ℕ) (r : Report) (acks : Acks) (notes : List Note) → IsNoAck time r notes → AcksStandFor width front point acks notes → AcksStandFor width front point acks (Sent time r ∷ notes)
+acks_after width front point time r acks notes n h = (subst (book.StandsFor acks.book) (sym (book_sent time r notes n.fulls_are)) h.0, acks_other width front point time r notes _ _ _ _ n h.1)
 
-pub log_nak : (width position point seen time nak' : ℕ) (all : Bool) (rs : List Run) (log : Log) (notes : List Note) → nak' ≡ (if all then time else log.nak) → LogStandsFor width position point log notes seen → LogStandsFor width position point (record log { nak = nak'; sent = time }) (Sent time (nak_report all rs) ∷ notes) seen
-log_nak width position point seen time nak' true rs log notes e h =
-    record { acks = acks_after width position point time (nak_report true rs) log.acks notes (no_ack true time rs notes) h.acks; times = h.times; nak_is = e; sent_is = refl; seen_is = h.seen_is }
-log_nak width position point seen time nak' false rs log notes e h =
-    record { acks = acks_after width position point time (nak_report false rs) log.acks notes (no_ack false time rs notes) h.acks; times = h.times; nak_is = e ∙ h.nak_is; sent_is = refl; seen_is = h.seen_is }
+pub log_nak : (width front point seen time nak' : ℕ) (all : Bool) (rs : List Run) (log : Log) (notes : List Note) → nak' ≡ (if all then time else log.nak) → LogStandsFor width front point log notes seen → LogStandsFor width front point (record log { nak = nak'; sent = time }) (Sent time (nak_report all rs) ∷ notes) seen
+log_nak width front point seen time nak' true rs log notes e h =
+    record { acks = acks_after width front point time (nak_report true rs) log.acks notes (no_ack true time rs notes) h.acks; times = h.times; nak_is = e; sent_is = refl; seen_is = h.seen_is }
+log_nak width front point seen time nak' false rs log notes e h =
+    record { acks = acks_after width front point time (nak_report false rs) log.acks notes (no_ack false time rs notes) h.acks; times = h.times; nak_is = e ∙ h.nak_is; sent_is = refl; seen_is = h.seen_is }
 
-pub log_alive : (width position point seen time : ℕ) (log : Log) (notes : List Note) → LogStandsFor width position point log notes seen → LogStandsFor width position point (record log { sent = time }) (Sent time KeepAlive ∷ notes) seen
-log_alive width position point seen time log notes h =
-    record { acks = acks_after width position point time KeepAlive log.acks notes (record { fulls_are = refl; came_is = refl }) h.acks; times = h.times; nak_is = h.nak_is; sent_is = refl; seen_is = h.seen_is }
+pub log_alive : (width front point seen time : ℕ) (log : Log) (notes : List Note) → LogStandsFor width front point log notes seen → LogStandsFor width front point (record log { sent = time }) (Sent time KeepAlive ∷ notes) seen
+log_alive width front point seen time log notes h =
+    record { acks = acks_after width front point time KeepAlive log.acks notes (record { fulls_are = refl; came_is = refl }) h.acks; times = h.times; nak_is = h.nak_is; sent_is = refl; seen_is = h.seen_is }

@@ -116,7 +116,7 @@ both_delivered : delivers (live 1024 100_000) 7 (still 101_000 ∷ waits) ≡ (0
 unfolding in_window lift confirmed_by is_full_due acks_at naks reports deliveries says
 both_delivered = refl
 
-passed_the_gap : ((after (live 1024 100_000) 7 (still 101_000 ∷ waits)).receiving.position ≡ 3) × (gaps 1024 (after (live 1024 100_000) 7 (still 101_000 ∷ waits)).receiving ≡ [])
+passed_the_gap : ((after (live 1024 100_000) 7 (still 101_000 ∷ waits)).receiving.front ≡ 3) × (gaps 1024 (after (live 1024 100_000) 7 (still 101_000 ∷ waits)).receiving ≡ [])
 unfolding in_window lift confirmed_by is_full_due acks_at naks reports deliveries says
 passed_the_gap = (refl, refl)
 

@@ -28,19 +28,19 @@ unfolding in_window
 outside n position width narrow e = grind (arith, nat_tests)
 
 pub past_waiting : (width n : ℕ) (r : Receiving) → is_waiting r ≡ true → false ≡ is_past_window width n r
-past_waiting width n r e = by (is_none (in_window n r.position width)) (is_waiting r) (is_some (in_window n (r.position + width) (2 ^ 30))) e
+past_waiting width n r e = by (is_none (in_window n r.front width)) (is_waiting r) (is_some (in_window n (r.front + width) (2 ^ 30))) e
   where
     by : (a b c : Bool) → b ≡ true → false ≡ (a && not b && c)
     by a b c e = grind (arith, nat_tests)
 
 pub past_none : (width initial word : ℕ) (r : Receiving) → 2 ^ 31 ≤ word → false ≡ is_past_window width (counted_from initial word) r
-past_none width initial word r le = by (is_none (in_window (counted_from initial word) r.position width)) (not (is_waiting r)) _ (ap is_some (no_number initial word (r.position + width) (2 ^ 30) le))
+past_none width initial word r le = by (is_none (in_window (counted_from initial word) r.front width)) (not (is_waiting r)) _ (ap is_some (no_number initial word (r.front + width) (2 ^ 30) le))
   where
     by : (a b c : Bool) → c ≡ false → false ≡ (a && b && c)
     by a b c e = grind (arith, nat_tests)
 
-pub past_is : (width n : ℕ) (r : Receiving) → width ≤ 8192 → is_waiting r ≡ false → is_some (in_window n (r.position + width) (2 ^ 30)) ≡ is_past_window width n r
-past_is width n r narrow e = by (is_none (in_window n r.position width)) (is_waiting r) (is_some (in_window n (r.position + width) (2 ^ 30))) e (outside n r.position width narrow)
+pub past_is : (width n : ℕ) (r : Receiving) → width ≤ 8192 → is_waiting r ≡ false → is_some (in_window n (r.front + width) (2 ^ 30)) ≡ is_past_window width n r
+past_is width n r narrow e = by (is_none (in_window n r.front width)) (is_waiting r) (is_some (in_window n (r.front + width) (2 ^ 30))) e (outside n r.front width narrow)
   where
     by : (a b c : Bool) → b ≡ false → (c ≡ true → a ≡ true) → c ≡ (a && not b && c)
     by true b c e f = grind (arith, nat_tests)

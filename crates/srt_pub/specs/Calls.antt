@@ -1,8 +1,9 @@
 -- What one call of a publisher gives, and what calls one after another give.
-use Rattle.std.specs.Prelude.{ℕ, zero, suc, ◌-◌, Option, None, Some, List, [], ◌∷◌, map, length, Bool, true, false, nat_le}
+use Rattle.std.specs.Prelude.{ℕ, zero, suc, ◌-◌, Option, None, Some, List, [], ◌∷◌, map, Bool, true, false, nat_le}
+use Rattle.srt_seq.specs.Limits.{keep_alive_after_us}
 use Rattle.srt_seq.specs.declared.shared.Mode.{Mode}
 use Rattle.srt_seq.specs.declared.shared.Mode.TheVariants.{Live, Buffer}
-use Rattle.srt_packet.specs.Grammar.{Body, Data, Shutdown}
+use Rattle.srt_packet.specs.Grammar.{Body, Shutdown}
 use Rattle.srt_packet.specs.declared.writing.Packet.{Packet}
 use Rattle.srt_packet.specs.Text.{text}
 use Rattle.srt_recvbuf.specs.Receiving.{Arrival, passed}
@@ -10,11 +11,6 @@ use Rattle.srt_pub.specs.Heard.{heard_from}
 use Rattle.srt_pub.specs.Publishing.{Terms, Publishing, deliveries, loses_window, Note, Report, keep_alive_if, last_sent}
 use Rattle.srt_pub.specs.declared.ends.PubEnd.{PubEnd}
 use Rattle.srt_pub.specs.declared.ends.PubEnd.TheVariants as ends
-
--- the length of a data packet's payload; 1 for the other kinds, which is within all limits
-abbrev pub payload_length : Body → ℕ
-payload_length (Data number encryption payload) = length payload
-payload_length _ = 1
 
 -- the end of a session whose window is lost
 abbrev pub lost_if : Bool → Option PubEnd
@@ -74,4 +70,4 @@ listed (Some a) = a ∷ []
 abbrev pub keep_alive_after : (ack nak : Bool) → (time : ℕ) → List Note → List Report
 keep_alive_after true nak time notes = []
 keep_alive_after false true time notes = []
-keep_alive_after false false time notes = keep_alive_if (nat_le 1_000_000 (time - last_sent notes))
+keep_alive_after false false time notes = keep_alive_if (nat_le keep_alive_after_us (time - last_sent notes))

@@ -20,11 +20,11 @@ pub record IsNotPast (f g : Full) : Type 0 where
   pub window : f.point + f.available ≤ g.point + g.available
 
 -- Full ACKs are numbered in order, what they report never goes back, and it isn't past the current state
-pub record AreFulls (width position point : ℕ) (fs : List Full) : Type 0 where
+pub record AreFulls (width front point : ℕ) (fs : List Full) : Type 0 where
   pub numbered : (d : ℕ) (f : Full) → slice_get fs d ≡ Some f → f.index + (d + 1) ≡ length fs
   pub rising : (d e : ℕ) (f g : Full) → d ≤ e → slice_get fs d ≡ Some f → slice_get fs e ≡ Some g → IsNotPast g f
   pub low : (d : ℕ) (f : Full) → slice_get fs d ≡ Some f → width ≤ f.point + f.available
-  pub high : (d : ℕ) (f : Full) → slice_get fs d ≡ Some f → (f.point ≤ point) × (f.point + f.available ≤ position + width)
+  pub high : (d : ℕ) (f : Full) → slice_get fs d ≡ Some f → (f.point ≤ point) × (f.point + f.available ≤ front + width)
 
 -- only Full ACKs that were sent are confirmed
 pub record AreConfirmed (notes : List Note) : Type 0 where
@@ -33,24 +33,24 @@ pub record AreConfirmed (notes : List Note) : Type 0 where
 
 -- these fields have the values that the definitions give: whether the current pair is confirmed, how many of the last
 -- 64 Full ACKs reported it, when the last one was sent, and the number of data packets since an ACK, at most 64
-pub record AreAcks (width position point : ℕ) (notes : List Note) (known : Bool) (same last came : ℕ) : Type 0 where
-  pub inside : point ≤ position + width
-  pub sent : AreFulls width position point (fulls notes)
+pub record AreAcks (width front point : ℕ) (notes : List Note) (known : Bool) (same last came : ℕ) : Type 0 where
+  pub inside : point ≤ front + width
+  pub sent : AreFulls width front point (fulls notes)
   pub confirmed : AreConfirmed notes
-  pub known_is : known ≡ is_known width point (position + width - point) (latest_confirmed notes)
-  pub same_is : (d : ℕ) (f : Full) → d < 64 → slice_get (fulls notes) d ≡ Some f → nat_lt d same ≡ says_pair point (position + width - point) f
+  pub known_is : known ≡ is_known width point (front + width - point) (latest_confirmed notes)
+  pub same_is : (d : ℕ) (f : Full) → d < 64 → slice_get (fulls notes) d ≡ Some f → nat_lt d same ≡ says_pair point (front + width - point) f
   pub last_is : last ≡ time_of (fulls notes)
   pub came_is : came ≡ min (came_since_ack notes) 64
 
--- the fields represent the ACKs of these notes, for a window of this width at this position and acknowledgement point
-abbrev pub AcksStandFor : (width position point : ℕ) → Acks → List Note → Type 0
-AcksStandFor width position point a notes = book.StandsFor a.book (book_of notes) × AreAcks width position point notes a.known a.same a.last a.came
+-- the fields represent the ACKs of these notes, for a window of this width at this front and acknowledgement point
+abbrev pub AcksStandFor : (width front point : ℕ) → Acks → List Note → Type 0
+AcksStandFor width front point a notes = book.StandsFor a.book (book_of notes) × AreAcks width front point notes a.known a.same a.last a.came
 
 -- the fields represent these notes: the ACKs, the round trips, the times of the last NAK of all gaps and of the last
--- packet, and how far past the position the received numbers ended at the end of the event before this one
-pub record LogStandsFor (width position point : ℕ) (log : Log) (notes : List Note) (seen : ℕ) : Type 0 where
-  pub acks : AcksStandFor width position point log.acks notes
+-- packet, and how far past the front the received numbers ended at the end of the event before this one
+pub record LogStandsFor (width front point : ℕ) (log : Log) (notes : List Note) (seen : ℕ) : Type 0 where
+  pub acks : AcksStandFor width front point log.acks notes
   pub times : times.StandsFor log.rtt (samples notes)
   pub nak_is : log.nak ≡ last_nak_of_all notes
   pub sent_is : log.sent ≡ last_sent notes
-  pub seen_is : log.seen ≡ seen - position
+  pub seen_is : log.seen ≡ seen - front

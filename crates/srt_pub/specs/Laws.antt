@@ -11,8 +11,8 @@ DeliversOneByOne terms p = (time room : ℕ) →
     (gives terms time room 64 p ≡ deliveries terms.mode terms time (Some room) p) ×
     (leaves terms time room 64 p ≡ delivered terms time (Some room) p)
 
--- the position isn't a dropped number, and no number past the window is received or dropped
+-- the front isn't a dropped number, and no number past the window is received or dropped
 pub record IsSettled (terms : Terms) (p : Publishing) : Type 0 where
-  pub position : is_dropped terms.width p.receiving p.receiving.position ≡ false
+  pub front : is_dropped terms.width p.receiving p.receiving.front ≡ false
   pub received : NothingBeyond terms.width p.receiving
   pub dropped : NothingDroppedBeyond terms.width p.receiving

@@ -2,6 +2,7 @@
 -- microseconds from its opening, numbers from its initial number, timestamps from its conclusion's. Lists have the
 -- newest first.
 use Rattle.std.specs.Prelude.{ℕ, ◌+◌, ◌-◌, ◌^◌, ℤ, pos, Bool, true, false, Option, None, Some, List, [], ◌∷◌, ◌++◌, find, take, max, min, length, not, is_none, is_some, nat_lt, nat_le, ◌==◌, ◌&&◌, ◌||◌, if◌then◌else◌}
+use Rattle.srt_seq.specs.Limits.{full_ack_interval_us, keep_alive_after_us, light_ack_packets}
 use Rattle.srt_seq.specs.declared.shared.Mode.{Mode}
 use Rattle.srt_seq.specs.declared.shared.Mode.TheVariants.{Live, Buffer}
 use Rattle.srt_seq.specs.Window.{in_window}
@@ -158,11 +159,11 @@ last_nak_of_all (Confirmed full sample ∷ notes) = last_nak_of_all notes
 -- whether a Full ACK is due: 10 ms after the last one, as long as the current pair isn't confirmed (section 4.8.1;
 -- that a confirmed pair isn't sent again is this profile)
 unfoldable pub is_full_due : (width point room time : ℕ) → List Note → Bool
-is_full_due width point room time notes = nat_le 10_000 (time - time_of (fulls notes)) && not (is_known width point room (latest_confirmed notes))
+is_full_due width point room time notes = nat_le full_ack_interval_us (time - time_of (fulls notes)) && not (is_known width point room (latest_confirmed notes))
 
 -- whether a Light ACK is due: after 64 data packets (section 4.8.1)
 abbrev pub is_light_due : List Note → Bool
-is_light_due notes = nat_le 64 (came_since_ack notes)
+is_light_due notes = nat_le light_ack_packets (came_since_ack notes)
 
 -- the Full ACK of the current state
 abbrev pub full_ack : (point room : ℕ) → List Note → Report
@@ -201,7 +202,7 @@ is_nak_due time notes = nat_le (nak_interval (round_trip notes)) (time - last_na
 -- (section 4.8.2)
 abbrev pub gaps_told : (all : Bool) → (width seen : ℕ) → Receiving → List ℕ
 gaps_told true width seen r = gaps width r
-gaps_told false width seen r = gaps_from width (max seen r.position) r
+gaps_told false width seen r = gaps_from width (max seen r.front) r
 
 abbrev pub naks_of : (all : Bool) → (width seen : ℕ) → Receiving → List Report
 naks_of all width seen r = nak_with all (runs_said (gaps_told all width seen r))
@@ -218,7 +219,7 @@ keep_alive_if false = []
 -- a KEEPALIVE only if nothing else is sent
 abbrev pub keep_alives : (time : ℕ) → List Report → List Note → List Report
 keep_alives time (r ∷ rs) notes = []
-keep_alives time [] notes = keep_alive_if (nat_le 1_000_000 (time - last_sent notes))
+keep_alives time [] notes = keep_alive_if (nat_le keep_alive_after_us (time - last_sent notes))
 
 -- the packets that an event sends at its end, in order
 unfoldable pub reports : Terms → (time : ℕ) → Publishing → List Report
@@ -235,8 +236,8 @@ noted time (r ∷ rs) notes = noted time rs (Sent time r ∷ notes)
 abbrev pub reported : Terms → (time : ℕ) → Publishing → Publishing
 reported terms time p = record { receiving = p.receiving; notes = noted time (reports terms time p) p.notes; seen = end_of p.receiving.arrivals }
 
--- the payloads that an event delivers. `room` is the least room of the open subscribers, None without a subscriber;
--- it counts in buffer mode only (sections 4.2 and 4.6)
+-- the payloads that an event delivers. `room` is the least room of the open subscribers, None without a subscriber or
+-- for a publisher that stands by; it counts in buffer mode only (sections 4.2 and 4.6)
 unfoldable pub deliveries : Mode → Terms → (time : ℕ) → (room : Option ℕ) → Publishing → List Arrival
 deliveries Live terms time room p = deliverable time p.receiving
 deliveries Buffer terms time None p = []
@@ -277,7 +278,7 @@ took terms time stamp Other p = p
 
 -- whether no received packet waits, and a number is past the window by fewer than 2^30 (this profile)
 abbrev pub is_past_window : (width number : ℕ) → Receiving → Bool
-is_past_window width number r = is_none (in_window number r.position width) && not (is_waiting r) && is_some (in_window number (r.position + width) (2 ^ 30))
+is_past_window width number r = is_none (in_window number r.front width) && not (is_waiting r) && is_some (in_window number (r.front + width) (2 ^ 30))
 
 -- whether a packet ends the session because the window is lost: in live mode only (this profile)
 abbrev pub loses_window : Mode → Terms → Heard → Publishing → Bool

@@ -6,7 +6,7 @@ use Rattle.srt_recvbuf.specs.Receiving.{Arrival, Request, Receiving, is_dropped,
 use Rattle.srt_recvbuf.specs.Stands as buffers
 use Rattle.srt_pub.specs.Publishing.{Terms, Publishing}
 use Rattle.srt_pub.specs.Kept.{LogStandsFor}
-use Rattle.srt_pub.specs.declared.agreed.Agreed.{Agreed}
+use Rattle.srt_pub.specs.declared.due_times.Agreed.{Agreed}
 use Rattle.srt_pub.specs.declared.session.Publisher.{Publisher}
 
 -- the moment of the opening
@@ -35,11 +35,11 @@ abbrev pub IsInMode : Mode → Receiving → Type 0
 IsInMode Live r = ⊤
 IsInMode Buffer r = (r.requests ≡ []) × Each (λ (a : Arrival). a.due ≡ pos 0) r.arrivals
 
--- what always holds of what a session received: drop requests came at an earlier position or this one, the position
+-- what always holds of what a session received: drop requests came at an earlier front or this one, the front
 -- isn't dropped, and no payload is empty
 pub record IsOrderly (mode : Mode) (width : ℕ) (r : Receiving) : Type 0 where
-  pub fronts : Each (λ (q : Request). q.front ≤ r.position) r.requests
-  pub settled : is_dropped width r r.position ≡ false
+  pub fronts : Each (λ (q : Request). q.front ≤ r.front) r.requests
+  pub settled : is_dropped width r r.front ≡ false
   pub filled : Each (λ (a : Arrival). 0 < length a.payload) r.arrivals
   pub in_mode : IsInMode mode r
 
@@ -48,15 +48,15 @@ pub record IsOrderly (mode : Mode) (width : ℕ) (r : Receiving) : Type 0 where
 pub record StandsFor (terms : Terms) (initial opening stamp caller : ℕ) (p : Publisher) (m : Publishing) : Type 0 where
   pub agreed : AreTerms terms opening stamp caller p.agreed
   pub buffer : buffers.StandsFor terms.width initial opening p.buffer m.receiving
-  pub log : LogStandsFor terms.width m.receiving.position (ack_point terms.width m.receiving) p.log m.notes m.seen
+  pub log : LogStandsFor terms.width m.receiving.front (ack_point terms.width m.receiving) p.log m.notes m.seen
   pub orderly : IsOrderly terms.mode terms.width m.receiving
   pub seen : m.seen ≤ end_of m.receiving.arrivals
   pub narrow : terms.width ≤ 8192
 
--- a receiver moves on: its position, its acknowledgement point and the end of the received numbers don't go back
+-- a receiver moves on: its front, its acknowledgement point and the end of the received numbers don't go back
 pub record GoesOn (width : ℕ) (r s : Receiving) : Type 0 where
-  pub position : r.position ≤ s.position
-  pub near : s.position ≤ r.position + 2 ^ 30
+  pub front : r.front ≤ s.front
+  pub near : s.front ≤ r.front + 2 ^ 30
   pub point : ack_point width r ≤ ack_point width s
   pub end : end_of r.arrivals ≤ end_of s.arrivals
 
@@ -64,7 +64,7 @@ pub record GoesOn (width : ℕ) (r s : Receiving) : Type 0 where
 pub record IsAhead (terms : Terms) (initial opening stamp caller : ℕ) (p : Publisher) (m : Publishing) (r : Receiving) : Type 0 where
   pub agreed : AreTerms terms opening stamp caller p.agreed
   pub buffer : buffers.StandsFor terms.width initial opening p.buffer r
-  pub log : LogStandsFor terms.width m.receiving.position (ack_point terms.width m.receiving) p.log m.notes m.seen
+  pub log : LogStandsFor terms.width m.receiving.front (ack_point terms.width m.receiving) p.log m.notes m.seen
   pub orderly : IsOrderly terms.mode terms.width r
   pub seen : m.seen ≤ end_of m.receiving.arrivals
   pub narrow : terms.width ≤ 8192

@@ -13,16 +13,8 @@ ghost use Rattle.srt_pub.specs.Calls.{listed};
 use srt_packet::Body;
 use srt_rtt::{AckBook, Rtt};
 use srt_seq::Seq31;
+use srt_seq::limits::{FULL_ACK_INTERVAL_US, FULL_ACKS_KEPT, LIGHT_ACK_PACKETS};
 use std::alloc::{AllocError, Global};
-
-/// The least time between two Full ACKs, in microseconds.
-const FULL_INTERVAL: u64 = 10_000;
-
-/// The number of data packets after which a Light ACK is sent.
-const LIGHT_COUNT: u32 = 64;
-
-/// The number of newest Full ACKs that can still be confirmed (this profile).
-const PLACES: usize = 64;
 
 /// Which Full ACKs were sent, and whether the current state is confirmed. The state is the pair of acknowledgement
 /// point and available buffer size that a Full ACK reports.
@@ -73,17 +65,17 @@ impl Acks {
 
     /// Counts an unencrypted data packet, whatever its number.
     pub fn came(&mut self)
-        ensures { (width position point : ℕ) (notes : List Note) → AcksStandFor width position point self.old notes → AcksStandFor width position point self.new (Came ∷ notes) }
+        ensures { (width front point : ℕ) (notes : List Note) → AcksStandFor width front point self.old notes → AcksStandFor width front point self.new (Came ∷ notes) }
     {
-        self.came = self.came.saturating_add(1).min(LIGHT_COUNT);
+        self.came = self.came.saturating_add(1).min(LIGHT_ACK_PACKETS);
     }
 
     /// Notes that the front and the acknowledgement point moved on by these numbers of packets. If either moved, the
     /// pair is a new one.
-    pub fn moves(&mut self, front: u32, point: u32)
-        ensures { (width position a : ℕ) (notes : List Note) → a + point ≤ position + front + width → AcksStandFor width position a self.old notes → AcksStandFor width (position + front) (a + point) self.new notes }
+    pub fn moves(&mut self, front_steps: u32, point_steps: u32)
+        ensures { (width front a : ℕ) (notes : List Note) → a + point_steps ≤ front + front_steps + width → AcksStandFor width front a self.old notes → AcksStandFor width (front + front_steps) (a + point_steps) self.new notes }
     {
-        if front.saturating_add(point) == 0 {
+        if front_steps.saturating_add(point_steps) == 0 {
             return;
         }
         self.known = false;
@@ -94,8 +86,8 @@ impl Acks {
     /// sample of the round-trip time, in microseconds, at most 10 seconds. None if it confirms none of the last 64
     /// Full ACKs, or one that was confirmed before.
     pub fn confirm(&mut self, number: u32, time: u64) -> Option<u64>
-        ensures sample { (width position point : ℕ) (notes : List Note) → AcksStandFor width position point self.old notes → result ≡ option_map (sample_of time) (confirmed_by number notes) }
-        ensures stands { (width position point : ℕ) (notes : List Note) → AcksStandFor width position point self.old notes → AcksStandFor width position point self.new (confirmed_notes time (confirmed_by number notes) notes) }
+        ensures sample { (width front point : ℕ) (notes : List Note) → AcksStandFor width front point self.old notes → result ≡ option_map (sample_of time) (confirmed_by number notes) }
+        ensures stands { (width front point : ℕ) (notes : List Note) → AcksStandFor width front point self.old notes → AcksStandFor width front point self.new (confirmed_notes time (confirmed_by number notes) notes) }
         ensures capped { IfSome result (λ s. s ≤ 10_000_000) }
     {
         let place = self.book.place_of(number)?;
@@ -105,42 +97,42 @@ impl Acks {
 
     /// Whether a Full ACK is due: the current pair isn't confirmed, and the last Full ACK is at least 10 ms ago.
     fn is_full_due(&self, time: u64) -> bool
-        ensures { (width position point : ℕ) (notes : List Note) → AcksStandFor width position point self.now notes → result ≡ is_full_due width point (position + width - point) time notes }
+        ensures { (width front point : ℕ) (notes : List Note) → AcksStandFor width front point self.now notes → result ≡ is_full_due width point (front + width - point) time notes }
     {
         if self.known {
             return false;
         }
-        time.saturating_sub(self.last) >= FULL_INTERVAL
+        time.saturating_sub(self.last) >= FULL_ACK_INTERVAL_US
     }
 
     /// Whether a Light ACK is due if no Full ACK is: 64 data packets came since the last ACK.
     fn is_light_due(&self) -> bool
-        ensures { (width position point : ℕ) (notes : List Note) → AcksStandFor width position point self.now notes → result ≡ is_light_due notes }
+        ensures { (width front point : ℕ) (notes : List Note) → AcksStandFor width front point self.now notes → result ≡ is_light_due notes }
     {
-        self.came >= LIGHT_COUNT
+        self.came >= LIGHT_ACK_PACKETS
     }
 
     /// Writes a Full ACK and notes that it is sent.
     fn full(&mut self, time: u64, point: Seq31, available: u32, rtt: Rtt, body: &mut Body)
-        ensures stands { (width position a : ℕ) (notes : List Note) → times.StandsFor rtt (samples notes) → available ≡ position + width - a → AcksStandFor width position a self.old notes → AcksStandFor width position a self.new (noted time (full_ack a available notes ∷ []) notes) }
-        ensures bytes { (width position a initial caller : ℕ) (notes : List Note) → times.StandsFor rtt (samples notes) → word_of point ≡ number_word initial a → AcksStandFor width position a self.old notes → body_bytes caller time body.new ≡ says caller initial time (full_ack a available notes) }
+        ensures stands { (width front a : ℕ) (notes : List Note) → times.StandsFor rtt (samples notes) → available ≡ front + width - a → AcksStandFor width front a self.old notes → AcksStandFor width front a self.new (noted time (full_ack a available notes ∷ []) notes) }
+        ensures bytes { (width front a initial caller : ℕ) (notes : List Note) → times.StandsFor rtt (samples notes) → word_of point ≡ number_word initial a → AcksStandFor width front a self.old notes → body_bytes caller time body.new ≡ says caller initial time (full_ack a available notes) }
         ensures writable { IsWritable body.new }
     {
-        self.same = self.same.saturating_add(1).min(PLACES);
+        self.same = self.same.saturating_add(1).min(FULL_ACKS_KEPT);
         self.last = time;
         self.came = 0;
         *body = Body::FullAck {
             number: self.book.note(time),
             point,
             round_trip: rtt.rtt(),
-            variance: rtt.var(),
+            variance: rtt.variance(),
             available,
         };
     }
 
     /// Writes a Light ACK and notes that it is sent.
     fn light(&mut self, time: u64, point: Seq31, body: &mut Body)
-        ensures stands { (width position a : ℕ) (notes : List Note) → AcksStandFor width position a self.old notes → AcksStandFor width position a self.new (noted time (TheLightAck a ∷ []) notes) }
+        ensures stands { (width front a : ℕ) (notes : List Note) → AcksStandFor width front a self.old notes → AcksStandFor width front a self.new (noted time (TheLightAck a ∷ []) notes) }
         ensures bytes { (a initial caller : ℕ) → word_of point ≡ number_word initial a → body_bytes caller time body.new ≡ says caller initial time (TheLightAck a) }
         ensures writable { IsWritable body.new }
     {
@@ -159,9 +151,9 @@ impl Acks {
         rtt: Rtt,
         body: &mut Body,
     ) -> bool
-        ensures stands { (width position a : ℕ) (notes : List Note) → times.StandsFor rtt (samples notes) → available ≡ position + width - a → AcksStandFor width position a self.old notes → AcksStandFor width position a self.new (noted time (acks_at width a available time notes) notes) }
-        ensures bytes { (width position a initial caller : ℕ) (notes : List Note) → times.StandsFor rtt (samples notes) → available ≡ position + width - a → word_of point ≡ number_word initial a → AcksStandFor width position a self.old notes → map (body_bytes caller time) (listed (given result body.new)) ≡ map (says caller initial time) (acks_at width a available time notes) }
-        ensures count { (width position a : ℕ) (notes : List Note) → available ≡ position + width - a → AcksStandFor width position a self.old notes → length (listed (given result body.new)) ≡ length (acks_at width a available time notes) }
+        ensures stands { (width front a : ℕ) (notes : List Note) → times.StandsFor rtt (samples notes) → available ≡ front + width - a → AcksStandFor width front a self.old notes → AcksStandFor width front a self.new (noted time (acks_at width a available time notes) notes) }
+        ensures bytes { (width front a initial caller : ℕ) (notes : List Note) → times.StandsFor rtt (samples notes) → available ≡ front + width - a → word_of point ≡ number_word initial a → AcksStandFor width front a self.old notes → map (body_bytes caller time) (listed (given result body.new)) ≡ map (says caller initial time) (acks_at width a available time notes) }
+        ensures count { (width front a : ℕ) (notes : List Note) → available ≡ front + width - a → AcksStandFor width front a self.old notes → length (listed (given result body.new)) ≡ length (acks_at width a available time notes) }
         ensures writable { result ≡ true → IsWritable body.new }
         ensures kept { result ≡ false → body.new ≡ body.old }
     {

@@ -13,7 +13,7 @@ pub fn deliveries(publisher: &Publisher)
     ensures { (terms : Terms) (initial opening stamp caller : ℕ) (m : Publishing) → StandsFor terms initial opening stamp caller publisher.now m → DeliversOneByOne terms m }
 {}
 
-/// After each call the position isn't a dropped number, and no number past the window is received or dropped.
-pub fn positions(publisher: &Publisher)
+/// After each call the front isn't a dropped number, and no number past the window is received or dropped.
+pub fn fronts(publisher: &Publisher)
     ensures { (terms : Terms) (initial opening stamp caller : ℕ) (m : Publishing) → StandsFor terms initial opening stamp caller publisher.now m → IsSettled terms m }
 {}

@@ -9,21 +9,27 @@
 //! session.
 //!
 //! Calls: `Publisher::open` once; `start` for each session; then for each event `datagram` if a packet came,
-//! `deliver` until it returns false (64 times at most), and `tick`, which writes the ACK, NAK and KEEPALIVE that are
+//! `deliver` until it returns false (64 times at most), and `transmit`, which writes the ACK, NAK and KEEPALIVE that are
 //! due.
 //!
-//! `session.rt` has the rules of data, drop requests, delivery and NAK; `acknowledgements.rt` of Full and Light ACKs
-//! and ACKACKs; `log.rt` of the times of NAK and KEEPALIVE; `agreed.rt` of due times. `specs/Publishing.antt` defines
-//! what a session sends, `specs/Says.antt` its bytes; `laws.rt` has facts about these.
+//! Files: `session.rt` has the rules of data, drop requests and delivery; `due_times.rt` of due times; `window_lost.rt`
+//! of the lost window that ends a live session; `transmit.rt` of what is sent at the end of an event;
+//! `acknowledgements.rt` of Full and Light ACKs and ACKACKs; `nak.rt` of NAKs and their interval; `keep_alive.rt` of
+//! KEEPALIVEs; `log.rt` keeps the times of the last packets. `specs/Publishing.antt` defines what a session sends,
+//! `specs/Says.antt` its bytes; `laws.rt` has facts about these.
 #![tactic(auto)]
 
 mod acknowledgements;
-mod agreed;
+mod due_times;
 mod ends;
+mod keep_alive;
 pub mod laws;
 mod log;
+mod nak;
 mod reports;
 mod session;
+mod transmit;
+mod window_lost;
 
 pub use ends::PubEnd;
 pub use reports::Reports;

@@ -1,13 +1,11 @@
-//! What a session remembers of its events: acknowledgements, round trips and the times of its last packets.
+//! What a session remembers of its events: acknowledgements, round trips and the times of its last packets. Which NAK
+//! is due is in `nak.rt`, and whether a KEEPALIVE is, in `keep_alive.rt`.
 
-ghost use Rattle.std.specs.Prelude.{◌≡◌, ℕ, ◌+◌, ◌-◌, ◌≤◌, List, [], ◌∷◌, map, IfOk, true, false, nat_le, if◌then◌else◌};
+ghost use Rattle.std.specs.Prelude.{◌≡◌, ℕ, ◌+◌, ◌-◌, ◌≤◌, List, [], ◌∷◌, map, IfOk, true, false};
 ghost use Rattle.srt_seq.specs.Given.{given};
 ghost use Rattle.srt_seq.specs.Window.{word_of, number_word};
-ghost use Rattle.srt_seq.specs.Runs.{Run};
 ghost use Rattle.srt_packet.specs.Text.{IsWritable};
-ghost use Rattle.srt_pub.specs.Publishing.{Note, Came, confirmed_by, confirmed_notes, acks_at, noted, is_nak_due, nak_report, last_sent};
-ghost use Rattle.srt_pub.specs.Publishing.Note.{Sent};
-ghost use Rattle.srt_pub.specs.Publishing.Report.{KeepAlive as TheKeepAlive};
+ghost use Rattle.srt_pub.specs.Publishing.{Note, Came, confirmed_by, confirmed_notes, acks_at, noted};
 ghost use Rattle.srt_pub.specs.Says.{says, body_bytes};
 ghost use Rattle.srt_pub.specs.Calls.{listed};
 
@@ -16,9 +14,6 @@ use srt_packet::Body;
 use srt_rtt::Rtt;
 use srt_seq::Seq31;
 use std::alloc::{AllocError, Global};
-
-/// The time without a packet sent after which a KEEPALIVE is sent, in microseconds (section 3.2.3).
-const SILENCE: u64 = 1_000_000;
 
 /// What a session remembers of its events. All times are microseconds since the opening, which counts as the last NAK
 /// and as the last packet at first.
@@ -67,23 +62,23 @@ impl Log {
 
     /// Counts an unencrypted data packet, whatever its number.
     pub fn came(&mut self)
-        ensures { (width position point seen : ℕ) (notes : List Note) → LogStandsFor width position point self.old notes seen → LogStandsFor width position point self.new (Came ∷ notes) seen }
+        ensures { (width front point seen : ℕ) (notes : List Note) → LogStandsFor width front point self.old notes seen → LogStandsFor width front point self.new (Came ∷ notes) seen }
     {
         self.acks.came();
     }
 
     /// Notes that the front and the acknowledgement point moved on by these numbers of packets.
-    pub fn moves(&mut self, front: u32, point: u32)
-        ensures { (width position a seen : ℕ) (notes : List Note) → a + point ≤ position + front + width → LogStandsFor width position a self.old notes seen → LogStandsFor width (position + front) (a + point) self.new notes seen }
+    pub fn moves(&mut self, front_steps: u32, point_steps: u32)
+        ensures { (width front a seen : ℕ) (notes : List Note) → a + point_steps ≤ front + front_steps + width → LogStandsFor width front a self.old notes seen → LogStandsFor width (front + front_steps) (a + point_steps) self.new notes seen }
     {
-        self.acks.moves(front, point);
-        self.seen = self.seen.saturating_sub(front);
+        self.acks.moves(front_steps, point_steps);
+        self.seen = self.seen.saturating_sub(front_steps);
     }
 
     /// Notes an ACKACK with this number. If it confirms one of the last 64 Full ACKs for the first time, that gives a
     /// sample of the round-trip time (section 3.2.8).
     pub fn confirm(&mut self, number: u32, time: u64)
-        ensures { (width position point seen : ℕ) (notes : List Note) → LogStandsFor width position point self.old notes seen → LogStandsFor width position point self.new (confirmed_notes time (confirmed_by number notes) notes) seen }
+        ensures { (width front point seen : ℕ) (notes : List Note) → LogStandsFor width front point self.old notes seen → LogStandsFor width front point self.new (confirmed_notes time (confirmed_by number notes) notes) seen }
     {
         if let Some(sample) = self.acks.confirm(number, time) {
             self.rtt.sample(sample);
@@ -93,8 +88,8 @@ impl Log {
     /// Writes the body of the ACK that is due, Full or Light. Returns whether one is due; if not, `body` is
     /// unchanged.
     pub fn ack(&mut self, time: u64, point: Seq31, available: u32, body: &mut Body) -> bool
-        ensures stands { (width position a seen : ℕ) (notes : List Note) → available ≡ position + width - a → LogStandsFor width position a self.old notes seen → LogStandsFor width position a self.new (noted time (acks_at width a available time notes) notes) seen }
-        ensures bytes { (width position a seen initial caller : ℕ) (notes : List Note) → available ≡ position + width - a → word_of point ≡ number_word initial a → LogStandsFor width position a self.old notes seen → map (body_bytes caller time) (listed (given result body.new)) ≡ map (says caller initial time) (acks_at width a available time notes) }
+        ensures stands { (width front a seen : ℕ) (notes : List Note) → available ≡ front + width - a → LogStandsFor width front a self.old notes seen → LogStandsFor width front a self.new (noted time (acks_at width a available time notes) notes) seen }
+        ensures bytes { (width front a seen initial caller : ℕ) (notes : List Note) → available ≡ front + width - a → word_of point ≡ number_word initial a → LogStandsFor width front a self.old notes seen → map (body_bytes caller time) (listed (given result body.new)) ≡ map (says caller initial time) (acks_at width a available time notes) }
         ensures writable { result ≡ true → IsWritable body.new }
         ensures kept { result ≡ false → body.new ≡ body.old }
     {
@@ -105,46 +100,10 @@ impl Log {
         false
     }
 
-    /// Whether a NAK of all gaps is due: the last one is at least the NAK interval ago (section 4.8.2).
-    pub fn is_nak_due(&self, time: u64) -> bool
-        ensures { (width position point seen : ℕ) (notes : List Note) → LogStandsFor width position point self.now notes seen → result ≡ is_nak_due time notes }
-    {
-        time.saturating_sub(self.nak) >= self.rtt.nak_interval()
-    }
-
-    /// Notes that a NAK is sent, of all gaps or of new ones only.
-    pub fn nak(&mut self, time: u64, all: bool)
-        ensures { (width position point seen : ℕ) (notes : List Note) (rs : List Run) → LogStandsFor width position point self.old notes seen → LogStandsFor width position point self.new (Sent time (nak_report all rs) ∷ notes) seen }
-    {
-        self.nak = later_if(all, time, self.nak);
-        self.sent = time;
-    }
-
-    /// Whether nothing was sent for a second, so that a KEEPALIVE is due.
-    pub fn is_silent(&self, time: u64) -> bool
-        ensures { (width position point seen : ℕ) (notes : List Note) → LogStandsFor width position point self.now notes seen → result ≡ nat_le 1_000_000 (time - last_sent notes) }
-    {
-        time.saturating_sub(self.sent) >= SILENCE
-    }
-
-    /// Notes that a KEEPALIVE is sent.
-    pub fn keep_alive(&mut self, time: u64)
-        ensures { (width position point seen : ℕ) (notes : List Note) → LogStandsFor width position point self.old notes seen → LogStandsFor width position point self.new (Sent time TheKeepAlive ∷ notes) seen }
-    {
-        self.sent = time;
-    }
-
     /// Notes the end of an event, at which the received numbers end `seen` packets past the front.
     pub fn see(&mut self, seen: u32)
-        ensures { (width position point before end : ℕ) (notes : List Note) → seen ≡ end - position → LogStandsFor width position point self.old notes before → LogStandsFor width position point self.new notes end }
+        ensures { (width front point before end : ℕ) (notes : List Note) → seen ≡ end - front → LogStandsFor width front point self.old notes before → LogStandsFor width front point self.new notes end }
     {
         self.seen = seen;
     }
-}
-
-/// `time` if `all`, else `before`.
-fn later_if(all: bool, time: u64, before: u64) -> u64
-    ensures { result ≡ (if all then time else before) }
-{
-    if all { time } else { before }
 }

@@ -1,6 +1,6 @@
 //! Which packets a publisher's session sends at the end of an event.
 
-/// Which of the packets given to `Publisher::tick` were written. Those are sent, in the order of the fields; the
+/// Which of the packets given to `Publisher::transmit` were written. Those are sent, in the order of the fields; the
 /// others are unchanged.
 #[derive(Clone, Copy)]
 pub struct Reports {

@@ -1,27 +1,22 @@
-//! A publisher's session: data, drop requests, delivery, and the packets that it sends.
+//! A publisher's session: its beginning, data, ACKACKs, drop requests and delivery (draft-sharabayko-srt-01, sections
+//! 3.1, 3.2.8, 3.2.9, 4.5 and 4.6).
 
-ghost use Rattle.std.specs.Prelude.{◌≡◌, ℕ, ◌+◌, ◌-◌, ◌*◌, ◌%◌, ◌^◌, ◌<◌, ◌≤◌, List, [], ◌∷◌, ◌++◌, map, length, true, false, Option, option_map, IfOk, nat_lt, if◌then◌else◌};
+ghost use Rattle.std.specs.Prelude.{◌≡◌, ℕ, ◌+◌, ◌-◌, ◌%◌, ◌^◌, ◌<◌, ◌≤◌, length, true, false, option_map, IfOk};
 ghost use Rattle.srt_seq.specs.Given.{given};
 ghost use Rattle.srt_seq.specs.Window.{word_of, counted_from, number_word};
 ghost use Rattle.srt_seq.specs.Lift.{stamped_from};
 ghost use Rattle.srt_packet.specs.View.{body_of};
-ghost use Rattle.srt_packet.specs.Text.{text, IsWritable};
-ghost use Rattle.srt_recvbuf.specs.Receiving.{Receiving, Arrival, ack_point, end_of, requested, next_due};
-ghost use Rattle.srt_recvbuf.specs.Stands.{words_of, run_words};
+ghost use Rattle.srt_recvbuf.specs.Receiving.{Receiving, Arrival, ack_point, requested, next_due};
 ghost use Rattle.srt_seq.specs.Runs.{range_from};
 ghost use Rattle.srt_pub.specs.Heard.{heard_from};
 ghost use Rattle.srt_pub.specs.Heard.Heard.{Data};
-ghost use Rattle.srt_pub.specs.Publishing.{Terms, Publishing, opened, took, with_data, with_request, confirmed_at, confirmed_by, acks, naks, gaps_told, runs_said, noted, reports, reported, loses_window, is_past_window};
-ghost use Rattle.srt_pub.specs.Says.{says, body_bytes};
-ghost use Rattle.srt_pub.specs.Calls.{payload_length, ended, lost_if, next_delivery, after_delivery, keep_alive_after, texts, listed};
+ghost use Rattle.srt_pub.specs.Publishing.{Terms, Publishing, opened, took, with_data, with_request, confirmed_at, confirmed_by, loses_window};
+ghost use Rattle.srt_pub.specs.Calls.{ended, lost_if, next_delivery, after_delivery};
 
-use crate::agreed::Agreed;
+use crate::due_times::Agreed;
 use crate::ends::PubEnd;
 use crate::log::Log;
-use crate::reports::Reports;
-use arrayvec::ArrayVec;
-use srt_loss::write;
-use srt_packet::{Body, Kind, Packet, PacketRef};
+use srt_packet::{Kind, PacketRef};
 use srt_recvbuf::RecvBuf;
 use srt_seq::{Mode, Payload, PayloadRef, Seq31, Stamp32};
 use std::alloc::{AllocError, Global};
@@ -29,14 +24,16 @@ use std::alloc::{AllocError, Global};
 /// A publisher's session. Moments are microseconds of the route's clock, which doesn't go back; they are below 2^62.
 #[derive(Drop)]
 pub struct Publisher {
-    agreed: Agreed,
-    buffer: RecvBuf,
-    log: Log,
+    /// What the session was opened with.
+    pub(crate) agreed: Agreed,
+    /// The packets that are received and not yet delivered.
+    pub(crate) buffer: RecvBuf,
+    /// ACKs, round trips and the times of the last packets.
+    pub(crate) log: Log,
 }
 
 impl Publisher {
     ghost use Rattle.srt_pub.specs.Stands.{StandsFor, IsAhead, opening_of, width_of};
-    ghost use Rattle.srt_pub.specs.Sent.{packets_of};
 
     /// A session with a window of `width` packets, 32 to 8192; `start` begins it. The only call that takes memory;
     /// the error is a refused allocation. O(width).
@@ -140,30 +137,6 @@ impl Publisher {
         if lost { Some(PubEnd::WindowLost) } else { None }
     }
 
-    /// Whether an unencrypted data packet with this number ends the session. Never in buffer mode.
-    fn loses_window(&self, word: u32) -> bool
-        ensures { (terms : Terms) (initial opening first caller : ℕ) (m : Publishing) (payload : List ℕ) → StandsFor terms initial opening first caller self.now m → result ≡ loses_window terms.mode terms (Data (counted_from initial word) 0 payload) m }
-    {
-        match self.agreed.mode {
-            Mode::Live => self.is_past(word),
-            Mode::Buffer => false,
-        }
-    }
-
-    /// Whether no received packet waits for delivery, and a number is past the window by fewer than 2^30.
-    fn is_past(&self, word: u32) -> bool
-        ensures { (terms : Terms) (initial opening first caller : ℕ) (m : Publishing) → StandsFor terms initial opening first caller self.now m → result ≡ is_past_window terms.width (counted_from initial word) m.receiving }
-    {
-        if self.buffer.waiting() {
-            return false;
-        }
-        let Some(number) = Seq31::new(word) else {
-            return false;
-        };
-        let end = self.buffer.front().add(self.buffer.width());
-        number.offset_in(end, 1 << 30).is_some()
-    }
-
     /// Takes an unencrypted data packet. One whose number has its top bit set is counted and not stored.
     fn receive(&mut self, word: u32, payload: PayloadRef<'_>, stamp: u32, now: u64)
         requires { now < 2 ^ 62 }
@@ -183,7 +156,7 @@ impl Publisher {
 
     /// Notes how far the front and the acknowledgement point moved from these to the buffer's current ones.
     fn follow(&mut self, front: Seq31, point: Seq31)
-        ensures stands { (terms : Terms) (initial opening first caller : ℕ) (m : Publishing) (r : Receiving) → word_of front ≡ number_word initial m.receiving.position → word_of point ≡ number_word initial (ack_point terms.width m.receiving) → IsAhead terms initial opening first caller self.old m r → StandsFor terms initial opening first caller self.new (record m { receiving = r }) }
+        ensures stands { (terms : Terms) (initial opening first caller : ℕ) (m : Publishing) (r : Receiving) → word_of front ≡ number_word initial m.receiving.front → word_of point ≡ number_word initial (ack_point terms.width m.receiving) → IsAhead terms initial opening first caller self.old m r → StandsFor terms initial opening first caller self.new (record m { receiving = r }) }
         ensures opening { opening_of self.new ≡ opening_of self.old }
     {
         let front_steps = steps(front, self.buffer.front());
@@ -206,13 +179,13 @@ impl Publisher {
         ensures opening { opening_of self.new ≡ opening_of self.old }
     {
         match self.agreed.mode {
-            Mode::Live => self.give_up(first, last),
+            Mode::Live => self.drop_range(first, last),
             Mode::Buffer => {}
         }
     }
 
     /// Drops the numbers from `first` to `last`, both in. Nothing changes if one of them has its top bit set.
-    fn give_up(&mut self, first: u32, last: u32)
+    fn drop_range(&mut self, first: u32, last: u32)
         ensures stands { (terms : Terms) (initial opening stamp caller : ℕ) (m : Publishing) → terms.mode ≡ Mode.Live → StandsFor terms initial opening stamp caller self.old m → StandsFor terms initial opening stamp caller self.new (record m { receiving = requested terms.width (range_from initial (record { first = first; last = last })) m.receiving }) }
         ensures opening { opening_of self.new ≡ opening_of self.old }
     {
@@ -259,99 +232,6 @@ impl Publisher {
         self.advance(now, room, payload)
     }
 
-    /// Gives a packet with this body its timestamp, modulo 2^32, and its destination.
-    fn address(&self, time: u64, packet: &mut Packet)
-        ensures bytes { (caller : ℕ) → self.now.agreed.caller ≡ caller → text packet.new ≡ body_bytes caller time packet.old.body }
-        ensures body { packet.new.body ≡ packet.old.body }
-    {
-        packet.stamp = (time % (1 << 32)) as u32;
-        packet.dest = self.agreed.caller;
-    }
-
-    /// Writes the ACK that is due. Returns whether one is; if not, `packet` is unchanged.
-    fn ack(&mut self, time: u64, packet: &mut Packet) -> bool
-        ensures stands { (terms : Terms) (initial opening stamp caller : ℕ) (m : Publishing) → StandsFor terms initial opening stamp caller self.old m → StandsFor terms initial opening stamp caller self.new (record m { notes = noted time (acks terms time m) m.notes }) }
-        ensures opening { opening_of self.new ≡ opening_of self.old }
-        ensures bytes { (terms : Terms) (initial opening stamp caller : ℕ) (m : Publishing) → StandsFor terms initial opening stamp caller self.old m → texts (listed (given result packet.new)) ≡ map (says caller initial time) (acks terms time m) }
-        ensures writable { result ≡ true → IsWritable packet.new.body }
-        ensures kept { result ≡ false → packet.new ≡ packet.old }
-    {
-        let point = self.buffer.ack_point();
-        let available = self.buffer.available();
-        if self.log.ack(time, point, available, &mut packet.body) {
-            self.address(time, packet);
-            return true;
-        }
-        false
-    }
-
-    /// The runs that a NAK reports: of all gaps, or of those above the numbers received before this event.
-    fn runs(&self, all: bool) -> ArrayVec<(Seq31, Seq31), 32>
-        ensures { (terms : Terms) (initial opening stamp caller : ℕ) (m : Publishing) → StandsFor terms initial opening stamp caller self.now m → words_of result.items ≡ map (run_words initial) (runs_said (gaps_told all terms.width m.seen m.receiving)) }
-    {
-        let front = self.buffer.front();
-        if all {
-            self.buffer.runs(front)
-        } else {
-            self.buffer.runs(front.add(self.log.seen))
-        }
-    }
-
-    /// Writes the NAK that is due: of all gaps at each NAK interval, else of the new gaps (section 4.8.2). Returns
-    /// whether one is; if not, `packet` is unchanged.
-    fn nak(&mut self, time: u64, packet: &mut Packet) -> bool
-        ensures stands { (terms : Terms) (initial opening stamp caller : ℕ) (m : Publishing) → StandsFor terms initial opening stamp caller self.old m → StandsFor terms initial opening stamp caller self.new (record m { notes = noted time (naks terms time m) m.notes }) }
-        ensures opening { opening_of self.new ≡ opening_of self.old }
-        ensures bytes { (terms : Terms) (initial opening stamp caller : ℕ) (m : Publishing) → StandsFor terms initial opening stamp caller self.old m → texts (listed (given result packet.new)) ≡ map (says caller initial time) (naks terms time m) }
-        ensures writable { result ≡ true → IsWritable packet.new.body }
-        ensures kept { result ≡ false → packet.new ≡ packet.old }
-    {
-        let all = self.log.is_nak_due(time);
-        let runs = self.runs(all);
-        if runs.is_empty() {
-            return false;
-        }
-        self.log.nak(time, all);
-        packet.body = Body::Nak {
-            losses: write(&runs),
-        };
-        self.address(time, packet);
-        true
-    }
-
-    /// Writes a KEEPALIVE, if one is due and neither an ACK nor a NAK is sent. Returns whether there is one; if not,
-    /// `packet` is unchanged.
-    fn keep_alive(&mut self, time: u64, ack: bool, nak: bool, packet: &mut Packet) -> bool
-        ensures stands { (terms : Terms) (initial opening stamp caller : ℕ) (m : Publishing) → StandsFor terms initial opening stamp caller self.old m → StandsFor terms initial opening stamp caller self.new (record m { notes = noted time (keep_alive_after ack nak time m.notes) m.notes }) }
-        ensures opening { opening_of self.new ≡ opening_of self.old }
-        ensures bytes { (terms : Terms) (initial opening stamp caller : ℕ) (m : Publishing) → StandsFor terms initial opening stamp caller self.old m → texts (listed (given result packet.new)) ≡ map (says caller initial time) (keep_alive_after ack nak time m.notes) }
-        ensures writable { result ≡ true → IsWritable packet.new.body }
-        ensures kept { result ≡ false → packet.new ≡ packet.old }
-    {
-        if ack {
-            return false;
-        }
-        if nak {
-            return false;
-        }
-        if self.log.is_silent(time) {
-            self.log.keep_alive(time);
-            packet.body = Body::KeepAlive;
-            self.address(time, packet);
-            return true;
-        }
-        false
-    }
-
-    /// Ends the event: the received numbers of now count as known for the next NAK of new gaps.
-    fn see(&mut self)
-        ensures stands { (terms : Terms) (initial opening stamp caller : ℕ) (m : Publishing) → StandsFor terms initial opening stamp caller self.old m → StandsFor terms initial opening stamp caller self.new (record m { seen = end_of m.receiving.arrivals }) }
-        ensures opening { opening_of self.new ≡ opening_of self.old }
-    {
-        let seen = steps(self.buffer.front(), self.buffer.top());
-        self.log.see(seen);
-    }
-
     /// Delivers the next payload, 1 to 1456 bytes, if one is due at `now` (sections 4.5 and 4.6). Returns whether
     /// there is one; if so, `payload` is replaced by its bytes, one copy, and else unchanged. In live mode a missing
     /// packet is given up once a later one is due, and `room` doesn't count. In buffer mode payloads come without
@@ -373,39 +253,10 @@ impl Publisher {
             Mode::Buffer => self.deliver_in_order(now, room, payload),
         }
     }
-
-    /// Ends an event. Writes the ACK, the NAK and the KEEPALIVE that are due at `now`, each into its place, and
-    /// returns which were written. They are sent in this order, and the other places are unchanged. Linear in the
-    /// distance from the first missing to the highest received number at most; takes no memory.
-    pub fn tick(
-        &mut self,
-        now: u64,
-        ack: &mut Packet,
-        nak: &mut Packet,
-        keep_alive: &mut Packet,
-    ) -> Reports
-        requires early { now < 2 ^ 62 }
-        ensures stands { (terms : Terms) (initial opening stamp caller time : ℕ) (m : Publishing) → now ≡ opening + time → StandsFor terms initial opening stamp caller self.old m → StandsFor terms initial opening stamp caller self.new (reported terms time m) }
-        ensures opening { opening_of self.new ≡ opening_of self.old }
-        ensures bytes { (terms : Terms) (initial opening stamp caller time : ℕ) (m : Publishing) → now ≡ opening + time → StandsFor terms initial opening stamp caller self.old m → texts (packets_of result ack.new nak.new keep_alive.new) ≡ map (says caller initial time) (reports terms time m) }
-        ensures each { (result.ack ≡ true → IsWritable ack.new.body) × (result.nak ≡ true → IsWritable nak.new.body) × (result.keep_alive ≡ true → IsWritable keep_alive.new.body) }
-        ensures kept { (result.ack ≡ false → ack.new ≡ ack.old) × (result.nak ≡ false → nak.new ≡ nak.old) × (result.keep_alive ≡ false → keep_alive.new ≡ keep_alive.old) }
-    {
-        let time = now.saturating_sub(self.agreed.opening);
-        let is_ack = self.ack(time, ack);
-        let is_nak = self.nak(time, nak);
-        let is_keep_alive = self.keep_alive(time, is_ack, is_nak, keep_alive);
-        self.see();
-        Reports {
-            ack: is_ack,
-            nak: is_nak,
-            keep_alive: is_keep_alive,
-        }
-    }
 }
 
 /// The number of packets from `from` on to `to`; 0 if that is 2^31 or more.
-fn steps(from: Seq31, to: Seq31) -> u32
+pub(crate) fn steps(from: Seq31, to: Seq31) -> u32
     ensures { (a b : ℕ) → a ≤ b → b < a + 2 ^ 31 → word_of from ≡ a % 2 ^ 31 → word_of to ≡ b % 2 ^ 31 → result ≡ b - a }
 {
     to.offset_in(from, 1 << 31).unwrap_or(0)

@@ -88,7 +88,7 @@ fn assert_sent(
     let mut ack = place();
     let mut nak = place();
     let mut keep_alive = place();
-    let sent = publisher.tick(
+    let sent = publisher.transmit(
         OPENING + u64::from(time),
         &mut ack,
         &mut nak,

@@ -14,9 +14,9 @@ use Rattle.srt_seq.specs.Runs.{least_from, numbers_from, Range, span}
 use Rattle.srt_recvbuf.specs.Receiving.{Arrival, Receiving, arrival_of, is_received, is_requested, is_missing, is_dropped, end_of, ack_point, with_number, put_of, moved_to, settled, waiting, first_due, next_due, requested, names}
 use Rattle.srt_recvbuf.specs.declared.buffer.Put.TheVariants.{New, Repeat}
 use Rattle.srt_recvbuf.specs.declared.buffer.RecvBuf.{RecvBuf}
-use Rattle.srt_recvbuf.specs.declared.window.Place.TheVariants.{Missing}
+use Rattle.srt_recvbuf.specs.declared.window.Place.TheVariants.{Missing as MissingPlace}
 use Rattle.srt_recvbuf.specs.declared.window.Window.{Window}
-use Rattle.srt_recvbuf.specs.Cells.{cell_at, cell_of, Cell, Empty, GivenUp, Got, is_empty, is_got, is_given_up, given_up}
+use Rattle.srt_recvbuf.specs.Cells.{cell_at, cell_of, Cell, Missing, Dropped, Received, cell_is_missing, cell_is_received, cell_is_dropped, after_drop}
 use Rattle.srt_recvbuf.specs.Stands.{StandsFor, cell_for, IsWindowOf, own_range}
 use Rattle.srt_recvbuf.specs.OneByOne.{NothingBeyond, NothingDroppedBeyond}
 use Rattle.srt_recvbuf.proofs.OneByOne.{found, skipped, found_number, number_or}
@@ -36,52 +36,52 @@ least_is test from (suc places) (suc steps) le before at =
     ∙ least_is test (from + 1) places steps (omega (arith, le)) (λ k lt. let m : (from + 1) + k ≡ from + suc k = omega arith in rw m (before (suc k) (omega (arith, lt)))) (λ lt. rw e (at (omega (arith, lt))))
     ∙ e
 
-pub empty_is : (origin : ℕ) (o : Option Arrival) (b : Bool) → is_empty (cell_for origin o b) ≡ not (is_some o || b)
-empty_is origin None true = refl
-empty_is origin None false = refl
-empty_is origin (Some a) b = refl
+pub missing_cell : (origin : ℕ) (o : Option Arrival) (b : Bool) → cell_is_missing (cell_for origin o b) ≡ not (is_some o || b)
+missing_cell origin None true = refl
+missing_cell origin None false = refl
+missing_cell origin (Some a) b = refl
 
-pub got_is : (origin : ℕ) (o : Option Arrival) (b : Bool) → is_got (cell_for origin o b) ≡ is_some o
-got_is origin None true = refl
-got_is origin None false = refl
-got_is origin (Some a) b = refl
+pub received_cell : (origin : ℕ) (o : Option Arrival) (b : Bool) → cell_is_received (cell_for origin o b) ≡ is_some o
+received_cell origin None true = refl
+received_cell origin None false = refl
+received_cell origin (Some a) b = refl
 
-pub given_up_is : (origin : ℕ) (o : Option Arrival) (b : Bool) → is_given_up (cell_for origin o b) ≡ (b && not (is_some o))
-given_up_is origin None true = refl
-given_up_is origin None false = refl
-given_up_is origin (Some a) true = refl
-given_up_is origin (Some a) false = refl
+pub dropped_cell : (origin : ℕ) (o : Option Arrival) (b : Bool) → cell_is_dropped (cell_for origin o b) ≡ (b && not (is_some o))
+dropped_cell origin None true = refl
+dropped_cell origin None false = refl
+dropped_cell origin (Some a) true = refl
+dropped_cell origin (Some a) false = refl
 
 module _ (width initial origin front end point : ℕ) (cells : ℕ → Cell) (r : Receiving) (h : IsWindowOf width initial origin front cells end point r) where
-  pub cell_missing : (d : ℕ) → is_missing width r (r.position + d) ≡ is_empty (cells d)
-  cell_missing d = sym (empty_is origin (arrival_of r.arrivals (r.position + d)) (is_requested width r.requests (r.position + d))) ∙ ap is_empty (sym (h.cells_are d))
+  pub cell_missing : (d : ℕ) → is_missing width r (r.front + d) ≡ cell_is_missing (cells d)
+  cell_missing d = sym (missing_cell origin (arrival_of r.arrivals (r.front + d)) (is_requested width r.requests (r.front + d))) ∙ ap cell_is_missing (sym (h.cells_are d))
 
-  pub cell_received : (d : ℕ) → is_received r (r.position + d) ≡ is_got (cells d)
-  cell_received d = sym (got_is origin (arrival_of r.arrivals (r.position + d)) (is_requested width r.requests (r.position + d))) ∙ ap is_got (sym (h.cells_are d))
+  pub cell_received : (d : ℕ) → is_received r (r.front + d) ≡ cell_is_received (cells d)
+  cell_received d = sym (received_cell origin (arrival_of r.arrivals (r.front + d)) (is_requested width r.requests (r.front + d))) ∙ ap cell_is_received (sym (h.cells_are d))
 
-  pub cell_dropped : (d : ℕ) → is_dropped width r (r.position + d) ≡ is_given_up (cells d)
-  cell_dropped d = sym (given_up_is origin (arrival_of r.arrivals (r.position + d)) (is_requested width r.requests (r.position + d))) ∙ ap is_given_up (sym (h.cells_are d))
+  pub cell_dropped : (d : ℕ) → is_dropped width r (r.front + d) ≡ cell_is_dropped (cells d)
+  cell_dropped d = sym (dropped_cell origin (arrival_of r.arrivals (r.front + d)) (is_requested width r.requests (r.front + d))) ∙ ap cell_is_dropped (sym (h.cells_are d))
 
-  pub point_is : point ≤ width → ack_point width r ≡ r.position + point
-  point_is le = least_is (is_missing width r) r.position width point le (λ k lt. cell_missing k ∙ h.not_missing k lt) (λ lt. cell_missing point ∙ h.missing lt)
+  pub point_is : point ≤ width → ack_point width r ≡ r.front + point
+  point_is le = least_is (is_missing width r) r.front width point le (λ k lt. cell_missing k ∙ h.not_missing k lt) (λ lt. cell_missing point ∙ h.missing lt)
 
 -- nothing is received past the window
 pub window_ends : (width initial origin : ℕ) (b : RecvBuf) (r : Receiving) → StandsFor width initial origin b r → NothingBeyond width r
 window_ends width initial origin b r h n le =
     let w = b.window in
-    let d = n - r.position in
-    let e : r.position + d ≡ n = omega (arith, le) in
-    let past = get_or_past w.places.items d Missing (omega (arith, le, h.0)) in
-    let none = ap (λ p. is_got (cell_of p (payload_at w.payloads d))) past in
+    let d = n - r.front in
+    let e : r.front + d ≡ n = omega (arith, le) in
+    let past = get_or_past w.places.items d MissingPlace (omega (arith, le, h.0)) in
+    let none = ap (λ p. cell_is_received (cell_of p (payload_at w.payloads d))) past in
     ap (is_received r) (sym e) ∙ cell_received width initial origin _ _ _ _ r h.1 d ∙ none
 
 pub drops_end : (width initial origin : ℕ) (b : RecvBuf) (r : Receiving) → StandsFor width initial origin b r → NothingDroppedBeyond width r
 drops_end width initial origin b r h n le =
     let w = b.window in
-    let d = n - r.position in
-    let e : r.position + d ≡ n = omega (arith, le) in
-    let past = get_or_past w.places.items d Missing (omega (arith, le, h.0)) in
-    let none = ap (λ p. is_given_up (cell_of p (payload_at w.payloads d))) past in
+    let d = n - r.front in
+    let e : r.front + d ≡ n = omega (arith, le) in
+    let past = get_or_past w.places.items d MissingPlace (omega (arith, le, h.0)) in
+    let none = ap (λ p. cell_is_dropped (cell_of p (payload_at w.payloads d))) past in
     ap (is_dropped width r) (sym e) ∙ cell_dropped width initial origin _ _ _ _ r h.1 d ∙ none
 
 -- the number of a window that has this sequence number
@@ -94,7 +94,7 @@ unfolding in_window
 own_some initial position width word front d e h = let k = h (initial + position) (sym e) in grind (arith, nat_tests)
 
 -- a new packet at a place
-pub with_packet : (width initial origin front end point point' d : ℕ) (cells cells' : ℕ → Cell) (r : Receiving) (payload : List ℕ) (due time : ℤ) → IsWindowOf width initial origin front cells end point r → due ≡ pos origin +ℤ time → ((k : ℕ) → cells' k ≡ (if k == d then Got due payload else cells k)) → point ≤ point' → ((k : ℕ) → point ≤ k → k < point' → is_empty (cells' k) ≡ false) → (point' < width → is_empty (cells' point') ≡ true) → IsWindowOf width initial origin front cells' (max end (d + 1)) point' (record r { arrivals = record { number = r.position + d; payload = payload; due = time } ∷ r.arrivals })
+pub with_packet : (width initial origin front end point point' d : ℕ) (cells cells' : ℕ → Cell) (r : Receiving) (payload : List ℕ) (due time : ℤ) → IsWindowOf width initial origin front cells end point r → due ≡ pos origin +ℤ time → ((k : ℕ) → cells' k ≡ (if k == d then Received due payload else cells k)) → point ≤ point' → ((k : ℕ) → point ≤ k → k < point' → cell_is_missing (cells' k) ≡ false) → (point' < width → cell_is_missing (cells' point') ≡ true) → IsWindowOf width initial origin front cells' (max end (d + 1)) point' (record r { arrivals = record { number = r.front + d; payload = payload; due = time } ∷ r.arrivals })
 with_packet width initial origin front end point point' d cells cells' r payload due time h t c low before here = record {
   front_is = h.front_is;
   cells_are = λ k. at k (cases_eq k d);
@@ -104,20 +104,20 @@ with_packet width initial origin front end point point' d cells cells' r payload
 }
   where
     new : Arrival
-    new = record { number = r.position + d; payload = payload; due = time }
+    new = record { number = r.front + d; payload = payload; due = time }
 
-    at : (k : ℕ) → (k ≡ d) ⊎ (k ≢ d) → cells' k ≡ cell_for origin (arrival_of (new ∷ r.arrivals) (r.position + k)) (is_requested width r.requests (r.position + k))
+    at : (k : ℕ) → (k ≡ d) ⊎ (k ≢ d) → cells' k ≡ cell_for origin (arrival_of (new ∷ r.arrivals) (r.front + k)) (is_requested width r.requests (r.front + k))
     at k (inl same) =
-        let n : (r.position + d == r.position + k) ≡ true = eq-eqb _ _ (omega (arith, same)) in
-        rw n (c k ∙ rw (eq-eqb _ _ same) (ap (λ x. Got x payload) t))
+        let n : (r.front + d == r.front + k) ≡ true = eq-eqb _ _ (omega (arith, same)) in
+        rw n (c k ∙ rw (eq-eqb _ _ same) (ap (λ x. Received x payload) t))
     at k (inr other) =
-        let n : (r.position + d == r.position + k) ≡ false = ne_eqb _ _ (λ e. other (omega (arith, e))) in
+        let n : (r.front + d == r.front + k) ≡ false = ne_eqb _ _ (λ e. other (omega (arith, e))) in
         rw n (c k ∙ rw (ne_eqb _ _ other) (h.cells_are k))
 
-    kept : (k : ℕ) → k < point' → (k < point) ⊎ (point ≤ k) → (k ≡ d) ⊎ (k ≢ d) → is_empty (cells' k) ≡ false
+    kept : (k : ℕ) → k < point' → (k < point) ⊎ (point ≤ k) → (k ≡ d) ⊎ (k ≢ d) → cell_is_missing (cells' k) ≡ false
     kept k lt (inr hi) o = before k hi lt
-    kept k lt (inl lo) (inl same) = ap is_empty (c k) ∙ rw (eq-eqb _ _ same) refl
-    kept k lt (inl lo) (inr other) = ap is_empty (c k) ∙ rw (ne_eqb _ _ other) (h.not_missing k lo)
+    kept k lt (inl lo) (inl same) = ap cell_is_missing (c k) ∙ rw (eq-eqb _ _ same) refl
+    kept k lt (inl lo) (inr other) = ap cell_is_missing (c k) ∙ rw (ne_eqb _ _ other) (h.not_missing k lo)
 
 -- what becomes of a packet
 pub repeated : (r : Receiving) (n : ℕ) (payload : List ℕ) (time : ℤ) → is_received r n ≡ true → with_number (Some n) payload time r ≡ r
@@ -142,23 +142,23 @@ with_fields width initial origin front front' end end' point w w' r r' ef ew ee 
     subst P (sym ef) (subst Q (sym ew) (subst R (sym ee) (subst S (sym er) h)))
 
 -- the front moves on by n places
-pub shifted : (width initial origin front front' end point point' count : ℕ) (cells cells' : ℕ → Cell) (r : Receiving) → IsWindowOf width initial origin front cells end point r → front' ≡ number_word initial (r.position + count) → ((d : ℕ) → cells' d ≡ cells (d + count)) → ((d : ℕ) → point - count ≤ d → d < point' → is_empty (cells' d) ≡ false) → (point' < width → is_empty (cells' point') ≡ true) → IsWindowOf width initial origin front' cells' (end - count) point' (moved_to (r.position + count) r)
+pub shifted : (width initial origin front front' end point point' count : ℕ) (cells cells' : ℕ → Cell) (r : Receiving) → IsWindowOf width initial origin front cells end point r → front' ≡ number_word initial (r.front + count) → ((d : ℕ) → cells' d ≡ cells (d + count)) → ((d : ℕ) → point - count ≤ d → d < point' → cell_is_missing (cells' d) ≡ false) → (point' < width → cell_is_missing (cells' point') ≡ true) → IsWindowOf width initial origin front' cells' (end - count) point' (moved_to (r.front + count) r)
 shifted width initial origin front front' end point point' count cells cells' r h f c before here = record {
   front_is = f;
-  cells_are = λ d. let e : r.position + (d + count) ≡ (r.position + count) + d = omega arith in c d ∙ h.cells_are (d + count) ∙ ap (λ n. cell_for origin (arrival_of r.arrivals n) (is_requested width r.requests n)) e;
+  cells_are = λ d. let e : r.front + (d + count) ≡ (r.front + count) + d = omega arith in c d ∙ h.cells_are (d + count) ∙ ap (λ n. cell_for origin (arrival_of r.arrivals n) (is_requested width r.requests n)) e;
   end_is = omega (arith, h.end_is);
   not_missing = λ d lt. kept d lt (cases_lt d (point - count));
   missing = here;
 }
   where
-    kept : (d : ℕ) → d < point' → (d < point - count) ⊎ (point - count ≤ d) → is_empty (cells' d) ≡ false
+    kept : (d : ℕ) → d < point' → (d < point - count) ⊎ (point - count ≤ d) → cell_is_missing (cells' d) ≡ false
     kept d lt (inr hi) = before d hi lt
-    kept d lt (inl lo) = ap is_empty (c d) ∙ h.not_missing (d + count) (omega (arith, lo))
+    kept d lt (inl lo) = ap cell_is_missing (c d) ∙ h.not_missing (d + count) (omega (arith, lo))
 
 -- past dropped numbers
-pub settled_is : (width initial origin front end point steps : ℕ) (cells : ℕ → Cell) (r : Receiving) → IsWindowOf width initial origin front cells end point r → steps ≤ width → ((k : ℕ) → k < steps → not (is_given_up (cells k)) ≡ false) → (steps < width → not (is_given_up (cells steps)) ≡ true) → settled width r ≡ moved_to (r.position + steps) r
+pub settled_is : (width initial origin front end point steps : ℕ) (cells : ℕ → Cell) (r : Receiving) → IsWindowOf width initial origin front cells end point r → steps ≤ width → ((k : ℕ) → k < steps → not (cell_is_dropped (cells k)) ≡ false) → (steps < width → not (cell_is_dropped (cells steps)) ≡ true) → settled width r ≡ moved_to (r.front + steps) r
 settled_is width initial origin front end point steps cells r h le before here =
-    ap (λ n. moved_to n r) (least_is (λ n. not (is_dropped width r n)) r.position width steps le
+    ap (λ n. moved_to n r) (least_is (λ n. not (is_dropped width r n)) r.front width steps le
     (λ k lt. ap not (cell_dropped width initial origin front end point cells r h k) ∙ before k lt)
     (λ lt. ap not (cell_dropped width initial origin front end point cells r h steps) ∙ here lt))
 
@@ -167,40 +167,40 @@ none_there None e = refl
 none_there (Some a) e = cc
 
 -- nothing waits
-pub nothing_waits : (width initial origin front end point : ℕ) (cells : ℕ → Cell) (r : Receiving) → IsWindowOf width initial origin front cells end point r → ((k : ℕ) → k < end → is_got (cells k) ≡ false) → waiting r ≡ []
+pub nothing_waits : (width initial origin front end point : ℕ) (cells : ℕ → Cell) (r : Receiving) → IsWindowOf width initial origin front cells end point r → ((k : ℕ) → k < end → cell_is_received (cells k) ≡ false) → waiting r ≡ []
 nothing_waits width initial origin front end point cells r h none =
-    let c = end_of r.arrivals - r.position in
-    let s = skipped r.arrivals r.position c c (λ i lt. none_there (arrival_of r.arrivals (r.position + i)) (cell_received width initial origin front end point cells r h i ∙ none i (omega (arith, lt, h.end_is)))) in
+    let c = end_of r.arrivals - r.front in
+    let s = skipped r.arrivals r.front c c (λ i lt. none_there (arrival_of r.arrivals (r.front + i)) (cell_received width initial origin front end point cells r h i ∙ none i (omega (arith, lt, h.end_is)))) in
     let z : c - c ≡ 0 = omega arith in
-    s ∙ ap (λ x. filter_map (arrival_of r.arrivals) (numbers_from (r.position + c) x)) z
+    s ∙ ap (λ x. filter_map (arrival_of r.arrivals) (numbers_from (r.front + c) x)) z
 
 -- the first packet that waits
 pub record IsFirstWaiting (origin at : ℕ) (cells : ℕ → Cell) (r : Receiving) : Type 0 where
   pub first : Arrival
   pub more : List Arrival
   pub waits : waiting r ≡ first ∷ more
-  pub number_is : first.number ≡ r.position + at
-  pub cell_is : cells at ≡ Got (pos origin +ℤ first.due) first.payload
+  pub number_is : first.number ≡ r.front + at
+  pub cell_is : cells at ≡ Received (pos origin +ℤ first.due) first.payload
 
-pub first_waits : (width initial origin front end point at : ℕ) (cells : ℕ → Cell) (r : Receiving) → IsWindowOf width initial origin front cells end point r → ((k : ℕ) → k < at → is_got (cells k) ≡ false) → at < end → is_got (cells at) ≡ true → IsFirstWaiting origin at cells r
-first_waits width initial origin front end point at cells r h none lt got = by (arrival_of r.arrivals (r.position + at)) refl (cell_received width initial origin front end point cells r h at ∙ got)
+pub first_waits : (width initial origin front end point at : ℕ) (cells : ℕ → Cell) (r : Receiving) → IsWindowOf width initial origin front cells end point r → ((k : ℕ) → k < at → cell_is_received (cells k) ≡ false) → at < end → cell_is_received (cells at) ≡ true → IsFirstWaiting origin at cells r
+first_waits width initial origin front end point at cells r h none lt got = by (arrival_of r.arrivals (r.front + at)) refl (cell_received width initial origin front end point cells r h at ∙ got)
   where
     none_is : false ≡ true → IsFirstWaiting origin at cells r
     none_is e = cc
 
-    by : (o : Option Arrival) → arrival_of r.arrivals (r.position + at) ≡ o → is_some (arrival_of r.arrivals (r.position + at)) ≡ true → IsFirstWaiting origin at cells r
+    by : (o : Option Arrival) → arrival_of r.arrivals (r.front + at) ≡ o → is_some (arrival_of r.arrivals (r.front + at)) ≡ true → IsFirstWaiting origin at cells r
     by None is some = none_is (sym (ap is_some is) ∙ some)
     by (Some a) is some =
-        let c = end_of r.arrivals - r.position in
-        let s = skipped r.arrivals r.position c at (λ i less. none_there (arrival_of r.arrivals (r.position + i)) (cell_received width initial origin front end point cells r h i ∙ none i less)) in
-        let more = filter_map (arrival_of r.arrivals) (numbers_from (r.position + at + 1) (c - at - 1)) in
+        let c = end_of r.arrivals - r.front in
+        let s = skipped r.arrivals r.front c at (λ i less. none_there (arrival_of r.arrivals (r.front + i)) (cell_received width initial origin front end point cells r h i ∙ none i less)) in
+        let more = filter_map (arrival_of r.arrivals) (numbers_from (r.front + at + 1) (c - at - 1)) in
         let z : c - at ≡ suc (c - at - 1) = omega (arith, lt, h.end_is) in
         record {
           first = a;
           more = more;
-          waits = s ∙ ap (λ x. filter_map (arrival_of r.arrivals) (numbers_from (r.position + at) x)) z ∙ ap (λ o. cons_option o more) is;
-          number_is = sym (ap (number_or (r.position + at)) is) ∙ found_number r.arrivals (r.position + at);
-          cell_is = h.cells_are at ∙ ap (λ o. cell_for origin o (is_requested width r.requests (r.position + at))) is;
+          waits = s ∙ ap (λ x. filter_map (arrival_of r.arrivals) (numbers_from (r.front + at) x)) z ∙ ap (λ o. cons_option o more) is;
+          number_is = sym (ap (number_or (r.front + at)) is) ∙ found_number r.arrivals (r.front + at);
+          cell_is = h.cells_are at ∙ ap (λ o. cell_for origin o (is_requested width r.requests (r.front + at))) is;
         }
 
 pub some_is : {X : Type 0} (x y : X) → Some x ≡ Some y → x ≡ y
@@ -252,7 +252,7 @@ nothing_requested width initial first last r f l long =
     rw e refl
 
 abbrev pub with_range : (width : ℕ) → Range → Receiving → Receiving
-with_range width q r = record r { requests = record { front = r.position; range = q } ∷ r.requests }
+with_range width q r = record r { requests = record { front = r.front; range = q } ∷ r.requests }
 
 pub range_requested : (width initial : ℕ) (first last : Seq31) (r : Receiving) → word_of first < 2 ^ 31 → word_of last < 2 ^ 31 → offset_of (word_of last) (word_of first) < 2 ^ 30 → requested width (own_range initial first last) r ≡ settled width (with_range width (own_range initial first last) r)
 range_requested width initial first last r f l short =
@@ -282,32 +282,32 @@ taken width initial position front from end sp d first last f l is sp_is inside 
     beyond : (p d w from end : ℕ) (b : Bool) → end ≤ w → w ≤ d → (nat_le from d && nat_lt d end) ≡ (nat_le p (p + d) && nat_lt (p + d) (p + w) && b)
     beyond p d w from end b x y = grind (arith, nat_tests)
 
-gives_up : (origin : ℕ) (o : Option Arrival) (x y : Bool) → (if x then given_up (cell_for origin o y) else cell_for origin o y) ≡ cell_for origin o (x || y)
-gives_up origin None true true = refl
-gives_up origin None true false = refl
-gives_up origin None false y = refl
-gives_up origin (Some a) true y = refl
-gives_up origin (Some a) false y = refl
+drops : (origin : ℕ) (o : Option Arrival) (x y : Bool) → (if x then after_drop (cell_for origin o y) else cell_for origin o y) ≡ cell_for origin o (x || y)
+drops origin None true true = refl
+drops origin None true false = refl
+drops origin None false y = refl
+drops origin (Some a) true y = refl
+drops origin (Some a) false y = refl
 
-stays_full : (b : Bool) (x : Cell) → is_empty x ≡ false → is_empty (if b then given_up x else x) ≡ false
-stays_full true Empty e = refl
-stays_full true GivenUp e = refl
-stays_full true (Got due payload) e = refl
-stays_full false x e = e
+stays_known : (b : Bool) (x : Cell) → cell_is_missing x ≡ false → cell_is_missing (if b then after_drop x else x) ≡ false
+stays_known true Missing e = refl
+stays_known true Dropped e = refl
+stays_known true (Received due payload) e = refl
+stays_known false x e = e
 
 -- a range of numbers is dropped
-pub with_dropped : (width initial origin front end point point' : ℕ) (cells cells' : ℕ → Cell) (given : ℕ → Bool) (q : Range) (r : Receiving) → IsWindowOf width initial origin front cells end point r → ((d : ℕ) → given d ≡ names width (record { front = r.position; range = q }) (r.position + d)) → ((d : ℕ) → cells' d ≡ (if given d then given_up (cells d) else cells d)) → ((d : ℕ) → point ≤ d → d < point' → is_empty (cells' d) ≡ false) → (point' < width → is_empty (cells' point') ≡ true) → IsWindowOf width initial origin front cells' end point' (with_range width q r)
+pub with_dropped : (width initial origin front end point point' : ℕ) (cells cells' : ℕ → Cell) (given : ℕ → Bool) (q : Range) (r : Receiving) → IsWindowOf width initial origin front cells end point r → ((d : ℕ) → given d ≡ names width (record { front = r.front; range = q }) (r.front + d)) → ((d : ℕ) → cells' d ≡ (if given d then after_drop (cells d) else cells d)) → ((d : ℕ) → point ≤ d → d < point' → cell_is_missing (cells' d) ≡ false) → (point' < width → cell_is_missing (cells' point') ≡ true) → IsWindowOf width initial origin front cells' end point' (with_range width q r)
 with_dropped width initial origin front end point point' cells cells' given q r h g c before here = record {
   front_is = h.front_is;
-  cells_are = λ d. c d ∙ ap (λ x. if given d then given_up x else x) (h.cells_are d) ∙ gives_up origin (arrival_of r.arrivals (r.position + d)) (given d) (is_requested width r.requests (r.position + d)) ∙ ap (λ b. cell_for origin (arrival_of r.arrivals (r.position + d)) (b || is_requested width r.requests (r.position + d))) (g d);
+  cells_are = λ d. c d ∙ ap (λ x. if given d then after_drop x else x) (h.cells_are d) ∙ drops origin (arrival_of r.arrivals (r.front + d)) (given d) (is_requested width r.requests (r.front + d)) ∙ ap (λ b. cell_for origin (arrival_of r.arrivals (r.front + d)) (b || is_requested width r.requests (r.front + d))) (g d);
   end_is = h.end_is;
   not_missing = λ d lt. kept d lt (cases_lt d point);
   missing = here;
 }
   where
-    kept : (d : ℕ) → d < point' → (d < point) ⊎ (point ≤ d) → is_empty (cells' d) ≡ false
+    kept : (d : ℕ) → d < point' → (d < point) ⊎ (point ≤ d) → cell_is_missing (cells' d) ≡ false
     kept d lt (inr hi) = before d hi lt
-    kept d lt (inl lo) = ap is_empty (c d) ∙ stays_full (given d) (cells d) (h.not_missing d lo)
+    kept d lt (inl lo) = ap cell_is_missing (c d) ∙ stays_known (given d) (cells d) (h.not_missing d lo)
 
 -- the places of a window that a range names, if it begins in the window
 pub begins_inside : (front first span width from end d : ℕ) → front < 2 ^ 31 → first < 2 ^ 31 → span < 2 ^ 30 → width ≤ 8192 → span + 1 ≤ offset_of front first → from ≡ offset_of first front → from < width → end ≡ min (from + span + 1) width → d < width → (nat_le from d && nat_lt d end) ≡ nat_le (offset_of (front + d) first) span

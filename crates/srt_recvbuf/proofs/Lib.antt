@@ -2,6 +2,6 @@ pub mod OneByOne
 pub mod Points
 pub mod Places
 pub mod Buffers
-pub mod Gaps
+pub mod Runs
 pub mod Rows
 pub mod Unbroken

@@ -101,18 +101,18 @@ gone false (Some a) e = cc
 
 pub others_wait : OthersWait
 others_wait width r a more e =
-    let h = first_of_all r.arrivals r.position (end_of r.arrivals - r.position) a more e in
+    let h = first_of_all r.arrivals r.front (end_of r.arrivals - r.front) a more e in
     let q = a.number + 1 in
     let l = least (λ n. not (is_dropped width r n)) q width in
     let none : (i : ℕ) → i < l.steps → arrival_of r.arrivals (q + i) ≡ None = λ i lt. gone (is_requested width r.requests (q + i)) (arrival_of r.arrivals (q + i)) (l.before i lt) in
-    let from : r.position + h.place + 1 ≡ q = omega (arith, h.number_is) in
-    let count : (end_of r.arrivals - r.position) - (h.place + 1) ≡ end_of r.arrivals - q = omega (arith, h.number_is) in
+    let from : r.front + h.place + 1 ≡ q = omega (arith, h.number_is) in
+    let count : (end_of r.arrivals - r.front) - (h.place + 1) ≡ end_of r.arrivals - q = omega (arith, h.number_is) in
     let left : end_of r.arrivals - (q + l.steps) ≡ (end_of r.arrivals - q) - l.steps = omega arith in
     ap (λ x. filter_map (arrival_of r.arrivals) (numbers_from x (end_of r.arrivals - x))) l.least_is
     ∙ ap (λ x. filter_map (arrival_of r.arrivals) (numbers_from (q + l.steps) x)) left
     ∙ sym (skipped r.arrivals q (end_of r.arrivals - q) l.steps none)
     ∙ ap (λ x. filter_map (arrival_of r.arrivals) (numbers_from q x)) (sym count)
-    ∙ ap (λ x. filter_map (arrival_of r.arrivals) (numbers_from x ((end_of r.arrivals - r.position) - (h.place + 1)))) (sym from)
+    ∙ ap (λ x. filter_map (arrival_of r.arrivals) (numbers_from x ((end_of r.arrivals - r.front) - (h.place + 1)))) (sym from)
     ∙ sym h.more_is
 
 pub passes_one_by_one : PassesOneByOne

@@ -6,7 +6,7 @@ use Rattle.srt_ring.specs.declared.ring.PayloadRing.{PayloadRing}
 use Rattle.srt_ring.specs.Ring.{payload_at}
 use Rattle.srt_recvbuf.specs.declared.window.Place.{Place}
 use Rattle.srt_recvbuf.specs.declared.window.Place.TheVariants.{Missing, Dropped, Received}
-use Rattle.srt_recvbuf.specs.Cells.{cell_of, cell_in, is_got}
+use Rattle.srt_recvbuf.specs.Cells.{cell_of, cell_in, cell_is_received}
 
 -- past the last place the payload doesn't matter
 pub same_inside : (ps : List Place) (d : ℕ) (t u : List ℕ) → (d < length ps → t ≡ u) → cell_of (get_or ps d Missing) t ≡ cell_of (get_or ps d Missing) u
@@ -29,13 +29,13 @@ filled ps qs w n at d p bytes here set kept = elim (cases_eq d at) [
 ]
 
 -- if no packet is at a place, its payload doesn't matter
-free_same : (p : Place) (t u : List ℕ) → is_got (cell_of p t) ≡ false → cell_of p t ≡ cell_of p u
+free_same : (p : Place) (t u : List ℕ) → cell_is_received (cell_of p t) ≡ false → cell_of p t ≡ cell_of p u
 free_same Missing t u e = refl
 free_same Dropped t u e = refl
 free_same (Received due) t u e = cc
 
 -- exchanging the payloads of two places without packets
-pub exchanged : (ps : List Place) (w n : PayloadRing) (one other d : ℕ) → is_got (cell_in ps w one) ≡ false → is_got (cell_in ps w other) ≡ false → (d < length ps → (d ≡ one → ⊥) → (d ≡ other → ⊥) → payload_at n d ≡ payload_at w d) → cell_in ps n d ≡ cell_in ps w d
+pub exchanged : (ps : List Place) (w n : PayloadRing) (one other d : ℕ) → cell_is_received (cell_in ps w one) ≡ false → cell_is_received (cell_in ps w other) ≡ false → (d < length ps → (d ≡ one → ⊥) → (d ≡ other → ⊥) → payload_at n d ≡ payload_at w d) → cell_in ps n d ≡ cell_in ps w d
 exchanged ps w n one other d fone fother kept = elim (cases_eq d one) [
   | inl same ↦ subst (λ x. cell_in ps n x ≡ cell_in ps w x) (sym same) (sym (free_same _ _ _ fone))
   | inr not_one ↦ elim (cases_eq d other) [

@@ -29,15 +29,15 @@ least_of test from (suc places) = by (test from) refl (least_of test (from + 1) 
         at n (inr other) low high = h.before n (omega (arith, low, other)) high
 
 pub ack_points : AckPoints
-ack_points width r = let h = least_of (is_missing width r) r.position width in record { low = h.low; high = h.high; before = h.before; here = h.here }
+ack_points width r = let h = least_of (is_missing width r) r.front width in record { low = h.low; high = h.high; before = h.before; here = h.here }
 
 pub settles : SettlesAtTheLeast
 settles width r beyond =
     let test : ℕ → Bool = λ n. not (is_dropped width r n) in
-    let h = least_of test r.position width in
-    let point = least_from test r.position width in
+    let h = least_of test r.front width in
+    let point = least_from test r.front width in
     record {
       low = h.low;
       before = λ n low high. not-false (is_dropped width r n) (h.before n low high);
-      here = elim (cases_lt point (r.position + width)) [ inl inside ↦ not-true (is_dropped width r point) (h.here inside) | inr past ↦ beyond point past ];
+      here = elim (cases_lt point (r.front + width)) [ inl inside ↦ not-true (is_dropped width r point) (h.here inside) | inr past ↦ beyond point past ];
     }

@@ -16,11 +16,11 @@ waits = (refl, refl, refl)
 abbrev both_delivered : Receiving
 both_delivered = passed 32 (deliverable 20 two_received) two_received
 
-passes : (both_delivered.position ≡ 3) × (gaps 32 both_delivered ≡ []) × (available 32 both_delivered ≡ 32)
+passes : (both_delivered.front ≡ 3) × (gaps 32 both_delivered ≡ []) × (available 32 both_delivered ≡ 32)
 unfolding in_window
 passes = (refl, refl, refl)
 
--- the window of a receiver whose position is 5
+-- the window of a receiver whose front is 5
 width : (in_window 36 5 32 ≡ Some 36) × (in_window 37 5 32 ≡ None) × (in_window 4 5 32 ≡ None) × (in_window (2 ^ 31 + 36) 5 32 ≡ None)
 unfolding in_window
 width = (refl, refl, refl, refl)
@@ -46,10 +46,10 @@ says : said_runs 32 0x7fff_ffff 0x7fff_ffff (received 32 3 (9 ∷ []) (pos 0) no
 unfolding in_window
 says = refl
 
--- a dropped number that comes later is received; the position goes past dropped ones
+-- a dropped number that comes later is received; the front goes past dropped ones
 abbrev two_dropped : Receiving
 two_dropped = requested 32 (record { first = 1; last = 4 }) two_received
 
-drops : (gaps 32 two_dropped ≡ []) × (ack_point 32 two_dropped ≡ 5) × ((passed 32 (deliverable 20 two_dropped) two_dropped).position ≡ 5) × (is_dropped 32 two_dropped 3 ≡ true) × (is_dropped 32 (received 32 3 (1 ∷ []) (pos 0) two_dropped) 3 ≡ false)
+drops : (gaps 32 two_dropped ≡ []) × (ack_point 32 two_dropped ≡ 5) × ((passed 32 (deliverable 20 two_dropped) two_dropped).front ≡ 5) × (is_dropped 32 two_dropped 3 ≡ true) × (is_dropped 32 (received 32 3 (1 ∷ []) (pos 0) two_dropped) 3 ≡ false)
 unfolding in_window
 drops = (refl, refl, refl, refl, refl)

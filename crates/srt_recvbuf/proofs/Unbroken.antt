@@ -41,46 +41,46 @@ head_is xs p (suc c) a e lt =
 at_once : (test : ℕ → Bool) (from width : ℕ) → test from ≡ true → least_from test from width ≡ from
 at_once test from width e = let z : from + 0 ≡ from = omega arith in least_is test from width 0 (omega arith) (λ k lt. absurd (omega (arith, lt))) (λ lt. rw z e) ∙ z
 
--- the first packet and the rest, if the first has the position's number
-first_and_rest : (width position : ℕ) (xs : List Arrival) (a : Arrival) → let r : Receiving = record { arrivals = xs; requests = []; position = position } in NothingBeyond width r → position < ack_point width r → arrival_of xs position ≡ Some a → is_some (arrival_of xs position) ≡ true → (waiting r ≡ a ∷ filter_map (arrival_of xs) (numbers_from (position + 1) (end_of xs - position - 1))) × (unbroken width r ≡ a ∷ unbroken width (passed width (a ∷ []) r))
-first_and_rest width position xs a beyond lt is some =
-    let r : Receiving = record { arrivals = xs; requests = []; position = position } in
+-- the first packet and the rest, if the first has the front's number
+first_and_rest : (width front : ℕ) (xs : List Arrival) (a : Arrival) → let r : Receiving = record { arrivals = xs; requests = []; front = front } in NothingBeyond width r → front < ack_point width r → arrival_of xs front ≡ Some a → is_some (arrival_of xs front) ≡ true → (waiting r ≡ a ∷ filter_map (arrival_of xs) (numbers_from (front + 1) (end_of xs - front - 1))) × (unbroken width r ≡ a ∷ unbroken width (passed width (a ∷ []) r))
+first_and_rest width front xs a beyond lt is some =
+    let r : Receiving = record { arrivals = xs; requests = []; front = front } in
     let point = ack_point width r in
     let h = ack_points width r in
-    let low = below_end xs position some in
-    let number : a.number ≡ position = sym (ap (number_or position) is) ∙ found_number xs position in
-    let next : (passed width (a ∷ []) r).position ≡ position + 1 = at_once (λ n. not (is_dropped width (moved_to (a.number + 1) r) n)) (a.number + 1) width refl ∙ ap (λ n. n + 1) number in
-    let at : position + 1 + (point - (position + 1)) ≡ point = omega (arith, lt) in
-    let again : least_from (is_missing width r) (position + 1) width ≡ position + 1 + (point - (position + 1)) =
-    least_is (is_missing width r) (position + 1) width (point - (position + 1)) (omega (arith, h.high)) (λ k less. h.before (position + 1 + k) (omega arith) (omega (arith, less))) (λ less. rw at (elim (cases_lt point (position + width)) [
+    let low = below_end xs front some in
+    let number : a.number ≡ front = sym (ap (number_or front) is) ∙ found_number xs front in
+    let next : (passed width (a ∷ []) r).front ≡ front + 1 = at_once (λ n. not (is_dropped width (moved_to (a.number + 1) r) n)) (a.number + 1) width refl ∙ ap (λ n. n + 1) number in
+    let at : front + 1 + (point - (front + 1)) ≡ point = omega (arith, lt) in
+    let again : least_from (is_missing width r) (front + 1) width ≡ front + 1 + (point - (front + 1)) =
+    least_is (is_missing width r) (front + 1) width (point - (front + 1)) (omega (arith, h.high)) (λ k less. h.before (front + 1 + k) (omega arith) (omega (arith, less))) (λ less. rw at (elim (cases_lt point (front + width)) [
       | inl inside ↦ h.here inside
       | inr outside ↦ still_missing (is_received r point) (beyond point outside)
     ])) in
-    let count : least_from (is_missing width r) (position + 1) width - (position + 1) ≡ point - position - 1 = omega (arith, again, lt) in (
-      head_is xs position (end_of xs - position) a is (omega (arith, low)),
-      head_is xs position (point - position) a is (omega (arith, lt))
-          ∙ ap (λ n. a ∷ filter_map (arrival_of xs) (numbers_from (position + 1) n)) (sym count)
+    let count : least_from (is_missing width r) (front + 1) width - (front + 1) ≡ point - front - 1 = omega (arith, again, lt) in (
+      head_is xs front (end_of xs - front) a is (omega (arith, low)),
+      head_is xs front (point - front) a is (omega (arith, lt))
+          ∙ ap (λ n. a ∷ filter_map (arrival_of xs) (numbers_from (front + 1) n)) (sym count)
           ∙ ap (λ n. a ∷ filter_map (arrival_of xs) (numbers_from n (least_from (is_missing width r) n width - n))) (sym next),
     )
 
 -- a record without a dropped number
-of_record : (width position : ℕ) (xs : List Arrival) → let r : Receiving = record { arrivals = xs; requests = []; position = position } in NothingBeyond width r → position < ack_point width r → (a : Arrival) × (more : List Arrival) × (waiting r ≡ a ∷ more) × (unbroken width r ≡ a ∷ unbroken width (passed width (a ∷ []) r))
-of_record width position xs beyond lt = by (arrival_of xs position) refl
+of_record : (width front : ℕ) (xs : List Arrival) → let r : Receiving = record { arrivals = xs; requests = []; front = front } in NothingBeyond width r → front < ack_point width r → (a : Arrival) × (more : List Arrival) × (waiting r ≡ a ∷ more) × (unbroken width r ≡ a ∷ unbroken width (passed width (a ∷ []) r))
+of_record width front xs beyond lt = by (arrival_of xs front) refl
   where
     r : Receiving
-    r = record { arrivals = xs; requests = []; position = position }
+    r = record { arrivals = xs; requests = []; front = front }
 
-    has : is_some (arrival_of xs position) ≡ true
-    has = received_is (is_some (arrival_of xs position)) ((ack_points width r).before position (omega arith) lt)
+    has : is_some (arrival_of xs front) ≡ true
+    has = received_is (is_some (arrival_of xs front)) ((ack_points width r).before front (omega arith) lt)
 
     none_is : false ≡ true → (a : Arrival) × (more : List Arrival) × (waiting r ≡ a ∷ more) × (unbroken width r ≡ a ∷ unbroken width (passed width (a ∷ []) r))
     none_is e = cc
 
-    by : (o : Option Arrival) → arrival_of xs position ≡ o → (a : Arrival) × (more : List Arrival) × (waiting r ≡ a ∷ more) × (unbroken width r ≡ a ∷ unbroken width (passed width (a ∷ []) r))
+    by : (o : Option Arrival) → arrival_of xs front ≡ o → (a : Arrival) × (more : List Arrival) × (waiting r ≡ a ∷ more) × (unbroken width r ≡ a ∷ unbroken width (passed width (a ∷ []) r))
     by None is = none_is (sym (ap is_some is) ∙ has)
-    by (Some a) is = let k = first_and_rest width position xs a beyond lt is has in (a, filter_map (arrival_of xs) (numbers_from (position + 1) (end_of xs - position - 1)), k.0, k.1)
+    by (Some a) is = let k = first_and_rest width front xs a beyond lt is has in (a, filter_map (arrival_of xs) (numbers_from (front + 1) (end_of xs - front - 1)), k.0, k.1)
 
 pub unbroken_one_by_one : UnbrokenOneByOne
 unbroken_one_by_one width r none =
-    let P : List Request → Type 0 = λ q. let s : Receiving = record { arrivals = r.arrivals; requests = q; position = r.position } in NothingBeyond width s → s.position < ack_point width s → (a : Arrival) × (more : List Arrival) × (waiting s ≡ a ∷ more) × (unbroken width s ≡ a ∷ unbroken width (passed width (a ∷ []) s)) in
-    subst P (sym none) (of_record width r.position r.arrivals)
+    let P : List Request → Type 0 = λ q. let s : Receiving = record { arrivals = r.arrivals; requests = q; front = r.front } in NothingBeyond width s → s.front < ack_point width s → (a : Arrival) × (more : List Arrival) × (waiting s ≡ a ∷ more) × (unbroken width s ≡ a ∷ unbroken width (passed width (a ∷ []) s)) in
+    subst P (sym none) (of_record width r.front r.arrivals)

@@ -12,13 +12,13 @@ PassesOneByOne = (width : ℕ) (r : Receiving) (a b : Arrival) (more : List Arri
 
 -- nothing is received past the window
 abbrev pub NothingBeyond : (width : ℕ) → Receiving → Type 0
-NothingBeyond width r = (n : ℕ) → r.position + width ≤ n → is_received r n ≡ false
+NothingBeyond width r = (n : ℕ) → r.front + width ≤ n → is_received r n ≡ false
 
 -- nothing is dropped past the window
 abbrev pub NothingDroppedBeyond : (width : ℕ) → Receiving → Type 0
-NothingDroppedBeyond width r = (n : ℕ) → r.position + width ≤ n → is_dropped width r n ≡ false
+NothingDroppedBeyond width r = (n : ℕ) → r.front + width ≤ n → is_dropped width r n ≡ false
 
--- if nothing was dropped and the acknowledgement point is above the position, the first waiting packet is the first
+-- if nothing was dropped and the acknowledgement point is above the front, the first waiting packet is the first
 -- without a gap, and after it is delivered the others without a gap are left
 abbrev pub UnbrokenOneByOne : Type 0
-UnbrokenOneByOne = (width : ℕ) (r : Receiving) → r.requests ≡ [] → NothingBeyond width r → r.position < ack_point width r → (a : Arrival) × (more : List Arrival) × (waiting r ≡ a ∷ more) × (unbroken width r ≡ a ∷ unbroken width (passed width (a ∷ []) r))
+UnbrokenOneByOne = (width : ℕ) (r : Receiving) → r.requests ≡ [] → NothingBeyond width r → r.front < ack_point width r → (a : Arrival) × (more : List Arrival) × (waiting r ≡ a ∷ more) × (unbroken width r ≡ a ∷ unbroken width (passed width (a ∷ []) r))

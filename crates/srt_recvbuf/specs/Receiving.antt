@@ -12,20 +12,20 @@ pub record Arrival : Type 0 where
   pub payload : List ℕ
   pub due : ℤ
 
--- a drop request: the position when it came, and its range
+-- a drop request: the front when it came, and its range
 pub record Request : Type 0 where
   pub front : ℕ
   pub range : Range
 
--- all arrivals and drop requests, and the position: the number from which on packets are taken
+-- all arrivals and drop requests, and the front: the number from which on packets are taken
 pub record Receiving : Type 0 where
   pub arrivals : List Arrival
   pub requests : List Request
-  pub position : ℕ
+  pub front : ℕ
 
 -- a stream of which nothing came yet
 abbrev pub nothing_yet : Receiving
-nothing_yet = record { arrivals = []; requests = []; position = 0 }
+nothing_yet = record { arrivals = []; requests = []; front = 0 }
 
 -- the packet of a number, if it was received
 abbrev pub arrival_of : List Arrival → ℕ → Option Arrival
@@ -57,33 +57,33 @@ abbrev pub end_of : List Arrival → ℕ
 end_of [] = 0
 end_of (a ∷ arrivals) = max (a.number + 1) (end_of arrivals)
 
--- one more than the highest received number, or the position if that is greater
+-- one more than the highest received number, or the front if that is greater
 abbrev pub top : Receiving → ℕ
-top r = max r.position (end_of r.arrivals)
+top r = max r.front (end_of r.arrivals)
 
--- the gaps: the missing numbers from the position to the highest received one (section 4.8.2)
+-- the gaps: the missing numbers from the front to the highest received one (section 4.8.2)
 abbrev pub gaps : (width : ℕ) → Receiving → List ℕ
-gaps width r = filter (is_missing width r) (numbers_from r.position (end_of r.arrivals - r.position))
+gaps width r = filter (is_missing width r) (numbers_from r.front (end_of r.arrivals - r.front))
 
 -- the gaps from `from` on
 abbrev pub gaps_from : (width from : ℕ) → Receiving → List ℕ
-gaps_from width from r = gaps width (record r { position = from })
+gaps_from width from r = gaps width (record r { front = from })
 
 -- the acknowledgement point: the least missing number of the window, or the window's end (section 4.8.1)
 abbrev pub ack_point : (width : ℕ) → Receiving → ℕ
-ack_point width r = least_from (is_missing width r) r.position width
+ack_point width r = least_from (is_missing width r) r.front width
 
 -- the available buffer size in packets: the window's places from the acknowledgement point on (section 3.2.4)
 abbrev pub available : (width : ℕ) → Receiving → ℕ
-available width r = r.position + width - ack_point width r
+available width r = r.front + width - ack_point width r
 
--- whether a received number is at or above the position
+-- whether a received number is at or above the front
 abbrev pub is_waiting : Receiving → Bool
-is_waiting r = nat_lt r.position (end_of r.arrivals)
+is_waiting r = nat_lt r.front (end_of r.arrivals)
 
--- what is received at or above the position, lowest number first
+-- what is received at or above the front, lowest number first
 abbrev pub waiting : Receiving → List Arrival
-waiting r = filter_map (arrival_of r.arrivals) (numbers_from r.position (end_of r.arrivals - r.position))
+waiting r = filter_map (arrival_of r.arrivals) (numbers_from r.front (end_of r.arrivals - r.front))
 
 -- the most payloads that one event delivers (this profile)
 abbrev pub most : ℕ
@@ -94,31 +94,31 @@ most = 64
 abbrev pub deliverable : (time : ℕ) → Receiving → List Arrival
 deliverable time r = take most (take_while (λ a. int_le a.due (pos time)) (waiting r))
 
--- what is received from the position on without a gap
+-- what is received from the front on without a gap
 abbrev pub unbroken : (width : ℕ) → Receiving → List Arrival
-unbroken width r = filter_map (arrival_of r.arrivals) (numbers_from r.position (ack_point width r - r.position))
+unbroken width r = filter_map (arrival_of r.arrivals) (numbers_from r.front (ack_point width r - r.front))
 
 -- what an event delivers in buffer mode: the packets without a gap, at most `room` of them (section 4.2.2)
 abbrev pub in_order : (width room : ℕ) → Receiving → List Arrival
 in_order width room r = take (min most room) (unbroken width r)
 
--- the position after these are delivered: past the last of them
+-- the front after these are delivered: past the last of them
 abbrev pub next_after : ℕ → List Arrival → ℕ
-next_after position [] = position
-next_after position (a ∷ arrivals) = next_after (a.number + 1) arrivals
+next_after front [] = front
+next_after front (a ∷ arrivals) = next_after (a.number + 1) arrivals
 
--- the same stream with another position
+-- the same stream with another front
 abbrev pub moved_to : ℕ → Receiving → Receiving
-moved_to position r = record r { position = position }
+moved_to front r = record r { front = front }
 
--- with the position moved past dropped numbers
+-- with the front moved past dropped numbers
 abbrev pub settled : (width : ℕ) → Receiving → Receiving
-settled width r = moved_to (least_from (λ n. not (is_dropped width r n)) r.position width) r
+settled width r = moved_to (least_from (λ n. not (is_dropped width r n)) r.front width) r
 
--- after these are delivered: missing numbers before the last of them are given up (section 4.6), and the position
+-- after these are delivered: missing numbers before the last of them are given up (section 4.6), and the front
 -- moves past dropped numbers
 abbrev pub passed : (width : ℕ) → List Arrival → Receiving → Receiving
-passed width arrivals r = settled width (moved_to (next_after r.position arrivals) r)
+passed width arrivals r = settled width (moved_to (next_after r.front arrivals) r)
 
 -- the same, for the number of the window that the packet has; None if it has none of the window
 abbrev pub with_number : Option ℕ → List ℕ → ℤ → Receiving → Receiving
@@ -127,7 +127,7 @@ with_number (Some n) payload due r = if is_received r n then r else record r { a
 
 -- after a data packet: only the first copy of a number of the window counts (section 3.1)
 abbrev pub received : (width word : ℕ) → List ℕ → ℤ → Receiving → Receiving
-received width word payload due r = with_number (in_window word r.position width) payload due r
+received width word payload due r = with_number (in_window word r.front width) payload due r
 
 -- what became of a packet with this number, or with one outside the window
 abbrev pub put_of : Option ℕ → Receiving → Put
@@ -139,7 +139,7 @@ put_of (Some n) r = if is_received r n then Repeat else New
 abbrev pub requested : (width : ℕ) → Range → Receiving → Receiving
 requested width q r =
     if nat_lt q.first (2 ^ 31) && nat_lt q.last (2 ^ 31) && nat_lt (span q) (2 ^ 30)
-    then settled width (record r { requests = record { front = r.position; range = q } ∷ r.requests })
+    then settled width (record r { requests = record { front = r.front; range = q } ∷ r.requests })
     else r
 
 -- the first waiting packet, if it is due at `time`

@@ -6,23 +6,23 @@ use Rattle.srt_seq.specs.Window.{word_of, counted_from, in_window, number_word}
 use Rattle.srt_seq.specs.Runs.{Range, Run, range_from}
 use Rattle.srt_seq.specs.declared.numbers.Seq31.{Seq31}
 use Rattle.srt_recvbuf.specs.Receiving.{Arrival, Receiving, arrival_of, is_requested, end_of, waiting, first_due, runs_from}
-use Rattle.srt_recvbuf.specs.Cells.{Cell, Empty, GivenUp, Got, is_empty, cell_at, width_of}
+use Rattle.srt_recvbuf.specs.Cells.{Cell, Missing, Dropped, Received, cell_is_missing, cell_at, width_of}
 use Rattle.srt_recvbuf.specs.declared.buffer.RecvBuf.{RecvBuf}
 
 -- the state of a place, from the arrival of its number and whether that was dropped
 abbrev pub cell_for : (origin : ℕ) → Option Arrival → (requested : Bool) → Cell
-cell_for origin None requested = if requested then GivenUp else Empty
-cell_for origin (Some a) requested = Got (pos origin +ℤ a.due) a.payload
+cell_for origin None requested = if requested then Dropped else Missing
+cell_for origin (Some a) requested = Received (pos origin +ℤ a.due) a.payload
 
--- these fields have the values that the definitions give: the position's sequence number, the state of the place at
+-- these fields have the values that the definitions give: the front's sequence number, the state of the place at
 -- each distance from it, the distance of the end of the received numbers, and the distance of the acknowledgement
 -- point
 pub record IsWindowOf (width initial origin front : ℕ) (cells : ℕ → Cell) (end point : ℕ) (r : Receiving) : Type 0 where
-  pub front_is : front ≡ (initial + r.position) % 2 ^ 31
-  pub cells_are : (d : ℕ) → cells d ≡ cell_for origin (arrival_of r.arrivals (r.position + d)) (is_requested width r.requests (r.position + d))
-  pub end_is : end ≡ end_of r.arrivals - r.position
-  pub not_missing : (d : ℕ) → d < point → is_empty (cells d) ≡ false
-  pub missing : point < width → is_empty (cells point) ≡ true
+  pub front_is : front ≡ (initial + r.front) % 2 ^ 31
+  pub cells_are : (d : ℕ) → cells d ≡ cell_for origin (arrival_of r.arrivals (r.front + d)) (is_requested width r.requests (r.front + d))
+  pub end_is : end ≡ end_of r.arrivals - r.front
+  pub not_missing : (d : ℕ) → d < point → cell_is_missing (cells d) ≡ false
+  pub missing : point < width → cell_is_missing (cells point) ≡ true
 
 -- the number of places of a buffer
 abbrev pub places_of : RecvBuf → ℕ
@@ -39,7 +39,7 @@ own_range initial first last = range_from initial (record { first = word_of firs
 -- the place of the first waiting packet, if that is due; None if it isn't
 abbrev pub IsFirstDue : (origin time : ℕ) → (cells : ℕ → Cell) → Receiving → Option ℕ → Type 0
 IsFirstDue origin time cells r None = first_due time (waiting r) ≡ None
-IsFirstDue origin time cells r (Some d) = (a : Arrival) × (first_due time (waiting r) ≡ Some a) × (a.number ≡ r.position + d) × (cells d ≡ Got (pos origin +ℤ a.due) a.payload)
+IsFirstDue origin time cells r (Some d) = (a : Arrival) × (first_due time (waiting r) ≡ Some a) × (a.number ≡ r.front + d) × (cells d ≡ Received (pos origin +ℤ a.due) a.payload)
 
 -- the sequence numbers of runs, as pairs of a first and a last
 abbrev pub words_of : List (Seq31 × Seq31) → List (ℕ × ℕ)
@@ -51,4 +51,4 @@ run_words initial run = (number_word initial run.low, number_word initial run.hi
 
 -- the runs that a NAK reports from a sequence number on, as pairs of sequence numbers
 abbrev pub said_runs : (width initial word : ℕ) → Receiving → List (ℕ × ℕ)
-said_runs width initial word r = map (run_words initial) (runs_from width (in_window (counted_from initial word) r.position (width + 1)) r)
+said_runs width initial word r = map (run_words initial) (runs_from width (in_window (counted_from initial word) r.front (width + 1)) r)

@@ -1,18 +1,15 @@
-//! The receiver buffer: what is received, delivered, dropped and missing.
+//! The receiver buffer: what is received, delivered and dropped, and the acknowledgement point. What is missing is in
+//! `gaps.rt`.
 
-ghost use Rattle.std.specs.Prelude.{◌≡◌, ℕ, ◌+◌, ◌-◌, ◌%◌, ◌^◌, ◌<◌, ◌≤◌, ℤ, pos, ◌+ℤ◌, List, length, map, filter, take, Bool, Option, None, Some, option_map, IfOk, IfSome, true, false, nat_le, nat_lt, ◌&&◌};
+ghost use Rattle.std.specs.Prelude.{◌≡◌, ℕ, ◌+◌, ◌-◌, ◌^◌, ◌<◌, ◌≤◌, ℤ, pos, ◌+ℤ◌, Option, None, Some, option_map, IfOk, IfSome, true, false, nat_le, nat_lt, ◌&&◌};
 ghost use Rattle.srt_seq.specs.Given.{given};
 ghost use Rattle.srt_seq.specs.Window.{word_of, counted_from, in_window, offset_of, number_word};
-ghost use Rattle.srt_seq.specs.Runs.{runs, numbers_from};
-ghost use Rattle.srt_recvbuf.specs.Cells.{width_of, cell_at, is_empty, is_got};
+ghost use Rattle.srt_recvbuf.specs.Cells.{width_of, cell_at, cell_is_missing, cell_is_received};
 
 use crate::window::{Place, Seek, Window};
-use arrayvec::ArrayVec;
+use srt_seq::limits::RANGE_END;
 use srt_seq::{Payload, PayloadRef, Seq31};
 use std::alloc::{AllocError, Global};
-
-/// The most runs that one NAK reports.
-const MOST_RUNS: usize = 32;
 
 /// What became of a data packet that was given to `RecvBuf::put` (section 3.1).
 #[derive(Clone, Copy, Debug, PartialEq, Eq)]
@@ -35,21 +32,21 @@ pub enum Put {
 /// width. Times are microseconds of one clock that the caller chooses, the same for `put` and `advance`.
 #[derive(Drop)]
 pub struct RecvBuf {
-    front: Seq31,
-    window: Window,
+    pub(crate) front: Seq31,
+    pub(crate) window: Window,
     /// The number of places from the front to the highest received number, both in; 0 if nothing received is left.
-    end: usize,
+    pub(crate) end: usize,
     /// The number of places from the front on before the first missing one.
-    point: usize,
+    pub(crate) point: usize,
     /// Where the search for the first packet resumes: no packet is after the front's place and before this one.
     next: usize,
     ghost end_inside: { end ≤ width_of window },
     ghost point_inside: { point ≤ width_of window },
-    ghost nothing_between: { (d : ℕ) → 0 < d → d < next → is_got (cell_at window d) ≡ false },
+    ghost nothing_between: { (d : ℕ) → 0 < d → d < next → cell_is_received (cell_at window d) ≡ false },
 }
 
 impl RecvBuf {
-    ghost use Rattle.srt_recvbuf.specs.Stands.{IsFirstDue, StandsFor, run_words, said_runs, words_of, places_of, own_range};
+    ghost use Rattle.srt_recvbuf.specs.Stands.{IsFirstDue, StandsFor, places_of, own_range};
     ghost use Rattle.srt_recvbuf.specs.Receiving.{Receiving, Arrival, nothing_yet, received, put_of, requested, settled, moved_to, top, ack_point, available, is_waiting, next_due, after_next};
 
     /// An empty buffer of `width` packets, 32 to 8192, for a stream with the initial number 0; `start` begins any
@@ -85,7 +82,7 @@ impl RecvBuf {
     /// O(1), but for a packet that fills the first gap: it is linear in the distance to the next missing number.
     pub fn put(&mut self, number: Seq31, due: i64, payload: PayloadRef<'_>) -> Put
         ensures stands { (width initial origin : ℕ) (r : Receiving) (time : ℤ) → due ≡ pos origin +ℤ time → StandsFor width initial origin self.old r → StandsFor width initial origin self.new (received width (counted_from initial (word_of number)) payload.entry.bytes.now time r) }
-        ensures answer { (width initial origin : ℕ) (r : Receiving) → StandsFor width initial origin self.old r → result ≡ put_of (in_window (counted_from initial (word_of number)) r.position width) r }
+        ensures answer { (width initial origin : ℕ) (r : Receiving) → StandsFor width initial origin self.old r → result ≡ put_of (in_window (counted_from initial (word_of number)) r.front width) r }
     {
         let Some(offset) = number.offset_in(self.front, self.window.width() as u32) else {
             return Put::Outside;
@@ -109,8 +106,8 @@ impl RecvBuf {
         ensures front { self.new.front ≡ self.old.front }
         ensures end { self.new.end ≡ self.old.end }
         ensures low { self.old.point ≤ self.new.point }
-        ensures not_missing { (d : ℕ) → self.old.point ≤ d → d < self.new.point → is_empty (cell_at self.old.window d) ≡ false }
-        ensures missing { self.new.point < places_of self.old → is_empty (cell_at self.old.window self.new.point) ≡ true }
+        ensures not_missing { (d : ℕ) → self.old.point ≤ d → d < self.new.point → cell_is_missing (cell_at self.old.window d) ≡ false }
+        ensures missing { self.new.point < places_of self.old → cell_is_missing (cell_at self.old.window self.new.point) ≡ true }
     {
         self.point = self
             .window
@@ -124,10 +121,9 @@ impl RecvBuf {
         self.window.width() as u32
     }
 
-    /// The first sequence number of the window: all before it are delivered or given up. (The position of
-    /// docs/PROTOCOL.md.)
+    /// The first sequence number of the window: all before it are delivered, dropped or given up.
     pub fn front(&self) -> Seq31
-        ensures { (width initial origin : ℕ) (r : Receiving) → StandsFor width initial origin self.now r → word_of result ≡ number_word initial r.position }
+        ensures { (width initial origin : ℕ) (r : Receiving) → StandsFor width initial origin self.now r → word_of result ≡ number_word initial r.front }
     {
         let front = self.front;
         front
@@ -211,8 +207,8 @@ impl RecvBuf {
     fn find_first(&mut self) -> usize
         ensures stands { (width initial origin : ℕ) (r : Receiving) → StandsFor width initial origin self.old r → StandsFor width initial origin self.new r }
         ensures high { result ≤ self.new.end }
-        ensures before { (d : ℕ) → d < result → is_got (cell_at self.new.window d) ≡ false }
-        ensures here { result < self.new.end → is_got (cell_at self.new.window result) ≡ true }
+        ensures before { (d : ℕ) → d < result → cell_is_received (cell_at self.new.window d) ≡ false }
+        ensures here { result < self.new.end → cell_is_received (cell_at self.new.window result) ≡ true }
     {
         if self.window.is(0, Seek::APacket) {
             return 0;
@@ -229,50 +225,19 @@ impl RecvBuf {
     pub fn dropped(&mut self, first: Seq31, last: Seq31)
         ensures { (width initial origin : ℕ) (r : Receiving) → StandsFor width initial origin self.old r → StandsFor width initial origin self.new (requested width (own_range initial first last) r) }
     {
-        let Some(span) = last.offset_in(first, 1 << 30) else {
+        let Some(span) = last.offset_in(first, RANGE_END) else {
             return;
         };
         let (from, end) = overlap(self.front, first, span, self.window.width() as u32);
-        self.window.give_up_range(from as usize, end as usize);
+        self.window.drop_range(from as usize, end as usize);
         self.find_point();
         self.settle();
-    }
-
-    /// The first 32 runs of missing numbers from `from` on and below the highest received number, lowest first: what
-    /// a NAK reports (section 4.8.2). Each is a pair of its first and its last number. Empty if `from` is outside
-    /// front..=front + width. Linear in the distance from the first missing number, or from `from` if that is
-    /// greater, to the highest received one; takes no memory.
-    pub fn runs(&self, from: Seq31) -> ArrayVec<(Seq31, Seq31), 32>
-        ensures { (width initial origin : ℕ) (r : Receiving) → StandsFor width initial origin self.now r → words_of result.items ≡ said_runs width initial (word_of from) r }
-    {
-        match from.offset_in(self.front, self.window.width() as u32 + 1) {
-            Some(offset) => self.runs_at((offset as usize).max(self.point).min(self.end)),
-            None => ArrayVec::new(),
-        }
-    }
-
-    /// The first 32 runs of places that are missing, from `from` on and before `end`.
-    fn runs_at(&self, from: usize) -> ArrayVec<(Seq31, Seq31), 32>
-        requires { from ≤ self.now.end }
-        ensures { (initial position : ℕ) (test : ℕ → Bool) → word_of self.now.front ≡ number_word initial position → ((d : ℕ) → test (position + d) ≡ is_empty (cell_at self.now.window d)) → words_of result.items ≡ map (run_words initial) (take 32 (runs (filter test (numbers_from (position + from) (self.now.end - from))))) }
-    {
-        let mut runs = ArrayVec::new();
-        let mut at = from;
-        for _ in 0..MOST_RUNS {
-            let low = self.window.find(Seek::NothingThere, at, self.end);
-            if low == self.end {
-                return runs;
-            }
-            at = self.window.find(Seek::SomethingThere, low, self.end);
-            runs.push((self.front.add(low as u32), self.front.add((at - 1) as u32)));
-        }
-        runs
     }
 
     /// Moves the front on by `count` places.
     fn shift(&mut self, count: usize)
         requires { count ≤ places_of self.old }
-        ensures { (width initial origin : ℕ) (r : Receiving) → StandsFor width initial origin self.old r → StandsFor width initial origin self.new (moved_to (r.position + count) r) }
+        ensures { (width initial origin : ℕ) (r : Receiving) → StandsFor width initial origin self.old r → StandsFor width initial origin self.new (moved_to (r.front + count) r) }
     {
         self.window.slide_by(count);
         self.front = self.front.add(count as u32);
@@ -286,7 +251,7 @@ impl RecvBuf {
     fn settle(&mut self)
         ensures { (width initial origin : ℕ) (r : Receiving) → StandsFor width initial origin self.old r → StandsFor width initial origin self.new (settled width r) }
     {
-        let dropped = self.window.find(Seek::NotGivenUp, 0, self.window.width());
+        let dropped = self.window.find(Seek::NotDropped, 0, self.window.width());
         self.shift(dropped);
     }
 }

@@ -15,7 +15,7 @@ pub fn one_by_one()
     ensures unbroken { UnbrokenOneByOne }
 {}
 
-/// The acknowledgement point is the least missing number of the window, or the window's end. The position moves on to
+/// The acknowledgement point is the least missing number of the window, or the window's end. The front moves on to
 /// the least number that isn't dropped.
 pub fn ack_points()
     ensures missing { AckPoints }

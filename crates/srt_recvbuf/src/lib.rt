@@ -10,12 +10,14 @@
 //! request; `advance` until it returns false, which delivers payloads in order; and at any time `ack_point`,
 //! `available`, `runs` and `top`, which is what an ACK or a NAK is made of.
 //!
-//! `buffer.rt` has the rules: what is received, delivered, dropped and missing. `window.rt` is the ring of packet
-//! states under it, `laws.rt` has facts about the definitions. `specs/Receiving.antt` defines all results from the
-//! list of arrivals, and `specs/Stands.antt` says how the fields represent them.
+//! Files: `buffer.rt` has the rules for what is received, delivered and dropped, and the acknowledgement point;
+//! `gaps.rt` the runs of missing numbers that a NAK reports. `window.rt` is the ring of packet states under them,
+//! `laws.rt` has facts about the definitions. `specs/Receiving.antt` defines all results from the list of arrivals, and
+//! `specs/Stands.antt` says how the fields represent them.
 #![tactic(auto)]
 
 mod buffer;
+mod gaps;
 pub mod laws;
 mod window;
 

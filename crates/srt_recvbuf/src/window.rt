@@ -29,7 +29,7 @@ pub enum Seek {
     /// Received.
     APacket,
     /// Missing or received.
-    NotGivenUp,
+    NotDropped,
 }
 
 /// A ring of packet states from the front on, with a payload for each. A *place* is a distance from the front.
@@ -43,16 +43,16 @@ pub struct Window {
 
 impl Window {
     ghost use Rattle.srt_ring.specs.Ring.{payload_at};
-    ghost use Rattle.srt_recvbuf.specs.Cells.{Cell, cell_at, cell_of, due_of, given_up, is_empty, is_got, is_sought, payload_of, width_of};
-    ghost use Rattle.srt_recvbuf.specs.Cells.Cell.{Empty, GivenUp, Got};
-    ghost use Rattle.srt_recvbuf.specs.declared.window.Place.TheVariants.{Missing};
+    ghost use Rattle.srt_recvbuf.specs.Cells.{Cell, cell_at, cell_of, due_of, after_drop, cell_is_missing, cell_is_received, is_sought, payload_of, width_of};
+    ghost use Rattle.srt_recvbuf.specs.Cells.Cell.{Missing, Dropped, Received};
+    ghost use Rattle.srt_recvbuf.specs.declared.window.Place.TheVariants.{Missing as MissingPlace};
 
     /// A window of `width` missing places. The only call that takes memory; the error is a refused allocation.
     /// O(width).
     pub fn open(alloc: Global, width: usize) -> Result<Window, AllocError>
         requires some { 0 < width }
         requires narrow { width ≤ 8192 }
-        ensures { IfOk result (λ w. (width_of w ≡ width) × ((at : ℕ) → cell_at w at ≡ Empty)) }
+        ensures { IfOk result (λ w. (width_of w ≡ width) × ((at : ℕ) → cell_at w at ≡ Missing)) }
     {
         let mut places = HeapCircularBuffer::with_capacity(alloc, width)?;
         for _ in 0..width {
@@ -75,7 +75,7 @@ impl Window {
 
     /// The state of a place; Missing past the last.
     pub fn place(&self, at: usize) -> Place
-        ensures value { result ≡ slice_index_or self.now.places.items at Missing }
+        ensures value { result ≡ slice_index_or self.now.places.items at MissingPlace }
     {
         match self.places.get(at) {
             Some(place) => *place,
@@ -97,7 +97,7 @@ impl Window {
     /// without meaning. One copy.
     pub fn copy_to(&self, at: usize, payload: &mut Payload)
         requires { at < width_of self.now }
-        ensures packet { is_got (cell_at self.now at) ≡ true → payload.new.items ≡ payload_of (cell_at self.now at) }
+        ensures packet { cell_is_received (cell_at self.now at) ≡ true → payload.new.items ≡ payload_of (cell_at self.now at) }
         ensures bytes { payload.new.items ≡ payload_at self.now.payloads at }
     {
         self.payloads.copy_to(at, payload);
@@ -120,7 +120,7 @@ impl Window {
     pub fn fill(&mut self, at: usize, due: i64, payload: PayloadRef<'_>)
         requires inside { at < width_of self.old }
         ensures width { width_of self.new ≡ width_of self.old }
-        ensures cells { (d : ℕ) → cell_at self.new d ≡ (if d == at then Got due payload.entry.bytes.now else cell_at self.old d) }
+        ensures cells { (d : ℕ) → cell_at self.new d ≡ (if d == at then Received due payload.entry.bytes.now else cell_at self.old d) }
     {
         self.warm_up(at);
         self.payloads.set(at, payload.bytes);
@@ -131,7 +131,7 @@ impl Window {
     fn mark(&mut self, at: usize, place: Place)
         requires inside { at < width_of self.old }
         ensures width { width_of self.new ≡ width_of self.old }
-        ensures places { (d : ℕ) → slice_index_or self.new.places.items d Missing ≡ (if d == at then place else slice_index_or self.old.places.items d Missing) }
+        ensures places { (d : ℕ) → slice_index_or self.new.places.items d MissingPlace ≡ (if d == at then place else slice_index_or self.old.places.items d MissingPlace) }
         ensures payloads { self.new.payloads ≡ self.old.payloads }
     {
         if let Some(there) = self.places.get_mut(at) {
@@ -140,10 +140,10 @@ impl Window {
     }
 
     /// Marks a place as dropped, unless a packet is there.
-    fn give_up(&mut self, at: usize)
+    fn drop_at(&mut self, at: usize)
         requires inside { at < width_of self.old }
         ensures width { width_of self.new ≡ width_of self.old }
-        ensures cells { (d : ℕ) → cell_at self.new d ≡ (if d == at then given_up (cell_at self.old d) else cell_at self.old d) }
+        ensures cells { (d : ℕ) → cell_at self.new d ≡ (if d == at then after_drop (cell_at self.old d) else cell_at self.old d) }
     {
         if self.is(at, Seek::NothingThere) {
             self.mark(at, Place::Dropped);
@@ -153,7 +153,7 @@ impl Window {
     /// Moves the states by one: removes the first, and appends a missing one.
     fn turn(&mut self)
         ensures width { width_of self.new ≡ width_of self.old }
-        ensures places { (d : ℕ) → slice_index_or self.new.places.items d Missing ≡ slice_index_or self.old.places.items (d + 1) Missing }
+        ensures places { (d : ℕ) → slice_index_or self.new.places.items d MissingPlace ≡ slice_index_or self.old.places.items (d + 1) MissingPlace }
         ensures payloads { self.new.payloads ≡ self.old.payloads }
     {
         self.places.push_back(Place::Missing);
@@ -182,7 +182,7 @@ impl Window {
     /// Makes all places missing. O(width).
     pub fn clear(&mut self)
         ensures width { width_of self.new ≡ width_of self.old }
-        ensures cells { (d : ℕ) → cell_at self.new d ≡ Empty }
+        ensures cells { (d : ℕ) → cell_at self.new d ≡ Missing }
     {
         for at in 0..self.places.len() {
             self.mark(at, Place::Missing);
@@ -195,7 +195,7 @@ impl Window {
     {
         match self.place(at) {
             Place::Missing => match seek {
-                Seek::NothingThere | Seek::NotGivenUp => true,
+                Seek::NothingThere | Seek::NotDropped => true,
                 _ => false,
             },
             Place::Dropped => match seek {
@@ -227,14 +227,14 @@ impl Window {
     }
 
     /// Marks the places from `from` on and before `end` as dropped, unless a packet is there.
-    pub fn give_up_range(&mut self, from: usize, end: usize)
+    pub fn drop_range(&mut self, from: usize, end: usize)
         requires order { from ≤ end }
         requires inside { end ≤ width_of self.old }
         ensures width { width_of self.new ≡ width_of self.old }
-        ensures cells { (d : ℕ) → cell_at self.new d ≡ (if nat_le from d && nat_lt d end then given_up (cell_at self.old d) else cell_at self.old d) }
+        ensures cells { (d : ℕ) → cell_at self.new d ≡ (if nat_le from d && nat_lt d end then after_drop (cell_at self.old d) else cell_at self.old d) }
     {
         for at in from..end {
-            self.give_up(at);
+            self.drop_at(at);
         }
     }
 }

@@ -3,9 +3,7 @@
 ghost use Rattle.std.specs.Prelude.{◌≡◌, ◌≤◌, [], length, take};
 
 use srt_seq::Payload;
-
-/// The most bytes of a payload: an MTU of 1500 less 44 bytes of IP, UDP and SRT headers.
-const LONGEST: usize = 1456;
+use srt_seq::limits::MAX_PAYLOAD;
 
 #[derive(Drop)]
 struct Block {
@@ -39,7 +37,9 @@ impl PayloadBuffer {
     {
         PayloadBuffer {
             len: 0,
-            block: Block { xs: [0; LONGEST] },
+            block: Block {
+                xs: [0; MAX_PAYLOAD],
+            },
         }
     }
 

@@ -1,16 +1,11 @@
 -- Sessions whose past alone changes, while they are open.
-use Rattle.std.proofs.Common.{◌≡◌, ℕ, Bool, true, false, cond, Option, None, Some, List, map, find, refl, sym, ap, ◌∙◌}
+use Rattle.std.proofs.Common.{◌≡◌, ℕ, Bool, true, false, cond, Option, None, Some, List, map, find, refl, sym, ◌∙◌}
 use Rattle.std.specs.Option.{option_map}
-use Rattle.srt_seq.specs.Terms.{Terms}
-use Rattle.srt_route.specs.declared.slot.Session.{Session as TheSession}
-use Rattle.srt_route.specs.declared.table.Table.{Table}
 use Rattle.srt_route.specs.Past.{Past}
 use Rattle.srt_route.specs.Sessions.{Session, is_open_in, is_publisher}
-use Rattle.srt_route.specs.Tables.{IsSession, IsStored, IsTable}
-use Rattle.srt_route.specs.Media.{PublishesAlone}
 use Rattle.srt_route.specs.Delivery.{changed}
 use Rattle.srt_route.proofs.Lists.{find_through}
-use Rattle.srt_route.proofs.Found.{found_passes, open_parts, Keeps, alone_kept, counted_kept}
+use Rattle.srt_route.proofs.Found.{found_passes, open_parts, Keeps}
 
 abbrev pub either : Bool → Past → Session → Session
 either b p s = cond b (record s { past = p }) s
@@ -61,46 +56,3 @@ found_before g at ss t h = was_found (changed g) (find (is_open_in at) ss) t (sy
 
 pub is_there : (at : ℕ) (ss : List Session) (s : Session) → find (is_open_in at) ss ≡ Some s → (s.is_open ≡ true) × (s.slot ≡ at)
 is_there at ss s h = open_parts at s (found_passes (is_open_in at) ss s h)
-
-session_either : (e : Terms) (index : ℕ) (t : TheSession) (b : Bool) (p : Past) (s : Session) → IsSession e index t s → IsSession e index t (either b p s)
-session_either e index t true p s is =
-    record {
-      peer_is = is.peer_is;
-      caller_is = is.caller_is;
-      id_is = is.id_is;
-      role_is = is.role_is;
-      heard_is = is.heard_is;
-      answer_is = is.answer_is;
-    }
-session_either e index t false p s is = is
-
-stored_changed : (e : Terms) (index : ℕ) (g : Session → Past) (o : Option TheSession) (f : Option Session) → IsStored e index o f → IsStored e index o (option_map (changed g) f)
-stored_changed e index g None None is = tt
-stored_changed e index g (Some t) (Some s) is = session_either e index t s.is_open (g s) s is
-stored_changed e index g None (Some s) is = absurd is
-stored_changed e index g (Some t) None is = absurd is
-
-pub table_changed : (e : Terms) (index : ℕ) (t : Table) (g : Session → Past) (ss : List Session) → IsTable e index t ss → IsTable e index t (map (changed g) ss)
-table_changed e index t g ss is =
-    record {
-      index_is = is.index_is;
-      mode_is = is.mode_is;
-      latency_is = is.latency_is;
-      buffer_is = is.buffer_is;
-      stored = record {
-        places_are = is.stored.places_are;
-        slots_are = λ at d below.
-            let was = is.stored.slots_are at d below in
-            record {
-              session_is = rw (find_changed g at ss) (stored_changed e index g _ (find (is_open_in at) ss) was.session_is);
-              count_is = rw (counted_kept (changed g) (keeps_changed g) at ss) was.count_is;
-            };
-        alone = alone_kept (changed g) (keeps_changed g) e.sessions ss is.stored.alone;
-      };
-    }
-
-pub alone_changed : (g : Session → Past) (ss : List Session) → PublishesAlone ss → PublishesAlone (map (changed g) ss)
-alone_changed g ss alone at k s t h i p q =
-    let x = found_before g at ss s h in
-    let y = found_before g k ss t i in
-    alone at k x.0 y.0 x.1 y.1 (sym (same_role x.0.is_open (g x.0) x.0) ∙ (ap is_publisher (sym x.2) ∙ p)) (sym (same_role y.0.is_open (g y.0) y.0) ∙ (ap is_publisher (sym y.2) ∙ q))

@@ -1,7 +1,7 @@
 -- How many replies an item has at most.
 use Rattle.std.proofs.Common.{◌≡◌, ℕ, zero, suc, ◌+◌, ◌-◌, ◌*◌, ◌≤◌, ◌==◌, ◌&&◌, not, Bool, true, false, cond, Option, None, Some, List, [], ◌∷◌, ◌++◌, map, length, find, Result, Ok, Err, refl, ap, arith}
 use Rattle.std.specs.Prelude.{filter_map, slice_get, nat_le, min}
-use Rattle.std.specs.List.{list_any, flat_map, cons_option}
+use Rattle.std.specs.List.{flat_map, cons_option}
 use Rattle.std.proofs.lemmas.List.{length-map, length-append, length-take}
 use Rattle.srt_seq.specs.declared.shared.Peer.{Peer}
 use Rattle.srt_seq.specs.Runs.{Run, numbers_from}
@@ -10,7 +10,7 @@ use Rattle.srt_seq.specs.Items.{Item, Received, Tick}
 use Rattle.srt_packet.specs.declared.reading.PacketFault.{PacketFault}
 use Rattle.srt_packet.specs.Grammar.{Packet, Body}
 use Rattle.srt_packet.specs.Reading.{packet_in}
-use Rattle.srt_hs.specs.declared.writing.RefusalCode.{RefusalCode}
+use Rattle.srt_hs.specs.declared.refusals.RefusalCode.{RefusalCode}
 use Rattle.srt_recvbuf.specs.Receiving.{Receiving}
 use Rattle.srt_sendbuf.specs.Sending.{Queued, lost, next, front}
 use Rattle.srt_pub.specs.Publishing as publisher
@@ -18,7 +18,7 @@ use Rattle.srt_sub.specs.Subscribing as subscriber
 use Rattle.srt_sub.specs.Heard as to_subscriber
 use Rattle.srt_route.specs.declared.conclusion.Conclusion.{Conclusion}
 use Rattle.srt_route.specs.Past.{Past, Publishes, Subscribes, Agreed, ToPublisher, ToSubscriber, reports_of, answers_to}
-use Rattle.srt_route.specs.Sessions.{Session, free_slot, is_publisher, is_subscriber, is_open_in, by_slot, time_in, terms_of, aged, publishes}
+use Rattle.srt_route.specs.Sessions.{Session, free_slot, is_publisher, is_subscriber, open_publishers, is_open_in, by_slot, time_in, terms_of, aged, publishes}
 use Rattle.srt_route.specs.Route.{Taken, Reply, sent, refused, opens, considered, concluded, is_of, is_for, concludes, without_destination, arrived, answered_by, said_by, packet_taken, read_taken, taken, after, clock_after, taken_by, passed_by, replies_to, packets_at, packets_where, RepliesHavePlaces}
 
 -- a publisher is sent an ACK and a NAK at most, and a keep-alive only without them
@@ -168,7 +168,7 @@ considered_brief e index clock peer stamp c ss None = opens_brief e index clock 
 
 concluded_brief : (e : Terms) (index clock : ℕ) (peer : Peer) (stamp : ℕ) (c : Conclusion) (ss : List Session) (s : Option Session) → IsBrief (concluded e index clock peer stamp c ss s)
 concluded_brief e index clock peer stamp c ss (Some s) = omega arith
-concluded_brief e index clock peer stamp c ss None = considered_brief e index clock peer stamp c ss (refused e.mode (list_any is_publisher ss) c)
+concluded_brief e index clock peer stamp c ss None = considered_brief e index clock peer stamp c ss (refused e.mode (open_publishers ss) c)
 
 conclusion_brief : (e : Terms) (index clock : ℕ) (peer : Peer) (stamp : ℕ) (ss : List Session) (c : Option Conclusion) → IsBrief (without_destination e index clock peer stamp ss c)
 conclusion_brief e index clock peer stamp ss None = omega arith

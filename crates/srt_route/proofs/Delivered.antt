@@ -1,11 +1,9 @@
--- What a publisher delivers is found among the sessions by their slots.
-use Rattle.std.proofs.Common.{◌≡◌, ◌≢◌, ℕ, zero, suc, ◌+◌, ◌<◌, ◌≤◌, Bool, true, false, cond, Option, None, Some, List, [], length, map, find, get_or, unwrap_or, inl, inr, refl, sym, ap, subst, ◌∙◌, arith}
+-- What the active publisher delivers, and one that stands by.
+use Rattle.std.proofs.Common.{◌≡◌, ◌≢◌, ℕ, ◌==◌, Bool, true, false, not, cond, Option, None, Some, List, [], map, find, get_or, unwrap_or, inl, inr, refl, sym, ap, subst, ◌∙◌}
 use Rattle.std.specs.Prelude.{◌&&◌, filter_map}
-use Rattle.std.specs.Option.{is_some}
-use Rattle.std.specs.List.{cons_option, position, position_or_len}
-use Rattle.std.proofs.lemmas.Bool.{cases_eq, cases_lt, lt-ltb, and_parts}
-use Rattle.std.proofs.lemmas.List.Quantifiers.{position-Some}
-use Rattle.std.proofs.lemmas.List.Sums.{fails_before_first}
+use Rattle.std.specs.List.{list_any}
+use Rattle.std.proofs.lemmas.Bool.{cases_eq, cases_Bool, and_parts, eq-eqb, eqb-true, false_from_ne_true}
+use Rattle.std.proofs.lemmas.List.{get_or_default}
 use Rattle.srt_seq.specs.declared.shared.Mode.{Mode}
 use Rattle.srt_seq.specs.declared.shared.Mode.TheVariants.{Live, Buffer}
 use Rattle.srt_seq.specs.Runs.{numbers_from}
@@ -15,51 +13,31 @@ use Rattle.srt_pub.specs.Publishing as publishing
 use Rattle.srt_pub.specs.Publishing.{Publishing, deliveries}
 use Rattle.srt_pub.specs.Calls.{gives, leaves}
 use Rattle.srt_pub.specs.Laws.{DeliversOneByOne}
+use Rattle.srt_pub.specs.Stands as publishers
+use Rattle.srt_pub.specs.declared.session.Publisher.{Publisher}
 use Rattle.srt_pub.proofs.Calling.{delivers}
 use Rattle.srt_pub.proofs.Windows.{beyond}
+use Rattle.srt_sub.specs.Subscribing as subscribing
 use Rattle.srt_sub.specs.declared.session.Subscriber.{Subscriber}
-use Rattle.srt_route.specs.declared.slot.Session.{Session as TheSession}
-use Rattle.srt_route.specs.declared.slot.Slot.{Slot}
-use Rattle.srt_route.specs.declared.media.Media.{Media}
+use Rattle.srt_route.specs.declared.seat.Seat.{Seat}
 use Rattle.srt_route.specs.declared.table.Table.{Table}
-use Rattle.srt_route.specs.Past.{Past, Publishes, Subscribes, payload_of, passed_past, payloads_of}
-use Rattle.srt_route.specs.Sessions.{Session, is_open_in, is_publisher, by_slot, publishes, terms_of, time_in}
-use Rattle.srt_route.specs.Route.{least_room, delivery, delivery_of, delivered}
-use Rattle.srt_route.specs.Tables.{IsStored, has_publisher, session_passes}
-use Rattle.srt_route.specs.Media.{IsPast, IsBody}
-use Rattle.srt_route.specs.Delivery.{changed, amid, amid_past, IsPublisherAt}
+use Rattle.srt_route.specs.Past.{Past, Publishes, Subscribes, Agreed, payload_of, passed_past, payloads_of}
+use Rattle.srt_route.specs.Sessions.{Session, is_open_in, is_publisher, publishes, active, has_slot, is_active, terms_of, time_in, payloads}
+use Rattle.srt_route.specs.Route.{least_room, delivery, delivery_of, room_if, delivered}
+use Rattle.srt_route.specs.Buffers.{IsPast}
+use Rattle.srt_route.specs.Places.{place_of}
+use Rattle.srt_route.specs.Tables.{IsTable, IsPublishing, Uses, uses_second, publishes_from}
+use Rattle.srt_route.specs.Delivery.{changed, amid, amid_past, passed_on, stood_past, stood_by, IsPublisherAt, NonePublishes, HasActive}
 use Rattle.srt_route.proofs.Changes.{is_there}
-use Rattle.srt_route.proofs.Places.{slot_stored}
-use Rattle.srt_route.proofs.Passing.{same_everywhere, one_publisher, publisher_is, inside, seat_of, unchanged}
+use Rattle.srt_route.proofs.Publishers.{below_two, found_from, uses_others, alone_is_active}
+use Rattle.srt_route.proofs.Kept.{below_seats, some_buffers}
+use Rattle.srt_route.proofs.Stored.{alone_apart, some_item}
+use Rattle.srt_route.proofs.TakeOver.{active_in_slot, active_publishes}
+use Rattle.srt_route.proofs.Passing.{IsTurned, same_everywhere, compose_all, publisher_is, publishing_at, seat_of, unchanged, the_one, slot_is, slot_is_not, amid_here, amid_elsewhere, gone_on}
 
--- of the sessions of slots the one that passes is found
+-- the sessions of slots
 abbrev pub from_places : List Session → (from count : ℕ) → List Session
 from_places ss from count = filter_map (λ slot. find (is_open_in slot) ss) (numbers_from from count)
-
-pub found_among : (ss : List Session) (test : Session → Bool) (from count at : ℕ) (s : Session) → from ≤ at → at < from + count → find (is_open_in at) ss ≡ Some s → test s ≡ true → ((k : ℕ) (t : Session) → find (is_open_in k) ss ≡ Some t → test t ≡ true → k ≡ at) → find test (from_places ss from count) ≡ Some s
-found_among ss test from zero at s low high is passes alone = absurd (omega (arith, low, high))
-found_among ss test from (suc count) at s low high is passes alone = elim (cases_eq from at) [
-  | inl here ↦
-      let there : find (is_open_in from) ss ≡ Some s = ap (λ (n : ℕ). find (is_open_in n) ss) here ∙ is in
-      ap (λ (o : Option Session). find test (cons_option o (from_places ss (from + 1) count))) there ∙ ap (λ (b : Bool). cond b (Some s) (find test (from_places ss (from + 1) count))) passes
-  | inr apart ↦ by apart (found_among ss test (from + 1) count at s (omega (arith, low, apart)) (omega (arith, high)) is passes alone) (find (is_open_in from) ss) refl
-]
-  where
-    skip : (t : Session) → (b : Bool) → test t ≡ b → find (is_open_in from) ss ≡ Some t → from ≢ at → find test (from_places ss (from + 1) count) ≡ Some s → cond b (Some t) (find test (from_places ss (from + 1) count)) ≡ Some s
-    skip t true e is apart later = absurd (apart (alone from t is e))
-    skip t false e is apart later = later
-
-    by : from ≢ at → find test (from_places ss (from + 1) count) ≡ Some s → (o : Option Session) → find (is_open_in from) ss ≡ o → find test (cons_option o (from_places ss (from + 1) count)) ≡ Some s
-    by apart later None e = later
-    by apart later (Some t) e = skip t (test t) refl e apart later
-
-pub none_among : (ss : List Session) (test : Session → Bool) (from count : ℕ) → ((k : ℕ) (t : Session) → find (is_open_in k) ss ≡ Some t → test t ≡ false) → find test (from_places ss from count) ≡ None
-none_among ss test from zero fails = refl
-none_among ss test from (suc count) fails = by (none_among ss test (from + 1) count fails) (find (is_open_in from) ss) refl
-  where
-    by : find test (from_places ss (from + 1) count) ≡ None → (o : Option Session) → find (is_open_in from) ss ≡ o → find test (cons_option o (from_places ss (from + 1) count)) ≡ None
-    by later None e = later
-    by later (Some t) e = ap (λ (b : Bool). cond b (Some t) (find test (from_places ss (from + 1) count))) (fails from t e) ∙ later
 
 -- the room counts in buffer mode, and without a subscriber nothing is delivered there
 same_deliveries : (mode : Mode) (terms : publishing.Terms) (time : ℕ) (found : Option ℕ) (q : Publishing) → deliveries mode terms time (Some (unwrap_or found 0)) q ≡ deliveries mode terms time found q
@@ -68,143 +46,248 @@ same_deliveries Live terms time found q = refl
 same_deliveries Buffer terms time None q = refl
 same_deliveries Buffer terms time (Some room) q = refl
 
-publishes_alone : (e : Terms) (index clock : ℕ) (table : Table) (media : Media) (ss : List Session) (at : ℕ) (s : Session) (q : Publishing) → IsBody e index clock table media ss → IsPublisherAt ss at s q → find is_publisher (by_slot e ss) ≡ Some s
-publishes_alone e index clock table media ss at s q body here =
-    found_among ss is_publisher 0 e.sessions at s (omega arith) (omega (arith, inside e index clock table media ss body at s here.found)) here.found here.publishes
-    (λ k t is p. body.media_is.alone k at t s is here.found p here.publishes)
+pub same_delivered : (terms : publishing.Terms) (time : ℕ) (found : Option ℕ) (q : Publishing) → publishing.delivered terms time (Some (unwrap_or found 0)) q ≡ publishing.delivered terms time found q
+same_delivered terms time found q = ap (λ (arrivals : List Arrival). record q { receiving = passed terms.width arrivals q.receiving }) (same_deliveries terms.mode terms time found q)
 
--- the sessions once all is given are those after the delivery
-pub delivered_with : (e : Terms) (index clock : ℕ) (table : Table) (media : Media) (ss : List Session) (at : ℕ) (s : Session) (q : Publishing) (places : ℕ) (given : List (List ℕ)) (left : Publishing) → IsBody e index clock table media ss → IsPublisherAt ss at s q → places ≡ unwrap_or (least_room e ss) 0 → given ≡ map payload_of (deliveries e.mode (terms_of e s).publisher (time_in s clock) (Some places) q) → left ≡ publishing.delivered (terms_of e s).publisher (time_in s clock) (Some places) q → map (changed (amid e clock left given)) ss ≡ delivered e clock ss
-delivered_with e index clock table media ss at s q places given left body here places_is given_is left_is =
-    same_everywhere (amid e clock left given) (λ t. passed_past (terms_of e t) (time_in t clock) found all t.past) e.sessions ss body.table_is.stored.alone (λ k t is. by k t is t.past refl)
+-- the calls of a publisher's buffers deliver what the definition of an event delivers
+pub one_by_one : (terms : publishing.Terms) (initial opening stamp caller : ℕ) (p : Publisher) (q : Publishing) → publishers.StandsFor terms initial opening stamp caller p q → DeliversOneByOne terms q
+one_by_one terms initial opening stamp caller p q h = delivers terms q (record { orderly = h.orderly; beyond = beyond terms.width initial opening p.buffer q.receiving h.buffer })
+
+-- the sessions once all is given
+pub passed_on_is : (e : Terms) (index clock : ℕ) (table : Table) (ss : List Session) (at : ℕ) (s : Session) (q : Publishing) (second : Bool) (places : ℕ) → IsTable e index clock table ss → IsPublisherAt ss at s q → Uses table at second → places ≡ unwrap_or (least_room e ss) 0 → map (changed (amid e clock at (leaves (terms_of e s).publisher (time_in s clock) places 64 q) (map payload_of (gives (terms_of e s).publisher (time_in s clock) places 64 q)))) ss ≡ passed_on e clock at (least_room e ss) s q ss
+passed_on_is e index clock table ss at s q second places body here uses places_is =
+    ap (λ (left : Publishing). map (changed (amid e clock at left (map payload_of (gives terms time places 64 q)))) ss) left_is
+    ∙ ap (λ (given : List (List ℕ)). map (changed (amid e clock at (publishing.delivered terms time (least_room e ss) q) given)) ss) given_is
   where
-    found : Option ℕ
-    found = least_room e ss
+    terms : publishing.Terms
+    terms = (terms_of e s).publisher
+
+    time : ℕ
+    time = time_in s clock
+
+    p : Publisher
+    p = get_or table.publishers.items (place_of second) (some_buffers table)
+
+    law : (gives terms time places 64 q ≡ deliveries terms.mode terms time (Some places) q) × (leaves terms time places 64 q ≡ publishing.delivered terms time (Some places) q)
+    law =
+        let is = publisher_is e index clock table ss at s q second p body here uses (get_or_default table.publishers.items (place_of second) (some_buffers table) p (below_two second table.publishers.items table.two)) in
+        one_by_one terms s.conclusion.initial s.opening s.stamp s.conclusion.caller p q is.stands time places
+
+    left_is : leaves terms time places 64 q ≡ publishing.delivered terms time (least_room e ss) q
+    left_is = law.1 ∙ (ap (λ (n : ℕ). publishing.delivered terms time (Some n) q) places_is ∙ same_delivered terms time (least_room e ss) q)
+
+    given_is : map payload_of (gives terms time places 64 q) ≡ payloads e clock (least_room e ss) s
+    given_is =
+        ap (λ (arrivals : List Arrival). map payload_of arrivals) (law.0 ∙ (ap (λ (n : ℕ). deliveries terms.mode terms time (Some n) q) places_is ∙ same_deliveries terms.mode terms time (least_room e ss) q))
+        ∙ sym (ap (payloads_of (terms_of e s) time (least_room e ss)) here.past_is)
+
+-- a publisher delivers to nobody with no room
+pub stood : (terms : publishing.Terms) (initial opening stamp caller time : ℕ) (p : Publisher) (q : Publishing) → publishers.StandsFor terms initial opening stamp caller p q → leaves terms time 0 64 q ≡ publishing.delivered terms time None q
+stood terms initial opening stamp caller time p q h = (one_by_one terms initial opening stamp caller p q h time 0).1 ∙ same_delivered terms time None q
+
+-- a seat of the table
+a_seat : (e : Terms) (index clock : ℕ) (table : Table) (ss : List Session) (at : ℕ) (s : Session) → IsTable e index clock table ss → find (is_open_in at) ss ≡ Some s → Seat
+a_seat e index clock table ss at s body is = some_item table.seats.items at (below_seats e index clock table ss at s body is)
+
+-- of two the other one
+other_flag : (b d : Bool) → (d ≡ not b → ⊥) → d ≡ b
+other_flag true true h = refl
+other_flag true false h = absurd (h refl)
+other_flag false true h = absurd (h refl)
+other_flag false false h = refl
+
+not_twice : (b : Bool) → not (not b) ≡ b
+not_twice true = refl
+not_twice false = refl
+
+-- the role of a session by its past
+pub past_publishes : (e : Terms) (index clock : ℕ) (table : Table) (ss : List Session) (k : ℕ) (t : Session) (m : Publishing) → IsTable e index clock table ss → find (is_open_in k) ss ≡ Some t → t.past ≡ Publishes m → IsPublishing ss k t
+past_publishes e index clock table ss k t m body is past =
+    let seat = seat_of e index clock table ss body k t is in
+    let role : IsPast e clock seat.0 seat.1 t (Publishes m) = subst (λ (o : Past). IsPast e clock seat.0 seat.1 t o) past seat.2.past_is in
+    record { found = is; publishes = ap (λ (b : Bool). b && publishes t.conclusion.role) (is_there k ss t is).0 ∙ role.0 }
+
+pub has_past : (e : Terms) (index clock : ℕ) (table : Table) (ss : List Session) (k : ℕ) (t : Session) → IsTable e index clock table ss → IsPublishing ss k t → (m : Publishing) × IsPublisherAt ss k t m
+has_past e index clock table ss k t body here = let seat = seat_of e index clock table ss body k t here.found in by t.past refl seat.0 seat.1 seat.2.past_is
+  where
+    by : (past : Past) → t.past ≡ past → (p : Publisher) (x : Subscriber) → IsPast e clock p x t past → (m : Publishing) × IsPublisherAt ss k t m
+    by (Publishes m) same p x h = (m, record { found = here.found; publishes = here.publishes; past_is = same })
+    by (Subscribes m) same p x h =
+        let yes : publishes t.conclusion.role ≡ true = (and_parts t.is_open (publishes t.conclusion.role) here.publishes).1 in
+        absurd (let bad : true ≡ false = sym yes ∙ h.0 in cc)
+
+-- the one that stands by has gone on
+pub standby_gone : (e : Terms) (index clock : ℕ) (table later : Table) (ss : List Session) (at k : ℕ) (s t : Session) (q m : Publishing) (active second : Bool) (p : Publisher) → second ≡ not active → IsTable e index clock table ss → IsPublisherAt ss at s q → Uses table at active → IsPublisherAt ss k t m → Uses table k second → IsTurned table later second p → publishers.StandsFor (terms_of e t).publisher t.conclusion.initial t.opening t.stamp t.conclusion.caller p (publishing.delivered (terms_of e t).publisher (time_in t clock) None m) → IsTable e index clock later (map (changed (stood_by e clock at)) ss)
+standby_gone e index clock table later ss at k s t q m active second p second_is body here uses there other turned stands =
+    subst (λ (ts : List Session). IsTable e index clock later ts) (same_everywhere (amid e clock k r []) (stood_by e clock at) e.sessions ss body.alone (λ j u is. by j u is u.past refl))
+    (gone_on e index clock table later ss k t m r second p body there other turned stands)
+  where
+    r : Publishing
+    r = publishing.delivered (terms_of e t).publisher (time_in t clock) None m
+
+    not_not : (b : Bool) → not b ≡ b → ⊥
+    not_not true h = let bad : false ≡ true = h in cc
+    not_not false h = let bad : true ≡ false = h in cc
+
+    apart : k ≢ at
+    apart same = let d = a_seat e index clock table ss at s body here.found in not_not active (sym second_is ∙ (other d ∙ (ap (λ (n : ℕ). uses_second (get_or table.seats.items n d)) same ∙ sym (uses d))))
+
+    stays : (u : Session) (mine : Bool) → u.slot == at ≡ mine → (past : Past) → u.past ≡ past → stood_by e clock at u ≡ stood_past (terms_of e u) (time_in u clock) mine past
+    stays u mine test past is = ap (λ (b : Bool). stood_past (terms_of e u) (time_in u clock) b u.past) test ∙ ap (stood_past (terms_of e u) (time_in u clock) mine) is
+
+    by : (j : ℕ) (u : Session) → find (is_open_in j) ss ≡ Some u → (past : Past) → u.past ≡ past → amid e clock k r [] u ≡ stood_by e clock at u
+    by j u is (Subscribes n) past = ap (amid_past (terms_of e u) (time_in u clock) (u.slot == k) r []) past ∙ sym (ap (stood_past (terms_of e u) (time_in u clock) (u.slot == at)) past)
+    by j u is (Publishes n) past = elim (cases_eq j k) [
+      | inl place ↦
+          let one : u ≡ t = the_one ss k j t u there.found is place in
+          let mine : u.past ≡ Publishes m = ap (λ (v : Session). v.past) one ∙ there.past_is in
+          amid_here e clock k r m [] u (slot_is ss k j u is place) mine
+          ∙ (ap (λ (v : Session). Publishes (publishing.delivered (terms_of e v).publisher (time_in v clock) None m)) (sym one)
+          ∙ sym (stays u false (slot_is_not ss at j u is (λ same. apart (sym place ∙ same))) (Publishes m) mine))
+      | inr elsewhere ↦
+          let publishing : IsPublishing ss j u = past_publishes e index clock table ss j u n body is past in
+          let d = a_seat e index clock table ss at s body here.found in
+          let flag : uses_second (get_or table.seats.items j d) ≡ active = other_flag active (uses_second (get_or table.seats.items j d)) (λ same. elsewhere (body.publishers_are.apart j k d u t publishing (publishing_at ss k t m there) (same ∙ (sym second_is ∙ other d)))) in
+          let place : j ≡ at = body.publishers_are.apart j at d u s publishing (publishing_at ss at s q here) (flag ∙ uses d) in
+          amid_elsewhere e clock k r u (slot_is_not ss k j u is elsewhere) ∙ (past ∙ sym (stays u true (slot_is ss at j u is place) (Publishes n) past))
+    ]
+
+-- no publisher stands by
+pub none_stands_by : (e : Terms) (index clock : ℕ) (table : Table) (ss : List Session) (at : ℕ) (s : Session) (q : Publishing) (active : Bool) → IsTable e index clock table ss → IsPublisherAt ss at s q → Uses table at active → list_any (publishes_from (not active)) table.seats.items ≡ false → map (changed (stood_by e clock at)) ss ≡ ss
+none_stands_by e index clock table ss at s q active body here uses none =
+    same_everywhere (stood_by e clock at) (λ t. t.past) e.sessions ss body.alone (λ j u is. by j u is u.past refl) ∙ unchanged ss
+  where
+    by : (j : ℕ) (u : Session) → find (is_open_in j) ss ≡ Some u → (past : Past) → u.past ≡ past → stood_by e clock at u ≡ u.past
+    by j u is (Subscribes n) past = ap (stood_past (terms_of e u) (time_in u clock) (u.slot == at)) past ∙ sym past
+    by j u is (Publishes n) past =
+        let publishing : IsPublishing ss j u = past_publishes e index clock table ss j u n body is past in
+        let d = a_seat e index clock table ss at s body here.found in
+        let flag : uses_second (get_or table.seats.items j d) ≡ active = uses_others e index clock table ss (not active) j d u body none publishing ∙ not_twice active in
+        let place : j ≡ at = body.publishers_are.apart j at d u s publishing (publishing_at ss at s q here) (flag ∙ uses d) in
+        ap (λ (b : Bool). stood_past (terms_of e u) (time_in u clock) b u.past) (slot_is ss at j u is place)
+        ∙ (ap (stood_past (terms_of e u) (time_in u clock) true) past ∙ sym past)
+
+-- the sessions after both are those after the delivery
+abbrev both_past : Agreed → (time : ℕ) → (mine : Bool) → Publishing → List (List ℕ) → Past → Past
+both_past terms time mine q given (Publishes p) = Publishes (cond mine q (publishing.delivered terms.publisher time None p))
+both_past terms time mine q given (Subscribes m) = Subscribes (subscribing.fed_all terms.subscriber time given m)
+
+passed_and_stood : (terms : Agreed) (time : ℕ) (mine : Bool) (q : Publishing) (given : List (List ℕ)) (past : Past) → stood_past terms time mine (amid_past terms time mine q given past) ≡ both_past terms time mine q given past
+passed_and_stood terms time true q given (Publishes p) = refl
+passed_and_stood terms time false q given (Publishes p) = refl
+passed_and_stood terms time mine q given (Subscribes m) = refl
+
+pub delivered_is : (e : Terms) (index clock : ℕ) (table : Table) (ss : List Session) (at : ℕ) (s : Session) (q : Publishing) → IsTable e index clock table ss → IsPublisherAt ss at s q → active ss ≡ Some s → map (changed (stood_by e clock at)) (passed_on e clock at (least_room e ss) s q ss) ≡ delivered e clock ss
+delivered_is e index clock table ss at s q body here is_active_one =
+    compose_all (stood_by e clock at) (amid e clock at left given) both (λ t. passed_and_stood (terms_of e t) (time_in t clock) (t.slot == at) left given t.past) ss
+    ∙ same_everywhere both (λ t. passed_past (terms_of e t) (time_in t clock) (room_if (is_active ss t) room) all t.past) e.sessions ss body.alone (λ k t is. by k t is t.past refl)
+  where
+    room : Option ℕ
+    room = least_room e ss
+
+    left : Publishing
+    left = publishing.delivered (terms_of e s).publisher (time_in s clock) (least_room e ss) q
+
+    given : List (List ℕ)
+    given = payloads e clock (least_room e ss) s
 
     all : List (List ℕ)
-    all = delivery e clock found ss
+    all = delivery e clock (least_room e ss) ss
 
-    same : deliveries e.mode (terms_of e s).publisher (time_in s clock) (Some places) q ≡ deliveries e.mode (terms_of e s).publisher (time_in s clock) (least_room e ss) q
-    same =
-        ap (λ (n : ℕ). deliveries e.mode (terms_of e s).publisher (time_in s clock) (Some n) q) places_is
-        ∙ same_deliveries e.mode (terms_of e s).publisher (time_in s clock) (least_room e ss) q
+    all_is : payloads e clock (least_room e ss) s ≡ delivery e clock (least_room e ss) ss
+    all_is = ap (λ (o : Option Session). delivery_of e clock (least_room e ss) o) (sym is_active_one)
 
-    all_is : given ≡ delivery e clock (least_room e ss) ss
-    all_is =
-        given_is
-        ∙ (ap (λ (arrivals : List Arrival). map payload_of arrivals) same
-        ∙ (ap (λ (past : Past). payloads_of (terms_of e s) (time_in s clock) (least_room e ss) past) (sym here.past_is)
-        ∙ ap (λ (o : Option Session). delivery_of e clock (least_room e ss) o) (sym (publishes_alone e index clock table media ss at s q body here))))
+    both : Session → Past
+    both t = both_past (terms_of e t) (time_in t clock) (t.slot == at) (publishing.delivered (terms_of e s).publisher (time_in s clock) (least_room e ss) q) (payloads e clock (least_room e ss) s) t.past
 
-    gone : (terms : publishing.Terms) (xs ys : List Arrival) → xs ≡ ys → record q { receiving = passed terms.width xs q.receiving } ≡ record q { receiving = passed terms.width ys q.receiving }
-    gone terms xs ys e1 = ap (λ (zs : List Arrival). record q { receiving = passed terms.width zs q.receiving }) e1
+    tests : (t : Session) (b : Bool) → t.slot == at ≡ b → is_active ss t ≡ b
+    tests t b test = ap (λ (o : Option Session). has_slot o t.slot) is_active_one ∙ with_it b test
+      where
+        with_it : (b : Bool) → t.slot == at ≡ b → s.slot == t.slot ≡ b
+        with_it true h = eq-eqb s.slot t.slot ((is_there at ss s here.found).1 ∙ sym (eqb-true t.slot at h))
+        with_it false h = false_from_ne_true (s.slot == t.slot) (λ same. absurd (let yes : t.slot == at ≡ true = eq-eqb t.slot at (sym (eqb-true s.slot t.slot same) ∙ (is_there at ss s here.found).1) in let bad : true ≡ false = sym yes ∙ h in cc))
 
-    at_publisher : amid e clock left given s ≡ passed_past (terms_of e s) (time_in s clock) (least_room e ss) (delivery e clock (least_room e ss) ss) s.past
-    at_publisher =
-        ap (amid_past (terms_of e s) (time_in s clock) left given) here.past_is
-        ∙ (ap Publishes (left_is ∙ gone (terms_of e s).publisher (deliveries e.mode (terms_of e s).publisher (time_in s clock) (Some places) q) (deliveries e.mode (terms_of e s).publisher (time_in s clock) (least_room e ss) q) same)
-        ∙ sym (ap (passed_past (terms_of e s) (time_in s clock) (least_room e ss) (delivery e clock (least_room e ss) ss)) here.past_is))
-
-    by : (k : ℕ) (t : Session) → find (is_open_in k) ss ≡ Some t → (past : Past) → t.past ≡ past → amid e clock left given t ≡ passed_past (terms_of e t) (time_in t clock) (least_room e ss) (delivery e clock (least_room e ss) ss) t.past
-    by k t is (Publishes m) e1 =
-        let one : t ≡ s = one_publisher e index clock table media ss at s q body here k t m is e1 in
-        subst (λ (u : Session). amid e clock left given u ≡ passed_past (terms_of e u) (time_in u clock) (least_room e ss) (delivery e clock (least_room e ss) ss) u.past) (sym one) at_publisher
-    by k t is (Subscribes m) e1 =
-        ap (amid_past (terms_of e t) (time_in t clock) left given) e1
-        ∙ (ap (λ (xs : List (List ℕ)). passed_past (terms_of e t) (time_in t clock) (least_room e ss) xs (Subscribes m)) all_is
-        ∙ sym (ap (passed_past (terms_of e t) (time_in t clock) (least_room e ss) (delivery e clock (least_room e ss) ss)) e1))
-
-one_by_one : (e : Terms) (index clock : ℕ) (table : Table) (media : Media) (ss : List Session) (at : ℕ) (s : Session) (q : Publishing) → IsBody e index clock table media ss → IsPublisherAt ss at s q → DeliversOneByOne (terms_of e s).publisher q
-one_by_one e index clock table media ss at s q body here =
-    let h = (publisher_is e index clock table media ss at s q body here).stands in
-    delivers (terms_of e s).publisher q (record { orderly = h.orderly; beyond = beyond (terms_of e s).publisher.width s.conclusion.initial s.opening media.publisher.buffer q.receiving h.buffer })
-
-pub delivered_is : (e : Terms) (index clock : ℕ) (table : Table) (media : Media) (ss : List Session) (at : ℕ) (s : Session) (q : Publishing) (places : ℕ) → IsBody e index clock table media ss → IsPublisherAt ss at s q → places ≡ unwrap_or (least_room e ss) 0 → map (changed (amid e clock (leaves (terms_of e s).publisher (time_in s clock) places 64 q) (map payload_of (gives (terms_of e s).publisher (time_in s clock) places 64 q)))) ss ≡ delivered e clock ss
-delivered_is e index clock table media ss at s q places body here places_is =
-    let law = one_by_one e index clock table media ss at s q body here (time_in s clock) places in
-    delivered_with e index clock table media ss at s q places (map payload_of (gives (terms_of e s).publisher (time_in s clock) places 64 q)) (leaves (terms_of e s).publisher (time_in s clock) places 64 q) body here places_is
-    (ap (λ (arrivals : List Arrival). map payload_of arrivals) law.0) law.1
-
--- whether a slot of the table has a publisher
-position_none : {A : Type 0} (p : A → Bool) (xs : List A) → position p xs ≡ None → (i : ℕ) (d : A) → i < length xs → p (get_or xs i d) ≡ false
-position_none p xs h i d below = elim (cases_lt (position_or_len p xs) (length xs)) [
-  | inl inside ↦ absurd (let test = lt-ltb (position_or_len p xs) (length xs) inside in let bad : Some (position_or_len p xs) ≡ None = rw (test) at h in cc)
-  | inr outside ↦ fails_before_first p xs i d (omega arith)
-]
-
-role_at : (e : Terms) (index : ℕ) (o : Option TheSession) (s : Session) → IsStored e index o (Some s) → s.is_open ≡ true → is_publisher s ≡ session_passes (λ t. publishes t.role) o
-role_at e index None s is opens = absurd is
-role_at e index (Some t) s is opens = ap (λ (b : Bool). b && publishes s.conclusion.role) opens ∙ sym (ap publishes is.role_is)
-
-vacant_slot : Slot
-vacant_slot = record { generation = 0; session = None }
-
-publisher_at : (e : Terms) (index clock : ℕ) (table : Table) (media : Media) (ss : List Session) → IsBody e index clock table media ss → (at : ℕ) (d : Slot) (s : Session) → find (is_open_in at) ss ≡ Some s → is_publisher s ≡ has_publisher (get_or table.slots.items at d)
-publisher_at e index clock table media ss body at d s is =
-    let below = inside e index clock table media ss body at s is in
-    role_at e index (get_or table.slots.items at d).session s (subst (λ (o : Option Session). IsStored e index (get_or table.slots.items at d).session o) is (slot_stored e index table ss at d body.table_is (omega (arith, below, body.table_is.stored.places_are))))
-    (is_there at ss s is).0
-
-pub no_publisher : (e : Terms) (index clock : ℕ) (table : Table) (media : Media) (ss : List Session) → IsBody e index clock table media ss → position has_publisher table.slots.items ≡ None → (at : ℕ) (s : Session) → find (is_open_in at) ss ≡ Some s → is_publisher s ≡ false
-no_publisher e index clock table media ss body none at s is =
-    let below = inside e index clock table media ss body at s is in
-    publisher_at e index clock table media ss body at vacant_slot s is ∙ position_none has_publisher table.slots.items none at vacant_slot (omega (arith, below, body.table_is.stored.places_are))
-
-pub record HasPublisher (ss : List Session) (at : ℕ) : Type 0 where
-  pub session : Session
-  pub past : Publishing
-  pub here : IsPublisherAt ss at session past
-
-pub some_publisher : (e : Terms) (index clock : ℕ) (table : Table) (media : Media) (ss : List Session) → IsBody e index clock table media ss → (at : ℕ) → position has_publisher table.slots.items ≡ Some at → HasPublisher ss at
-some_publisher e index clock table media ss body at first = by (find (is_open_in at) ss) refl
-  where
-    slot : Slot
-    slot = get_or table.slots.items at vacant_slot
-
-    found : (at < length table.slots.items) × (has_publisher (get_or table.slots.items at vacant_slot) ≡ true)
-    found = let p = position-Some has_publisher table.slots.items at vacant_slot first in (p.0, p.1)
-
-    vacant : (o : Option TheSession) → IsStored e index o None → session_passes (λ t. publishes t.role) o ≡ true → ⊥
-    vacant None is h = let bad : false ≡ true = h in absurd cc
-    vacant (Some t) is h = absurd is
-
-    seated : (s : Session) → find (is_open_in at) ss ≡ Some s → is_publisher s ≡ true → (x : Subscriber) (past : Past) → s.past ≡ past → IsPast e clock media.publisher x s past → HasPublisher ss at
-    seated s is role x (Publishes m) e1 h = record { session = s; past = m; here = record { found = is; publishes = role; past_is = e1 } }
-    seated s is role x (Subscribes m) e1 h =
-        let yes : publishes s.conclusion.role ≡ true = (and_parts s.is_open (publishes s.conclusion.role) role).1 in
-        let bad : true ≡ false = sym yes ∙ h.0 in
-        absurd cc
-
-    by : (o : Option Session) → find (is_open_in at) ss ≡ o → HasPublisher ss at
-    by None is = absurd (vacant (get_or table.slots.items at vacant_slot).session (subst (λ (o : Option Session). IsStored e index (get_or table.slots.items at vacant_slot).session o) is (slot_stored e index table ss at vacant_slot body.table_is found.0)) found.1)
-    by (Some s) is =
-        let role : is_publisher s ≡ true = publisher_at e index clock table media ss body at vacant_slot s is ∙ found.1 in
-        let seat = seat_of e index clock table media ss body at s is in
-        seated s is role seat.0 s.past refl seat.1.past_is
+    by : (k : ℕ) (t : Session) → find (is_open_in k) ss ≡ Some t → (past : Past) → t.past ≡ past → both t ≡ passed_past (terms_of e t) (time_in t clock) (room_if (is_active ss t) (least_room e ss)) (delivery e clock (least_room e ss) ss) t.past
+    by k t is (Subscribes m) past =
+        ap (both_past (terms_of e t) (time_in t clock) (t.slot == at) left given) past
+        ∙ (ap (λ (xs : List (List ℕ)). passed_past (terms_of e t) (time_in t clock) (room_if (is_active ss t) (least_room e ss)) xs (Subscribes m)) all_is
+        ∙ sym (ap (passed_past (terms_of e t) (time_in t clock) (room_if (is_active ss t) (least_room e ss)) (delivery e clock (least_room e ss) ss)) past))
+    by k t is (Publishes m) past = elim (cases_eq k at) [
+      | inl place ↦
+          let one : t ≡ s = the_one ss at k s t here.found is place in
+          let mine : t.past ≡ Publishes q = ap (λ (u : Session). u.past) one ∙ here.past_is in
+          let test = slot_is ss at k t is place in
+          ap (λ (b : Bool). both_past (terms_of e t) (time_in t clock) b left given t.past) test
+          ∙ (ap (both_past (terms_of e t) (time_in t clock) true left given) mine
+          ∙ (ap (λ (u : Session). Publishes (publishing.delivered (terms_of e u).publisher (time_in u clock) (least_room e ss) q)) (sym one)
+          ∙ sym (ap (λ (b : Bool). passed_past (terms_of e t) (time_in t clock) (room_if b (least_room e ss)) (delivery e clock (least_room e ss) ss) t.past) (tests t true test)
+          ∙ ap (passed_past (terms_of e t) (time_in t clock) (least_room e ss) (delivery e clock (least_room e ss) ss)) mine)))
+      | inr apart ↦
+          let test = slot_is_not ss at k t is apart in
+          ap (λ (b : Bool). both_past (terms_of e t) (time_in t clock) b left given t.past) test
+          ∙ (ap (both_past (terms_of e t) (time_in t clock) false left given) past
+          ∙ sym (ap (λ (b : Bool). passed_past (terms_of e t) (time_in t clock) (room_if b (least_room e ss)) (delivery e clock (least_room e ss) ss) t.past) (tests t false test)
+          ∙ ap (passed_past (terms_of e t) (time_in t clock) None (delivery e clock (least_room e ss) ss)) past))
+    ]
 
 -- without a publisher nothing changes
-pub nothing_delivered : (e : Terms) (index clock : ℕ) (table : Table) (media : Media) (ss : List Session) → IsBody e index clock table media ss → position has_publisher table.slots.items ≡ None → delivered e clock ss ≡ ss
-nothing_delivered e index clock table media ss body none =
-    same_everywhere (λ t. passed_past (terms_of e t) (time_in t clock) (least_room e ss) (delivery e clock (least_room e ss) ss) t.past) (λ t. t.past) e.sessions ss body.table_is.stored.alone (λ k t is. by k t is t.past refl) ∙ unchanged ss
+pub nothing_delivered : (e : Terms) (index clock : ℕ) (table : Table) (ss : List Session) → IsTable e index clock table ss → NonePublishes ss → delivered e clock ss ≡ ss
+nothing_delivered e index clock table ss body none =
+    same_everywhere (λ t. passed_past (terms_of e t) (time_in t clock) (room_if (is_active ss t) (least_room e ss)) (delivery e clock (least_room e ss) ss) t.past) (λ t. t.past) e.sessions ss body.alone (λ k t is. by k t is t.past refl) ∙ unchanged ss
   where
+    no_active : (o : Option Session) → active ss ≡ o → o ≡ None
+    no_active None was = refl
+    no_active (Some t) was =
+        let there = active_in_slot ss t (alone_apart e.sessions ss body.alone).0 was in
+        absurd (let bad : true ≡ false = sym (active_publishes ss t was) ∙ none t.slot t there in cc)
+
     nothing : delivery e clock (least_room e ss) ss ≡ []
-    nothing = ap (λ (o : Option Session). delivery_of e clock (least_room e ss) o) (none_among ss is_publisher 0 e.sessions (no_publisher e index clock table media ss body none))
+    nothing = ap (λ (o : Option Session). delivery_of e clock (least_room e ss) o) (no_active (active ss) refl)
 
-    by : (k : ℕ) (t : Session) → find (is_open_in k) ss ≡ Some t → (past : Past) → t.past ≡ past → passed_past (terms_of e t) (time_in t clock) (least_room e ss) (delivery e clock (least_room e ss) ss) t.past ≡ t.past
-    by k t is (Publishes m) e1 =
-        let seat = seat_of e index clock table media ss body k t is in
-        let past : IsPast e clock media.publisher seat.0 t (Publishes m) = subst (λ (p : Past). IsPast e clock media.publisher seat.0 t p) e1 seat.1.past_is in
-        let yes : is_publisher t ≡ true = ap (λ (b : Bool). b && publishes t.conclusion.role) (is_there k ss t is).0 ∙ past.0 in
-        let bad : true ≡ false = sym yes ∙ no_publisher e index clock table media ss body none k t is in
-        absurd cc
-    by k t is (Subscribes m) e1 =
-        ap (λ (xs : List (List ℕ)). passed_past (terms_of e t) (time_in t clock) (least_room e ss) xs t.past) nothing
-        ∙ (ap (passed_past (terms_of e t) (time_in t clock) (least_room e ss) []) e1 ∙ sym e1)
+    by : (k : ℕ) (t : Session) → find (is_open_in k) ss ≡ Some t → (past : Past) → t.past ≡ past → passed_past (terms_of e t) (time_in t clock) (room_if (is_active ss t) (least_room e ss)) (delivery e clock (least_room e ss) ss) t.past ≡ t.past
+    by k t is (Publishes m) past = absurd (let bad : true ≡ false = sym (past_publishes e index clock table ss k t m body is past).publishes ∙ none k t is in cc)
+    by k t is (Subscribes m) past =
+        ap (λ (xs : List (List ℕ)). passed_past (terms_of e t) (time_in t clock) (room_if (is_active ss t) (least_room e ss)) xs t.past) nothing
+        ∙ (ap (passed_past (terms_of e t) (time_in t clock) (room_if (is_active ss t) (least_room e ss)) []) past ∙ sym past)
 
-pub none_is : {A : Type 0} (o : Option A) → is_some o ≡ false → o ≡ None
-none_is None e = refl
-none_is (Some x) e = absurd (let bad : true ≡ false = e in cc)
+-- the active publisher, by the buffers that publishers use
+pub older_active : (e : Terms) (index clock : ℕ) (table : Table) (ss : List Session) → IsTable e index clock table ss → list_any (publishes_from table.second_is_older) table.seats.items ≡ true → HasActive ss table table.second_is_older
+older_active e index clock table ss body some =
+    let it = found_from e index clock table ss table.second_is_older body some in
+    let past = has_past e index clock table ss it.at it.session body it.here in
+    let d = a_seat e index clock table ss it.at it.session body it.here.found in
+    record {
+      at = it.at;
+      session = it.session;
+      past = past.0;
+      here = past.1;
+      active_is = body.publishers_are.older_is_active it.at d it.session it.here (sym (it.uses d));
+      uses = it.uses;
+    }
 
-pub some_is : {A : Type 0} (o : Option A) → is_some o ≡ true → (x : A) × (o ≡ Some x)
-some_is None e = absurd (let bad : false ≡ true = e in cc)
-some_is (Some x) e = (x, refl)
+pub other_active : (e : Terms) (index clock : ℕ) (table : Table) (ss : List Session) → IsTable e index clock table ss → list_any (publishes_from table.second_is_older) table.seats.items ≡ false → list_any (publishes_from (not table.second_is_older)) table.seats.items ≡ true → HasActive ss table (not table.second_is_older)
+other_active e index clock table ss body none some =
+    let it = found_from e index clock table ss (not table.second_is_older) body some in
+    let past = has_past e index clock table ss it.at it.session body it.here in
+    let d = a_seat e index clock table ss it.at it.session body it.here.found in
+    record {
+      at = it.at;
+      session = it.session;
+      past = past.0;
+      here = past.1;
+      active_is = alone_is_active e index clock table ss it.at d it.session body it.here (λ k t other. sym (it.uses d) ∙ sym (uses_others e index clock table ss table.second_is_older k d t body none other));
+      uses = it.uses;
+    }
+
+pub none_publishes : (e : Terms) (index clock : ℕ) (table : Table) (ss : List Session) → IsTable e index clock table ss → list_any (publishes_from table.second_is_older) table.seats.items ≡ false → list_any (publishes_from (not table.second_is_older)) table.seats.items ≡ false → NonePublishes ss
+none_publishes e index clock table ss body none neither at s is = elim (cases_Bool (is_publisher s)) [
+  | inl it_does ↦
+      let d = a_seat e index clock table ss at s body is in
+      let here : IsPublishing ss at s = record { found = is; publishes = it_does } in
+      absurd (contrary table.second_is_older (sym (uses_others e index clock table ss table.second_is_older at d s body none here) ∙ uses_others e index clock table ss (not table.second_is_older) at d s body neither here))
+  | inr no_one ↦ no_one
+]
+  where
+    contrary : (b : Bool) → not b ≡ not (not b) → ⊥
+    contrary true h = let bad : false ≡ true = h in cc
+    contrary false h = let bad : true ≡ false = h in cc

@@ -1,9 +1,6 @@
 -- What a slot's subscriber has room for, and what it is fed.
 use Rattle.std.proofs.Common.{◌≡◌, ℕ, suc, ◌+◌, ◌-◌, ◌<◌, ◌≤◌, Bool, true, false, not, cond, Option, None, Some, List, length, find, get_or, refl, sym, ap, subst, ◌∙◌, arith}
-use Rattle.std.specs.Prelude.{nat_lt, filter_map, fold}
-use Rattle.std.specs.Option.{IsSome}
-use Rattle.std.specs.Vec.{with_item}
-use Rattle.std.proofs.lemmas.Bool.Decides.{nat_tests}
+use Rattle.std.specs.Prelude.{filter_map, fold}
 use Rattle.srt_seq.specs.declared.shared.Mode.TheVariants.{Buffer}
 use Rattle.srt_seq.specs.Runs.{numbers_from}
 use Rattle.srt_seq.specs.Terms.{Terms}
@@ -13,17 +10,17 @@ use Rattle.srt_sub.specs.Subscribing as subscribing
 use Rattle.srt_sub.specs.Stands as subscribers
 use Rattle.srt_sub.proofs.Freshness.{expires_once}
 use Rattle.srt_sub.specs.declared.session.Subscriber.{Subscriber}
-use Rattle.srt_route.specs.declared.slot.Session.{Session as TheSession}
-use Rattle.srt_route.specs.declared.slot.Slot.{Slot}
-use Rattle.srt_route.specs.declared.media.Media.{Media}
+use Rattle.srt_route.specs.declared.seat.Session.{Session as TheSession}
+use Rattle.srt_route.specs.declared.seat.Seat.{Seat}
 use Rattle.srt_route.specs.declared.table.Table.{Table}
 use Rattle.srt_route.specs.Past.{Past, Publishes, Subscribes, least_with}
 use Rattle.srt_route.specs.Sessions.{Session, is_open_in, publishes, terms_of, time_in}
-use Rattle.srt_route.specs.Tables.{IsSession, IsStored, session_passes}
-use Rattle.srt_route.specs.Media.{IsPast, IsSeated, IsBody}
-use Rattle.srt_route.specs.Delivery.{has_subscriber, changed, fed, fed_past, HasRoom, HaveRoom, lesser, at_place, IsHalf}
+use Rattle.srt_route.specs.Buffers.{IsPast, IsSeated}
+use Rattle.srt_route.specs.Tables.{IsSession, IsStored, IsSeat, IsTable, buffers_of, has_subscriber, session_passes}
+use Rattle.srt_route.specs.Delivery.{changed, fed, fed_past, HasRoom, HaveRoom, lesser}
+use Rattle.srt_route.proofs.Found.{changed as becomes}
+use Rattle.srt_route.proofs.Kept.{Becomes, same_buffers, some_buffers, seat_at}
 use Rattle.srt_route.proofs.Changes.{is_there}
-use Rattle.srt_route.proofs.Places.{half_goes_on, slot_stored}
 
 abbrev pub subscribes : Option TheSession → Bool
 subscribes o = session_passes (λ t. not (publishes t.role)) o
@@ -35,10 +32,10 @@ changed_is s g past o is = ap (λ (b : Bool). cond b (record s { past = g s }) s
 pub seated_with : (e : Terms) (clock : ℕ) (p : Publisher) (y : Subscriber) (s : Session) (g : Session → Past) (past : Past) → s.is_open ≡ true → g s ≡ past → IsPast e clock p y s past → s.opening ≤ clock → IsSeated e clock p y (changed g s)
 seated_with e clock p y s g past o is h opened = subst (λ (t : Session). IsSeated e clock p y t) (sym (changed_is s g past o is)) (record { past_is = h; opened = opened })
 
-publisher_subscribes : (e : Terms) (index : ℕ) (t : TheSession) (s : Session) → IsSession e index t s → publishes s.conclusion.role ≡ true → subscribes (Some t) ≡ false
+pub publisher_subscribes : (e : Terms) (index : ℕ) (t : TheSession) (s : Session) → IsSession e index t s → publishes s.conclusion.role ≡ true → subscribes (Some t) ≡ false
 publisher_subscribes e index t s is h = rw (is.role_is, h) refl
 
-subscriber_subscribes : (e : Terms) (index : ℕ) (t : TheSession) (s : Session) → IsSession e index t s → publishes s.conclusion.role ≡ false → subscribes (Some t) ≡ true
+pub subscriber_subscribes : (e : Terms) (index : ℕ) (t : TheSession) (s : Session) → IsSession e index t s → publishes s.conclusion.role ≡ false → subscribes (Some t) ≡ true
 subscriber_subscribes e index t s is h = rw (is.role_is, h) refl
 
 -- what a call does to a slot's subscriber
@@ -92,7 +89,7 @@ least_is e index clock p x (Some t) s found result is seat none some = by s.past
     by (Publishes m) h = ap (lesser found) (sym (none (publisher_subscribes e index t s is h.0)))
     by (Subscribes m) h = ap (lesser found) (sym (some (subscriber_subscribes e index t s is h.0) (terms_of e s).subscriber s.conclusion.initial s.opening s.conclusion.caller clock m h.1))
 
-vacant_subscribes : (e : Terms) (index : ℕ) (o : Option TheSession) → IsStored e index o None → subscribes o ≡ false
+pub vacant_subscribes : (e : Terms) (index : ℕ) (o : Option TheSession) → IsStored e index o None → subscribes o ≡ false
 vacant_subscribes e index None is = refl
 vacant_subscribes e index (Some t) is = absurd is
 
@@ -108,45 +105,55 @@ least_more e ss found result from count None is none some = let r = none refl in
 least_more e ss found result from count (Some s) is none some = rw (is) (ap (λ (d : Option ℕ). least_from e ss d (from + 1) count) (some s refl))
 
 -- a slot of those whose least room is looked for
-pub least_step : (e : Terms) (index clock : ℕ) (table : Table) (media : Media) (ss : List Session) (found result total : Option ℕ) (at : ℕ) (slot : Slot) (x : Subscriber) → IsBody e index clock table media ss → at < e.sessions → slot ≡ get_or table.slots.items at slot → x ≡ get_or media.subscribers.items at x → (has_subscriber slot ≡ false → result ≡ None) → Tells slot.session x result → least_from e ss found at (e.sessions - at) ≡ total → least_from e ss (lesser found result) (at + 1) (e.sessions - (at + 1)) ≡ total
-least_step e index clock table media ss found result total at slot x body below slot_is x_is none tells h =
-    let more : e.sessions - at ≡ suc (e.sessions - (at + 1)) = omega (arith, below) in
+pub least_step : (e : Terms) (index clock : ℕ) (table : Table) (ss : List Session) (found result total : Option ℕ) (at : ℕ) (x : Seat) → IsTable e index clock table ss → at < length table.seats.items → x ≡ get_or table.seats.items at x → (has_subscriber x ≡ false → result ≡ None) → Tells x.session x.subscriber result → least_from e ss found at (e.sessions - at) ≡ total → least_from e ss (lesser found result) (at + 1) (e.sessions - (at + 1)) ≡ total
+least_step e index clock table ss found result total at x body below there none tells h =
+    let seat = seat_at e index clock table ss at x (some_buffers table) body below there in
+    let more : e.sessions - at ≡ suc (e.sessions - (at + 1)) = omega (arith, below, body.places_are) in
     sym (least_more e ss found result at (e.sessions - (at + 1)) (find (is_open_in at) ss) refl
-    (λ is. none (vacant_subscribes e index slot.session (subst (λ (f : Option Session). IsStored e index slot.session f) is stored)))
-    (λ s is. least_is e index clock media.publisher x slot.session s found result (subst (λ (f : Option Session). IsStored e index slot.session f) is stored) (seated s is) none tells))
+    (λ is. none (vacant_subscribes e index x.session (subst (λ (f : Option Session). IsStored e index x.session f) is seat.session_is)))
+    (λ s is. least_is e index clock (buffers_of table.publishers.items x (some_buffers table)) x.subscriber x.session s found result (subst (λ (f : Option Session). IsStored e index x.session f) is seat.session_is) (seat.seated s is) none tells))
     ∙ (sym (ap (λ (n : ℕ). least_from e ss found at n) more) ∙ h)
+
+-- a seat once the pasts of open sessions have changed
+stored_past : (e : Terms) (index : ℕ) (g : Session → Past) (o : Option TheSession) (f : Option Session) → ((s : Session) → f ≡ Some s → s.is_open ≡ true) → IsStored e index o f → IsStored e index o (becomes (changed g) f)
+stored_past e index g None None opens is = tt
+stored_past e index g None (Some s) opens is = absurd is
+stored_past e index g (Some t) None opens is = absurd is
+stored_past e index g (Some t) (Some s) opens is =
+    rw (opens s refl) (record { peer_is = is.peer_is; caller_is = is.caller_is; id_is = is.id_is; role_is = is.role_is; heard_is = is.heard_is; answer_is = is.answer_is })
+
+pub past_becomes : (g : Session → Past) (e : Terms) (index clock at : ℕ) (p q : Publisher) (x y : Seat) (ss : List Session) → IsSeat e index clock at p x ss → y.generation ≡ x.generation → y.session ≡ x.session → subscribers.IsWide e.buffer y.subscriber → ((s : Session) → find (is_open_in at) ss ≡ Some s → IsSeated e clock q y.subscriber (changed g s)) → Becomes (changed g) e index clock at q x y ss
+past_becomes g e index clock at p q x y ss is count stored wide seated =
+    record {
+      count_is = count;
+      session_is = subst (λ (o : Option TheSession). IsStored e index o (becomes (changed g) (find (is_open_in at) ss))) (sym stored) (stored_past e index g x.session (find (is_open_in at) ss) (λ s found. (is_there at ss s found).0) is.session_is);
+      buffers_stay = same_buffers x.session y.session stored;
+      wide = wide;
+      seated = λ s found o. seated s found;
+    }
+
+-- if a subscriber's session is open in the seat its buffers have changed as Q says, and nothing else has changed
+pub record Changes (Q : Option TheSession → Subscriber → Subscriber → Type 0) (x y : Seat) : Type 0 where
+  pub count_is : y.generation ≡ x.generation
+  pub session_is : y.session ≡ x.session
+  pub stays : Stays x.session x.subscriber y.subscriber
+  pub changes : Q x.session x.subscriber y.subscriber
+
+pub seat_becomes : (Q : Option TheSession → Subscriber → Subscriber → Type 0) (g : Session → Past) (e : Terms) (index clock at : ℕ) (p : Publisher) (x y : Seat) (ss : List Session) → IsSeat e index clock at p x ss → Changes Q x y → ((s : Session) → find (is_open_in at) ss ≡ Some s → s.is_open ≡ true → IsStored e index x.session (Some s) → IsFed e clock p y.subscriber (changed g s)) → Becomes (changed g) e index clock at p x y ss
+seat_becomes Q g e index clock at p x y ss is h one =
+    past_becomes g e index clock at p p x y ss is h.count_is h.session_is (by (find (is_open_in at) ss) refl) (λ s found. (here s found).seated)
   where
-    stored : IsStored e index slot.session (find (is_open_in at) ss)
-    stored = subst (λ (d : Slot). IsStored e index d.session (find (is_open_in at) ss)) (sym slot_is) (slot_stored e index table ss at slot body.table_is (omega (arith, below, body.table_is.stored.places_are)))
+    stored : (f : Option Session) → find (is_open_in at) ss ≡ f → IsStored e index x.session f
+    stored f found = subst (λ (g : Option Session). IsStored e index x.session g) found is.session_is
 
-    seated : (s : Session) → find (is_open_in at) ss ≡ Some s → IsSeated e clock media.publisher x s
-    seated s is = subst (λ (z : Subscriber). IsSeated e clock media.publisher z s) (sym x_is) (body.media_is.seated at x s below is)
+    here : (s : Session) → find (is_open_in at) ss ≡ Some s → IsFed e clock p y.subscriber (changed g s)
+    here s found = one s found (is_there at ss s found).0 (stored (Some s) found)
 
--- a slot that is fed
-pub feed_step : (e : Terms) (index clock : ℕ) (table : Table) (first media later : Media) (ss : List Session) (at : ℕ) (slot : Slot) (x y : Subscriber) (payload : List ℕ) → IsBody e index clock table first ss → at < e.sessions → slot ≡ get_or table.slots.items at slot → x ≡ get_or media.subscribers.items at x → 0 < length payload → HaveRoom e 1 ss → Stays slot.session x y → Feeds clock payload slot.session x y → later ≡ record { publisher = media.publisher; subscribers = with_item media.subscribers at y } → IsHalf e clock at (changed (fed e clock payload)) media ss → IsHalf e clock (at + 1) (changed (fed e clock payload)) later ss
-feed_step e index clock table first media later ss at slot x y payload body below slot_is x_is some has stays feeds later_is h =
-    half_goes_on e clock at (changed (fed e clock payload)) media later ss y h (ap (λ (m : Media). m.publisher) later_is) (ap (λ (m : Media). m.subscribers.items) later_is)
-    (wide (find (is_open_in at) ss) refl) (λ s is. (one s is).seated)
-  where
-    stored : (f : Option Session) → find (is_open_in at) ss ≡ f → IsStored e index slot.session f
-    stored f is = subst (λ (g : Option Session). IsStored e index slot.session g) is (subst (λ (d : Slot). IsStored e index d.session (find (is_open_in at) ss)) (sym slot_is) (slot_stored e index table ss at slot body.table_is (omega (arith, below, body.table_is.stored.places_are))))
+    by : (f : Option Session) → find (is_open_in at) ss ≡ f → subscribers.IsWide e.buffer y.subscriber
+    by None found = subst (λ (z : Subscriber). subscribers.IsWide e.buffer z) (sym (stays_vacant e index x.session x.subscriber y.subscriber (stored None found) h.stays)) is.wide
+    by (Some s) found = (here s found).wide
 
-    was_wide : subscribers.IsWide e.buffer x
-    was_wide = subst (λ (z : Subscriber). subscribers.IsWide e.buffer z) (sym x_is) (h.wide at x below)
-
-    seated : (s : Session) → find (is_open_in at) ss ≡ Some s → IsSeated e clock media.publisher x s
-    seated s is =
-        let test : nat_lt at at ≡ false = grind (arith, nat_tests) in
-        subst (λ (b : Bool). IsSeated e clock media.publisher x (at_place b (changed (fed e clock payload)) s)) test
-        (subst (λ (z : Subscriber). IsSeated e clock media.publisher z (at_place (nat_lt at at) (changed (fed e clock payload)) s)) (sym x_is) (h.seated at x s below is))
-
-    one : (s : Session) → find (is_open_in at) ss ≡ Some s → IsFed e clock media.publisher y (changed (fed e clock payload) s)
-    one s is = fed_seat e index clock media.publisher x y slot.session s payload (stored (Some s) is) (seated s is) (is_there at ss s is).0 was_wide some (has at s is) stays feeds
-
-    wide : (f : Option Session) → find (is_open_in at) ss ≡ f → subscribers.IsWide e.buffer y
-    wide None is = subst (λ (z : Subscriber). subscribers.IsWide e.buffer z) (sym (stays_vacant e index slot.session x y (stored None is) stays)) was_wide
-    wide (Some s) is = (one s is).wide
-
-pub not_there : {A : Type 0} (o : Option A) → o ≡ None → IsSome o → ⊥
-not_there None e h = let bad : false ≡ true = h in absurd cc
-not_there (Some x) e h = let bad : Some x ≡ None = e in absurd cc
+pub fed_becomes : (e : Terms) (index clock at : ℕ) (p : Publisher) (x y : Seat) (payload : List ℕ) (ss : List Session) → 0 < length payload → HaveRoom e 1 ss → IsSeat e index clock at p x ss → Changes (Feeds clock payload) x y → Becomes (changed (fed e clock payload)) e index clock at p x y ss
+fed_becomes e index clock at p x y payload ss some has is h =
+    seat_becomes (Feeds clock payload) (fed e clock payload) e index clock at p x y ss is h
+    (λ s found opens stored. fed_seat e index clock p x.subscriber y.subscriber x.session s payload stored (is.seated s found) opens is.wide some (has at s found) h.stays h.changes)

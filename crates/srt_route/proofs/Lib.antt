@@ -1,12 +1,13 @@
 pub mod Found
+pub mod Kept
 pub mod Stored
+pub mod Publishers
 pub mod Seats
 pub mod Aging
 pub mod Starting
 pub mod Taking
 pub mod Steps
 pub mod Changes
-pub mod Places
 pub mod Feeding
 pub mod Passing
 pub mod Turns
@@ -16,6 +17,8 @@ pub mod Stepping
 pub mod Rows
 pub mod Counts
 pub mod Lists
+pub mod Standbys
+pub mod TakeOver
 pub mod Relabelled
 pub mod PlacedWords
 pub mod ShiftedWords

@@ -1,6 +1,6 @@
 -- Lists that a change goes through.
 use Rattle.std.proofs.Common.{◌≡◌, ℕ, zero, suc, Bool, true, false, cond, Option, None, Some, List, [], ◌∷◌, ◌++◌, map, refl, sym, ap, ◌∙◌}
-use Rattle.std.specs.Prelude.{⊤, IfSome, find, filter_map, option_map, fold, take, take_while, slice_get, ◌||◌}
+use Rattle.std.specs.Prelude.{⊤, IfSome, filter, find, filter_map, option_map, fold, take, take_while, slice_get, ◌||◌}
 use Rattle.std.specs.List.{prefix_len, list_any, flat_map, cons_option}
 use Rattle.std.proofs.lemmas.List.{map-append}
 
@@ -43,6 +43,14 @@ picked_through {A} {B} {C} σ f g e (x ∷ xs) = ap (λ o. cons_option o (filter
 pub fold_through : {A B C : Type 0} → (σ : A → B) (f : C → B → C) (g : C → A → C) → ((c : C) (x : A) → f c (σ x) ≡ g c x) → (xs : List A) (c : C) → fold f c (map σ xs) ≡ fold g c xs
 fold_through σ f g e [] c = refl
 fold_through σ f g e (x ∷ xs) c = ap (λ d. fold f d (map σ xs)) (e c x) ∙ fold_through σ f g e xs (g c x)
+
+pub filter_through : {A B : Type 0} → (σ : A → B) (p : B → Bool) (q : A → Bool) → ((x : A) → p (σ x) ≡ q x) → (xs : List A) → filter p (map σ xs) ≡ map σ (filter q xs)
+filter_through σ p q e [] = refl
+filter_through {A} {B} σ p q e (x ∷ xs) = ap (λ b. cond b (σ x ∷ filter p (map σ xs)) (filter p (map σ xs))) (e x) ∙ ap (λ ys. cond (q x) (σ x ∷ ys) ys) (filter_through σ p q e xs) ∙ inside (q x)
+  where
+    inside : (b : Bool) → cond b (σ x ∷ map σ (filter q xs)) (map σ (filter q xs)) ≡ map σ (cond b (x ∷ filter q xs) (filter q xs))
+    inside true = refl
+    inside false = refl
 
 -- each of the list is so
 abbrev pub Each : {A : Type 0} → (A → Type 0) → List A → Type 0

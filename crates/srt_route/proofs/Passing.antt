@@ -1,8 +1,7 @@
 -- The publisher's payloads, one by one.
-use Rattle.std.proofs.Common.{◌≡◌, ℕ, zero, suc, ◌<◌, ◌≤◌, Bool, true, false, cond, Option, None, Some, List, [], ◌∷◌, ◌++◌, length, map, find, get_or, refl, sym, ap, subst, ◌∙◌, arith}
-use Rattle.std.specs.Prelude.{nat_lt, ◌&&◌}
+use Rattle.std.proofs.Common.{◌≡◌, ◌≢◌, ℕ, zero, suc, ◌<◌, ◌≤◌, ◌==◌, Bool, true, false, cond, Option, None, Some, List, [], ◌∷◌, ◌++◌, length, map, find, get_or, set, inl, inr, refl, sym, ap, subst, ◌∙◌, arith}
 use Rattle.std.specs.Option.{option_map}
-use Rattle.std.proofs.lemmas.Bool.Decides.{nat_tests}
+use Rattle.std.proofs.lemmas.Bool.{cases_eq, and_parts, eq-eqb, eqb-true, false_from_ne_true}
 use Rattle.srt_seq.specs.declared.shared.Mode.{Mode}
 use Rattle.srt_seq.specs.declared.shared.Mode.TheVariants.{Live, Buffer}
 use Rattle.srt_seq.specs.Given.{given}
@@ -16,17 +15,20 @@ use Rattle.srt_pub.specs.Stands as publishers
 use Rattle.srt_pub.specs.declared.session.Publisher.{Publisher}
 use Rattle.srt_sub.specs.Subscribing as subscribing
 use Rattle.srt_sub.specs.declared.session.Subscriber.{Subscriber}
-use Rattle.srt_route.specs.declared.media.Media.{Media}
 use Rattle.srt_route.specs.declared.table.Table.{Table}
 use Rattle.srt_route.specs.Past.{Past, Publishes, Subscribes, Agreed}
-use Rattle.srt_route.specs.Sessions.{Session, is_open_in, is_publisher, publishes, terms_of, time_in}
-use Rattle.srt_route.specs.Tables.{AreAlone}
-use Rattle.srt_route.specs.Media.{IsPast, IsSeated, IsBody}
-use Rattle.srt_route.specs.Delivery.{changed, amid, amid_past, fed, fed_past, IsPublisherAt, HasRoom, HaveRoom, turned, at_place}
+use Rattle.srt_route.specs.Sessions.{Session, is_open_in, publishes, terms_of, time_in, payloads}
+use Rattle.srt_route.specs.Buffers.{IsPast, IsSeated}
+use Rattle.srt_route.specs.Places.{place_of}
+use Rattle.srt_route.specs.declared.seat.Seat.{Seat}
+use Rattle.srt_route.specs.Tables.{AreAlone, IsTable, IsPublishing, AreWide, Uses, buffers_of}
+use Rattle.srt_route.specs.Delivery.{changed, amid, amid_past, fed, fed_past, IsPublisherAt, HasRoom, HaveRoom, turned, passed_on}
 use Rattle.srt_route.proofs.Found.{found_in_place, open_parts, open_from}
-use Rattle.srt_route.proofs.Changes.{is_there, found_before}
-use Rattle.srt_route.proofs.Places.{half_ends}
-use Rattle.srt_route.proofs.Feeding.{seated_with, changed_is}
+use Rattle.srt_route.proofs.Changes.{is_there, found_before, find_changed, keeps_changed}
+use Rattle.srt_route.proofs.Kept.{Alike, Becomes, below_seats, some_buffers, table_kept}
+use Rattle.srt_route.proofs.Publishers.{set_here, wide_set, others_stay}
+use Rattle.srt_route.proofs.Stored.{some_item}
+use Rattle.srt_route.proofs.Feeding.{seated_with, changed_is, past_becomes}
 
 changed_closed : (s : Session) (g : Session → Past) → s.is_open ≡ false → changed g s ≡ s
 changed_closed s g o = ap (λ (b : Bool). cond b (record s { past = g s }) s) o
@@ -46,68 +48,106 @@ compose_all f g h same [] = refl
 compose_all f g h same (s ∷ ss) = ap (λ (t : Session). t ∷ map (changed f) (map (changed g) ss)) (compose f g h s (λ o. same s)) ∙ ap (λ (ts : List Session). changed h s ∷ ts) (compose_all f g h same ss)
 
 -- a slot of an open session is one of the slots
-pub inside : (e : Terms) (index clock : ℕ) (table : Table) (media : Media) (ss : List Session) → IsBody e index clock table media ss → (at : ℕ) (s : Session) → find (is_open_in at) ss ≡ Some s → at < e.sessions
-inside e index clock table media ss body at s is =
-    let there = found_in_place (is_open_in at) (λ t h. (open_parts at t h).0) e.sessions ss body.table_is.stored.alone s is in
+pub inside : (e : Terms) (index clock : ℕ) (table : Table) (ss : List Session) → IsTable e index clock table ss → (at : ℕ) (s : Session) → find (is_open_in at) ss ≡ Some s → at < e.sessions
+inside e index clock table ss body at s is =
+    let there = found_in_place (is_open_in at) (λ t h. (open_parts at t h).0) e.sessions ss body.alone s is in
     omega (arith, there.0, (is_there at ss s is).1)
 
-some_of : {A : Type 0} (xs : List A) (at : ℕ) → at < length xs → A
-some_of [] at below = absurd (omega (arith, below))
-some_of (x ∷ xs) at below = x
-
--- the seat of a slot's open session
-pub seat_of : (e : Terms) (index clock : ℕ) (table : Table) (media : Media) (ss : List Session) → IsBody e index clock table media ss → (at : ℕ) (s : Session) → find (is_open_in at) ss ≡ Some s → (x : Subscriber) × IsSeated e clock media.publisher x s
-seat_of e index clock table media ss body at s is =
-    let below = inside e index clock table media ss body at s is in
-    let x = some_of media.subscribers.items at (omega (arith, below, body.media_is.as_many)) in
-    (get_or media.subscribers.items at x, body.media_is.seated at x s below is)
+-- the buffers of a slot's open session
+pub seat_of : (e : Terms) (index clock : ℕ) (table : Table) (ss : List Session) → IsTable e index clock table ss → (at : ℕ) (s : Session) → find (is_open_in at) ss ≡ Some s → (p : Publisher) × (x : Subscriber) × IsSeated e clock p x s
+seat_of e index clock table ss body at s is =
+    let below : at < length table.seats.items = below_seats e index clock table ss at s body is in
+    let x = some_item table.seats.items at below in
+    let p = some_buffers table in
+    (buffers_of table.publishers.items (get_or table.seats.items at x) p, (get_or table.seats.items at x).subscriber, (body.seats_are at x p below).seated s is)
 
 -- the publisher stands for its session
 pub record Publishing_is (e : Terms) (clock : ℕ) (p : Publisher) (s : Session) (q : Publishing) : Type 0 where
   pub stands : publishers.StandsFor (terms_of e s).publisher s.conclusion.initial s.opening s.stamp s.conclusion.caller p q
   pub opened : s.opening ≤ clock
 
-pub publisher_is : (e : Terms) (index clock : ℕ) (table : Table) (media : Media) (ss : List Session) (at : ℕ) (s : Session) (q : Publishing) → IsBody e index clock table media ss → IsPublisherAt ss at s q → Publishing_is e clock media.publisher s q
-publisher_is e index clock table media ss at s q body here =
-    let seat = seat_of e index clock table media ss body at s here.found in
-    let past : IsPast e clock media.publisher seat.0 s (Publishes q) = subst (λ (p : Past). IsPast e clock media.publisher seat.0 s p) here.past_is seat.1.past_is in
-    record { stands = past.1; opened = seat.1.opened }
+pub publisher_is : (e : Terms) (index clock : ℕ) (table : Table) (ss : List Session) (at : ℕ) (s : Session) (q : Publishing) (second : Bool) (p : Publisher) → IsTable e index clock table ss → IsPublisherAt ss at s q → Uses table at second → p ≡ get_or table.publishers.items (place_of second) p → Publishing_is e clock p s q
+publisher_is e index clock table ss at s q second p body here uses there =
+    let below : at < length table.seats.items = below_seats e index clock table ss at s body here.found in
+    let d = some_item table.seats.items at below in
+    let same : buffers_of table.publishers.items (get_or table.seats.items at d) p ≡ p = ap (λ (b : Bool). get_or table.publishers.items (place_of b) p) (sym (uses d)) ∙ sym there in
+    let seat = subst (λ (z : Publisher). IsSeated e clock z (get_or table.seats.items at d).subscriber s) same ((body.seats_are at d p below).seated s here.found) in
+    let past : IsPast e clock p (get_or table.seats.items at d).subscriber s (Publishes q) = subst (λ (o : Past). IsPast e clock p (get_or table.seats.items at d).subscriber s o) here.past_is seat.past_is in
+    record { stands = past.1; opened = seat.opened }
 
--- the publisher alone has gone on
-pub gone_on : (e : Terms) (index clock : ℕ) (table : Table) (media later : Media) (ss : List Session) (at : ℕ) (s : Session) (q r : Publishing) → IsBody e index clock table media ss → IsPublisherAt ss at s q → later.subscribers ≡ media.subscribers → publishers.StandsFor (terms_of e s).publisher s.conclusion.initial s.opening s.stamp s.conclusion.caller later.publisher r → IsBody e index clock table later (map (changed (amid e clock r [])) ss)
-gone_on e index clock table media later ss at s q r body here same stands =
-    half_ends e index clock e.sessions (amid e clock r []) table media later ss body
-    (record {
-      as_many = ap (λ (v : _). length v.items) same ∙ body.media_is.as_many;
-      wide = λ k x below. rw same (body.media_is.wide k x below);
-      publisher_wide = stands.buffer.0;
-      seated = λ k x t below is.
-          let test : nat_lt k e.sessions ≡ true = grind (arith, nat_tests, below) in
-          subst (λ (b : Bool). IsSeated e clock later.publisher (get_or later.subscribers.items k x) (at_place b (changed (amid e clock r [])) t)) (sym test)
-          (subst (λ (v : _). IsSeated e clock later.publisher (get_or v.items k x) (changed (amid e clock r []) t)) (sym same) (seated k x t below is));
-    })
-    refl
+pub publishing_at : (ss : List Session) (at : ℕ) (s : Session) (q : Publishing) → IsPublisherAt ss at s q → IsPublishing ss at s
+publishing_at ss at s q here = record { found = here.found; publishes = here.publishes }
+
+-- the session of a slot is the one of that slot, and no other
+pub the_one : (ss : List Session) (at k : ℕ) (s t : Session) → find (is_open_in at) ss ≡ Some s → find (is_open_in k) ss ≡ Some t → k ≡ at → t ≡ s
+the_one ss at k s t here is place = let both : Some t ≡ Some s = sym is ∙ (ap (λ (n : ℕ). find (is_open_in n) ss) place ∙ here) in cc
+
+pub slot_is : (ss : List Session) (at k : ℕ) (t : Session) → find (is_open_in k) ss ≡ Some t → k ≡ at → t.slot == at ≡ true
+slot_is ss at k t is place = eq-eqb t.slot at ((is_there k ss t is).1 ∙ place)
+
+pub slot_is_not : (ss : List Session) (at k : ℕ) (t : Session) → find (is_open_in k) ss ≡ Some t → k ≢ at → t.slot == at ≡ false
+slot_is_not ss at k t is apart = false_from_ne_true (t.slot == at) (λ h. absurd (apart (sym (is_there k ss t is).1 ∙ eqb-true t.slot at h)))
+
+-- a publisher's past in the middle, in its slot and elsewhere
+pub amid_here : (e : Terms) (clock at : ℕ) (r q : Publishing) (xs : List (List ℕ)) (t : Session) → t.slot == at ≡ true → t.past ≡ Publishes q → amid e clock at r xs t ≡ Publishes r
+amid_here e clock at r q xs t test past =
+    ap (λ (b : Bool). amid_past (terms_of e t) (time_in t clock) b r xs t.past) test ∙ ap (amid_past (terms_of e t) (time_in t clock) true r xs) past
+
+pub amid_elsewhere : (e : Terms) (clock at : ℕ) (r : Publishing) (t : Session) → t.slot == at ≡ false → amid e clock at r [] t ≡ t.past
+amid_elsewhere e clock at r t test = ap (λ (b : Bool). amid_past (terms_of e t) (time_in t clock) b r [] t.past) test ∙ by (terms_of e t) (time_in t clock) t.past
   where
-    seated : (k : ℕ) (x : Subscriber) (t : Session) → k < e.sessions → find (is_open_in k) ss ≡ Some t → IsSeated e clock later.publisher (get_or media.subscribers.items k x) (changed (amid e clock r []) t)
-    seated k x t below is = by t.past refl seat.past_is
-      where
-        seat : IsSeated e clock media.publisher (get_or media.subscribers.items k x) t
-        seat = body.media_is.seated k x t below is
+    by : (terms : Agreed) (time : ℕ) (past : Past) → amid_past terms time false r [] past ≡ past
+    by terms time (Publishes p) = refl
+    by terms time (Subscribes m) = refl
 
-        opens : t.is_open ≡ true
-        opens = (is_there k ss t is).0
+-- one publisher has gone on
+pub record IsTurned (table later : Table) (second : Bool) (p : Publisher) : Type 0 where
+  pub alike : Alike table later
+  pub seats_are : later.seats ≡ table.seats
+  pub publishers_are : later.publishers.items ≡ set table.publishers.items (place_of second) p
 
-        by : (past : Past) → t.past ≡ past → IsPast e clock media.publisher (get_or media.subscribers.items k x) t past → IsSeated e clock later.publisher (get_or media.subscribers.items k x) (changed (amid e clock r []) t)
-        by (Publishes m) e1 h =
-            let publishing : is_publisher t ≡ true = rw (opens, h.0) refl in
-            let place : k ≡ at = body.media_is.alone k at t s is here.found publishing here.publishes in
-            let both : Some t ≡ Some s = sym is ∙ (ap (λ (n : ℕ). find (is_open_in n) ss) place ∙ here.found) in
-            let one : t ≡ s = cc in
-            let now : publishers.StandsFor (terms_of e t).publisher t.conclusion.initial t.opening t.stamp t.conclusion.caller later.publisher r =
-            subst (λ (u : Session). publishers.StandsFor (terms_of e u).publisher u.conclusion.initial u.opening u.stamp u.conclusion.caller later.publisher r) (sym one) stands in
-            seated_with e clock later.publisher (get_or media.subscribers.items k x) t (amid e clock r []) (Publishes r) opens (ap (amid_past (terms_of e t) (time_in t clock) r []) e1) (h.0, now) seat.opened
-        by (Subscribes m) e1 h =
-            seated_with e clock later.publisher (get_or media.subscribers.items k x) t (amid e clock r []) (Subscribes m) opens (ap (amid_past (terms_of e t) (time_in t clock) r []) e1) h seat.opened
+pub gone_on : (e : Terms) (index clock : ℕ) (table later : Table) (ss : List Session) (at : ℕ) (s : Session) (q r : Publishing) (second : Bool) (p : Publisher) → IsTable e index clock table ss → IsPublisherAt ss at s q → Uses table at second → IsTurned table later second p → publishers.StandsFor (terms_of e s).publisher s.conclusion.initial s.opening s.stamp s.conclusion.caller p r → IsTable e index clock later (map (changed (amid e clock at r [])) ss)
+gone_on e index clock table later ss at s q r second p body here uses turned stands =
+    table_kept (changed g) (keeps_changed g) e index clock clock table later ss body body.early turned.alike
+    (subst (λ (ps : List Publisher). AreWide e.buffer ps) (sym turned.publishers_are) (wide_set e.buffer table.publishers.items second p table.two body.publishers_wide stands.buffer.0))
+    (ap (λ (v : _). length v.items) turned.seats_are)
+    (λ k d o below. subst (λ (v : _). Becomes (changed g) e index clock k (buffers_of later.publishers.items (get_or table.seats.items k d) o) (get_or table.seats.items k d) (get_or v.items k d) ss) (sym turned.seats_are)
+    (let seat = body.seats_are k d o below in past_becomes g e index clock k (buffers_of table.publishers.items (get_or table.seats.items k d) o) (buffers_of later.publishers.items (get_or table.seats.items k d) o) (get_or table.seats.items k d) (get_or table.seats.items k d) ss seat refl refl seat.wide (λ t is. seated k d o t is (seat.seated t is))))
+  where
+    g : Session → Past
+    g t = amid e clock at r [] t
+
+    seated : (k : ℕ) (d : Seat) (o : Publisher) (t : Session) → find (is_open_in k) ss ≡ Some t → IsSeated e clock (buffers_of table.publishers.items (get_or table.seats.items k d) o) (get_or table.seats.items k d).subscriber t → IsSeated e clock (buffers_of later.publishers.items (get_or table.seats.items k d) o) (get_or table.seats.items k d).subscriber (changed g t)
+    seated k d o t is seat = elim (cases_eq k at) [
+      | inl place ↦
+          let one : t ≡ s = the_one ss at k s t here.found is place in
+          let past : t.past ≡ Publishes q = ap (λ (u : Session). u.past) one ∙ here.past_is in
+          let role : publishes t.conclusion.role ≡ true = ap (λ (u : Session). publishes u.conclusion.role) one ∙ (and_parts s.is_open (publishes s.conclusion.role) here.publishes).1 in
+          let now = subst (λ (u : Session). publishers.StandsFor (terms_of e u).publisher u.conclusion.initial u.opening u.stamp u.conclusion.caller p r) (sym one) stands in
+          let mine : buffers_of later.publishers.items (get_or table.seats.items k d) o ≡ p =
+          ap (λ (n : ℕ). buffers_of later.publishers.items (get_or table.seats.items n d) o) place
+          ∙ (ap (λ (ps : List Publisher). buffers_of ps (get_or table.seats.items at d) o) turned.publishers_are
+          ∙ (ap (λ (b : Bool). get_or (set table.publishers.items (place_of second) p) (place_of b) o) (sym (uses d)) ∙ set_here table.publishers.items second p o table.two)) in
+          subst (λ (z : Publisher). IsSeated e clock z (get_or table.seats.items k d).subscriber (changed g t)) (sym mine)
+          (seated_with e clock p (get_or table.seats.items k d).subscriber t g (Publishes r) (is_there k ss t is).0 (amid_here e clock at r q [] t (slot_is ss at k t is place) past) (role, now) seat.opened)
+      | inr apart ↦
+          let stays = others_stay e index clock table later.publishers.items ss at s second p body (publishing_at ss at s q here) uses turned.publishers_are k d o t (get_or table.seats.items k d).subscriber apart is seat in
+          seated_with e clock (buffers_of later.publishers.items (get_or table.seats.items k d) o) (get_or table.seats.items k d).subscriber t g t.past (is_there k ss t is).0 (amid_elsewhere e clock at r t (slot_is_not ss at k t is apart)) stays.past_is stays.opened
+    ]
+
+-- the publisher's session once all its payloads are passed on
+pub publisher_passed : (e : Terms) (clock : ℕ) (ss : List Session) (at : ℕ) (s : Session) (q : Publishing) (room : Option ℕ) → IsPublisherAt ss at s q → IsPublisherAt (passed_on e clock at room s q ss) at (record s { past = Publishes (publishing.delivered (terms_of e s).publisher (time_in s clock) room q) }) (publishing.delivered (terms_of e s).publisher (time_in s clock) room q)
+publisher_passed e clock ss at s q room here =
+    let there = is_there at ss s here.found in
+    let r = publishing.delivered (terms_of e s).publisher (time_in s clock) room q in
+    let given = payloads e clock room s in
+    record {
+      found = find_changed (amid e clock at r given) at ss
+          ∙ (ap (option_map (changed (amid e clock at r given))) here.found
+          ∙ ap Some (changed_is s (amid e clock at r given) (Publishes r) there.0 (amid_here e clock at r q given s (slot_is ss at at s here.found refl) here.past_is)));
+      publishes = here.publishes;
+      past_is = refl;
+    }
 
 -- in buffer mode a payload is delivered only if there is room
 nothing_without_room : (mode : Mode) (terms : publishing.Terms) (time room : ℕ) (q : Publishing) (a : Arrival) → first_of (deliveries mode terms time (Some room) q) ≡ Some a → mode ≡ Buffer → 0 < room
@@ -121,20 +161,21 @@ fed_later : (terms : subscribing.Terms) (time : ℕ) (xs : List (List ℕ)) (x :
 fed_later terms time [] x m = refl
 fed_later terms time (y ∷ ys) x m = fed_later terms time ys x (subscribing.fed terms time y m)
 
-amid_later : (terms : Agreed) (time : ℕ) (q r : Publishing) (xs : List (List ℕ)) (x : List ℕ) (past : Past) → amid_past terms time r (x ∷ []) (amid_past terms time q xs past) ≡ amid_past terms time r (xs ++ x ∷ []) past
-amid_later terms time q r xs x (Publishes p) = refl
-amid_later terms time q r xs x (Subscribes m) = ap Subscribes (fed_later terms.subscriber time xs x m)
+amid_later : (terms : Agreed) (time : ℕ) (mine : Bool) (q r : Publishing) (xs : List (List ℕ)) (x : List ℕ) (past : Past) → amid_past terms time mine r (x ∷ []) (amid_past terms time mine q xs past) ≡ amid_past terms time mine r (xs ++ x ∷ []) past
+amid_later terms time true q r xs x (Publishes p) = refl
+amid_later terms time false q r xs x (Publishes p) = refl
+amid_later terms time mine q r xs x (Subscribes m) = ap Subscribes (fed_later terms.subscriber time xs x m)
 
-pub amid_more : (e : Terms) (clock : ℕ) (q r : Publishing) (xs : List (List ℕ)) (x : List ℕ) (ss : List Session) → map (changed (amid e clock r (x ∷ []))) (map (changed (amid e clock q xs)) ss) ≡ map (changed (amid e clock r (xs ++ x ∷ []))) ss
-amid_more e clock q r xs x ss =
-    compose_all (amid e clock r (x ∷ [])) (amid e clock q xs) (amid e clock r (xs ++ x ∷ [])) (λ s. amid_later (terms_of e s) (time_in s clock) q r xs x s.past) ss
+pub amid_more : (e : Terms) (clock at : ℕ) (q r : Publishing) (xs : List (List ℕ)) (x : List ℕ) (ss : List Session) → map (changed (amid e clock at r (x ∷ []))) (map (changed (amid e clock at q xs)) ss) ≡ map (changed (amid e clock at r (xs ++ x ∷ []))) ss
+amid_more e clock at q r xs x ss =
+    compose_all (amid e clock at r (x ∷ [])) (amid e clock at q xs) (amid e clock at r (xs ++ x ∷ [])) (λ s. amid_later (terms_of e s) (time_in s clock) (s.slot == at) q r xs x s.past) ss
 
-fed_once : (terms : Agreed) (time : ℕ) (r : Publishing) (x : List ℕ) (past : Past) → fed_past terms time x (amid_past terms time r [] past) ≡ amid_past terms time r (x ∷ []) past
-fed_once terms time r x (Publishes p) = refl
-fed_once terms time r x (Subscribes m) = refl
+fed_once : (terms : Agreed) (time : ℕ) (mine : Bool) (r : Publishing) (x : List ℕ) (past : Past) → fed_past terms time x (amid_past terms time mine r [] past) ≡ amid_past terms time mine r (x ∷ []) past
+fed_once terms time mine r x (Publishes p) = refl
+fed_once terms time mine r x (Subscribes m) = refl
 
-pub gone_and_fed : (e : Terms) (clock : ℕ) (r : Publishing) (x : List ℕ) (ss : List Session) → map (changed (fed e clock x)) (map (changed (amid e clock r [])) ss) ≡ map (changed (amid e clock r (x ∷ []))) ss
-gone_and_fed e clock r x ss = compose_all (fed e clock x) (amid e clock r []) (amid e clock r (x ∷ [])) (λ s. fed_once (terms_of e s) (time_in s clock) r x s.past) ss
+pub gone_and_fed : (e : Terms) (clock at : ℕ) (r : Publishing) (x : List ℕ) (ss : List Session) → map (changed (fed e clock x)) (map (changed (amid e clock at r [])) ss) ≡ map (changed (amid e clock at r (x ∷ []))) ss
+gone_and_fed e clock at r x ss = compose_all (fed e clock x) (amid e clock at r []) (amid e clock at r (x ∷ [])) (λ s. fed_once (terms_of e s) (time_in s clock) (s.slot == at) r x s.past) ss
 
 -- there is room for less
 pub less_room : (e : Terms) (more less : ℕ) (ss : List Session) → (e.mode ≡ Buffer → less ≤ more) → HaveRoom e more ss → HaveRoom e less ss
@@ -147,15 +188,15 @@ less_room e more less ss le has at s is = by s.past (has at s is)
 past_changed : (s : Session) (g : Session → Past) → s.is_open ≡ true → (changed g s).past ≡ g s
 past_changed s g o = ap (λ (t : Session). t.past) (changed_is s g (g s) o refl)
 
-pub room_before : (e : Terms) (clock places : ℕ) (r : Publishing) (ss : List Session) → HaveRoom e places ss → HaveRoom e places (map (changed (amid e clock r [])) ss)
-room_before e clock places r ss has at t is =
-    let was = found_before (amid e clock r []) at ss t is in
-    let past = ap (λ (u : Session). u.past) was.2 ∙ past_changed was.0 (amid e clock r []) (is_there at ss was.0 was.1).0 in
-    subst (HasRoom e places) (sym past) (by (terms_of e was.0) (time_in was.0 clock) was.0.past (has at was.0 was.1))
+pub room_before : (e : Terms) (clock at_slot places : ℕ) (r : Publishing) (ss : List Session) → HaveRoom e places ss → HaveRoom e places (map (changed (amid e clock at_slot r [])) ss)
+room_before e clock at_slot places r ss has at t is =
+    let was = found_before (amid e clock at_slot r []) at ss t is in
+    let past = ap (λ (u : Session). u.past) was.2 ∙ past_changed was.0 (amid e clock at_slot r []) (is_there at ss was.0 was.1).0 in
+    subst (HasRoom e places) (sym past) (by (terms_of e was.0) (time_in was.0 clock) (was.0.slot == at_slot) was.0.past (has at was.0 was.1))
   where
-    by : (terms : Agreed) (time : ℕ) (past : Past) → HasRoom e places past → HasRoom e places (amid_past terms time r [] past)
-    by terms time (Publishes p) h = tt
-    by terms time (Subscribes m) h = h
+    by : (terms : Agreed) (time : ℕ) (mine : Bool) (past : Past) → HasRoom e places past → HasRoom e places (amid_past terms time mine r [] past)
+    by terms time mine (Publishes p) h = tt
+    by terms time mine (Subscribes m) h = h
 
 -- of sessions that are changed alike
 pub same_everywhere : (f g : Session → Past) (places : ℕ) (ss : List Session) → AreAlone places ss → ((at : ℕ) (t : Session) → find (is_open_in at) ss ≡ Some t → f t ≡ g t) → map (changed f) ss ≡ map (changed g) ss
@@ -185,28 +226,18 @@ unchanged (s ∷ ss) = ap (λ (t : Session). t ∷ map (changed (λ s. s.past)) 
     by true = refl
     by false = refl
 
--- the session that publishes is the only one
-pub one_publisher : (e : Terms) (index clock : ℕ) (table : Table) (media : Media) (ss : List Session) (at : ℕ) (s : Session) (q : Publishing) → IsBody e index clock table media ss → IsPublisherAt ss at s q → (k : ℕ) (t : Session) (m : Publishing) → find (is_open_in k) ss ≡ Some t → t.past ≡ Publishes m → t ≡ s
-one_publisher e index clock table media ss at s q body here k t m is past =
-    let seat = seat_of e index clock table media ss body k t is in
-    let role : IsPast e clock media.publisher seat.0 t (Publishes m) = subst (λ (p : Past). IsPast e clock media.publisher seat.0 t p) past seat.1.past_is in
-    let opens : t.is_open ≡ true = (is_there k ss t is).0 in
-    let publishing : is_publisher t ≡ true = ap (λ (b : Bool). b && publishes t.conclusion.role) opens ∙ role.0 in
-    let place : k ≡ at = body.media_is.alone k at t s is here.found publishing here.publishes in
-    let both : Some t ≡ Some s = sym is ∙ (ap (λ (n : ℕ). find (is_open_in n) ss) place ∙ here.found) in
-    cc
-
 -- nothing has gone on
-pub nothing_amid : (e : Terms) (index clock : ℕ) (table : Table) (media : Media) (ss : List Session) (at : ℕ) (s : Session) (q : Publishing) → IsBody e index clock table media ss → IsPublisherAt ss at s q → map (changed (amid e clock q [])) ss ≡ ss
-nothing_amid e index clock table media ss at s q body here =
-    same_everywhere (amid e clock q []) (λ t. t.past) e.sessions ss body.table_is.stored.alone (λ k t is. by k t is t.past refl) ∙ unchanged ss
+pub nothing_amid : (e : Terms) (index clock : ℕ) (table : Table) (ss : List Session) (at : ℕ) (s : Session) (q : Publishing) → IsTable e index clock table ss → IsPublisherAt ss at s q → map (changed (amid e clock at q [])) ss ≡ ss
+nothing_amid e index clock table ss at s q body here =
+    same_everywhere (amid e clock at q []) (λ t. t.past) e.sessions ss body.alone by ∙ unchanged ss
   where
-    by : (k : ℕ) (t : Session) → find (is_open_in k) ss ≡ Some t → (past : Past) → t.past ≡ past → amid e clock q [] t ≡ t.past
-    by k t is (Publishes m) past =
-        let one : t ≡ s = one_publisher e index clock table media ss at s q body here k t m is past in
-        let same : t.past ≡ Publishes q = ap (λ (u : Session). u.past) one ∙ here.past_is in
-        ap (amid_past (terms_of e t) (time_in t clock) q []) past ∙ sym same
-    by k t is (Subscribes m) past = ap (amid_past (terms_of e t) (time_in t clock) q []) past ∙ sym past
+    by : (k : ℕ) (t : Session) → find (is_open_in k) ss ≡ Some t → amid e clock at q [] t ≡ t.past
+    by k t is = elim (cases_eq k at) [
+      | inl place ↦
+          let past : t.past ≡ Publishes q = ap (λ (u : Session). u.past) (the_one ss at k s t here.found is place) ∙ here.past_is in
+          amid_here e clock at q q [] t (slot_is ss at k t is place) past ∙ sym past
+      | inr apart ↦ amid_elsewhere e clock at q t (slot_is_not ss at k t is apart)
+    ]
 
 -- what was given, and what wasn't
 pub given_one : (b : Bool) (x : List ℕ) (n : Option Arrival) → given b x ≡ option_map (λ (a : Arrival). a.payload) n → b ≡ true → (a : Arrival) × (n ≡ Some a) × (x ≡ a.payload)
@@ -218,21 +249,21 @@ none_given b x None same is = refl
 none_given b x (Some a) same is = absurd (let bad : None ≡ Some a.payload = sym (ap (λ (c : Bool). given c x) is) ∙ same in cc)
 
 -- a turn that gives a payload
-pub turn_given : (e : Terms) (index clock : ℕ) (table : Table) (media first later : Media) (ss : List Session) (at : ℕ) (s : Session) (q : Publishing) (places : ℕ) (next : Option Arrival) (payload : List ℕ) (a : Arrival) → next ≡ next_delivery (terms_of e s).publisher (time_in s clock) places q → next ≡ Some a → payload ≡ a.payload → IsBody e index clock table media ss → IsPublisherAt ss at s q → HaveRoom e places ss → first.subscribers ≡ media.subscribers → publishers.StandsFor (terms_of e s).publisher s.conclusion.initial s.opening s.stamp s.conclusion.caller first.publisher (after_delivery (terms_of e s).publisher next q) → 0 < length payload → ((ts : List Session) → IsBody e index clock table first ts → 0 < length payload → HaveRoom e 1 ts → IsBody e index clock table later (map (changed (fed e clock payload)) ts)) → IsBody e index clock table later (turned e clock next (after_delivery (terms_of e s).publisher next q) ss)
-turn_given e index clock table media first later ss at s q places next payload a next_is is payload_is body here has same stands some feeds =
+pub turn_given : (e : Terms) (index clock : ℕ) (table first later : Table) (ss : List Session) (at : ℕ) (s : Session) (q : Publishing) (second : Bool) (p : Publisher) (places : ℕ) (next : Option Arrival) (payload : List ℕ) (a : Arrival) → next ≡ next_delivery (terms_of e s).publisher (time_in s clock) places q → next ≡ Some a → payload ≡ a.payload → IsTable e index clock table ss → IsPublisherAt ss at s q → HaveRoom e places ss → Uses table at second → IsTurned table first second p → publishers.StandsFor (terms_of e s).publisher s.conclusion.initial s.opening s.stamp s.conclusion.caller p (after_delivery (terms_of e s).publisher next q) → 0 < length payload → ((ts : List Session) → IsTable e index clock first ts → 0 < length payload → HaveRoom e 1 ts → IsTable e index clock later (map (changed (fed e clock payload)) ts)) → IsTable e index clock later (turned e clock at next (after_delivery (terms_of e s).publisher next q) ss)
+turn_given e index clock table first later ss at s q second p places next payload a next_is is payload_is body here has uses turned_is stands some feeds =
     let r = after_delivery (terms_of e s).publisher next q in
-    let gone = gone_on e index clock table media first ss at s q r body here same stands in
+    let gone = gone_on e index clock table first ss at s q r second p body here uses turned_is stands in
     let one : HaveRoom e 1 ss = less_room e places 1 ss (λ b. nothing_without_room e.mode (terms_of e s).publisher (time_in s clock) places q a (sym next_is ∙ is) b) has in
-    let now = feeds (map (changed (amid e clock r [])) ss) gone some (room_before e clock 1 r ss one) in
-    subst (λ (ts : List Session). IsBody e index clock table later ts)
-    (gone_and_fed e clock r payload ss ∙ (ap (λ (x : List ℕ). map (changed (amid e clock r (x ∷ []))) ss) payload_is ∙ sym (ap (λ (o : Option Arrival). turned e clock o r ss) is)))
+    let now = feeds (map (changed (amid e clock at r [])) ss) gone some (room_before e clock at 1 r ss one) in
+    subst (λ (ts : List Session). IsTable e index clock later ts)
+    (gone_and_fed e clock at r payload ss ∙ (ap (λ (x : List ℕ). map (changed (amid e clock at r (x ∷ []))) ss) payload_is ∙ sym (ap (λ (o : Option Arrival). turned e clock at o r ss) is)))
     now
 
 -- a turn that gives none
-pub turn_over : (e : Terms) (index clock : ℕ) (table : Table) (media later : Media) (ss : List Session) (at : ℕ) (s : Session) (q : Publishing) (next : Option Arrival) → next ≡ None → IsBody e index clock table media ss → IsPublisherAt ss at s q → later.subscribers ≡ media.subscribers → publishers.StandsFor (terms_of e s).publisher s.conclusion.initial s.opening s.stamp s.conclusion.caller later.publisher (after_delivery (terms_of e s).publisher next q) → IsBody e index clock table later (turned e clock next (after_delivery (terms_of e s).publisher next q) ss)
-turn_over e index clock table media later ss at s q next is body here same stands =
+pub turn_over : (e : Terms) (index clock : ℕ) (table later : Table) (ss : List Session) (at : ℕ) (s : Session) (q : Publishing) (second : Bool) (p : Publisher) (next : Option Arrival) → next ≡ None → IsTable e index clock table ss → IsPublisherAt ss at s q → Uses table at second → IsTurned table later second p → publishers.StandsFor (terms_of e s).publisher s.conclusion.initial s.opening s.stamp s.conclusion.caller p (after_delivery (terms_of e s).publisher next q) → IsTable e index clock later (turned e clock at next (after_delivery (terms_of e s).publisher next q) ss)
+turn_over e index clock table later ss at s q second p next is body here uses turned_is stands =
     let terms = (terms_of e s).publisher in
-    let still : publishers.StandsFor terms s.conclusion.initial s.opening s.stamp s.conclusion.caller later.publisher q =
-    subst (λ (o : Option Arrival). publishers.StandsFor terms s.conclusion.initial s.opening s.stamp s.conclusion.caller later.publisher (after_delivery terms o q)) is stands in
-    subst (λ (o : Option Arrival). IsBody e index clock table later (turned e clock o (after_delivery terms o q) ss)) (sym is)
-    (subst (λ (ts : List Session). IsBody e index clock table later ts) (nothing_amid e index clock table media ss at s q body here) (gone_on e index clock table media later ss at s q q body here same still))
+    let still : publishers.StandsFor terms s.conclusion.initial s.opening s.stamp s.conclusion.caller p q =
+    subst (λ (o : Option Arrival). publishers.StandsFor terms s.conclusion.initial s.opening s.stamp s.conclusion.caller p (after_delivery terms o q)) is stands in
+    subst (λ (o : Option Arrival). IsTable e index clock later (turned e clock at o (after_delivery terms o q) ss)) (sym is)
+    (subst (λ (ts : List Session). IsTable e index clock later ts) (nothing_amid e index clock table ss at s q body here) (gone_on e index clock table later ss at s q q second p body here uses turned_is still))

@@ -1,7 +1,7 @@
 -- A route with the same items, with other sequence numbers, other timestamps or later moments.
 use Rattle.std.proofs.Common.{◌≡◌, ℕ, ◌+◌, ◌-◌, Bool, true, false, cond, ◌&&◌, ◌||◌, not, Option, None, Some, List, [], ◌∷◌, ◌++◌, map, max, Result, Ok, Err, refl, sym, ap, ◌∙◌, arith}
 use Rattle.std.specs.Prelude.{⊤, find, option_map, nat_le, fold, ◌==◌}
-use Rattle.std.specs.List.{list_any, flat_map}
+use Rattle.std.specs.List.{flat_map}
 use Rattle.std.proofs.lemmas.List.{map-append}
 use Rattle.srt_seq.specs.declared.shared.Peer.{Peer}
 use Rattle.srt_seq.specs.Lift.{stamped_from}
@@ -12,15 +12,16 @@ use Rattle.srt_packet.specs.declared.reading.PacketFault.{PacketFault}
 use Rattle.srt_packet.specs.Grammar.{Packet}
 use Rattle.srt_packet.specs.Reading.{packet_in}
 use Rattle.srt_hs.specs.declared.writing.HsAnswer.{HsAnswer}
-use Rattle.srt_hs.specs.declared.writing.RefusalCode.{RefusalCode}
+use Rattle.srt_hs.specs.declared.refusals.RefusalCode.{RefusalCode}
 use Rattle.srt_pub.specs.Heard as to_publisher
 use Rattle.srt_pub.specs.Publishing as publisher
 use Rattle.srt_sub.specs.Heard as to_subscriber
 use Rattle.srt_sub.specs.Subscribing as subscriber
 use Rattle.srt_route.specs.declared.conclusion.Conclusion.{Conclusion}
 use Rattle.srt_route.specs.Past.{Past, Publishes, Subscribes, Agreed, Report, ToSubscriber, took_past, is_shutdown, ends_with, answers_to, least_with, payloads_of}
-use Rattle.srt_route.specs.Sessions.{Session, is_publisher, is_subscriber, is_open_in, by_slot, is_free, free_slot, generation_of, time_in, stamp_in, is_idle, aged_at, aged, terms_of, took_at, took, answered_at_once, passed_at, passed, reports_at, reported_at, reported}
-use Rattle.srt_route.specs.Route.{Route, Taken, Output, Answers, Says, Reply, clock_after, session_opened, with_session, opens, considered, refused, is_of, heard_if, concluded, is_for, took_if, said_by, answered_by, arrived, concludes, without_destination, packet_taken, read_taken, taken, least_room, delivery_of, delivery, delivered, packets_at, packets_where, taken_by, passed_by, replies_to, told_more, after}
+use Rattle.srt_route.specs.Sessions.{Session, is_publisher, is_subscriber, open_publishers, active, is_active, is_open_in, by_slot, is_free, free_slot, generation_of, time_in, stamp_in, is_idle, aged_at, aged, terms_of, took_at, took, answered_at_once, passed_at, passed, reports_at, reported_at, reported}
+use Rattle.srt_route.specs.Route.{Route, Taken, Output, Answers, Says, Reply, clock_after, session_opened, with_session, opens, considered, refused, is_of, heard_if, concluded, is_for, took_if, said_by, answered_by, arrived, concludes, without_destination, packet_taken, read_taken, taken, least_room, delivery_of, delivery, room_if, delivered, packets_at, packets_where, taken_by, passed_by, replies_to, told_more, after}
+use Rattle.srt_route.proofs.Standbys.{publishers_through, active_through, is_active_through}
 use Rattle.srt_route.proofs.Lists.{map_through, any_through, find_through, find_same, flat_through, picked_through, fold_through}
 
 -- what is written otherwise: timestamps, initial numbers, moments. A timestamp counted from another stays
@@ -192,8 +193,8 @@ concluded_same e index r clock peer stamp x ss (Some s) =
     ap (λ ys. taken_as ys (map (changed_reply r) (concluded e index clock peer stamp x ss (Some s)).answers))
     (map_through (changed_session r) (λ t. heard_if (is_of peer x.caller t) (clock + r.later) t) (λ t. heard_if (is_of peer x.caller t) clock t) (changed_session r) (λ t. heard_if_same r clock t (is_of peer x.caller t)) ss)
 concluded_same e index r clock peer stamp x ss None =
-    ap (λ b. considered e index (clock + r.later) peer (r.stamp stamp) (changed_conclusion r x) (map (changed_session r) ss) (refused e.mode b x)) (any_through (changed_session r) is_publisher is_publisher (λ s. refl) ss)
-    ∙ considered_same e index r clock peer stamp x ss (refused e.mode (list_any is_publisher ss) x)
+    ap (λ n. considered e index (clock + r.later) peer (r.stamp stamp) (changed_conclusion r x) (map (changed_session r) ss) (refused e.mode n x)) (publishers_through (changed_session r) (λ s. refl) ss)
+    ∙ considered_same e index r clock peer stamp x ss (refused e.mode (open_publishers ss) x)
 
 without_same : (e : Terms) (index : ℕ) (r : Change) (clock : ℕ) (peer : Peer) (stamp : ℕ) (ss : List Session) (c : Option Conclusion) → without_destination e index (clock + r.later) peer (r.stamp stamp) (map (changed_session r) ss) (option_map (changed_conclusion r) c) ≡ changed_taken r (without_destination e index clock peer stamp ss c)
 without_same e index r clock peer stamp ss None = refl
@@ -239,9 +240,8 @@ delivery_by e r clock room (Some s) = ap (λ t. payloads_of (terms_of e s) t roo
 
 delivery_same : (e : Terms) (r : Change) (clock : ℕ) (room : Option ℕ) (ss : List Session) → delivery e (clock + r.later) room (map (changed_session r) ss) ≡ delivery e clock room ss
 delivery_same e r clock room ss =
-    ap (λ xs. delivery_of e (clock + r.later) room (find is_publisher xs)) (by_slot_same e r ss)
-    ∙ ap (λ o. delivery_of e (clock + r.later) room o) (find_through (changed_session r) is_publisher is_publisher (λ s. refl) (by_slot e ss))
-    ∙ delivery_by e r clock room (find is_publisher (by_slot e ss))
+    ap (λ o. delivery_of e (clock + r.later) room o) (active_through (changed_session r) (λ s. refl) ss)
+    ∙ delivery_by e r clock room (active ss)
 
 passed_here : (e : Terms) (r : Change) (here : Bool) (time : ℕ) (room : Option ℕ) (xs : List (List ℕ)) (s : Session) → passed_at e here time room xs (changed_session r s) ≡ changed_session r (passed_at e here time room xs s)
 passed_here e r true time room xs s = refl
@@ -254,9 +254,12 @@ delivered_same : (e : Terms) (r : Change) (clock : ℕ) (ss : List Session) → 
 delivered_same e r clock ss =
     let ts = map (changed_session r) ss in
     let room = least_room e ss in
-    ap (λ x. map (passed e (clock + r.later) x (delivery e (clock + r.later) x ts)) ts) (room_same e r ss)
-    ∙ ap (λ xs. map (passed e (clock + r.later) room xs) ts) (delivery_same e r clock room ss)
-    ∙ map_through (changed_session r) (passed e (clock + r.later) room (delivery e clock room ss)) (passed e clock room (delivery e clock room ss)) (changed_session r) (passed_same e r clock room (delivery e clock room ss)) ss
+    let fed = delivery e clock room ss in
+    ap (λ x. map (λ s. passed e (clock + r.later) (room_if (is_active ts s) x) (delivery e (clock + r.later) x ts) s) ts) (room_same e r ss)
+    ∙ ap (λ xs. map (λ s. passed e (clock + r.later) (room_if (is_active ts s) room) xs s) ts) (delivery_same e r clock room ss)
+    ∙ map_through (changed_session r) (λ s. passed e (clock + r.later) (room_if (is_active ts s) room) fed s) (λ s. passed e clock (room_if (is_active ss s) room) fed s) (changed_session r)
+    (λ s. ap (λ b. passed e (clock + r.later) (room_if b room) fed (changed_session r s)) (is_active_through (changed_session r) (λ t. refl) (λ t. refl) ss s)
+    ∙ passed_same e r clock (room_if (is_active ss s) room) fed s) ss
 
 -- packets
 reported_here : (e : Terms) (r : Change) (here : Bool) (time : ℕ) (s : Session) → reported_at e here time (changed_session r s) ≡ changed_session r (reported_at e here time s)

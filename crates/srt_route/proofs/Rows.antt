@@ -61,10 +61,21 @@ first_answer : reply studio 0 (publisher_opens ∷ []) ≡ answer 5000 1 5 0x100
 unfolding handshake_in blocks_in with_first with_block answer_text ask_in list_in with_part conclusion_in conclusion_of is_utf8 chars encode in_window lift confirmed_by is_full_due acks_at naks reports deliveries says body_bytes
 first_answer = refl
 
--- a second publisher is refused with 1002
-second_answer : reply studio 0 (came 5001 1_000_000 (conclusion 2 9 0x2000 0xbf 0x780078 publish_studio) ∷ publisher_opens ∷ []) ≡ from 5001 (words (0x80000000 ∷ 0 ∷ 0 ∷ 2 ∷ 5 ∷ 0 ∷ 9 ∷ 0x5dc ∷ 0x2000 ∷ 0x3ea ∷ 1 ∷ 0 ∷ 0 ∷ 0 ∷ 0 ∷ 0 ∷ [])) ∷ []
+-- a second publisher stands by in the session 00100001
+abbrev standby_opens : (moment : ℕ) → Item
+standby_opens moment = came 5001 moment (conclusion 2 9 0x2000 0xbf 0x780078 publish_studio)
+
+second_answer : reply studio 0 (standby_opens 1_000_000 ∷ publisher_opens ∷ []) ≡ answer 5001 2 9 0x100001 0x780078 ∷ []
 unfolding handshake_in blocks_in with_first with_block answer_text ask_in list_in with_part conclusion_in conclusion_of is_utf8 chars encode in_window lift confirmed_by is_full_due acks_at naks reports deliveries says body_bytes
 second_answer = refl
+
+-- a third publisher is refused with 1002
+abbrev third_opens : (moment : ℕ) → Item
+third_opens moment = came 5003 moment (conclusion 4 7 0x2000 0xbf 0x780078 publish_studio)
+
+third_answer : reply studio 0 (third_opens 1_000_000 ∷ standby_opens 1_000_000 ∷ publisher_opens ∷ []) ≡ from 5003 (words (0x80000000 ∷ 0 ∷ 0 ∷ 4 ∷ 5 ∷ 0 ∷ 7 ∷ 0x5dc ∷ 0x2000 ∷ 0x3ea ∷ 1 ∷ 0 ∷ 0 ∷ 0 ∷ 0 ∷ 0 ∷ [])) ∷ []
+unfolding handshake_in blocks_in with_first with_block answer_text ask_in list_in with_part conclusion_in conclusion_of is_utf8 chars encode in_window lift confirmed_by is_full_due acks_at naks reports deliveries says body_bytes
+third_answer = refl
 
 -- the same conclusion is answered with the same bytes
 same_answer : reply studio 0 (publisher_opens ∷ publisher_opens ∷ []) ≡ answer 5000 1 5 0x100000 0x780078 ∷ []
@@ -268,3 +279,72 @@ are_open items = map (λ (s : Session). s.is_open) (after studio 0 items).sessio
 greeted : (are_open (Tick 6_500_000 ∷ greets 5_000_000 ∷ publisher_opens ∷ []) ≡ true ∷ []) × (are_open (Tick 6_500_000 ∷ publisher_opens ∷ []) ≡ false ∷ [])
 unfolding handshake_in blocks_in with_first with_block answer_text ask_in list_in with_part conclusion_in conclusion_of is_utf8 chars encode in_window lift confirmed_by is_full_due acks_at naks reports deliveries says body_bytes
 greeted = (refl, refl)
+
+-- a publisher stands by for another one, and acknowledges what it receives
+abbrev viewer_opens : (moment delays : ℕ) → Item
+viewer_opens moment delays = came 5002 moment (conclusion 3 20 0x2000 0xbf delays request_studio)
+
+abbrev stands_by : List Item
+stands_by = came 5001 1_021_000 (words (9 ∷ 0xe0000001 ∷ 0x3e8 ∷ 0x100001 ∷ []) ++ 0x68 ∷ 0x69 ∷ []) ∷ viewer_opens 1_020_000 0x780078 ∷ standby_opens 1_010_000 ∷ publisher_opens ∷ []
+
+standby_is_acknowledged : reply studio 0 stands_by ≡ from 5001 (words (0x80020000 ∷ 1 ∷ 0x2af8 ∷ 2 ∷ 0xa ∷ 0x186a0 ∷ 0xc350 ∷ 0x3ff ∷ 0 ∷ 0 ∷ 0 ∷ [])) ∷ []
+unfolding handshake_in blocks_in with_first with_block answer_text ask_in list_in with_part conclusion_in conclusion_of is_utf8 chars encode in_window lift confirmed_by is_full_due acks_at naks reports deliveries says body_bytes
+standby_is_acknowledged = refl
+
+-- the active one ends before the packet is due, so the standby takes over
+abbrev shuts_down : (moment : ℕ) → Item
+shuts_down moment = came 5000 moment (words (0x80050000 ∷ 0 ∷ 0 ∷ 0x100000 ∷ []))
+
+shutdown_delivers_nothing : reply studio 0 (shuts_down 1_100_000 ∷ stands_by) ≡ from 5001 (words (0x80020000 ∷ 2 ∷ 0x15f90 ∷ 2 ∷ 0xa ∷ 0x186a0 ∷ 0xc350 ∷ 0x3ff ∷ 0 ∷ 0 ∷ 0 ∷ [])) ∷ []
+unfolding handshake_in blocks_in with_first with_block answer_text ask_in list_in with_part conclusion_in conclusion_of is_utf8 chars encode in_window lift confirmed_by is_full_due acks_at naks reports deliveries says body_bytes
+shutdown_delivers_nothing = refl
+
+standby_takes_over : reply studio 0 (Tick 1_131_000 ∷ shuts_down 1_100_000 ∷ stands_by) ≡ from 5001 (words (0x80020000 ∷ 3 ∷ 0x1d8a8 ∷ 2 ∷ 0xa ∷ 0x186a0 ∷ 0xc350 ∷ 0x400 ∷ 0 ∷ 0 ∷ 0 ∷ [])) ∷ from 5002 (words (0x14 ∷ 0xe0000001 ∷ 0x1b198 ∷ 3 ∷ []) ++ 0x68 ∷ 0x69 ∷ []) ∷ []
+unfolding handshake_in blocks_in with_first with_block answer_text ask_in list_in with_part conclusion_in conclusion_of is_utf8 chars encode in_window lift confirmed_by is_full_due acks_at naks reports deliveries says body_bytes
+standby_takes_over = refl
+
+-- it is active in the event in which the other one ends
+takes_over_at_once : reply studio 0 (shuts_down 1_131_000 ∷ stands_by) ≡ from 5001 (words (0x80020000 ∷ 2 ∷ 0x1d8a8 ∷ 2 ∷ 0xa ∷ 0x186a0 ∷ 0xc350 ∷ 0x400 ∷ 0 ∷ 0 ∷ 0 ∷ [])) ∷ from 5002 (words (0x14 ∷ 0xe0000001 ∷ 0x1b198 ∷ 3 ∷ []) ++ 0x68 ∷ 0x69 ∷ []) ∷ []
+unfolding handshake_in blocks_in with_first with_block answer_text ask_in list_in with_part conclusion_in conclusion_of is_utf8 chars encode in_window lift confirmed_by is_full_due acks_at naks reports deliveries says body_bytes
+takes_over_at_once = refl
+
+-- a packet that was due before goes to nobody
+standby_delivers_to_nobody : reply studio 0 (Tick 1_131_000 ∷ stands_by) ≡ from 5001 (words (0x80020000 ∷ 2 ∷ 0x1d8a8 ∷ 2 ∷ 0xa ∷ 0x186a0 ∷ 0xc350 ∷ 0x400 ∷ 0 ∷ 0 ∷ 0 ∷ [])) ∷ []
+unfolding handshake_in blocks_in with_first with_block answer_text ask_in list_in with_part conclusion_in conclusion_of is_utf8 chars encode in_window lift confirmed_by is_full_due acks_at naks reports deliveries says body_bytes
+standby_delivers_to_nobody = refl
+
+nothing_is_left : reply studio 0 (Tick 1_141_000 ∷ shuts_down 1_131_000 ∷ Tick 1_131_000 ∷ stands_by) ≡ from 5001 (words (0x80020000 ∷ 3 ∷ 0x1ffb8 ∷ 2 ∷ 0xa ∷ 0x186a0 ∷ 0xc350 ∷ 0x400 ∷ 0 ∷ 0 ∷ 0 ∷ [])) ∷ []
+unfolding handshake_in blocks_in with_first with_block answer_text ask_in list_in with_part conclusion_in conclusion_of is_utf8 chars encode in_window lift confirmed_by is_full_due acks_at naks reports deliveries says body_bytes
+nothing_is_left = refl
+
+-- a publisher that comes back stands by, whatever its slot is
+abbrev comes_back : List Item
+comes_back = came 5000 1_024_000 (words (5 ∷ 0xe0000001 ∷ 0 ∷ 0x100100 ∷ []) ++ 0x61 ∷ []) ∷ opens_publisher 1_023_000 5 ∷ shuts_down 1_022_000 ∷ stands_by
+
+other_one_is_active : reply studio 0 (Tick 1_131_000 ∷ comes_back) ≡ from 5000 (words (0x80020000 ∷ 1 ∷ 0x1a5e0 ∷ 1 ∷ 0x6 ∷ 0x186a0 ∷ 0xc350 ∷ 0x3ff ∷ 0 ∷ 0 ∷ 0 ∷ [])) ∷ from 5001 (words (0x80020000 ∷ 2 ∷ 0x1d8a8 ∷ 2 ∷ 0xa ∷ 0x186a0 ∷ 0xc350 ∷ 0x400 ∷ 0 ∷ 0 ∷ 0 ∷ [])) ∷ from 5002 (words (0x14 ∷ 0xe0000001 ∷ 0x1b198 ∷ 3 ∷ []) ++ 0x68 ∷ 0x69 ∷ []) ∷ []
+unfolding handshake_in blocks_in with_first with_block answer_text ask_in list_in with_part conclusion_in conclusion_of is_utf8 chars encode in_window lift confirmed_by is_full_due acks_at naks reports deliveries says body_bytes
+other_one_is_active = refl
+
+that_one_stands_by : reply studio 0 (Tick 1_143_000 ∷ Tick 1_131_000 ∷ comes_back) ≡ from 5000 (words (0x80020000 ∷ 2 ∷ 0x1d4c0 ∷ 1 ∷ 0x6 ∷ 0x186a0 ∷ 0xc350 ∷ 0x400 ∷ 0 ∷ 0 ∷ 0 ∷ [])) ∷ from 5001 (words (0x80020000 ∷ 3 ∷ 0x20788 ∷ 2 ∷ 0xa ∷ 0x186a0 ∷ 0xc350 ∷ 0x400 ∷ 0 ∷ 0 ∷ 0 ∷ [])) ∷ []
+unfolding handshake_in blocks_in with_first with_block answer_text ask_in list_in with_part conclusion_in conclusion_of is_utf8 chars encode in_window lift confirmed_by is_full_due acks_at naks reports deliveries says body_bytes
+that_one_stands_by = refl
+
+-- an active publisher of which nothing is heard ends, and the standby takes over, also if a third one opens then
+abbrev goes_silent : List Item
+goes_silent = came 5001 5_900_000 (words (9 ∷ 0xe0000001 ∷ 0x4a4f70 ∷ 0x100001 ∷ []) ++ 0x68 ∷ 0x69 ∷ []) ∷ viewer_opens 1_020_000 0x780078 ∷ standby_opens 1_010_000 ∷ publisher_opens ∷ []
+
+third_opens_for_it : reply studio 0 (third_opens 6_000_000 ∷ goes_silent) ≡ answer 5003 4 7 0x100100 0x780078 ∷ from 5001 (words (0x80020000 ∷ 2 ∷ 0x4c2430 ∷ 2 ∷ 0xa ∷ 0x186a0 ∷ 0xc350 ∷ 0x400 ∷ 0 ∷ 0 ∷ 0 ∷ [])) ∷ from 5002 (words (0x14 ∷ 0xe0000001 ∷ 0x4bfd20 ∷ 3 ∷ []) ++ 0x68 ∷ 0x69 ∷ []) ∷ []
+unfolding handshake_in blocks_in with_first with_block answer_text ask_in list_in with_part conclusion_in conclusion_of is_utf8 chars encode in_window lift confirmed_by is_full_due acks_at naks reports deliveries says body_bytes
+third_opens_for_it = refl
+
+-- in buffer mode what a standby received waits
+abbrev file_stands_by : List Item
+file_stands_by = Tick 1_013_000 ∷ came 5001 1_003_000 (words (0xc8 ∷ 0xe0000001 ∷ 0 ∷ 0x200001 ∷ []) ++ 0x61 ∷ []) ∷ came 5002 1_002_000 (conclusion 3 0 0x6400 0x74 0 request_files) ∷ came 5001 1_001_000 (conclusion 2 0xc8 0x6400 0x74 0 publish_files) ∷ came 5000 1_000_000 (conclusion 1 0x64 0x6400 0x74 0 publish_files) ∷ []
+
+file_waits : reply files 1 file_stands_by ≡ from 5001 (words (0x80020000 ∷ 1 ∷ 0x2ee0 ∷ 2 ∷ 0xc9 ∷ 0x186a0 ∷ 0xc350 ∷ 0x1f ∷ 0 ∷ 0 ∷ 0 ∷ [])) ∷ []
+unfolding handshake_in blocks_in with_first with_block answer_text ask_in list_in with_part conclusion_in conclusion_of is_utf8 chars encode in_window lift confirmed_by is_full_due acks_at naks reports deliveries says body_bytes
+file_waits = refl
+
+file_goes_on : reply files 1 (came 5000 1_014_000 (words (0x80050000 ∷ 0 ∷ 0 ∷ 0x200000 ∷ [])) ∷ file_stands_by) ≡ from 5002 (words (0 ∷ 0xe0000001 ∷ 0x2ee0 ∷ 3 ∷ []) ++ 0x61 ∷ []) ∷ []
+unfolding handshake_in blocks_in with_first with_block answer_text ask_in list_in with_part conclusion_in conclusion_of is_utf8 chars encode in_window lift confirmed_by is_full_due acks_at naks reports deliveries says body_bytes
+file_goes_on = refl

@@ -1,12 +1,11 @@
 -- What is sent at the end of an event.
-use Rattle.std.proofs.Common.{◌≡◌, ◌≢◌, ℕ, zero, suc, ◌+◌, ◌-◌, ◌<◌, ◌≤◌, Bool, true, false, not, cond, Option, None, Some, List, [], ◌∷◌, ◌++◌, length, map, find, get_or, inl, inr, refl, sym, ap, subst, ◌∙◌, append_assoc, append-nil, arith}
-use Rattle.std.specs.Prelude.{◌&&◌, nat_lt}
+use Rattle.std.proofs.Common.{◌≡◌, ◌≢◌, ℕ, zero, suc, ◌+◌, ◌-◌, ◌<◌, ◌≤◌, ◌==◌, nat_lt, Bool, true, false, not, cond, Option, None, Some, List, [], ◌∷◌, ◌++◌, length, map, find, get_or, inl, inr, refl, sym, ap, subst, ◌∙◌, append_assoc, append-nil, arith}
+use Rattle.std.specs.Prelude.{◌&&◌}
 use Rattle.std.specs.Option.{option_map}
-use Rattle.std.specs.List.{cons_option, flat_map, position}
-use Rattle.std.specs.Vec.{with_item}
-use Rattle.std.proofs.lemmas.Bool.{cases_eq}
+use Rattle.std.specs.List.{cons_option, flat_map}
+use Rattle.std.proofs.lemmas.Bool.{cases_eq, eq-eqb, eqb-true, false_from_ne_true}
 use Rattle.std.proofs.lemmas.Bool.Decides.{nat_tests}
-use Rattle.std.proofs.lemmas.List.{length-map, length-append, map-append}
+use Rattle.std.proofs.lemmas.List.{length-map, length-append, map-append, get_or_default}
 use Rattle.srt_seq.specs.declared.shared.Mode.{Mode}
 use Rattle.srt_seq.specs.declared.shared.Mode.TheVariants.{Live, Buffer}
 use Rattle.srt_seq.specs.declared.shared.Peer.{Peer}
@@ -28,24 +27,23 @@ use Rattle.srt_sub.specs.Emission.{Emitting, IsNext}
 use Rattle.srt_sub.proofs.Sound.{begins}
 use Rattle.srt_sub.specs.declared.session.Subscriber.{Subscriber}
 use Rattle.srt_route.specs.declared.replies.Reply.{Reply}
-use Rattle.srt_route.specs.declared.slot.Session.{Session as TheSession}
-use Rattle.srt_route.specs.declared.slot.Slot.{Slot}
-use Rattle.srt_route.specs.declared.media.Media.{Media}
+use Rattle.srt_route.specs.declared.seat.Session.{Session as TheSession}
+use Rattle.srt_route.specs.declared.seat.Seat.{Seat}
 use Rattle.srt_route.specs.declared.table.Table.{Table}
 use Rattle.srt_route.specs.Written.{written}
 use Rattle.srt_route.specs.Past.{Past, Publishes, Subscribes, Agreed, ToPublisher, ToSubscriber, reports_of, reported_past}
 use Rattle.srt_route.specs.Sessions.{Session, is_open_in, is_publisher, is_subscriber, publishes, terms_of, time_in, reported}
 use Rattle.srt_route.specs.Route.{Reply as Answer, sent, said_by, packets_at, packets_where}
-use Rattle.srt_route.specs.Tables.{IsStored, IsSession, IsTable, has_publisher}
-use Rattle.srt_route.specs.Media.{IsPast, IsSeated, IsBody, datagrams_to}
-use Rattle.srt_route.specs.Delivery.{changed, amid, amid_past, IsPublisherAt, after_publisher, publisher_reported, after_subscriber, subscriber_reported, at_place, IsHalf}
+use Rattle.srt_route.specs.Buffers.{IsPast, IsSeated, datagrams_to}
+use Rattle.srt_route.specs.Tables.{IsStored, IsSeat, IsTable, IsPublishing, Uses, session_passes, uses_second, has_publisher}
+use Rattle.srt_route.specs.Delivery.{changed, amid, IsPublisherAt, after_publisher, publisher_reported, reported_in, after_publisher_in, packets_of, packets_in, after_subscriber, subscriber_reported}
 use Rattle.srt_route.specs.Reports.{AreSaid}
 use Rattle.srt_route.proofs.Counts.{subscriber_few}
 use Rattle.srt_route.proofs.Changes.{is_there, find_changed}
-use Rattle.srt_route.proofs.Places.{half_goes_on, slot_stored}
-use Rattle.srt_route.proofs.Feeding.{IsFed, seated_with, changed_is, wide_by, subscribes, Stays, stays_vacant}
-use Rattle.srt_route.proofs.Passing.{same_everywhere, unchanged, one_publisher, gone_on, compose_all, inside, seat_of}
-use Rattle.srt_route.proofs.Delivered.{from_places, no_publisher}
+use Rattle.srt_route.proofs.Kept.{Becomes, some_buffers, seat_at}
+use Rattle.srt_route.proofs.Feeding.{IsFed, Changes, seat_becomes, seated_with, changed_is, wide_by, publisher_subscribes, subscriber_subscribes, vacant_subscribes, subscribes, Stays}
+use Rattle.srt_route.proofs.Passing.{IsTurned, same_everywhere, unchanged, the_one, slot_is, slot_is_not, amid_here, amid_elsewhere, gone_on, compose_all, inside, seat_of}
+use Rattle.srt_route.proofs.Delivered.{from_places, past_publishes}
 
 pub nothing_said : (waiting : List Reply) (places : ℕ) → AreSaid waiting waiting places places []
 nothing_said waiting places = record { kept = omega arith; waiting = λ room. sym (append-nil (map written waiting)) }
@@ -88,29 +86,6 @@ said_vacant : (e : Terms) (clock : ℕ) (test : Session → Bool) (ss : List Ses
 said_vacant e clock test ss from count is =
     ap (λ (o : Option Session). map sent (flat_map (λ s. packets_at e (test s) (time_in s clock) s) (cons_option o (from_places ss (from + 1) count)))) is
 
-pub none_said : (e : Terms) (clock : ℕ) (test : Session → Bool) (ss : List Session) (from count : ℕ) → ((k : ℕ) (t : Session) → find (is_open_in k) ss ≡ Some t → from ≤ k → test t ≡ false) → said_from e clock test ss from count ≡ []
-none_said e clock test ss from zero fails = refl
-none_said e clock test ss from (suc count) fails = by (none_said e clock test ss (from + 1) count (λ k t is le. fails k t is (omega (arith, le)))) (find (is_open_in from) ss) refl
-  where
-    by : said_from e clock test ss (from + 1) count ≡ [] → (o : Option Session) → find (is_open_in from) ss ≡ o → said_from e clock test ss from (suc count) ≡ []
-    by later None is = said_vacant e clock test ss from count is ∙ later
-    by later (Some t) is = said_more e clock test ss from count t is ∙ (ap (λ (b : Bool). map sent (packets_at e b (time_in t clock) t) ++ said_from e clock test ss (from + 1) count) (fails from t is (omega arith)) ∙ later)
-
-pub one_said : (e : Terms) (clock : ℕ) (test : Session → Bool) (ss : List Session) (from count at : ℕ) (s : Session) → from ≤ at → at < from + count → find (is_open_in at) ss ≡ Some s → test s ≡ true → ((k : ℕ) (t : Session) → find (is_open_in k) ss ≡ Some t → k ≢ at → test t ≡ false) → said_from e clock test ss from count ≡ map sent (packets_at e true (time_in s clock) s)
-one_said e clock test ss from zero at s low high is passes fails = absurd (omega (arith, low, high))
-one_said e clock test ss from (suc count) at s low high is passes fails = elim (cases_eq from at) [
-  | inl here ↦
-      let there : find (is_open_in from) ss ≡ Some s = ap (λ (n : ℕ). find (is_open_in n) ss) here ∙ is in
-      said_more e clock test ss from count s there
-      ∙ (ap (λ (ds : List Datagram). map sent (packets_at e (test s) (time_in s clock) s) ++ ds) (none_said e clock test ss (from + 1) count (λ k t found le. fails k t found (omega (arith, le, here))))
-      ∙ (append-nil (map sent (packets_at e (test s) (time_in s clock) s)) ∙ ap (λ (b : Bool). map sent (packets_at e b (time_in s clock) s)) passes))
-  | inr apart ↦ by apart (one_said e clock test ss (from + 1) count at s (omega (arith, low, apart)) (omega (arith, high)) is passes fails) (find (is_open_in from) ss) refl
-]
-  where
-    by : from ≢ at → said_from e clock test ss (from + 1) count ≡ map sent (packets_at e true (time_in s clock) s) → (o : Option Session) → find (is_open_in from) ss ≡ o → said_from e clock test ss from (suc count) ≡ map sent (packets_at e true (time_in s clock) s)
-    by apart later None found = said_vacant e clock test ss from count found ∙ later
-    by apart later (Some t) found = said_more e clock test ss from count t found ∙ (ap (λ (b : Bool). map sent (packets_at e b (time_in t clock) t) ++ said_from e clock test ss (from + 1) count) (fails from t found apart) ∙ later)
-
 -- the publisher's
 publisher_bytes : (clock : ℕ) (s : Session) (rs : List publishing.Report) → datagrams_to s.peer (map (publisher_text.says s.conclusion.caller s.conclusion.initial (time_in s clock)) rs) ≡ map sent (map (said_by (time_in s clock) s) (map ToPublisher rs))
 publisher_bytes clock s [] = refl
@@ -121,67 +96,153 @@ publisher_said e clock s q past =
     publisher_bytes clock s (publishing.reports (terms_of e s).publisher (time_in s clock) q)
     ∙ ap (λ (p : Past). map sent (map (said_by (time_in s clock) s) (reports_of (terms_of e s) (time_in s clock) p))) (sym past)
 
-pub publisher_packets : (e : Terms) (index clock : ℕ) (table : Table) (media : Media) (ss : List Session) (at : ℕ) (s : Session) (q : Publishing) → IsBody e index clock table media ss → IsPublisherAt ss at s q → datagrams_to s.peer (map (publisher_text.says s.conclusion.caller s.conclusion.initial (time_in s clock)) (publishing.reports (terms_of e s).publisher (time_in s clock) q)) ≡ map sent (packets_where e clock is_publisher ss)
-publisher_packets e index clock table media ss at s q body here =
-    publisher_said e clock s q here.past_is
-    ∙ sym (one_said e clock is_publisher ss 0 e.sessions at s (omega arith) (omega (arith, inside e index clock table media ss body at s here.found)) here.found here.publishes
-    (λ k t is apart. others k t is apart (is_publisher t) refl))
-  where
-    others : (k : ℕ) (t : Session) → find (is_open_in k) ss ≡ Some t → k ≢ at → (b : Bool) → is_publisher t ≡ b → is_publisher t ≡ false
-    others k t is apart true e1 = absurd (apart (body.media_is.alone k at t s is here.found e1 here.publishes))
-    others k t is apart false e1 = e1
+-- a publisher's seat has a session with its peer
+seat_session : (e : Terms) (index clock : ℕ) (table : Table) (ss : List Session) (at : ℕ) (x : Seat) (s : Session) → IsTable e index clock table ss → x ≡ get_or table.seats.items at x → find (is_open_in at) ss ≡ Some s → IsStored e index x.session (Some s)
+seat_session e index clock table ss at x s body there found =
+    let below : at < length table.seats.items = omega (arith, inside e index clock table ss body at s found, body.places_are) in
+    subst (λ (o : Option Session). IsStored e index x.session o) found (seat_at e index clock table ss at x (some_buffers table) body below there).session_is
 
-pub publisher_gone : (e : Terms) (index clock : ℕ) (table : Table) (media later : Media) (ss : List Session) (at : ℕ) (s : Session) (q : Publishing) → IsBody e index clock table media ss → IsPublisherAt ss at s q → later.subscribers ≡ media.subscribers → publishers.StandsFor (terms_of e s).publisher s.conclusion.initial s.opening s.stamp s.conclusion.caller later.publisher (publishing.reported (terms_of e s).publisher (time_in s clock) q) → IsBody e index clock table later (map (changed (after_publisher e clock)) ss)
-publisher_gone e index clock table media later ss at s q body here same stands =
-    subst (λ (ts : List Session). IsBody e index clock table later ts) (same_everywhere (amid e clock r []) (after_publisher e clock) e.sessions ss body.table_is.stored.alone (λ k t is. by k t is t.past refl))
-    (gone_on e index clock table media later ss at s q r body here same stands)
+pub some_same : {A : Type 0} (a b : A) → Some a ≡ Some b → a ≡ b
+some_same a b e = cc
+
+-- the publisher of a slot has said what it says
+in_slot : (e : Terms) (clock at : ℕ) (t : Session) (mine : Bool) → t.slot == at ≡ mine → after_publisher_in e clock at t ≡ reported_in (terms_of e t) (time_in t clock) mine t.past
+in_slot e clock at t mine test = ap (λ (b : Bool). reported_in (terms_of e t) (time_in t clock) b t.past) test
+
+pub publisher_gone : (e : Terms) (index clock : ℕ) (table later : Table) (ss : List Session) (at : ℕ) (s : Session) (q : Publishing) (second : Bool) (p : Publisher) → IsTable e index clock table ss → IsPublisherAt ss at s q → Uses table at second → IsTurned table later second p → publishers.StandsFor (terms_of e s).publisher s.conclusion.initial s.opening s.stamp s.conclusion.caller p (publishing.reported (terms_of e s).publisher (time_in s clock) q) → IsTable e index clock later (map (changed (after_publisher_in e clock at)) ss)
+publisher_gone e index clock table later ss at s q second p body here uses turned stands =
+    subst (λ (ts : List Session). IsTable e index clock later ts) (same_everywhere (amid e clock at r []) (after_publisher_in e clock at) e.sessions ss body.alone by)
+    (gone_on e index clock table later ss at s q r second p body here uses turned stands)
   where
     r : Publishing
     r = publishing.reported (terms_of e s).publisher (time_in s clock) q
 
-    at_publisher : amid e clock (publishing.reported (terms_of e s).publisher (time_in s clock) q) [] s ≡ after_publisher e clock s
-    at_publisher = ap (amid_past (terms_of e s) (time_in s clock) (publishing.reported (terms_of e s).publisher (time_in s clock) q) []) here.past_is ∙ sym (ap (publisher_reported (terms_of e s) (time_in s clock)) here.past_is)
+    by : (k : ℕ) (t : Session) → find (is_open_in k) ss ≡ Some t → amid e clock at (publishing.reported (terms_of e s).publisher (time_in s clock) q) [] t ≡ after_publisher_in e clock at t
+    by k t is = elim (cases_eq k at) [
+      | inl place ↦
+          let one : t ≡ s = the_one ss at k s t here.found is place in
+          let mine : t.past ≡ Publishes q = ap (λ (u : Session). u.past) one ∙ here.past_is in
+          let test = slot_is ss at k t is place in
+          amid_here e clock at r q [] t test mine
+          ∙ (ap (λ (u : Session). Publishes (publishing.reported (terms_of e u).publisher (time_in u clock) q)) (sym one)
+          ∙ sym (in_slot e clock at t true test ∙ ap (publisher_reported (terms_of e t) (time_in t clock)) mine))
+      | inr apart ↦ let test = slot_is_not ss at k t is apart in amid_elsewhere e clock at r t test ∙ sym (in_slot e clock at t false test)
+    ]
 
-    by : (k : ℕ) (t : Session) → find (is_open_in k) ss ≡ Some t → (past : Past) → t.past ≡ past → amid e clock (publishing.reported (terms_of e s).publisher (time_in s clock) q) [] t ≡ after_publisher e clock t
-    by k t is (Publishes m) e1 =
-        let one : t ≡ s = one_publisher e index clock table media ss at s q body here k t m is e1 in
-        subst (λ (u : Session). amid e clock (publishing.reported (terms_of e s).publisher (time_in s clock) q) [] u ≡ after_publisher e clock u) (sym one) at_publisher
-    by k t is (Subscribes m) e1 =
-        ap (amid_past (terms_of e t) (time_in t clock) (publishing.reported (terms_of e s).publisher (time_in s clock) q) []) e1 ∙ sym (ap (publisher_reported (terms_of e t) (time_in t clock)) e1)
-
-pub no_publisher_gone : (e : Terms) (index clock : ℕ) (table : Table) (media : Media) (ss : List Session) → IsBody e index clock table media ss → position has_publisher table.slots.items ≡ None → map (changed (after_publisher e clock)) ss ≡ ss
-no_publisher_gone e index clock table media ss body none =
-    same_everywhere (after_publisher e clock) (λ t. t.past) e.sessions ss body.table_is.stored.alone (λ k t is. by k t is t.past refl) ∙ unchanged ss
+pub no_publisher_gone : (e : Terms) (index clock : ℕ) (table : Table) (ss : List Session) (at : ℕ) → IsTable e index clock table ss → ((s : Session) → find (is_open_in at) ss ≡ Some s → is_publisher s ≡ false) → map (changed (after_publisher_in e clock at)) ss ≡ ss
+no_publisher_gone e index clock table ss at body none =
+    same_everywhere (after_publisher_in e clock at) (λ t. t.past) e.sessions ss body.alone by ∙ unchanged ss
   where
-    by : (k : ℕ) (t : Session) → find (is_open_in k) ss ≡ Some t → (past : Past) → t.past ≡ past → after_publisher e clock t ≡ t.past
-    by k t is (Publishes m) e1 =
-        let seat = seat_of e index clock table media ss body k t is in
-        let past : IsPast e clock media.publisher seat.0 t (Publishes m) = subst (λ (p : Past). IsPast e clock media.publisher seat.0 t p) e1 seat.1.past_is in
-        let yes : is_publisher t ≡ true = ap (λ (b : Bool). b && publishes t.conclusion.role) (is_there k ss t is).0 ∙ past.0 in
-        let bad : true ≡ false = sym yes ∙ no_publisher e index clock table media ss body none k t is in
-        absurd cc
-    by k t is (Subscribes m) e1 = ap (publisher_reported (terms_of e t) (time_in t clock)) e1 ∙ sym e1
+    by : (k : ℕ) (t : Session) → find (is_open_in k) ss ≡ Some t → after_publisher_in e clock at t ≡ t.past
+    by k t is = elim (cases_eq k at) [
+      | inl place ↦ in_slot e clock at t true (slot_is ss at k t is place) ∙ subscribed k t is (none t (subst (λ (n : ℕ). find (is_open_in n) ss ≡ Some t) place is)) t.past refl
+      | inr apart ↦ in_slot e clock at t false (slot_is_not ss at k t is apart)
+    ]
+      where
+        subscribed : (k : ℕ) (t : Session) → find (is_open_in k) ss ≡ Some t → is_publisher t ≡ false → (past : Past) → t.past ≡ past → publisher_reported (terms_of e t) (time_in t clock) t.past ≡ t.past
+        subscribed k t is none_is (Publishes m) past = absurd (let bad : true ≡ false = sym (past_publishes e index clock table ss k t m body is past).publishes ∙ none_is in cc)
+        subscribed k t is none_is (Subscribes m) past = ap (publisher_reported (terms_of e t) (time_in t clock)) past ∙ sym past
 
-pub no_publisher_says : (e : Terms) (index clock : ℕ) (table : Table) (media : Media) (ss : List Session) → IsBody e index clock table media ss → position has_publisher table.slots.items ≡ None → map sent (packets_where e clock is_publisher ss) ≡ []
-no_publisher_says e index clock table media ss body none = none_said e clock is_publisher ss 0 e.sessions (λ k t is le. no_publisher e index clock table media ss body none k t is)
+-- the packets of a slot's publisher, and of a slot without one
+pub publisher_packets : (e : Terms) (clock : ℕ) (ss : List Session) (at : ℕ) (s : Session) (q : Publishing) → IsPublisherAt ss at s q → datagrams_to s.peer (map (publisher_text.says s.conclusion.caller s.conclusion.initial (time_in s clock)) (publishing.reports (terms_of e s).publisher (time_in s clock) q)) ≡ map sent (packets_in e clock is_publisher at ss)
+publisher_packets e clock ss at s q here =
+    publisher_said e clock s q here.past_is
+    ∙ sym (ap (λ (o : Option Session). map sent (packets_of e clock is_publisher o)) here.found ∙ ap (λ (b : Bool). map sent (packets_at e b (time_in s clock) s)) here.publishes)
 
--- a slot's slot has a session with its peer
-slot_session : (e : Terms) (index : ℕ) (table : Table) (ss : List Session) (at : ℕ) (slot : Slot) (s : Session) → IsTable e index table ss → at < length table.slots.items → slot ≡ get_or table.slots.items at slot → find (is_open_in at) ss ≡ Some s → IsStored e index slot.session (Some s)
-slot_session e index table ss at slot s is below slot_is found =
-    subst (λ (o : Option Session). IsStored e index slot.session o) found
-    (subst (λ (d : Slot). IsStored e index d.session (find (is_open_in at) ss)) (sym slot_is) (slot_stored e index table ss at slot is below))
+pub publisher_queued : (e : Terms) (clock : ℕ) (ss : List Session) (at : ℕ) (s : Session) (q : Publishing) (peer : Peer) (before later : List Reply) (places more : ℕ) → IsPublisherAt ss at s q → peer ≡ s.peer → AreSaid before later places more (datagrams_to peer (map (publisher_text.says s.conclusion.caller s.conclusion.initial (time_in s clock)) (publishing.reports (terms_of e s).publisher (time_in s clock) q))) → AreSaid before later places more (map sent (packets_in e clock is_publisher at ss))
+publisher_queued e clock ss at s q peer before later places more here same said =
+    subst (λ (ds : List Datagram). AreSaid before later places more ds) (publisher_packets e clock ss at s q here)
+    (subst (λ (x : Peer). AreSaid before later places more (datagrams_to x (map (publisher_text.says s.conclusion.caller s.conclusion.initial (time_in s clock)) (publishing.reports (terms_of e s).publisher (time_in s clock) q)))) same said)
 
-pub not_vacant : (e : Terms) (index clock : ℕ) (table : Table) (media : Media) (ss : List Session) (at : ℕ) (slot : Slot) (s : Session) → IsBody e index clock table media ss → slot ≡ get_or table.slots.items at slot → find (is_open_in at) ss ≡ Some s → slot.session ≡ None → ⊥
-not_vacant e index clock table media ss at slot s body slot_is found none =
-    let below = inside e index clock table media ss body at s found in
-    let bad : IsStored e index None (Some s) = subst (λ (o : Option TheSession). IsStored e index o (Some s)) none (slot_session e index table ss at slot s body.table_is (omega (arith, below, body.table_is.stored.places_are)) slot_is found) in
-    bad
+pub no_publisher_says : (e : Terms) (clock : ℕ) (ss : List Session) (at : ℕ) → ((s : Session) → find (is_open_in at) ss ≡ Some s → is_publisher s ≡ false) → map sent (packets_in e clock is_publisher at ss) ≡ []
+no_publisher_says e clock ss at none = by (find (is_open_in at) ss) refl
+  where
+    by : (o : Option Session) → find (is_open_in at) ss ≡ o → map sent (packets_of e clock is_publisher o) ≡ []
+    by None is = refl
+    by (Some s) is = ap (λ (b : Bool). map sent (packets_at e b (time_in s clock) s)) (none s is)
 
-pub peer_is : (e : Terms) (index clock : ℕ) (table : Table) (media : Media) (ss : List Session) (at : ℕ) (slot : Slot) (t : TheSession) (s : Session) → IsBody e index clock table media ss → slot ≡ get_or table.slots.items at slot → find (is_open_in at) ss ≡ Some s → slot.session ≡ Some t → t.peer ≡ s.peer
-peer_is e index clock table media ss at slot t s body slot_is found some =
-    let below = inside e index clock table media ss body at s found in
-    let is : IsStored e index (Some t) (Some s) = subst (λ (o : Option TheSession). IsStored e index o (Some s)) some (slot_session e index table ss at slot s body.table_is (omega (arith, below, body.table_is.stored.places_are)) slot_is found) in
-    is.peer_is
+-- what the seat of a slot says of its session
+pub seat_without : (e : Terms) (index clock : ℕ) (table : Table) (ss : List Session) (at : ℕ) (x : Seat) → IsTable e index clock table ss → x ≡ get_or table.seats.items at x → has_publisher x ≡ false → (s : Session) → find (is_open_in at) ss ≡ Some s → is_publisher s ≡ false
+seat_without e index clock table ss at x body there none s found = by x.session (seat_session e index clock table ss at x s body there found) none
+  where
+    by : (o : Option TheSession) → IsStored e index o (Some s) → session_passes (λ t. publishes t.role) o ≡ false → is_publisher s ≡ false
+    by None is h = absurd is
+    by (Some t) is h = ap (λ (b : Bool). b && publishes s.conclusion.role) (is_there at ss s found).0 ∙ (ap publishes (sym is.role_is) ∙ h)
+
+pub seat_with : (e : Terms) (index clock : ℕ) (table : Table) (ss : List Session) (at : ℕ) (x : Seat) (t : TheSession) → IsTable e index clock table ss → at < length table.seats.items → x ≡ get_or table.seats.items at x → has_publisher x ≡ true → x.session ≡ Some t → (s : Session) × IsPublishing ss at s × (t.peer ≡ s.peer) × Uses table at t.second
+seat_with e index clock table ss at x t body below there some stored =
+    by x.session stored (find (is_open_in at) ss) refl (seat_at e index clock table ss at x (some_buffers table) body below there).session_is some
+  where
+    by : (o : Option TheSession) → o ≡ Some t → (f : Option Session) → find (is_open_in at) ss ≡ f → IsStored e index o f → session_passes (λ u. publishes u.role) o ≡ true → (s : Session) × IsPublishing ss at s × (t.peer ≡ s.peer) × Uses table at t.second
+    by None same f found is h = absurd (let bad : None ≡ Some t = same in cc)
+    by (Some u) same None found is h = absurd is
+    by (Some u) same (Some s) found is h =
+        let one : u ≡ t = some_same u t same in
+        let role : publishes s.conclusion.role ≡ true = ap publishes (sym is.role_is) ∙ h in (
+          s,
+          record { found = found; publishes = ap (λ (b : Bool). b && publishes s.conclusion.role) (is_there at ss s found).0 ∙ role },
+          ap (λ (v : TheSession). v.peer) (sym one) ∙ is.peer_is,
+          λ d. sym (ap (session_passes (λ (v : TheSession). v.second)) stored) ∙ ap uses_second (there ∙ get_or_default table.seats.items at x d below),
+        )
+
+pub has_none : (x y : Seat) → y ≡ x → y.session ≡ None → has_publisher x ≡ true → ⊥
+has_none x y same none some =
+    let bad : false ≡ true = sym (ap (session_passes (λ (t : TheSession). publishes t.role)) none) ∙ (ap has_publisher same ∙ some) in cc
+
+-- the publishers of the slots below this one have said what they say
+abbrev pub below_told : Terms → (clock at : ℕ) → Session → Past
+below_told e clock at s = reported_in (terms_of e s) (time_in s clock) (nat_lt s.slot at) s.past
+
+told_once : (terms : Agreed) (time slot at : ℕ) (past : Past) → reported_in terms time (slot == at) (reported_in terms time (nat_lt slot at) past) ≡ reported_in terms time (nat_lt slot (at + 1)) past
+told_once terms time slot at past = elim (cases_eq slot at) [
+  | inl same ↦
+      let here : slot == at ≡ true = eq-eqb slot at same in
+      let first : nat_lt slot at ≡ false = grind (arith, nat_tests, same) in
+      let later : nat_lt slot (at + 1) ≡ true = grind (arith, nat_tests, same) in
+      ap (λ (b : Bool). reported_in terms time b (reported_in terms time (nat_lt slot at) past)) here
+      ∙ (ap (λ (b : Bool). publisher_reported terms time (reported_in terms time b past)) first ∙ sym (ap (λ (b : Bool). reported_in terms time b past) later))
+  | inr apart ↦
+      let here : slot == at ≡ false = false_from_ne_true (slot == at) (λ h. absurd (apart (eqb-true slot at h))) in
+      let same : nat_lt slot at ≡ nat_lt slot (at + 1) = still slot at (nat_lt slot at) (nat_lt slot (at + 1)) refl refl apart in
+      ap (λ (b : Bool). reported_in terms time b (reported_in terms time (nat_lt slot at) past)) here
+      ∙ ap (λ (b : Bool). reported_in terms time b past) same
+]
+  where
+    still : (slot at : ℕ) (a b : Bool) → nat_lt slot at ≡ a → nat_lt slot (at + 1) ≡ b → slot ≢ at → a ≡ b
+    still slot at true true h k apart = refl
+    still slot at false false h k apart = refl
+    still slot at true false h k apart = absurd (let l : slot < at = grind (arith, nat_tests, h) in let m : nat_lt slot (at + 1) ≡ true = grind (arith, nat_tests, l) in let bad : true ≡ false = sym m ∙ k in cc)
+    still slot at false true h k apart = absurd (let l : slot < at + 1 = grind (arith, nat_tests, k) in let n : slot < at = omega (arith, l, apart) in let m : nat_lt slot at ≡ true = grind (arith, nat_tests, n) in let bad : true ≡ false = sym m ∙ h in cc)
+
+pub told_below : (e : Terms) (clock at : ℕ) (ss : List Session) → map (changed (after_publisher_in e clock at)) (map (changed (below_told e clock at)) ss) ≡ map (changed (below_told e clock (at + 1))) ss
+told_below e clock at ss = compose_all (after_publisher_in e clock at) (below_told e clock at) (below_told e clock (at + 1)) (λ s. told_once (terms_of e s) (time_in s clock) s.slot at s.past) ss
+
+pub none_below : (e : Terms) (clock : ℕ) (ss : List Session) → map (changed (below_told e clock 0)) ss ≡ ss
+none_below e clock ss = same_all ss ∙ unchanged ss
+  where
+    same_all : (ts : List Session) → map (changed (below_told e clock 0)) ts ≡ map (changed (λ s. s.past)) ts
+    same_all [] = refl
+    same_all (t ∷ ts) =
+        let test : nat_lt t.slot 0 ≡ false = grind (arith, nat_tests) in
+        ap (λ (b : Bool). changed (λ s. reported_in (terms_of e t) (time_in t clock) b t.past) t ∷ map (changed (below_told e clock 0)) ts) test ∙ ap (λ (us : List Session). changed (λ s. s.past) t ∷ us) (same_all ts)
+
+pub all_below : (e : Terms) (index clock at : ℕ) (table : Table) (ss : List Session) → IsTable e index clock table ss → e.sessions ≤ at → map (changed (below_told e clock at)) ss ≡ map (changed (after_publisher e clock)) ss
+all_below e index clock at table ss body all =
+    same_everywhere (below_told e clock at) (after_publisher e clock) e.sessions ss body.alone (λ k t is.
+    let low : t.slot < at = omega (arith, all, inside e index clock table ss body k t is, (is_there k ss t is).1) in
+    let test : nat_lt t.slot at ≡ true = grind (arith, nat_tests, low) in
+    ap (λ (b : Bool). reported_in (terms_of e t) (time_in t clock) b t.past) test)
+
+-- the packets of a slot that hasn't said them are those of before
+pub same_in_slot : (e : Terms) (clock at : ℕ) (ss : List Session) → packets_in e clock is_publisher at (map (changed (below_told e clock at)) ss) ≡ packets_in e clock is_publisher at ss
+same_in_slot e clock at ss = ap (packets_of e clock is_publisher) (find_changed (below_told e clock at) at ss) ∙ by (find (is_open_in at) ss) refl
+  where
+    by : (o : Option Session) → find (is_open_in at) ss ≡ o → packets_of e clock is_publisher (option_map (changed (below_told e clock at)) o) ≡ packets_of e clock is_publisher o
+    by None is = refl
+    by (Some t) is =
+        let there = is_there at ss t is in
+        let test : nat_lt t.slot at ≡ false = let same = there.1 in grind (arith, nat_tests, same) in
+        ap (λ (u : Session). packets_at e (is_publisher u) (time_in u clock) u) (changed_is t (below_told e clock at) t.past there.0 (ap (λ (b : Bool). reported_in (terms_of e t) (time_in t clock) b t.past) test))
 
 -- what is sent marks numbers alone, so nothing more is too old
 marks_alone : (ns : List ℕ) (s : Sending) → (marks : List Mark) × (subscribing.sent_each ns s ≡ record s { marks = marks })
@@ -197,7 +258,7 @@ reported_marks terms time m =
     let n = subscribing.presumed time m in
     let sent_numbers = subscribing.again_of subscribing.most n.sending ++ subscribing.new_of subscribing.most (subscribing.flow_window terms.window n.notes) n.sending in
     let all = marks_alone sent_numbers n.sending in
-    let before = presumed_marks (subscribing.is_stale time m) m in
+    let before = presumed_marks (subscribing.resend_due time m) m in
     (all.0, all.1 ∙ ap (λ (s : Sending). record s { marks = all.0 }) before.1)
 
 fresh_marks : (mode : Mode) (terms : subscribing.Terms) (time : ℕ) (s : Sending) (marks : List Mark) → subscribing.expired_in mode terms time s ≡ s → subscribing.expired_in mode terms time (record s { marks = marks }) ≡ record s { marks = marks }
@@ -218,12 +279,6 @@ Tells clock o x y =
 abbrev pub Says : (clock : ℕ) → Option TheSession → (x : Subscriber) → (before later : List Reply) (places more : ℕ) → Type 0
 Says clock o x before later places more =
     subscribes o ≡ true → (t : TheSession) (terms : subscribing.Terms) (initial opening caller : ℕ) (m : subscribing.Subscribing) → o ≡ Some t → subscribers.StandsFor terms initial opening caller clock x m → subscribing.expired terms (clock - opening) m ≡ m → AreSaid before later places more (datagrams_to t.peer (map (subscriber_text.says caller initial (clock - opening)) (subscribing.reports terms (clock - opening) m)))
-
-publisher_subscribes : (e : Terms) (index : ℕ) (t : TheSession) (s : Session) → IsSession e index t s → publishes s.conclusion.role ≡ true → subscribes (Some t) ≡ false
-publisher_subscribes e index t s is h = ap (λ r. not (publishes r)) is.role_is ∙ ap not h
-
-subscriber_subscribes : (e : Terms) (index : ℕ) (t : TheSession) (s : Session) → IsSession e index t s → publishes s.conclusion.role ≡ false → subscribes (Some t) ≡ true
-subscriber_subscribes e index t s is h = ap (λ r. not (publishes r)) is.role_is ∙ ap not h
 
 told_seat : (e : Terms) (index clock : ℕ) (p : Publisher) (x y : Subscriber) (o : Option TheSession) (s : Session) → IsStored e index o (Some s) → IsSeated e clock p x s → s.is_open ≡ true → subscribers.IsWide e.buffer x → Stays o x y → Tells clock o x y → IsFed e clock p y (changed (after_subscriber e clock) s)
 told_seat e index clock p x y None s is seat opens wide stays tells = absurd is
@@ -271,62 +326,44 @@ place_said e index clock p x (Some t) s before later places more is seat opens s
         ∙ ap (λ (past : Past). map sent (map (said_by (time_in s clock) s) (reports_of (terms_of e s) (time_in s clock) past))) (sym q)))
         said)
 
-vacant_subscribes : (e : Terms) (index : ℕ) (o : Option TheSession) → IsStored e index o None → subscribes o ≡ false
-vacant_subscribes e index None is = refl
-vacant_subscribes e index (Some t) is = absurd is
+pub told_becomes : (e : Terms) (index clock at : ℕ) (p : Publisher) (x y : Seat) (ss : List Session) → IsSeat e index clock at p x ss → Changes (Tells clock) x y → Becomes (changed (after_subscriber e clock)) e index clock at p x y ss
+told_becomes e index clock at p x y ss is h =
+    seat_becomes (Tells clock) (after_subscriber e clock) e index clock at p x y ss is h
+    (λ s found opens stored. told_seat e index clock p x.subscriber y.subscriber x.session s stored (is.seated s found) opens is.wide h.stays h.changes)
 
--- the slots below this one are done, and what they sent and the others will send is what all send
-pub record IsTold (e : Terms) (clock at : ℕ) (media : Media) (ss : List Session) (before now : List Reply) (places more : ℕ) : Type 0 where
-  pub half : IsHalf e clock at (changed (after_subscriber e clock)) media ss
+-- what the slots below this one sent and the others will send is what all send
+pub record IsTold (e : Terms) (clock : ℕ) (test : Session → Bool) (at : ℕ) (ss : List Session) (before now : List Reply) (places more : ℕ) : Type 0 where
   pub told : List Datagram
   pub said : AreSaid before now places more told
-  pub whole : told ++ said_from e clock is_subscriber ss at (e.sessions - at) ≡ map sent (packets_where e clock is_subscriber ss)
+  pub whole : told ++ said_from e clock test ss at (e.sessions - at) ≡ map sent (packets_where e clock test ss)
 
 -- one slot more
-pub tell_step : (e : Terms) (index clock : ℕ) (table : Table) (first media later : Media) (ss : List Session) (at : ℕ) (slot : Slot) (x y : Subscriber) (before now then_ : List Reply) (places more most : ℕ) → IsBody e index clock table first ss → at < e.sessions → slot ≡ get_or table.slots.items at slot → x ≡ get_or media.subscribers.items at x → Stays slot.session x y → Tells clock slot.session x y → (subscribes slot.session ≡ false → AreSaid now then_ more most []) → Says clock slot.session x now then_ more most → later ≡ record { publisher = media.publisher; subscribers = with_item media.subscribers at y } → IsTold e clock at media ss before now places more → IsTold e clock (at + 1) later ss before then_ places most
-tell_step e index clock table first media later ss at slot x y before now then_ places more most body below slot_is x_is stays tells silent says later_is h =
+pub tell_slot : (e : Terms) (clock : ℕ) (test : Session → Bool) (ss : List Session) (at : ℕ) (before now then_ : List Reply) (places more most : ℕ) → at < e.sessions → AreSaid now then_ more most (map sent (packets_in e clock test at ss)) → IsTold e clock test at ss before now places more → IsTold e clock test (at + 1) ss before then_ places most
+tell_slot e clock test ss at before now then_ places more most below says h =
     record {
-      half = half_goes_on e clock at (changed (after_subscriber e clock)) media later ss y h.half (ap (λ (m : Media). m.publisher) later_is) (ap (λ (m : Media). m.subscribers.items) later_is)
-          (wide (find (is_open_in at) ss) refl) (λ s is. (one s is).seated);
-      told = h.told ++ here (find (is_open_in at) ss);
-      said = said_then before now then_ places more most h.told (here (find (is_open_in at) ss)) h.said (place (find (is_open_in at) ss) refl);
-      whole = append_assoc h.told (here (find (is_open_in at) ss)) (said_from e clock is_subscriber ss (at + 1) (e.sessions - (at + 1)))
-          ∙ (ap (λ (ds : List Datagram). h.told ++ ds) (sym (next (find (is_open_in at) ss) refl)) ∙ (ap (λ (n : ℕ). h.told ++ said_from e clock is_subscriber ss at n) (sym count) ∙ h.whole));
+      told = h.told ++ map sent (packets_in e clock test at ss);
+      said = said_then before now then_ places more most h.told (map sent (packets_in e clock test at ss)) h.said says;
+      whole = append_assoc h.told (map sent (packets_in e clock test at ss)) (said_from e clock test ss (at + 1) (e.sessions - (at + 1)))
+          ∙ (ap (λ (ds : List Datagram). h.told ++ ds) (sym (next (find (is_open_in at) ss) refl)) ∙ (ap (λ (n : ℕ). h.told ++ said_from e clock test ss at n) (sym count) ∙ h.whole));
     }
   where
     count : e.sessions - at ≡ suc (e.sessions - (at + 1))
     count = omega (arith, below)
 
-    here : Option Session → List Datagram
-    here None = []
-    here (Some s) = map sent (packets_at e (is_subscriber s) (time_in s clock) s)
+    next : (o : Option Session) → find (is_open_in at) ss ≡ o → said_from e clock test ss at (suc (e.sessions - (at + 1))) ≡ map sent (packets_of e clock test o) ++ said_from e clock test ss (at + 1) (e.sessions - (at + 1))
+    next None found = said_vacant e clock test ss at (e.sessions - (at + 1)) found
+    next (Some s) found = said_more e clock test ss at (e.sessions - (at + 1)) s found
 
-    next : (o : Option Session) → find (is_open_in at) ss ≡ o → said_from e clock is_subscriber ss at (suc (e.sessions - (at + 1))) ≡ here o ++ said_from e clock is_subscriber ss (at + 1) (e.sessions - (at + 1))
-    next None is = said_vacant e clock is_subscriber ss at (e.sessions - (at + 1)) is
-    next (Some s) is = said_more e clock is_subscriber ss at (e.sessions - (at + 1)) s is
+pub tell_step : (e : Terms) (index clock : ℕ) (p : Publisher) (ss : List Session) (at : ℕ) (x : Seat) (before now then_ : List Reply) (places more most : ℕ) → at < e.sessions → IsSeat e index clock at p x ss → (subscribes x.session ≡ false → AreSaid now then_ more most []) → Says clock x.session x.subscriber now then_ more most → IsTold e clock is_subscriber at ss before now places more → IsTold e clock is_subscriber (at + 1) ss before then_ places most
+tell_step e index clock p ss at x before now then_ places more most below is silent says h =
+    tell_slot e clock is_subscriber ss at before now then_ places more most below (place (find (is_open_in at) ss) refl) h
+  where
+    stored : (f : Option Session) → find (is_open_in at) ss ≡ f → IsStored e index x.session f
+    stored f found = subst (λ (g : Option Session). IsStored e index x.session g) found is.session_is
 
-    stored : (f : Option Session) → find (is_open_in at) ss ≡ f → IsStored e index slot.session f
-    stored f is = subst (λ (g : Option Session). IsStored e index slot.session g) is (subst (λ (d : Slot). IsStored e index d.session (find (is_open_in at) ss)) (sym slot_is) (slot_stored e index table ss at slot body.table_is (omega (arith, below, body.table_is.stored.places_are))))
-
-    was_wide : subscribers.IsWide e.buffer x
-    was_wide = subst (λ (z : Subscriber). subscribers.IsWide e.buffer z) (sym x_is) (h.half.wide at x below)
-
-    seated : (s : Session) → find (is_open_in at) ss ≡ Some s → IsSeated e clock media.publisher x s
-    seated s is =
-        let test : nat_lt at at ≡ false = grind (arith, nat_tests) in
-        subst (λ (b : Bool). IsSeated e clock media.publisher x (at_place b (changed (after_subscriber e clock)) s)) test
-        (subst (λ (z : Subscriber). IsSeated e clock media.publisher z (at_place (nat_lt at at) (changed (after_subscriber e clock)) s)) (sym x_is) (h.half.seated at x s below is))
-
-    one : (s : Session) → find (is_open_in at) ss ≡ Some s → IsFed e clock media.publisher y (changed (after_subscriber e clock) s)
-    one s is = told_seat e index clock media.publisher x y slot.session s (stored (Some s) is) (seated s is) (is_there at ss s is).0 was_wide stays tells
-
-    wide : (f : Option Session) → find (is_open_in at) ss ≡ f → subscribers.IsWide e.buffer y
-    wide None is = subst (λ (z : Subscriber). subscribers.IsWide e.buffer z) (sym (stays_vacant e index slot.session x y (stored None is) stays)) was_wide
-    wide (Some s) is = (one s is).wide
-
-    place : (f : Option Session) → find (is_open_in at) ss ≡ f → AreSaid now then_ more most (here f)
-    place None is = silent (vacant_subscribes e index slot.session (stored None is))
-    place (Some s) is = place_said e index clock media.publisher x slot.session s now then_ more most (stored (Some s) is) (seated s is) (is_there at ss s is).0 silent says
+    place : (f : Option Session) → find (is_open_in at) ss ≡ f → AreSaid now then_ more most (map sent (packets_of e clock is_subscriber f))
+    place None found = silent (vacant_subscribes e index x.session (stored None found))
+    place (Some s) found = place_said e index clock p x.subscriber x.session s now then_ more most (stored (Some s) found) (is.seated s found) (is_there at ss s found).0 silent says
 
 -- `turn` packets of a subscriber were queued, and these are left
 pub record IsTelling (terms : subscribing.Terms) (initial opening caller clock : ℕ) (peer : Peer) (x : Subscriber) (m : subscribing.Subscribing) (before now : List Reply) (places more turn : ℕ) : Type 0 where
@@ -409,9 +446,6 @@ same_from e clock ss from (suc count) same =
         ap (λ (rs : List Answer). rs ++ flat_map (told_of e clock) (from_places (map (changed (after_publisher e clock)) ss) (from + 1) count)) (same from t is)
         ∙ ap (λ (rs : List Answer). told_of e clock t ++ rs) later
 
-pub same_packets : (e : Terms) (index clock : ℕ) (table : Table) (media : Media) (ss : List Session) → IsBody e index clock table media ss → packets_where e clock is_subscriber (map (changed (after_publisher e clock)) ss) ≡ packets_where e clock is_subscriber ss
-same_packets e index clock table media ss body =
-    same_from e clock ss 0 e.sessions (λ k t is. let seat = seat_of e index clock table media ss body k t is in later_packets e clock media.publisher seat.0 t (is_there k ss t is).0 seat.1)
-
-pub some_same : {A : Type 0} (a b : A) → Some a ≡ Some b → a ≡ b
-some_same a b e = cc
+pub same_packets : (e : Terms) (index clock : ℕ) (table : Table) (ss : List Session) → IsTable e index clock table ss → packets_where e clock is_subscriber (map (changed (after_publisher e clock)) ss) ≡ packets_where e clock is_subscriber ss
+same_packets e index clock table ss body =
+    same_from e clock ss 0 e.sessions (λ k t is. let seat = seat_of e index clock table ss body k t is in later_packets e clock seat.0 seat.1 t (is_there k ss t is).0 seat.2)

@@ -1,44 +1,17 @@
 -- The buffers of sessions, as these change.
-use Rattle.std.proofs.Common.{◌≡◌, ℕ, ◌-◌, ◌<◌, ◌≤◌, Bool, true, false, not, ◌&&◌, Option, None, Some, List, length, map, find, get_or, refl, sym, ap, subst, ◌∙◌, arith}
-use Rattle.std.proofs.lemmas.Bool.{and_parts, and_from}
+use Rattle.std.proofs.Common.{◌≡◌, ℕ, ◌-◌, ◌≤◌, Bool, true, false, not, ◌&&◌, Option, None, Some, List, refl, sym, ap, ◌∙◌, arith}
 use Rattle.srt_seq.specs.declared.shared.Mode.{Mode}
 use Rattle.srt_seq.specs.declared.shared.Mode.TheVariants.{Live, Buffer}
 use Rattle.srt_seq.specs.Terms.{Terms}
 use Rattle.srt_sendbuf.specs.Sending.{Queued, Sending, acknowledged_by}
-use Rattle.srt_pub.specs.Stands as publisher
 use Rattle.srt_pub.specs.declared.session.Publisher.{Publisher}
 use Rattle.srt_sub.specs.Heard.{Heard, Ack, Nak, Other}
 use Rattle.srt_sub.specs.Stands as subscriber
 use Rattle.srt_sub.specs.Subscribing as subscribing
 use Rattle.srt_sub.specs.declared.session.Subscriber.{Subscriber}
-use Rattle.srt_route.specs.declared.media.Media.{Media}
 use Rattle.srt_route.specs.Past.{Past, Publishes, Subscribes, expired_past}
-use Rattle.srt_route.specs.Sessions.{Session, is_open_in, is_publisher, publishes, terms_of, time_in, aged, aged_at, is_idle}
-use Rattle.srt_route.specs.Tables.{AreAlone}
-use Rattle.srt_route.specs.Media.{IsPast, IsSeated, AreSeated, PublishesAlone, IsMedia, ExpiresTo}
-use Rattle.srt_route.proofs.Found.{Keeps, changed_from}
-
--- the buffers after a change of the sessions
-pub seats_kept : (f : Session → Session) → Keeps f → (e : Terms) (before clock : ℕ) (old new : Media) (ss : List Session) → AreAlone e.sessions ss → IsMedia e before old ss → length new.subscribers.items ≡ e.sessions → ((at : ℕ) (x : Subscriber) → at < e.sessions → subscriber.IsWide e.buffer (get_or new.subscribers.items at x)) → publisher.width_of new.publisher ≡ e.buffer → ((at : ℕ) (x : Subscriber) (s : Session) → at < e.sessions → find (is_open_in at) ss ≡ Some s → (f s).is_open ≡ true → IsSeated e clock new.publisher (get_or new.subscribers.items at x) (f s)) → IsMedia e clock new (map f ss)
-seats_kept f keeps e before clock old new ss alone is as_many wide publisher_wide seated =
-    record { as_many = as_many; wide = wide; publisher_wide = publisher_wide; seated = all_seated; alone = publishes_alone }
-  where
-    all_seated : AreSeated e clock new (map f ss)
-    all_seated at x t below h =
-        let from = changed_from f keeps at e.sessions ss alone t h in
-        subst (λ (u : Session). IsSeated e clock new.publisher (get_or new.subscribers.items at x) u) from.3 (seated at x from.0 below from.1 from.2)
-
-    was_publisher : (s t : Session) → (f s).is_open ≡ true → f s ≡ t → is_publisher t ≡ true → is_publisher s ≡ true
-    was_publisher s t o same h =
-        let now : is_publisher (f s) ≡ true = ap is_publisher same ∙ h in
-        let role : publishes (f s).conclusion.role ≡ true = (and_parts (f s).is_open (publishes (f s).conclusion.role) now).1 in
-        and_from s.is_open (publishes s.conclusion.role) (keeps.opens_none s o) (rw (← keeps.conclusion s) role)
-
-    publishes_alone : PublishesAlone (map f ss)
-    publishes_alone at k s t here there one other =
-        let a = changed_from f keeps at e.sessions ss alone s here in
-        let b = changed_from f keeps k e.sessions ss alone t there in
-        is.alone at k a.0 b.0 a.1 b.1 (was_publisher a.0 s a.2 a.3 one) (was_publisher b.0 t b.2 b.3 other)
+use Rattle.srt_route.specs.Sessions.{Session, publishes, terms_of, time_in, aged, aged_at, is_idle}
+use Rattle.srt_route.specs.Buffers.{IsPast, IsSeated, ExpiresTo}
 
 -- what is too old is given up once
 expired_twice : (mode : Mode) (terms : subscribing.Terms) (time : ℕ) (s : Sending) → subscribing.expired_in mode terms time (subscribing.expired_in mode terms time s) ≡ subscribing.expired_in mode terms time s

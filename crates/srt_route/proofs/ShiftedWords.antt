@@ -2,11 +2,11 @@
 use Rattle.std.proofs.Common.{◌≡◌, ℕ, ◌-◌, ◌%◌, ◌^◌, ◌<◌, ◌≤◌, Bool, true, false, cond, Option, None, Some, List, [], ◌∷◌, length, map, Result, Ok, Err, nat_lt, ◌==◌, refl, sym, ap, inl, inr, ◌∙◌, arith}
 use Rattle.std.proofs.lemmas.Bool.{cases_lt}
 use Rattle.std.proofs.lemmas.Bool.Decides.{nat_tests}
-use Rattle.srt_seq.specs.Words.{word, word_at}
+use Rattle.srt_seq.specs.Words.{word, word_at, words_in}
 use Rattle.srt_seq.specs.Runs.{Range, span}
 use Rattle.srt_loss.specs.declared.reading.LossFault.{LossFault}
 use Rattle.srt_loss.specs.declared.reading.LossFault.TheVariants.{Ragged, Dangling, Backward}
-use Rattle.srt_loss.specs.Reading.{words_of, then_those, alone, ended, ranges_in}
+use Rattle.srt_loss.specs.Reading.{then_those, alone, ended, ranges_in}
 use Rattle.srt_route.specs.Shifted.{shifted, shifted_first, shifted_words}
 use Rattle.srt_route.specs.ShiftLaws.{shifted_range, shifted_losses, ShiftGoesRound, LossesShift, CountsStay, StampsStay}
 use Rattle.srt_route.proofs.PlacedWords.{word_of_four}
@@ -38,14 +38,14 @@ length_first by (a ∷ b ∷ []) = refl
 length_first by (a ∷ b ∷ c ∷ []) = refl
 length_first by (a ∷ b ∷ c ∷ d ∷ bytes) = refl
 
-words_shifted : (by : ℕ) (bytes : List ℕ) → words_of (shifted_words by bytes) ≡ map (shifted by) (words_of bytes)
+words_shifted : (by : ℕ) (bytes : List ℕ) → words_in (shifted_words by bytes) ≡ map (shifted by) (words_in bytes)
 words_shifted by [] = refl
 words_shifted by (a ∷ []) = refl
 words_shifted by (a ∷ b ∷ []) = refl
 words_shifted by (a ∷ b ∷ c ∷ []) = refl
 words_shifted by (a ∷ b ∷ c ∷ d ∷ bytes) =
     let n = shifted by (word_at (a ∷ b ∷ c ∷ d ∷ []) 0) in
-    ap (λ m. m ∷ words_of (shifted_words by bytes)) (word_of_four n [])
+    ap (λ m. m ∷ words_in (shifted_words by bytes)) (word_of_four n [])
     ∙ ap (λ ms. n ∷ ms) (words_shifted by bytes)
 
 span_stays : (by : ℕ) (r : Range) → span (shifted_range by r) ≡ span r
@@ -128,11 +128,11 @@ none_shifts by ws = ranges_shift by None ws
 
 pub losses_shift : LossesShift
 losses_shift by bytes =
-    ap (λ n. cond (n % 4 == 0) (ranges_in None (words_of (shifted_words by bytes))) (Err Ragged)) (length_shifted by bytes)
+    ap (λ n. cond (n % 4 == 0) (ranges_in None (words_in (shifted_words by bytes))) (Err Ragged)) (length_shifted by bytes)
     ∙ ap (λ ws. cond (length bytes % 4 == 0) (ranges_in None ws) (Err Ragged)) (words_shifted by bytes)
-    ∙ ap (λ those. cond (length bytes % 4 == 0) those (Err Ragged)) (none_shifts by (words_of bytes))
+    ∙ ap (λ those. cond (length bytes % 4 == 0) those (Err Ragged)) (none_shifts by (words_in bytes))
     ∙ of_test (length bytes % 4 == 0)
   where
-    of_test : (b : Bool) → cond b (shifted_losses by (ranges_in None (words_of bytes))) (Err Ragged) ≡ shifted_losses by (cond b (ranges_in None (words_of bytes)) (Err Ragged))
+    of_test : (b : Bool) → cond b (shifted_losses by (ranges_in None (words_in bytes))) (Err Ragged) ≡ shifted_losses by (cond b (ranges_in None (words_in bytes)) (Err Ragged))
     of_test true = refl
     of_test false = refl

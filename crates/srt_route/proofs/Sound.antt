@@ -2,7 +2,6 @@
 -- runs, and congestion control blocks have few words.
 use Rattle.std.proofs.Common.{◌≡◌, ℕ, ◌-◌, ◌^◌, ◌<◌, ◌≤◌, ◌==◌, ◌&&◌, not, Bool, true, false, cond, Option, None, Some, List, [], ◌∷◌, ◌++◌, map, length, min, Result, Ok, Err, refl, ap, subst, arith}
 use Rattle.std.specs.Prelude.{⊤, IfSome, IfOk, find, filter_map, take_while, slice_get, drop, int_le, pos, ℤ, nat_le, nat_lt}
-use Rattle.std.specs.List.{list_any}
 use Rattle.std.proofs.lemmas.List.{length-take, length-drop}
 use Rattle.srt_seq.specs.Words.{word_at}
 use Rattle.srt_seq.specs.declared.shared.Peer.{Peer}
@@ -17,7 +16,7 @@ use Rattle.srt_seq.specs.Items.{Item, Received, Tick}
 use Rattle.srt_packet.specs.declared.reading.PacketFault.{PacketFault}
 use Rattle.srt_packet.specs.Grammar.{Packet, Body, Spells, SpellsBody, Data, Handshake, KeepAlive, Ack, Nak, CongestionWarning, Shutdown, AckAck, DropRequest, PeerError, UserDefined}
 use Rattle.srt_packet.specs.Reading.{packet_in}
-use Rattle.srt_hs.specs.declared.writing.RefusalCode.{RefusalCode}
+use Rattle.srt_hs.specs.declared.refusals.RefusalCode.{RefusalCode}
 use Rattle.srt_recvbuf.specs.Receiving.{Arrival, Receiving, arrival_of, is_received, waiting, unbroken, most, with_number, requested, settled}
 use Rattle.srt_sendbuf.specs.Sending.{Queued, Sending, sent as sent_one, queued, acknowledged_by}
 use Rattle.srt_pub.specs.Heard as to_publisher
@@ -26,11 +25,12 @@ use Rattle.srt_sub.specs.Heard as to_subscriber
 use Rattle.srt_sub.specs.Subscribing as subscriber
 use Rattle.srt_route.specs.declared.conclusion.Conclusion.{Conclusion}
 use Rattle.srt_route.specs.Past.{Past, Publishes, Subscribes, Agreed, Report, ToPublisher, ToSubscriber, past_of, expired_past, took_past, answers_to, payload_of, payloads_of, passed_past, reports_of, reported_past}
-use Rattle.srt_route.specs.Sessions.{Session, is_publisher, is_subscriber, is_open_in, by_slot, free_slot, time_in, stamp_in, is_idle, terms_of, aged_at, aged, passed_at, passed, reported_at, reported}
-use Rattle.srt_route.specs.Route.{Output, Answers, Says, Reply, Taken, refused, is_of, heard_if, opens, considered, concluded, is_for, took_if, said_by, answered_by, arrived, concludes, without_destination, packet_taken, read_taken, taken, least_room, delivery_of, delivery, delivered, packets_at, packets_where, clock_after, taken_by, passed_by, replies_to, after}
+use Rattle.srt_route.specs.Sessions.{Session, is_publisher, is_subscriber, open_publishers, active, is_active, is_open_in, by_slot, free_slot, time_in, stamp_in, is_idle, terms_of, aged_at, aged, passed_at, passed, reported_at, reported}
+use Rattle.srt_route.specs.Route.{Output, Answers, Says, Reply, Taken, refused, is_of, heard_if, opens, considered, concluded, is_for, took_if, said_by, answered_by, arrived, concludes, without_destination, packet_taken, read_taken, taken, least_room, delivery_of, delivery, room_if, delivered, packets_at, packets_where, clock_after, taken_by, passed_by, replies_to, after}
 use Rattle.srt_route.specs.ShiftLaws.{IsPublishersReport, IsSubscribersReport, HasFewWords, IsReadable}
 use Rattle.srt_packet.proofs.Agreement.{packet_found}
 use Rattle.srt_route.proofs.ShiftedAnswers.{conclusions_have_few}
+use Rattle.srt_route.proofs.Standbys.{each_active}
 use Rattle.srt_route.proofs.Lists.{Each, each_append, each_take, each_while, each_mapped, each_flat, each_found, each_picked, each_at}
 use Rattle.srt_route.proofs.Relabelled.{all_replies}
 
@@ -109,7 +109,7 @@ with_number_sound (Some n) payload due r one h = by (is_received r n)
 requested_sound : (width : ℕ) (q : Range) (r : Receiving) → Each HasPayload r.arrivals → Each HasPayload (requested width q r).arrivals
 requested_sound width q r h = by (nat_lt q.first (2 ^ 31) && nat_lt q.last (2 ^ 31) && nat_lt (span q) (2 ^ 30))
   where
-    by : (b : Bool) → Each HasPayload (cond b (settled width (record r { requests = record { front = r.position; range = q } ∷ r.requests })) r).arrivals
+    by : (b : Bool) → Each HasPayload (cond b (settled width (record r { requests = record { front = r.front; range = q } ∷ r.requests })) r).arrivals
     by true = h
     by false = h
 
@@ -125,7 +125,7 @@ publisher_took : (terms : publisher.Terms) (time stamp : ℕ) (heard : to_publis
 publisher_took terms time stamp (to_publisher.Data number encryption payload) p one h = by (encryption == 0)
   where
     by : (b : Bool) → Each HasPayload (cond b (publisher.with_data terms time stamp number payload p) p).receiving.arrivals
-    by true = with_number_sound (in_window number p.receiving.position terms.width) payload (publisher.due_in terms.mode terms time stamp) p.receiving one h
+    by true = with_number_sound (in_window number p.receiving.front terms.width) payload (publisher.due_in terms.mode terms time stamp) p.receiving one h
     by false = h
 publisher_took terms time stamp (to_publisher.AckAck number) p one h = confirmed_sound time (publisher.confirmed_by number p.notes) p h
 publisher_took terms time stamp (to_publisher.DropRequest range) p one h = request_sound terms.mode terms range p h
@@ -238,7 +238,7 @@ media_said again (n ∷ ns) queue h =
     each_append IsSubscribersReport (subscriber.media_of again n (slice_get queue n)) (subscriber.media again ns queue) (media_one_said again n (slice_get queue n) (each_at KeepsPayload queue n h)) (media_said again ns queue h)
 
 presumed_sound : (time : ℕ) (s : subscriber.Subscribing) → Each KeepsPayload s.sending.queue → Each KeepsPayload (subscriber.presumed time s).sending.queue
-presumed_sound time s h = by (subscriber.is_stale time s)
+presumed_sound time s h = by (subscriber.resend_due time s)
   where
     by : (b : Bool) → Each KeepsPayload (cond b (record s { sending = Rattle.srt_sendbuf.specs.Sending.all_lost s.sending }) s).sending.queue
     by true = h
@@ -346,7 +346,7 @@ concluded_sound e index clock peer stamp c ss (Some s) few found h =
       sessions = each_mapped IsSound IsSound (λ t. heard_if (is_of peer c.caller t) clock t) (λ t sound. heard_sound (is_of peer c.caller t) clock t sound) ss h;
       answers = (found.answer, tt);
     }
-concluded_sound e index clock peer stamp c ss None few found h = considered_sound e index clock peer stamp c ss (refused e.mode (list_any is_publisher ss) c) few h
+concluded_sound e index clock peer stamp c ss None few found h = considered_sound e index clock peer stamp c ss (refused e.mode (open_publishers ss) c) few h
 
 without_sound : (e : Terms) (index clock : ℕ) (peer : Peer) (stamp : ℕ) (ss : List Session) (o : Option Conclusion) → IfSome o (λ c. HasFewWords c.congestion) → Each IsSound ss → IsSoundTaken (without_destination e index clock peer stamp ss o)
 without_sound e index clock peer stamp ss None few h = record { sessions = h; answers = tt }
@@ -405,9 +405,10 @@ delivered_payloads e clock room (Some s) h = payloads_sound (terms_of e s) (time
 delivered_sound : (e : Terms) (clock : ℕ) (ss : List Session) → Each IsSound ss → Each IsSound (delivered e clock ss)
 delivered_sound e clock ss h =
     let room = least_room e ss in
-    let xs = delivery e clock room ss in
-    let all : Each IsPayload xs = delivered_payloads e clock room (find is_publisher (by_slot e ss)) (each_found IsSound is_publisher (by_slot e ss) (sound_by_slot e ss h)) in
-    each_mapped IsSound IsSound (passed e clock room xs) (λ s sound. passed_at_sound e s.is_open (time_in s clock) room xs s all sound) ss h
+    let fed = delivery e clock room ss in
+    let all : Each IsPayload fed = delivered_payloads e clock room (active ss) (each_active IsSound ss h) in
+    each_mapped IsSound IsSound (λ s. passed e clock (room_if (is_active ss s) room) fed s)
+    (λ s sound. passed_at_sound e s.is_open (time_in s clock) (room_if (is_active ss s) room) fed s all sound) ss h
 
 -- an event
 taken_by_sound : (e : Terms) (index : ℕ) (items : List Item) (item : Item) → Each IsSound (after e index items).sessions → IsSoundTaken (taken_by e index item (after e index items))

@@ -1,9 +1,8 @@
--- The buffers of a session that opens.
-use Rattle.std.proofs.Common.{◌≡◌, ◌⊎◌, ℕ, ◌-◌, ◌*◌, ◌<◌, ◌≤◌, Bool, true, false, cond, None, Some, List, [], ◌∷◌, ◌++◌, length, find, get_or, set, refl, sym, ap, subst, ◌∙◌, ◌≢◌, inl, inr, arith}
-use Rattle.std.specs.List.{list_any}
-use Rattle.std.proofs.lemmas.Bool.{cases_Bool, cases_eq, cases_lt}
+-- A session opens.
+use Rattle.std.proofs.Common.{◌≡◌, ◌⊎◌, ℕ, ◌+◌, ◌-◌, ◌*◌, ◌%◌, ◌<◌, ◌≤◌, ◌==◌, ◌&&◌, nat_lt, Bool, true, false, not, cond, Option, None, Some, List, [], ◌∷◌, ◌++◌, length, find, get_or, set, refl, sym, ap, subst, ◌∙◌, ◌≢◌, inl, inr, arith}
+use Rattle.std.proofs.lemmas.Bool.{cases_Bool, cases_eq, cases_lt, and_parts, eqb-true, eq-eqb, false_from_ne_true}
 use Rattle.std.proofs.lemmas.Bool.Decides.{nat_tests}
-use Rattle.std.proofs.lemmas.List.{get_or-set_same, get_or-set_other, get_or_append_left, get_or_at, length-set, length-append}
+use Rattle.std.proofs.lemmas.List.{get_or-set_same, get_or-set_other, get_or_default, get_or_append_left, get_or_at, length-set, length-append}
 use Rattle.srt_seq.specs.declared.shared.Peer.{Peer}
 use Rattle.srt_seq.specs.declared.shared.Mode.{Mode}
 use Rattle.srt_seq.specs.declared.shared.Role.{Role}
@@ -17,15 +16,24 @@ use Rattle.srt_sub.specs.Subscribing as subscribing
 use Rattle.srt_sub.specs.declared.session.Subscriber.{Subscriber}
 use Rattle.srt_route.specs.declared.admission.Agreement.{Agreement}
 use Rattle.srt_route.specs.declared.conclusion.Conclusion.{Conclusion}
-use Rattle.srt_route.specs.declared.media.Media.{Media}
+use Rattle.srt_route.specs.declared.seat.Session.{Session as TheSession}
+use Rattle.srt_route.specs.declared.seat.Seat.{Seat}
+use Rattle.srt_route.specs.declared.table.Table.{Table}
 use Rattle.srt_route.specs.Past.{past_of}
-use Rattle.srt_route.specs.Sessions.{Session, is_open_in, is_publisher, publishes, agreed_terms}
-use Rattle.srt_seq.specs.Entries.{in_limits}
-use Rattle.srt_route.specs.Route.{session_opened}
-use Rattle.srt_route.specs.Admission.{agreement_of}
-use Rattle.srt_route.specs.Media.{IsPast, IsSeated, AreSeated, PublishesAlone, IsMedia}
-use Rattle.srt_route.proofs.Found.{found_passes, open_parts}
-use Rattle.srt_route.proofs.Stored.{any_from}
+use Rattle.srt_route.specs.Sessions.{Session, is_open_in, is_publisher, publishes, active, agreed_terms, generation_of}
+use Rattle.srt_seq.specs.Entries.{in_limits, is_name}
+use Rattle.srt_seq.specs.declared.shared.OpenFault.TheVariants.{Names, Limits}
+use Rattle.srt_route.specs.Opening.{fault_of}
+use Rattle.srt_route.specs.Route.{is_of, session_opened}
+use Rattle.srt_route.specs.Admission.{agreement_of, older_after}
+use Rattle.srt_route.specs.Buffers.{IsPast, IsSeated}
+use Rattle.srt_route.specs.Places.{place_of}
+use Rattle.srt_route.specs.Tables.{IsSession, IsStored, IsSeat, IsTable, IsPublishing, AreWide, uses_second, buffers_of}
+use Rattle.srt_route.specs.OneSession.{Begins, BeginsAs}
+use Rattle.srt_route.proofs.Found.{found_passes, open_parts, open_from}
+use Rattle.srt_route.proofs.Kept.{some_buffers, seat_at}
+use Rattle.srt_route.proofs.Publishers.{below_two, set_elsewhere, set_here, set_again, wide_set, alone_is_active}
+use Rattle.srt_route.proofs.TakeOver.{opens_behind}
 use Rattle.srt_route.proofs.Seats.{opened_kept, other_publisher}
 
 -- what a slot has after a session more
@@ -36,81 +44,202 @@ found_newest k s ss u h = by (is_open_in k s) refl h
     by true e h = inl (e, let same : Some s ≡ Some u = h in cc)
     by false e h = inr h
 
--- a publisher is none of those that don't publish
-not_among : (ss : List Session) → list_any is_publisher ss ≡ false → (k : ℕ) (u : Session) → find (is_open_in k) ss ≡ Some u → is_publisher u ≡ true → ⊥
-not_among ss none k u here h = let some : list_any is_publisher ss ≡ true = any_from is_publisher (is_open_in k) ss u here h in let bad : true ≡ false = sym some ∙ none in cc
+-- the table with a session more, in a seat in which none was open
+pub record IsOpening (e : Terms) (clock : ℕ) (old new : Table) (s : Session) (ss : List Session) (y : Seat) : Type 0 where
+  pub publishers_wide : AreWide e.buffer new.publishers.items
+  pub seated : (p : Publisher) → IsSeated e clock (buffers_of new.publishers.items y p) y.subscriber s
+  pub others : (k : ℕ) (d : Seat) (p : Publisher) (u : Session) → find (is_open_in k) ss ≡ Some u → IsSeated e clock (buffers_of old.publishers.items (get_or old.seats.items k d) p) (get_or old.seats.items k d).subscriber u → IsSeated e clock (buffers_of new.publishers.items (get_or old.seats.items k d) p) (get_or old.seats.items k d).subscriber u
+  pub older_is : new.second_is_older ≡ older_after old.second_is_older s.conclusion.role (uses_second y)
+  pub unused : publishes s.conclusion.role ≡ true → (k : ℕ) (d : Seat) (u : Session) → IsPublishing ss k u → uses_second (get_or old.seats.items k d) ≡ not (uses_second y)
 
--- the buffers with a session more
-seats_opened : (e : Terms) (clock : ℕ) (old new : Media) (s : Session) (ss : List Session) → IsMedia e clock old ss → length new.subscribers.items ≡ e.sessions → ((at : ℕ) (x : Subscriber) → at < e.sessions → subscriber.IsWide e.buffer (get_or new.subscribers.items at x)) → publisher.width_of new.publisher ≡ e.buffer → ((x : Subscriber) → IsSeated e clock new.publisher (get_or new.subscribers.items s.slot x) s) → ((k : ℕ) (x : Subscriber) (u : Session) → k < e.sessions → find (is_open_in k) ss ≡ Some u → IsSeated e clock new.publisher (get_or new.subscribers.items k x) u) → (is_publisher s ≡ true → list_any is_publisher ss ≡ false) → IsMedia e clock new (s ∷ ss)
-seats_opened e clock old new s ss is as_many wide publisher_wide newest older alone =
-    record { as_many = as_many; wide = wide; publisher_wide = publisher_wide; seated = all_seated; alone = all_alone }
+-- a publisher after the opening is the new session, or was open before
+abbrev IsNew : Session → ℕ → Session → Type 0
+IsNew s k u = (s.slot ≡ k) × (s ≡ u) × (is_publisher s ≡ true)
+
+abbrev WasOpen : Session → List Session → ℕ → Session → Type 0
+WasOpen s ss k u = (k ≢ s.slot) × IsPublishing ss k u
+
+abbrev pub SameEntry : (old new : Table) → Type 0
+SameEntry old new = (new.index ≡ old.index) × (new.mode ≡ old.mode) × (new.latency_ms ≡ old.latency_ms) × (new.buffer ≡ old.buffer)
+
+older_is_not : (older : Bool) (role : Role) (second : Bool) → publishes role ≡ true → older_after older role second ≡ not second
+older_is_not older Publish second h = refl
+older_is_not older Request second h = absurd (let bad : false ≡ true = h in cc)
+
+older_stays : (older : Bool) (role : Role) (second : Bool) → publishes role ≡ false → older_after older role second ≡ older
+older_stays older Publish second h = absurd (let bad : true ≡ false = h in cc)
+older_stays older Request second h = refl
+
+not_not : (b : Bool) → b ≡ not b → ⊥
+not_not true h = let bad : true ≡ false = h in cc
+not_not false h = let bad : false ≡ true = h in cc
+
+pub table_opened : (e : Terms) (index clock : ℕ) (old new : Table) (s : Session) (ss : List Session) (y : Seat) → IsTable e index clock old ss → SameEntry old new → length new.seats.items ≡ length old.seats.items → ((d : Seat) → get_or new.seats.items s.slot d ≡ y) → ((k : ℕ) (d : Seat) → k ≢ s.slot → get_or new.seats.items k d ≡ get_or old.seats.items k d) → s.is_open ≡ true → s.slot < e.sessions → find (is_open_in s.slot) ss ≡ None → find (is_of s.peer s.conclusion.caller) ss ≡ None → IsStored e index y.session (Some s) → y.generation ≡ (generation_of ss s.slot + 1) % 65536 → subscriber.IsWide e.buffer y.subscriber → IsOpening e clock old new s ss y → IsTable e index clock new (s ∷ ss)
+table_opened e index clock old new s ss y is alike same_length here beside o inside free first stored count wide opening =
+    record {
+      limits = is.limits;
+      early = is.early;
+      index_is = alike.0 ∙ is.index_is;
+      mode_is = alike.1 ∙ is.mode_is;
+      latency_is = alike.2 ∙ is.latency_is;
+      buffer_is = alike.3 ∙ is.buffer_is;
+      publishers_wide = opening.publishers_wide;
+      places_are = same_length ∙ is.places_are;
+      seats_are = λ k d p below. one k d p (omega (arith, below, same_length));
+      alone = (λ h. record { inside = inside; slot_alone = free; caller_alone = first }, is.alone);
+      publishers_are = record {
+        apart = λ at k d u v one_is other both. apart at k d u v (who at u one_is) (who k v other) both;
+        older_is_active = λ at d u one_is first_is. active_one at d u (who at u one_is) first_is;
+      };
+    }
   where
-    all_seated : AreSeated e clock new (s ∷ ss)
-    all_seated k x u below h = elim (found_newest k s ss u h) [
-      | inl here ↦
-          subst (λ (v : Session). IsSeated e clock new.publisher (get_or new.subscribers.items k x) v) here.1
-          (subst (λ (n : ℕ). IsSeated e clock new.publisher (get_or new.subscribers.items n x) s) (open_parts k s here.0).1 (newest x))
-      | inr there ↦ older k x u below there
+    newest : (p : Publisher) → IsSeat e index clock s.slot (buffers_of new.publishers.items y p) y (s ∷ ss)
+    newest p =
+        let found : find (is_open_in s.slot) (s ∷ ss) ≡ Some s = rw (open_from s.slot s o refl) refl in
+        record {
+          session_is = subst (λ (g : Option Session). IsStored e index y.session g) (sym found) stored;
+          count_is = count ∙ ap (λ (b : Bool). cond b (generation_of ss s.slot + 1) (generation_of ss s.slot) % 65536) (sym (eq-eqb s.slot s.slot refl));
+          wide = wide;
+          seated = λ u h. let same : s ≡ u = let both : Some s ≡ Some u = sym found ∙ h in cc in subst (λ (v : Session). IsSeated e clock (buffers_of new.publishers.items y p) y.subscriber v) same (opening.seated p);
+        }
+
+    older : (k : ℕ) (d : Seat) (p : Publisher) → k ≢ s.slot → k < length old.seats.items → IsSeat e index clock k (buffers_of new.publishers.items (get_or old.seats.items k d) p) (get_or old.seats.items k d) (s ∷ ss)
+    older k d p apart below =
+        let h = is.seats_are k d p below in
+        let z = get_or old.seats.items k d in
+        let test : (s.slot == k) ≡ false = false_from_ne_true (s.slot == k) (λ same. absurd (apart (sym (eqb-true s.slot k same)))) in
+        let found : find (is_open_in k) (s ∷ ss) ≡ find (is_open_in k) ss = rw (o, test) refl in
+        record {
+          session_is = subst (λ (g : Option Session). IsStored e index z.session g) (sym found) h.session_is;
+          count_is = h.count_is ∙ ap (λ (b : Bool). cond b (generation_of ss k + 1) (generation_of ss k) % 65536) (sym test);
+          wide = h.wide;
+          seated = λ u g. let there : find (is_open_in k) ss ≡ Some u = sym found ∙ g in opening.others k d p u there (h.seated u there);
+        }
+
+    one : (k : ℕ) (d : Seat) (p : Publisher) → k < length old.seats.items → IsSeat e index clock k (buffers_of new.publishers.items (get_or new.seats.items k d) p) (get_or new.seats.items k d) (s ∷ ss)
+    one k d p below = elim (cases_eq k s.slot) [
+      | inl same ↦
+          subst (λ (n : ℕ). IsSeat e index clock n (buffers_of new.publishers.items (get_or new.seats.items n d) p) (get_or new.seats.items n d) (s ∷ ss)) (sym same)
+          (subst (λ (z : Seat). IsSeat e index clock s.slot (buffers_of new.publishers.items z p) z (s ∷ ss)) (sym (here d)) (newest p))
+      | inr apart ↦ subst (λ (z : Seat). IsSeat e index clock k (buffers_of new.publishers.items z p) z (s ∷ ss)) (sym (beside k d apart)) (older k d p apart below)
     ]
 
-    all_alone : PublishesAlone (s ∷ ss)
-    all_alone at k u v here there one other = elim (found_newest at s ss u here) [
-      | inl a ↦ elim (found_newest k s ss v there) [
-        | inl b ↦ sym (open_parts at s a.0).1 ∙ (open_parts k s b.0).1
-        | inr b ↦ absurd (not_among ss (alone (ap is_publisher a.1 ∙ one)) k v b other)
-      ]
-      | inr a ↦ elim (found_newest k s ss v there) [
-        | inl b ↦ absurd (not_among ss (alone (ap is_publisher b.1 ∙ other)) at u a one)
-        | inr b ↦ is.alone at k u v a b one other
-      ]
+    who : (k : ℕ) (u : Session) → IsPublishing (s ∷ ss) k u → IsNew s k u ⊎ WasOpen s ss k u
+    who k u h = elim (found_newest k s ss u h.found) [
+      | inl a ↦ inl ((open_parts k s a.0).1, a.1, ap is_publisher a.1 ∙ h.publishes)
+      | inr b ↦ inr ((λ same. absurd (let bad : None ≡ Some u = sym free ∙ subst (λ (n : ℕ). find (is_open_in n) ss ≡ Some u) same b in cc)), record { found = b; publishes = h.publishes })
     ]
 
--- a publisher's session opens
-pub publisher_starts : (e : Terms) (clock : ℕ) (old new : Media) (peer : Peer) (stamp : ℕ) (c : Conclusion) (at generation initial : ℕ) (ss : List Session) → IsMedia e clock old ss → c.role ≡ Publish → new.subscribers.items ≡ old.subscribers.items → initial ≡ c.initial → publisher.StandsFor (agreed_terms e c).publisher initial clock stamp c.caller new.publisher publishing.opened → list_any is_publisher ss ≡ false → IsMedia e clock new (session_opened clock peer stamp c at generation ∷ ss)
-publisher_starts e clock old new peer stamp c at generation initial ss is role same number stands none =
-    seats_opened e clock old new s ss is (ap length same ∙ is.as_many)
-    (λ k x below. subst (λ (xs : List Subscriber). subscriber.IsWide e.buffer (get_or xs k x)) (sym same) (is.wide k x below))
-    stands.buffer.0
-    (λ x. record { past_is = subst (λ (r : Role). IsPast e clock new.publisher (get_or new.subscribers.items at x) s (past_of r)) (sym role) (rw (role) refl, rw (← number) stands); opened = omega arith })
-    (λ k x u below here. subst (λ (xs : List Subscriber). IsSeated e clock new.publisher (get_or xs k x) u) (sym same) (other_publisher e clock old.publisher new.publisher (get_or old.subscribers.items k x) u (not_publishing k u here) (is.seated k x u below here)))
-    (λ h. none)
+    new_uses : (k : ℕ) (d : Seat) → s.slot ≡ k → uses_second (get_or new.seats.items k d) ≡ uses_second y
+    new_uses k d same = ap uses_second (subst (λ (n : ℕ). get_or new.seats.items n d ≡ y) same (here d))
+
+    old_uses : (k : ℕ) (d : Seat) → k ≢ s.slot → uses_second (get_or new.seats.items k d) ≡ uses_second (get_or old.seats.items k d)
+    old_uses k d other = ap uses_second (beside k d other)
+
+    role_of : is_publisher s ≡ true → publishes s.conclusion.role ≡ true
+    role_of h = (and_parts s.is_open (publishes s.conclusion.role) h).1
+
+    apart : (at k : ℕ) (d : Seat) (u v : Session) → IsNew s at u ⊎ WasOpen s ss at u → IsNew s k v ⊎ WasOpen s ss k v → uses_second (get_or new.seats.items at d) ≡ uses_second (get_or new.seats.items k d) → at ≡ k
+    apart at k d u v (inl a) (inl b) same = sym a.0 ∙ b.0
+    apart at k d u v (inl a) (inr b) same = absurd (not_not (uses_second y) (sym (new_uses at d a.0) ∙ (same ∙ (old_uses k d b.0 ∙ opening.unused (role_of a.2) k d v b.1))))
+    apart at k d u v (inr a) (inl b) same = absurd (not_not (uses_second y) (sym (new_uses k d b.0) ∙ (sym same ∙ (old_uses at d a.0 ∙ opening.unused (role_of b.2) at d u a.1))))
+    apart at k d u v (inr a) (inr b) same = is.publishers_are.apart at k d u v a.1 b.1 (sym (old_uses at d a.0) ∙ (same ∙ old_uses k d b.0))
+
+    -- all older publishers use the same buffers, so there is one, and it is active
+    lone : (at : ℕ) (d : Seat) (u : Session) → publishes s.conclusion.role ≡ true → IsPublishing ss at u → active ss ≡ Some u
+    lone at d u role one_is = alone_is_active e index clock old ss at d u is one_is (λ k v other. opening.unused role at d u one_is ∙ sym (opening.unused role k d v other))
+
+    active_one : (at : ℕ) (d : Seat) (u : Session) → IsNew s at u ⊎ WasOpen s ss at u → uses_second (get_or new.seats.items at d) ≡ new.second_is_older → active (s ∷ ss) ≡ Some u
+    active_one at d u (inl a) first_is =
+        absurd (not_not (uses_second y) (sym (new_uses at d a.0) ∙ (first_is ∙ (opening.older_is ∙ older_is_not old.second_is_older s.conclusion.role (uses_second y) (role_of a.2)))))
+    active_one at d u (inr a) first_is = elim (cases_Bool (publishes s.conclusion.role)) [
+      | inl role ↦ opens_behind s ss u (lone at d u role a.1)
+      | inr role ↦
+          opens_behind s ss u (is.publishers_are.older_is_active at d u a.1 (sym (old_uses at d a.0) ∙ (first_is ∙ (opening.older_is ∙ older_stays old.second_is_older s.conclusion.role (uses_second y) role))))
+    ]
+
+-- what has begun, by the role
+pub record HasBegun (e : Terms) (clock : ℕ) (old : Table) (second : Bool) (q : Publisher) (x y : Seat) (s : Session) (ss : List Session) : Type 0 where
+  pub publishers_wide : AreWide e.buffer (set old.publishers.items (place_of second) q)
+  pub count_is : y.generation ≡ x.generation
+  pub wide : subscriber.IsWide e.buffer y.subscriber
+  pub seated : IsSeated e clock q y.subscriber s
+  pub others : (k : ℕ) (d : Seat) (p : Publisher) (u : Session) → find (is_open_in k) ss ≡ Some u → IsSeated e clock (buffers_of old.publishers.items (get_or old.seats.items k d) p) (get_or old.seats.items k d).subscriber u → IsSeated e clock (buffers_of (set old.publishers.items (place_of second) q) (get_or old.seats.items k d) p) (get_or old.seats.items k d).subscriber u
+
+pub has_begun : (e : Terms) (index clock : ℕ) (peer : Peer) (stamp : ℕ) (c : Conclusion) (at generation : ℕ) (old : Table) (second : Bool) (p q : Publisher) (x y : Seat) (ss : List Session) → IsTable e index clock old ss → p ≡ get_or old.publishers.items (place_of second) p → subscriber.IsWide e.buffer x.subscriber → Begins e clock stamp c p q x y → (publishes c.role ≡ true → (k : ℕ) (d : Seat) (u : Session) → IsPublishing ss k u → uses_second (get_or old.seats.items k d) ≡ not second) → HasBegun e clock old second q x y (session_opened clock peer stamp c at generation) ss
+has_begun e index clock peer stamp c at generation old second p q x y ss is there x_wide begins free = by c.role refl begins
   where
     s : Session
     s = session_opened clock peer stamp c at generation
 
-    not_publishing : (k : ℕ) (u : Session) → find (is_open_in k) ss ≡ Some u → publishes u.conclusion.role ≡ false
-    not_publishing k u here = elim (cases_Bool (publishes u.conclusion.role)) [
-      | inl it_does ↦ absurd (not_among ss none k u here (rw ((open_parts k u (found_passes (is_open_in k) ss u here)).0, it_does) refl))
-      | inr no_one ↦ no_one
+    stays : publishes c.role ≡ true → (k : ℕ) (d : Seat) (p : Publisher) (u : Session) → find (is_open_in k) ss ≡ Some u → IsSeated e clock (buffers_of old.publishers.items (get_or old.seats.items k d) p) (get_or old.seats.items k d).subscriber u → IsSeated e clock (buffers_of (set old.publishers.items (place_of second) q) (get_or old.seats.items k d) p) (get_or old.seats.items k d).subscriber u
+    stays role k d p u here h = elim (cases_Bool (publishes u.conclusion.role)) [
+      | inl it_does ↦
+          let one : IsPublishing ss k u = record { found = here; publishes = rw ((open_parts k u (found_passes (is_open_in k) ss u here)).0, it_does) refl } in
+          let other = free role k d u one in
+          subst (λ (z : Publisher). IsSeated e clock z (get_or old.seats.items k d).subscriber u) (sym (set_elsewhere old.publishers.items second (uses_second (get_or old.seats.items k d)) q p (λ same. not_not second (sym same ∙ other)))) h
+      | inr no_one ↦ other_publisher e clock (buffers_of old.publishers.items (get_or old.seats.items k d) p) (buffers_of (set old.publishers.items (place_of second) q) (get_or old.seats.items k d) p) (get_or old.seats.items k d).subscriber u no_one h
     ]
 
--- a subscriber's session opens
-pub subscriber_starts : (e : Terms) (clock : ℕ) (old new : Media) (peer : Peer) (stamp : ℕ) (c : Conclusion) (at generation initial : ℕ) (y : Subscriber) (ss : List Session) → IsMedia e clock old ss → c.role ≡ Request → new.publisher ≡ old.publisher → new.subscribers.items ≡ set old.subscribers.items at y → at < e.sessions → find (is_open_in at) ss ≡ None → initial ≡ c.initial → subscriber.StandsFor (agreed_terms e c).subscriber initial clock c.caller clock y subscribing.opened → IsMedia e clock new (session_opened clock peer stamp c at generation ∷ ss)
-subscriber_starts e clock old new peer stamp c at generation initial y ss is role same put below free number stands =
-    seats_opened e clock old new s ss is (ap length put ∙ (length-set old.subscribers.items at y ∙ is.as_many))
-    (λ k x in_it. subst (λ (xs : List Subscriber). subscriber.IsWide e.buffer (get_or xs k x)) (sym put) (wide_at k x in_it))
-    (ap publisher.width_of same ∙ is.publisher_wide)
-    (λ x. record { past_is = subst (λ (r : Role). IsPast e clock new.publisher (get_or new.subscribers.items at x) s (past_of r)) (sym role) (rw (role) refl, subst (λ (z : Subscriber). subscriber.StandsFor (agreed_terms e c).subscriber c.initial clock c.caller clock z subscribing.opened) (sym (here_is x)) (rw (← number) stands), opened_kept (agreed_terms e c).subscriber (clock - clock)); opened = omega arith })
-    (λ k x u in_it here. subst (λ (xs : List Subscriber). IsSeated e clock new.publisher (get_or xs k x) u) (sym put) (subst (λ (p : Publisher). IsSeated e clock p (get_or (set old.subscribers.items at y) k x) u) (sym same) (subst (λ (z : Subscriber). IsSeated e clock old.publisher z u) (sym (get_or-set_other old.subscribers.items at k y x (elsewhere k u here))) (is.seated k x u in_it here))))
-    (λ h. absurd (let bad : is_publisher s ≡ false = rw (role) refl in cc))
+    by : (r : Role) → c.role ≡ r → BeginsAs r e clock stamp c p q x y → HasBegun e clock old second q x y s ss
+    by Publish role h =
+        record {
+          publishers_wide = wide_set e.buffer old.publishers.items second q old.two is.publishers_wide h.0.buffer.0;
+          count_is = ap (λ (z : Seat). z.generation) h.1;
+          wide = subst (λ (z : Seat). subscriber.IsWide e.buffer z.subscriber) (sym h.1) x_wide;
+          seated = record { past_is = subst (λ (r : Role). IsPast e clock q y.subscriber s (past_of r)) (sym role) (rw (role) refl, h.0); opened = omega arith };
+          others = λ k d p u here was. stays (ap publishes role) k d p u here was;
+        }
+    by Request role h =
+        let same : q ≡ get_or old.publishers.items (place_of second) q = h.1 ∙ (there ∙ get_or_default old.publishers.items (place_of second) p q (below_two second old.publishers.items old.two)) in
+        record {
+          publishers_wide = wide_set e.buffer old.publishers.items second q old.two is.publishers_wide (ap publisher.width_of same ∙ is.publishers_wide second q);
+          count_is = h.2;
+          wide = (c.initial, subscribing.opened.sending, h.0.buffer_is);
+          seated = record { past_is = subst (λ (r : Role). IsPast e clock q y.subscriber s (past_of r)) (sym role) (rw (role) refl, h.0, opened_kept (agreed_terms e c).subscriber (clock - clock)); opened = omega arith };
+          others = λ k d p u here was. subst (λ (v : Publisher). IsSeated e clock v (get_or old.seats.items k d).subscriber u) (sym (set_again old.publishers.items second (uses_second (get_or old.seats.items k d)) q p old.two same)) was;
+        }
+
+-- the session is stored in the seat whose buffers have begun
+pub session_stored : (e : Terms) (index clock : ℕ) (peer : Peer) (stamp : ℕ) (c : Conclusion) (old new : Table) (ss : List Session) (at : ℕ) (second : Bool) (q : Publisher) (x w v y : Seat) (t : TheSession) → (h : IsTable e index clock old ss) → at < length old.seats.items → x ≡ get_or old.seats.items at x → v ≡ get_or (set old.seats.items at w) at v → y ≡ record { generation = (v.generation + 1) % 65536; session = Some t; subscriber = v.subscriber } → new.seats.items ≡ set (set old.seats.items at w) at y → SameEntry old new → new.publishers.items ≡ set old.publishers.items (place_of second) q → new.second_is_older ≡ older_after old.second_is_older c.role second → t.second ≡ second → HasBegun e clock old second q x w (session_opened clock peer stamp c at (generation_of ss at)) ss → IsSession e index t (session_opened clock peer stamp c at (generation_of ss at)) → find (is_open_in at) ss ≡ None → find (is_of peer c.caller) ss ≡ None → (publishes c.role ≡ true → (k : ℕ) (d : Seat) (u : Session) → IsPublishing ss k u → uses_second (get_or old.seats.items k d) ≡ not second) → IsTable e index clock new (session_opened clock peer stamp c at (generation_of ss at) ∷ ss)
+session_stored e index clock peer stamp c old new ss at second q x w v y t h inside there next y_is put alike turned older second_is begun stored free first unused =
+    table_opened e index clock old new s ss y h alike (ap length put ∙ (length-set (set old.seats.items at w) at y ∙ length-set old.seats.items at w))
+    (λ d. ap (λ (seats : List Seat). get_or seats at d) put ∙ get_or-set_same (set old.seats.items at w) at y d in_first)
+    (λ k d apart. ap (λ (seats : List Seat). get_or seats k d) put ∙ (get_or-set_other (set old.seats.items at w) at k y d apart ∙ get_or-set_other old.seats.items at k w d apart))
+    refl (omega (arith, inside, h.places_are)) free first
+    (subst (λ (o : Option TheSession). IsStored e index o (Some s)) (sym (ap (λ (z : Seat). z.session) y_is)) stored)
+    count
+    (subst (λ (z : Subscriber). subscriber.IsWide e.buffer z) (sym same_subscriber) begun.wide)
+    (record {
+      publishers_wide = subst (λ (ps : List Publisher). AreWide e.buffer ps) (sym turned) begun.publishers_wide;
+      seated = λ p.
+          subst (λ (x : Publisher). IsSeated e clock x y.subscriber s) (sym (mine p))
+          (subst (λ (z : Subscriber). IsSeated e clock q z s) (sym same_subscriber) begun.seated);
+      others = λ k d p u here was. subst (λ (ps : List Publisher). IsSeated e clock (buffers_of ps (get_or old.seats.items k d) p) (get_or old.seats.items k d).subscriber u) (sym turned) (begun.others k d p u here was);
+      older_is = older ∙ ap (older_after old.second_is_older c.role) (sym uses);
+      unused = λ role k d u one. unused role k d u one ∙ ap not (sym uses);
+    })
   where
     s : Session
-    s = session_opened clock peer stamp c at generation
+    s = session_opened clock peer stamp c at (generation_of ss at)
 
-    in_old : at < length old.subscribers.items
-    in_old = omega (arith, below, is.as_many)
+    in_first : at < length (set old.seats.items at w)
+    in_first = omega (arith, inside, length-set old.seats.items at w)
 
-    here_is : (x : Subscriber) → get_or new.subscribers.items at x ≡ y
-    here_is x = ap (λ (xs : List Subscriber). get_or xs at x) put ∙ get_or-set_same old.subscribers.items at y x in_old
+    same : v ≡ w
+    same = next ∙ get_or-set_same old.seats.items at w v inside
 
-    elsewhere : (k : ℕ) (u : Session) → find (is_open_in k) ss ≡ Some u → k ≢ at
-    elsewhere k u here same_place = let there : find (is_open_in at) ss ≡ Some u = subst (λ (n : ℕ). find (is_open_in n) ss ≡ Some u) same_place here in let bad : None ≡ Some u = sym free ∙ there in cc
+    uses : uses_second y ≡ second
+    uses = ap uses_second y_is ∙ second_is
 
-    wide_at : (k : ℕ) (x : Subscriber) → k < e.sessions → subscriber.IsWide e.buffer (get_or (set old.subscribers.items at y) k x)
-    wide_at k x in_it = elim (cases_eq k at) [
-      | inl same_place ↦ subst (λ (n : ℕ). subscriber.IsWide e.buffer (get_or (set old.subscribers.items at y) n x)) (sym same_place) (subst (λ (z : Subscriber). subscriber.IsWide e.buffer z) (sym (get_or-set_same old.subscribers.items at y x in_old)) (initial, subscribing.opened.sending, stands.buffer_is))
-      | inr other ↦ subst (λ (z : Subscriber). subscriber.IsWide e.buffer z) (sym (get_or-set_other old.subscribers.items at k y x other)) (is.wide k x in_it)
-    ]
+    mine : (p : Publisher) → buffers_of new.publishers.items y p ≡ q
+    mine p = ap (λ (ps : List Publisher). buffers_of ps y p) turned ∙ (ap (λ (b : Bool). get_or (set old.publishers.items (place_of second) q) (place_of b) p) uses ∙ set_here old.publishers.items second q p old.two)
+
+    same_subscriber : y.subscriber ≡ w.subscriber
+    same_subscriber = ap (λ (z : Seat). z.subscriber) y_is ∙ ap (λ (z : Seat). z.subscriber) same
+
+    count : y.generation ≡ (generation_of ss at + 1) % 65536
+    count = omega (arith, ap (λ (z : Seat). z.generation) y_is, ap (λ (z : Seat). z.generation) same, begun.count_is, (seat_at e index clock old ss at x (some_buffers old) h inside there).count_is)
 
 -- what a subscriber's session is opened with
 abbrev pub made : Mode → (width delay mtu window : ℕ) → subscribing.Terms
@@ -141,11 +270,55 @@ publisher_terms e c a width delay same wide delay_is =
 pub buffer_fits : (e : Terms) → in_limits e ≡ true → e.buffer ≤ 8192
 buffer_fits e h = grind (arith, nat_tests, h)
 
--- one more that is as wide
-pub wide_pushed : (width : ℕ) (xs ys : List Subscriber) (x : Subscriber) → ys ≡ xs ++ x ∷ [] → ((k : ℕ) (d : Subscriber) → k < length xs → subscriber.IsWide width (get_or xs k d)) → subscriber.IsWide width x → (k : ℕ) (d : Subscriber) → k < length ys → subscriber.IsWide width (get_or ys k d)
-wide_pushed width xs ys x same wide new k d below = subst (λ (zs : List Subscriber). subscriber.IsWide width (get_or zs k d)) (sym same) (elim (cases_lt k (length xs)) [
-  | inl inside ↦ subst (λ (z : Subscriber). subscriber.IsWide width z) (sym (get_or_append_left xs (x ∷ []) d k inside)) (wide k d inside)
+-- the seats of a table without sessions
+abbrev pub AreVacant : (width : ℕ) → List Seat → Type 0
+AreVacant width seats = (k : ℕ) (d : Seat) → k < length seats → ((get_or seats k d).generation ≡ 0) × ((get_or seats k d).session ≡ None) × subscriber.IsWide width (get_or seats k d).subscriber
+
+-- one more
+pub vacant_pushed : (width : ℕ) (xs ys : List Seat) (x : Seat) (u : Subscriber) → ys ≡ xs ++ x ∷ [] → AreVacant width xs → x ≡ record { generation = 0; session = None; subscriber = u } → subscriber.IsWide width u → AreVacant width ys
+vacant_pushed width xs ys x u same vacant new wide k d below = subst (λ (zs : List Seat). IsVacant (get_or zs k d)) (sym same) (elim (cases_lt k (length xs)) [
+  | inl inside ↦ subst IsVacant (sym (get_or_append_left xs (x ∷ []) d k inside)) (vacant k d inside)
   | inr outside ↦
       let last : length xs ≡ k = omega (arith, outside, below, ap length same, length-append xs (x ∷ [])) in
-      subst (λ (z : Subscriber). subscriber.IsWide width z) (sym (get_or_at xs x [] d k last)) new
+      subst IsVacant (sym (get_or_at xs x [] d k last)) (ap (λ (z : Seat). z.generation) new, ap (λ (z : Seat). z.session) new, subst (λ (z : Seat). subscriber.IsWide width z.subscriber) (sym new) wide)
 ])
+  where
+    IsVacant : Seat → Type 0
+    IsVacant z = (z.generation ≡ 0) × (z.session ≡ None) × subscriber.IsWide width z.subscriber
+
+-- a route that can be opened is within its limits
+pub limits_hold : (e : Terms) (index : ℕ) → fault_of e index ≡ None → in_limits e ≡ true
+limits_hold e index = by (is_name e.name) (nat_lt index 511) (in_limits e)
+  where
+    by : (named few limited : Bool) → cond named (cond (few && limited) None (Some Limits)) (Some Names) ≡ None → limited ≡ true
+    by named few true h = refl
+    by true true false h = absurd (let bad : Some Limits ≡ None = h in cc)
+    by true false false h = absurd (let bad : Some Limits ≡ None = h in cc)
+    by false few false h = absurd (let bad : Some Names ≡ None = h in cc)
+
+-- the table without sessions
+pub table_empty : (e : Terms) (index : ℕ) (table : Table) → fault_of e index ≡ None → table.index ≡ index → table.mode ≡ e.mode → table.latency_ms ≡ e.latency_ms → table.buffer ≡ e.buffer → AreWide e.buffer table.publishers.items → length table.seats.items ≡ e.sessions → AreVacant e.buffer table.seats.items → IsTable e index 0 table []
+table_empty e index table free index_is mode_is latency_is buffer_is publishers_wide places_are vacant =
+    record {
+      limits = limits_hold e index free;
+      early = omega arith;
+      index_is = index_is;
+      mode_is = mode_is;
+      latency_is = latency_is;
+      buffer_is = buffer_is;
+      publishers_wide = publishers_wide;
+      places_are = places_are;
+      seats_are = λ at d p below.
+          let is = vacant at d below in
+          record {
+            session_is = subst (λ (o : Option TheSession). IsStored e index o None) (sym is.1) tt;
+            count_is = is.0;
+            wide = is.2;
+            seated = λ s found. absurd (let bad : None ≡ Some s = found in cc);
+          };
+      alone = tt;
+      publishers_are = record {
+        apart = λ at k d s t one other both. absurd (let bad : None ≡ Some s = one.found in cc);
+        older_is_active = λ at d s one first. absurd (let bad : None ≡ Some s = one.found in cc);
+      };
+    }

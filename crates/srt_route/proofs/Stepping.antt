@@ -8,7 +8,7 @@ use Rattle.srt_route.specs.declared.reply_queue.ReplyQueue.{ReplyQueue}
 use Rattle.srt_route.specs.Written.{written}
 use Rattle.srt_route.specs.Sessions.{Session, is_publisher, is_subscriber, aged, reported}
 use Rattle.srt_route.specs.Route.{Reply, sent, after, clock_after, taken, taken_by, passed_by, delivered, packets_where, reply}
-use Rattle.srt_route.specs.Media.{IsBody}
+use Rattle.srt_route.specs.Tables.{IsTable}
 use Rattle.srt_route.specs.Reports.{AreSaid}
 use Rattle.srt_route.specs.Stands.{IsRoute, waiting, places}
 use Rattle.srt_route.specs.Waits.{replies_of, places_of}
@@ -20,13 +20,13 @@ abbrev pub said_at : Terms → (clock : ℕ) → List Session → List Datagram
 said_at e clock ss = map sent (packets_where e clock is_publisher (delivered e clock ss) ++ packets_where e clock is_subscriber (delivered e clock ss))
 
 -- after the six steps the route stands for one item more
-pub stands_more : (e : Terms) (index : ℕ) (items : List Item) (item : Item) (old new : TheRoute) → IsRoute e index old (after e index items) → new.clock ≡ max old.clock (moment_of item) → IsBody e index new.clock new.table new.media (map (reported e new.clock) (delivered e new.clock (taken e index new.clock item (map (aged e new.clock) (after e index items).sessions)).sessions)) → places old ≤ places new → IsRoute e index new (after e index (item ∷ items))
+pub stands_more : (e : Terms) (index : ℕ) (items : List Item) (item : Item) (old new : TheRoute) → IsRoute e index old (after e index items) → new.clock ≡ max old.clock (moment_of item) → IsTable e index new.clock new.table (map (reported e new.clock) (delivered e new.clock (taken e index new.clock item (map (aged e new.clock) (after e index items).sessions)).sessions)) → places old ≤ places new → IsRoute e index new (after e index (item ∷ items))
 stands_more e index items item old new h moment body more =
     let m = after e index items in
     let clock : new.clock ≡ clock_after item m = moment ∙ ap (λ (n : ℕ). max n (moment_of item)) h.clock_is in
     record {
       clock_is = clock;
-      body_is = subst (λ (n : ℕ). IsBody e index new.clock new.table new.media (map (reported e n) (delivered e n (taken e index n item (map (aged e n) m.sessions)).sessions))) clock body;
+      table_is = subst (λ (n : ℕ). IsTable e index new.clock new.table (map (reported e n) (delivered e n (taken e index n item (map (aged e n) m.sessions)).sessions))) clock body;
       room = omega (arith, h.room, more);
     }
 

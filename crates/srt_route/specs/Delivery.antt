@@ -1,38 +1,31 @@
--- The parts of a delivery and of an event's output: payload by payload, and slot by slot.
-use Rattle.std.specs.Prelude.{◌≡◌, ℕ, ◌<◌, ◌≤◌, Bool, true, false, Option, None, Some, List, [], ◌∷◌, map, length, find, nat_lt, not, ⊤, if◌then◌else◌, slice_index_or}
+-- The parts of a delivery and of an event's output: payload by payload, and session by session.
+use Rattle.std.specs.Prelude.{◌≡◌, ℕ, ◌≤◌, Bool, true, false, Option, None, Some, List, [], ◌∷◌, map, find, unwrap_or, ⊤, ◌==◌, if◌then◌else◌}
 use Rattle.srt_seq.specs.declared.shared.Mode.TheVariants.{Buffer}
 use Rattle.srt_seq.specs.Terms.{Terms}
 use Rattle.srt_recvbuf.specs.Receiving.{Arrival}
 use Rattle.srt_sendbuf.specs.Sending.{room}
+use Rattle.srt_pub.specs.Calls.{next_delivery, after_delivery}
 use Rattle.srt_pub.specs.Publishing as publisher
-use Rattle.srt_pub.specs.Stands as publishers
 use Rattle.srt_sub.specs.Subscribing as subscriber
-use Rattle.srt_sub.specs.Stands as subscribers
-use Rattle.srt_sub.specs.declared.session.Subscriber.{Subscriber}
-use Rattle.srt_route.specs.declared.slot.Slot.{Slot}
-use Rattle.srt_route.specs.declared.media.Media.{Media}
 use Rattle.srt_route.specs.Past.{Past, Publishes, Subscribes, Agreed, least}
-use Rattle.srt_route.specs.Sessions.{Session, terms_of, publishes, is_publisher, is_open_in, time_in}
-use Rattle.srt_route.specs.Tables.{session_passes}
-use Rattle.srt_route.specs.Media.{IsSeated}
-
--- a subscriber's session is open in this slot
-abbrev pub has_subscriber : Slot → Bool
-has_subscriber slot = session_passes (λ t. not (publishes t.role)) slot.session
+use Rattle.srt_route.specs.Sessions.{Session, terms_of, is_publisher, active, is_open_in, time_in, payloads}
+use Rattle.srt_route.specs.Route.{Reply, packets_at, least_room}
+use Rattle.srt_route.specs.declared.table.Table.{Table}
+use Rattle.srt_route.specs.Tables.{IsTable, Uses}
 
 -- a session, with another past if it is open
 abbrev pub changed : (Session → Past) → Session → Session
 changed past s = if s.is_open then record s { past = past s } else s
 
--- the publisher's past is q, and the subscribers were fed these payloads
-abbrev pub amid_past : Agreed → (time : ℕ) → publisher.Publishing → List (List ℕ) → Past → Past
-amid_past terms time q payloads (Publishes p) = Publishes q
-amid_past terms time q payloads (Subscribes m) = Subscribes (subscriber.fed_all terms.subscriber time payloads m)
+-- the past of this slot's publisher is q, and the subscribers were fed these payloads
+abbrev pub amid_past : Agreed → (time : ℕ) → (mine : Bool) → publisher.Publishing → List (List ℕ) → Past → Past
+amid_past terms time mine q payloads (Publishes p) = Publishes (if mine then q else p)
+amid_past terms time mine q payloads (Subscribes m) = Subscribes (subscriber.fed_all terms.subscriber time payloads m)
 
-abbrev pub amid : Terms → (clock : ℕ) → publisher.Publishing → List (List ℕ) → Session → Past
-amid e clock q payloads s = amid_past (terms_of e s) (time_in s clock) q payloads s.past
+abbrev pub amid : Terms → (clock at : ℕ) → publisher.Publishing → List (List ℕ) → Session → Past
+amid e clock at q payloads s = amid_past (terms_of e s) (time_in s clock) (s.slot == at) q payloads s.past
 
--- the subscribers are fed one payload, and the publisher stays
+-- the subscribers are fed one payload, and the publishers stay
 abbrev pub fed_past : Agreed → (time : ℕ) → List ℕ → Past → Past
 fed_past terms time payload (Publishes p) = Publishes p
 fed_past terms time payload (Subscribes m) = Subscribes (subscriber.fed terms.subscriber time payload m)
@@ -45,6 +38,19 @@ pub record IsPublisherAt (sessions : List Session) (at : ℕ) (s : Session) (q :
   pub found : find (is_open_in at) sessions ≡ Some s
   pub publishes : is_publisher s ≡ true
   pub past_is : s.past ≡ Publishes q
+
+-- no open session publishes
+abbrev pub NonePublishes : List Session → Type 0
+NonePublishes sessions = (at : ℕ) (s : Session) → find (is_open_in at) sessions ≡ Some s → is_publisher s ≡ false
+
+-- the active publisher, which uses these buffers
+pub record HasActive (sessions : List Session) (t : Table) (second : Bool) : Type 0 where
+  pub at : ℕ
+  pub session : Session
+  pub past : publisher.Publishing
+  pub here : IsPublisherAt sessions at session past
+  pub active_is : active sessions ≡ Some session
+  pub uses : Uses t at second
 
 -- in buffer mode the subscriber's send buffer has room for this number of payloads
 abbrev pub HasRoom : Terms → (places : ℕ) → Past → Type 0
@@ -59,28 +65,29 @@ abbrev pub lesser : Option ℕ → Option ℕ → Option ℕ
 lesser found None = found
 lesser found (Some room) = Some (least found room)
 
--- the sessions after the publisher's next payload, if there is one
-abbrev pub turned : Terms → (clock : ℕ) → Option Arrival → publisher.Publishing → List Session → List Session
-turned e clock None q sessions = sessions
-turned e clock (Some a) q sessions = map (changed (amid e clock q (a.payload ∷ []))) sessions
+-- the sessions after the next payload of this slot's publisher, if there is one
+abbrev pub turned : Terms → (clock at : ℕ) → Option Arrival → publisher.Publishing → List Session → List Session
+turned e clock at None q sessions = sessions
+turned e clock at (Some a) q sessions = map (changed (amid e clock at q (a.payload ∷ []))) sessions
+
+-- the sessions after all payloads of this slot's publisher s, whose past is q
+abbrev pub passed_on : Terms → (clock at : ℕ) → (room : Option ℕ) → Session → publisher.Publishing → List Session → List Session
+passed_on e clock at room s q sessions =
+    map (changed (amid e clock at (publisher.delivered (terms_of e s).publisher (time_in s clock) room q) (payloads e clock room s))) sessions
+
+-- the publishers of other slots than this one stand by: what they deliver goes to nobody
+abbrev pub stood_past : Agreed → (time : ℕ) → (is_active : Bool) → Past → Past
+stood_past terms time is_active (Publishes p) = Publishes (if is_active then p else publisher.delivered terms.publisher time None p)
+stood_past terms time is_active (Subscribes m) = Subscribes m
+
+abbrev pub stood_by : Terms → (clock at : ℕ) → Session → Past
+stood_by e clock at s = stood_past (terms_of e s) (time_in s clock) (s.slot == at) s.past
 
 abbrev pub is_given : Option Arrival → Bool
 is_given None = false
 is_given (Some a) = true
 
--- only the slots below a bound have changed so far
-abbrev pub at_place : Bool → (Session → Session) → Session → Session
-at_place true change s = change s
-at_place false change s = s
-
-pub record IsHalf (e : Terms) (clock below : ℕ) (change : Session → Session) (media : Media) (sessions : List Session) : Type 0 where
-  pub as_many : length media.subscribers.items ≡ e.sessions
-  pub wide : (at : ℕ) (x : Subscriber) → at < e.sessions → subscribers.IsWide e.buffer (slice_index_or media.subscribers.items at x)
-  pub publisher_wide : publishers.width_of media.publisher ≡ e.buffer
-  pub seated : (at : ℕ) (x : Subscriber) (s : Session) → at < e.sessions → find (is_open_in at) sessions ≡ Some s
-      → IsSeated e clock media.publisher (slice_index_or media.subscribers.items at x) (at_place (nat_lt at below) change s)
-
--- the pasts after the publisher's output, and after the subscribers' output
+-- the pasts after the publishers' output, and after the subscribers' output
 abbrev pub publisher_reported : Agreed → (time : ℕ) → Past → Past
 publisher_reported terms time (Publishes p) = Publishes (publisher.reported terms.publisher time p)
 publisher_reported terms time (Subscribes m) = Subscribes m
@@ -88,9 +95,67 @@ publisher_reported terms time (Subscribes m) = Subscribes m
 abbrev pub after_publisher : Terms → (clock : ℕ) → Session → Past
 after_publisher e clock s = publisher_reported (terms_of e s) (time_in s clock) s.past
 
+-- the same after the output of this slot's publisher
+abbrev pub reported_in : Agreed → (time : ℕ) → (mine : Bool) → Past → Past
+reported_in terms time mine past = if mine then publisher_reported terms time past else past
+
+abbrev pub after_publisher_in : Terms → (clock at : ℕ) → Session → Past
+after_publisher_in e clock at s = reported_in (terms_of e s) (time_in s clock) (s.slot == at) s.past
+
+-- the packets that the open session of this slot sends if it passes the test
+abbrev pub packets_of : Terms → (clock : ℕ) → (Session → Bool) → Option Session → List Reply
+packets_of e clock test None = []
+packets_of e clock test (Some s) = packets_at e (test s) (time_in s clock) s
+
+abbrev pub packets_in : Terms → (clock : ℕ) → (Session → Bool) → (at : ℕ) → List Session → List Reply
+packets_in e clock test at sessions = packets_of e clock test (find (is_open_in at) sessions)
+
 abbrev pub subscriber_reported : Agreed → (time : ℕ) → Past → Past
 subscriber_reported terms time (Publishes p) = Publishes p
 subscriber_reported terms time (Subscribes m) = Subscribes (subscriber.reported terms.subscriber time m)
 
 abbrev pub after_subscriber : Terms → (clock : ℕ) → Session → Past
 after_subscriber e clock s = subscriber_reported (terms_of e s) (time_in s clock) s.past
+
+-- the calls of a delivery, for any sessions that the table stands for; s is the publisher of slot `at`, which uses these
+-- buffers, and its past is q
+
+-- whether its next payload is given
+abbrev pub GivesNext : (second : Bool) → (clock room : ℕ) → Table → (given : Bool) → Type 0
+GivesNext second clock room old given =
+    (e : Terms) (index : ℕ) (sessions : List Session) (at : ℕ) (s : Session) (q : publisher.Publishing)
+    → IsTable e index clock old sessions → IsPublisherAt sessions at s q → Uses old at second
+    → given ≡ is_given (next_delivery (terms_of e s).publisher (time_in s clock) room q)
+
+-- the table after it
+abbrev pub turned_by : Terms → (clock room at : ℕ) → Session → publisher.Publishing → List Session → List Session
+turned_by e clock room at s q sessions =
+    turned e clock at (next_delivery (terms_of e s).publisher (time_in s clock) room q)
+    (after_delivery (terms_of e s).publisher (next_delivery (terms_of e s).publisher (time_in s clock) room q) q) sessions
+
+abbrev pub TurnsTo : (second : Bool) → (clock room : ℕ) → (old new : Table) → Type 0
+TurnsTo second clock room old new =
+    (e : Terms) (index : ℕ) (sessions : List Session) (at : ℕ) (s : Session) (q : publisher.Publishing)
+    → IsTable e index clock old sessions → IsPublisherAt sessions at s q → Uses old at second → HaveRoom e room sessions
+    → IsTable e index clock new (turned_by e clock room at s q sessions)
+
+-- the table after all its payloads
+abbrev pub PassesOn : (second : Bool) → (clock room : ℕ) → (old new : Table) → Type 0
+PassesOn second clock room old new =
+    (e : Terms) (index : ℕ) (sessions : List Session) (at : ℕ) (s : Session) (q : publisher.Publishing)
+    → IsTable e index clock old sessions → IsPublisherAt sessions at s q → Uses old at second → room ≡ unwrap_or (least_room e sessions) 0
+    → IsTable e index clock new (passed_on e clock at (least_room e sessions) s q sessions)
+
+-- the table after the payloads of the publisher with the other buffers, if one is open
+abbrev pub StandsBy : (active : Bool) → (clock : ℕ) → (old new : Table) → Type 0
+StandsBy active clock old new =
+    (e : Terms) (index : ℕ) (sessions : List Session) (at : ℕ) (s : Session) (q : publisher.Publishing)
+    → IsTable e index clock old sessions → IsPublisherAt sessions at s q → Uses old at active
+    → IsTable e index clock new (map (changed (stood_by e clock at)) sessions)
+
+-- no publisher is open, or the active one uses these buffers
+abbrev pub HasNone : Table → Type 0
+HasNone t = (e : Terms) (index clock : ℕ) (sessions : List Session) → IsTable e index clock t sessions → NonePublishes sessions
+
+abbrev pub IsActiveOf : Table → (second : Bool) → Type 0
+IsActiveOf t second = (e : Terms) (index clock : ℕ) (sessions : List Session) → IsTable e index clock t sessions → HasActive sessions t second

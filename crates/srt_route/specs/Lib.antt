@@ -10,8 +10,9 @@ pub mod Sendable
 pub mod Writable
 pub mod Written
 pub mod Waits
+pub mod Buffers
+pub mod Places
 pub mod Tables
-pub mod Media
 pub mod Admission
 pub mod Stands
 pub mod Delivery

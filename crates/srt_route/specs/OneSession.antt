@@ -1,8 +1,11 @@
--- The effect of a call on the buffers and the slot of one session, whatever they stood for.
-use Rattle.std.specs.Prelude.{◌≡◌, ℕ, ◌+◌, ◌-◌, ◌<◌, ◌≤◌, List, length, map}
+-- The effect of a call on the buffers and the seat of one session, whatever they stood for.
+use Rattle.std.specs.Prelude.{◌≡◌, ℕ, ◌+◌, ◌-◌, ◌<◌, ◌≤◌, None, List, length, map}
 use Rattle.std.specs.Option.{is_some}
 use Rattle.srt_seq.specs.declared.shared.Peer.{Peer}
 use Rattle.srt_seq.specs.declared.shared.Mode.TheVariants.{Buffer}
+use Rattle.srt_seq.specs.declared.shared.Role.{Role}
+use Rattle.srt_seq.specs.declared.shared.Role.TheVariants.{Publish, Request}
+use Rattle.srt_seq.specs.Terms.{Terms}
 use Rattle.srt_seq.specs.Lift.{stamped_from}
 use Rattle.srt_seq.specs.Items.{Datagram}
 use Rattle.srt_packet.specs.Grammar.{Packet}
@@ -19,10 +22,24 @@ use Rattle.srt_sub.specs.Stands as subscriber
 use Rattle.srt_sub.specs.Subscribing as subscribing
 use Rattle.srt_sub.specs.declared.session.Subscriber.{Subscriber}
 use Rattle.srt_route.specs.declared.reply_queue.ReplyQueue.{ReplyQueue}
-use Rattle.srt_route.specs.declared.slot.Slot.{Slot}
-use Rattle.srt_route.specs.Tables.{stored_after}
-use Rattle.srt_route.specs.Media.{datagrams_to}
+use Rattle.srt_route.specs.declared.conclusion.Conclusion.{Conclusion}
+use Rattle.srt_route.specs.declared.seat.Seat.{Seat}
+use Rattle.srt_route.specs.Sessions.{agreed_terms}
+use Rattle.srt_route.specs.Buffers.{datagrams_to}
+use Rattle.srt_route.specs.Tables.{stored_after, with_stored}
 use Rattle.srt_route.specs.Reports.{Queues}
+
+-- a session begins with this conclusion: the publisher's buffers or those of the seat stand for its beginning, and all
+-- else is as before
+abbrev pub BeginsAs : Role → Terms → (clock stamp : ℕ) → Conclusion → (p q : Publisher) → (seat new : Seat) → Type 0
+BeginsAs Publish e clock stamp c p q seat new =
+    publisher.StandsFor (agreed_terms e c).publisher c.initial clock stamp c.caller q publishing.opened × (new ≡ seat)
+BeginsAs Request e clock stamp c p q seat new =
+    subscriber.StandsFor (agreed_terms e c).subscriber c.initial clock c.caller clock new.subscriber subscribing.opened
+    × (q ≡ p) × (new.generation ≡ seat.generation) × (new.session ≡ seat.session)
+
+abbrev pub Begins : Terms → (clock stamp : ℕ) → Conclusion → (p q : Publisher) → (seat new : Seat) → Type 0
+Begins e clock stamp c p q seat new = BeginsAs c.role e clock stamp c p q seat new
 
 -- a publisher's buffers after a packet
 abbrev pub PublisherTook : (clock : ℕ) → Packet → (old new : Publisher) → Type 0
@@ -31,12 +48,12 @@ PublisherTook clock packet old new =
     → publisher.StandsFor terms initial opening stamp caller old m
     → publisher.StandsFor terms initial opening stamp caller new (publishing.took terms time (stamped_from stamp packet.stamp) (to_publisher.heard_from initial packet.body) m)
 
--- the publisher's slot after the packet
-abbrev pub PublisherEnds : (clock : ℕ) → Packet → Publisher → (slot new : Slot) → Type 0
-PublisherEnds clock packet old slot new =
+-- the publisher's seat after the packet
+abbrev pub PublisherEnds : (clock : ℕ) → Packet → Publisher → (seat new : Seat) → Type 0
+PublisherEnds clock packet old seat new =
     (terms : publishing.Terms) (initial opening stamp caller : ℕ) (m : publishing.Publishing)
     → publisher.StandsFor terms initial opening stamp caller old m
-    → new ≡ record { generation = slot.generation; session = stored_after (is_some (ended terms initial packet.body m)) clock slot.session }
+    → new ≡ with_stored (stored_after (is_some (ended terms initial packet.body m)) clock seat.session) seat
 
 -- a subscriber's buffers after a packet
 abbrev pub SubscriberTook : (clock : ℕ) → Packet → (old new : Subscriber) → Type 0
@@ -58,6 +75,13 @@ SubscriberFed clock payload old new =
     (terms : subscribing.Terms) (initial opening caller : ℕ) (m : subscribing.Subscribing)
     → subscriber.StandsFor terms initial opening caller clock old m → 0 < length payload → (terms.mode ≡ Buffer → 0 < room terms.width m.sending)
     → subscriber.StandsFor terms initial opening caller clock new (subscribing.fed terms (clock - opening) payload (subscribing.expired terms (clock - opening) m))
+
+-- a publisher's buffers after it delivered to nobody
+abbrev pub PublisherStoodBy : (clock : ℕ) → (old new : Publisher) → Type 0
+PublisherStoodBy clock old new =
+    (terms : publishing.Terms) (initial opening stamp caller time : ℕ) (m : publishing.Publishing) → clock ≡ opening + time
+    → publisher.StandsFor terms initial opening stamp caller old m
+    → publisher.StandsFor terms initial opening stamp caller new (publishing.delivered terms time None m)
 
 -- a publisher's buffers after its output at the end of an event
 abbrev pub PublisherReported : (clock : ℕ) → (old new : Publisher) → Type 0

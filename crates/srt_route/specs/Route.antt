@@ -1,7 +1,7 @@
 -- A route as a function of all its items. Lists of items and of sessions have the newest first, lists of replies the
 -- oldest.
-use Rattle.std.specs.Prelude.{ℕ, ◌+◌, ◌*◌, ◌≤◌, Bool, true, false, Option, None, Some, Result, Ok, Err, List, [], ◌∷◌, ◌++◌, length, map, fold, max, find, not, nat_lt, ◌==◌, ◌&&◌, ◌||◌, if◌then◌else◌}
-use Rattle.std.specs.List.{list_any, flat_map}
+use Rattle.std.specs.Prelude.{ℕ, ◌+◌, ◌*◌, ◌≤◌, Bool, true, false, Option, None, Some, Result, Ok, Err, List, [], ◌∷◌, ◌++◌, length, map, fold, max, find, not, nat_lt, nat_le, ◌==◌, ◌&&◌, ◌||◌, if◌then◌else◌}
+use Rattle.std.specs.List.{flat_map}
 use Rattle.srt_seq.specs.declared.shared.Peer.{Peer}
 use Rattle.srt_seq.specs.declared.shared.Mode.{Mode}
 use Rattle.srt_seq.specs.declared.shared.Mode.TheVariants.{Live, Buffer}
@@ -14,13 +14,13 @@ use Rattle.srt_packet.specs.Reading.{packet_in}
 use Rattle.srt_packet.specs.Text.{text}
 use Rattle.srt_hs.specs.declared.writing.HsAnswer.{HsAnswer}
 use Rattle.srt_hs.specs.declared.writing.AnswerKind.TheVariants as answers
-use Rattle.srt_hs.specs.declared.writing.RefusalCode.{RefusalCode}
-use Rattle.srt_hs.specs.declared.writing.RefusalCode.TheVariants as codes
+use Rattle.srt_hs.specs.declared.refusals.RefusalCode.{RefusalCode}
+use Rattle.srt_hs.specs.declared.refusals.RefusalCode.TheVariants as codes
 use Rattle.srt_hs.specs.Text.{answer_text}
 use Rattle.srt_route.specs.declared.conclusion.Conclusion.{Conclusion}
 use Rattle.srt_route.specs.Conclusions.{conclusion_in}
 use Rattle.srt_route.specs.Past.{Report, report_text, past_of, least_with}
-use Rattle.srt_route.specs.Sessions.{Session, is_same_peer, session_id, answer_of, publishes, is_publisher, is_subscriber, by_slot, free_slot, generation_of, time_in, aged, took, answered_at_once, payloads, passed, reports_at, reported}
+use Rattle.srt_route.specs.Sessions.{Session, is_same_peer, session_id, answer_of, publishes, is_publisher, is_subscriber, open_publishers, active, is_active, by_slot, free_slot, generation_of, time_in, aged, took, answered_at_once, payloads, passed, reports_at, reported}
 
 -- every session that was ever opened, and the clock in microseconds
 pub record Route : Type 0 where
@@ -75,12 +75,12 @@ abbrev pub differ : Bool → Bool → Bool
 differ true b = not b
 differ false b = b
 
--- the first reason to refuse a conclusion, free slots aside (this profile)
-abbrev pub refused : Mode → (has_publisher : Bool) → Conclusion → Option RefusalCode
-refused mode has_publisher c =
+-- the first reason to refuse a conclusion, free slots aside; at most two publishers are open (this profile)
+abbrev pub refused : Mode → (publishers : ℕ) → Conclusion → Option RefusalCode
+refused mode publishers c =
     if differ c.wants_stream (is_buffer mode) then Some codes.MessageApi
     else if nat_lt c.mtu 76 || c.window == 0 || (not (publishes c.role) && is_buffer mode && nat_lt c.mtu 1500) then Some codes.Rogue
-    else if publishes c.role && has_publisher then Some codes.Peer else None
+    else if publishes c.role && nat_le 2 publishers then Some codes.Peer else None
 
 abbrev pub session_opened : (clock : ℕ) → Peer → (stamp : ℕ) → Conclusion → (slot generation : ℕ) → Session
 session_opened clock peer stamp c slot generation =
@@ -109,7 +109,7 @@ heard_if mine clock s = if mine then record s { heard = clock } else s
 abbrev pub concluded : Terms → (index clock : ℕ) → Peer → (stamp : ℕ) → Conclusion → List Session → Option Session → Taken
 concluded e index clock peer stamp c sessions (Some s) =
     record { sessions = map (λ t. heard_if (is_of peer c.caller t) clock t) sessions; answers = answered peer c.caller (answer_of e index s) }
-concluded e index clock peer stamp c sessions None = considered e index clock peer stamp c sessions (refused e.mode (list_any is_publisher sessions) c)
+concluded e index clock peer stamp c sessions None = considered e index clock peer stamp c sessions (refused e.mode (open_publishers sessions) c)
 
 -- a packet belongs to the session whose ID is its destination, if that session is open and its peer is the sender
 -- (section 3)
@@ -163,19 +163,26 @@ taken e index clock (Tick moment) sessions = nothing_taken sessions
 abbrev pub least_room : Terms → List Session → Option ℕ
 least_room e sessions = fold (λ found s. least_with e.buffer found s.past) None (by_slot e sessions)
 
--- what the publisher delivers (section 4.5)
+-- the payloads that subscribers are fed: what the active publisher delivers (section 4.5)
 abbrev pub delivery_of : Terms → (clock : ℕ) → (room : Option ℕ) → Option Session → List (List ℕ)
 delivery_of e clock room None = []
 delivery_of e clock room (Some s) = payloads e clock room s
 
 abbrev pub delivery : Terms → (clock : ℕ) → (room : Option ℕ) → List Session → List (List ℕ)
-delivery e clock room sessions = delivery_of e clock room (find is_publisher (by_slot e sessions))
+delivery e clock room sessions = delivery_of e clock room (active sessions)
 
--- the publisher delivers, and each open subscriber is fed
+-- the room by which a publisher delivers: a publisher that stands by has no subscribers. So in live mode it delivers
+-- what is due, to nobody, and in buffer mode it delivers nothing (this profile)
+abbrev pub room_if : (is_active : Bool) → (room : Option ℕ) → Option ℕ
+room_if true room = room
+room_if false room = None
+
+-- each publisher delivers, and each open subscriber is fed what the active one delivers
 abbrev pub delivered : Terms → (clock : ℕ) → List Session → List Session
 delivered e clock sessions =
     let room = least_room e sessions in
-    map (passed e clock room (delivery e clock room sessions)) sessions
+    let fed = delivery e clock room sessions in
+    map (λ s. passed e clock (room_if (is_active sessions s) room) fed s) sessions
 
 -- the packets that sessions send at the end of an event, slots upwards
 abbrev pub packets_at : Terms → (here : Bool) → (time : ℕ) → Session → List Reply
@@ -188,11 +195,11 @@ packets_where e clock test sessions = flat_map (λ s. packets_at e (test s) (tim
 abbrev pub taken_by : Terms → (index : ℕ) → Item → Route → Taken
 taken_by e index item route = let clock = clock_after item route in taken e index clock item (map (aged e clock) route.sessions)
 
--- then the publisher delivers
+-- then the publishers deliver
 abbrev pub passed_by : Terms → (index : ℕ) → Item → Route → List Session
 passed_by e index item route = delivered e (clock_after item route) (taken_by e index item route).sessions
 
--- then the publisher sends, and then the subscribers do
+-- then the publishers send, and then the subscribers do
 abbrev pub replies_to : Terms → (index : ℕ) → Item → Route → List Reply
 replies_to e index item route =
     let clock = clock_after item route in

@@ -1,6 +1,7 @@
 -- The sessions of a route: every one that was ever opened, the newest first.
-use Rattle.std.specs.Prelude.{ℕ, ◌+◌, ◌-◌, ◌*◌, ◌%◌, ◌^◌, Bool, true, false, Option, List, [], ◌∷◌, min, max, find, filter_map, not, nat_le, ◌==◌, ◌&&◌, if◌then◌else◌}
+use Rattle.std.specs.Prelude.{ℕ, ◌+◌, ◌-◌, ◌*◌, ◌%◌, ◌^◌, Bool, true, false, Option, None, Some, List, [], ◌∷◌, length, min, max, filter, find, filter_map, not, nat_le, ◌==◌, ◌&&◌, if◌then◌else◌}
 use Rattle.std.specs.List.{list_any}
+use Rattle.std.specs.Option.{option_or}
 use Rattle.std.specs.Str.{bytes_eq}
 use Rattle.srt_seq.specs.declared.shared.Peer.{Peer}
 use Rattle.srt_seq.specs.declared.shared.Mode.{Mode}
@@ -86,6 +87,23 @@ is_publisher s = s.is_open && publishes s.conclusion.role
 
 abbrev pub is_subscriber : Session → Bool
 is_subscriber s = s.is_open && not (publishes s.conclusion.role)
+
+-- the number of open publishers
+abbrev pub open_publishers : List Session → ℕ
+open_publishers sessions = length (filter is_publisher sessions)
+
+-- of the open publishers the one that was opened first is active; another one stands by (this profile)
+abbrev pub active : List Session → Option Session
+active [] = None
+active (s ∷ older) = option_or (active older) (if is_publisher s then Some s else None)
+
+-- whether a session is the active publisher: an open session is known by its slot
+abbrev pub has_slot : Option Session → (slot : ℕ) → Bool
+has_slot None slot = false
+has_slot (Some s) slot = s.slot == slot
+
+abbrev pub is_active : List Session → Session → Bool
+is_active sessions s = has_slot (active sessions) s.slot
 
 abbrev pub is_open_in : (slot : ℕ) → Session → Bool
 is_open_in slot s = s.is_open && s.slot == slot

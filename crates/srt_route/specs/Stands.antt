@@ -6,7 +6,7 @@ use Rattle.srt_route.specs.declared.state.Route.{Route as TheRoute}
 use Rattle.srt_route.specs.Written.{written}
 use Rattle.srt_route.specs.Waits.{replies_of, places_of}
 use Rattle.srt_route.specs.Route.{Route, after}
-use Rattle.srt_route.specs.Media.{IsBody}
+use Rattle.srt_route.specs.Tables.{IsTable}
 
 -- the datagrams that wait, the oldest first
 abbrev pub waiting : TheRoute → List Datagram
@@ -19,7 +19,7 @@ places r = places_of r.waiting
 -- the route has these sessions and this clock, the waiting replies aside; its queue holds all replies to an item
 pub record IsRoute (e : Terms) (index : ℕ) (r : TheRoute) (m : Route) : Type 0 where
   pub clock_is : r.clock ≡ m.clock
-  pub body_is : IsBody e index r.clock r.table r.media m.sessions
+  pub table_is : IsTable e index r.clock r.table m.sessions
   pub room : 4 + 66 * e.sessions ≤ places r
 
 -- the route's state is the one that its terms, its index and its items determine; the newest item comes first

@@ -1,16 +1,22 @@
 -- The sessions that a route's table stands for.
-use Rattle.std.specs.Prelude.{◌≡◌, ℕ, ◌-◌, ◌%◌, ◌<◌, Bool, true, false, Option, None, Some, List, [], ◌∷◌, map, length, find, slice_index_or, nat_le, not, ◌==◌, ◌&&◌, if◌then◌else◌, ⊤}
+use Rattle.std.specs.Prelude.{◌≡◌, ℕ, ◌-◌, ◌%◌, ◌^◌, ◌<◌, Bool, true, false, Option, None, Some, List, [], ◌∷◌, map, length, find, slice_index_or, nat_le, not, ◌==◌, ◌&&◌, if◌then◌else◌, ⊤}
 use Rattle.std.specs.Option.{option_to_list}
 use Rattle.srt_seq.specs.declared.shared.Peer.{Peer}
 use Rattle.srt_seq.specs.Terms.{Terms}
 use Rattle.srt_seq.specs.Items.{Datagram}
 use Rattle.srt_route.specs.declared.replies.Reply.{Reply as TheReply}
-use Rattle.srt_route.specs.declared.slot.Session.{Session as TheSession}
-use Rattle.srt_route.specs.declared.slot.Slot.{Slot}
+use Rattle.srt_seq.specs.Entries.{in_limits}
+use Rattle.srt_pub.specs.Stands as publisher
+use Rattle.srt_pub.specs.declared.session.Publisher.{Publisher}
+use Rattle.srt_sub.specs.Stands as subscriber
+use Rattle.srt_route.specs.declared.seat.Session.{Session as TheSession}
+use Rattle.srt_route.specs.declared.seat.Seat.{Seat}
 use Rattle.srt_route.specs.declared.table.Table.{Table}
 use Rattle.srt_route.specs.Written.{written}
-use Rattle.srt_route.specs.Sessions.{Session, is_same_peer, session_id, answer_of, publishes, is_open_in, generation_of}
+use Rattle.srt_route.specs.Sessions.{Session, is_same_peer, session_id, answer_of, publishes, is_publisher, active, is_open_in, generation_of}
 use Rattle.srt_route.specs.Route.{Taken, Answers, is_of, sent}
+use Rattle.srt_route.specs.Buffers.{IsSeated}
+use Rattle.srt_route.specs.Places.{place_of, is_same}
 
 -- the stored session is this one, except that its end and its past aren't stored
 pub record IsSession (e : Terms) (index : ℕ) (t : TheSession) (s : Session) : Type 0 where
@@ -27,13 +33,31 @@ IsStored e index (Some t) (Some s) = IsSession e index t s
 IsStored e index None (Some s) = ⊥
 IsStored e index (Some t) None = ⊥
 
--- a slot has the open session of its number, and the number of sessions that were opened in it, in 16 bits
-pub record IsSlot (e : Terms) (index at : ℕ) (slot : Slot) (sessions : List Session) : Type 0 where
-  pub session_is : IsStored e index slot.session (find (is_open_in at) sessions)
-  pub count_is : slot.generation ≡ generation_of sessions at % 65536
+-- a test of a stored session
+abbrev pub session_passes : (TheSession → Bool) → Option TheSession → Bool
+session_passes test None = false
+session_passes test (Some t) = test t
 
-abbrev pub AreSlots : Terms → (index : ℕ) → List Slot → List Session → Type 0
-AreSlots e index slots sessions = (at : ℕ) (slot : Slot) → at < length slots → IsSlot e index at (slice_index_or slots at slot) sessions
+-- whether the session of a seat uses the second publisher buffers
+abbrev pub uses_second : Seat → Bool
+uses_second seat = session_passes (λ t. t.second) seat.session
+
+-- the publisher buffers of a seat's session, of the two of a route
+abbrev pub buffers_of : List Publisher → Seat → (other : Publisher) → Publisher
+buffers_of publishers seat other = slice_index_or publishers (place_of (uses_second seat)) other
+
+-- a seat has the open session of its slot with its buffers, which have the route's width, and the number of sessions
+-- that were opened in it, in 16 bits
+pub record IsSeat (e : Terms) (index clock at : ℕ) (p : Publisher) (seat : Seat) (sessions : List Session) : Type 0 where
+  pub session_is : IsStored e index seat.session (find (is_open_in at) sessions)
+  pub count_is : seat.generation ≡ generation_of sessions at % 65536
+  pub wide : subscriber.IsWide e.buffer seat.subscriber
+  pub seated : (s : Session) → find (is_open_in at) sessions ≡ Some s → IsSeated e clock p seat.subscriber s
+
+abbrev pub AreSeats : Terms → (index clock : ℕ) → List Publisher → List Seat → List Session → Type 0
+AreSeats e index clock publishers seats sessions =
+    (at : ℕ) (d : Seat) (p : Publisher) → at < length seats
+    → IsSeat e index clock at (buffers_of publishers (slice_index_or seats at d) p) (slice_index_or seats at d) sessions
 
 -- an open session has a slot below the bound, and no older session is open in that slot or of the same caller
 pub record IsAlone (places : ℕ) (s : Session) (older : List Session) : Type 0 where
@@ -45,49 +69,80 @@ abbrev pub AreAlone : (places : ℕ) → List Session → Type 0
 AreAlone places [] = ⊤
 AreAlone places (s ∷ older) = (s.is_open ≡ true → IsAlone places s older) × AreAlone places older
 
--- these are the slots of these sessions
-pub record AreStored (e : Terms) (index : ℕ) (slots : List Slot) (sessions : List Session) : Type 0 where
-  pub places_are : length slots ≡ e.sessions
-  pub slots_are : AreSlots e index slots sessions
-  pub alone : AreAlone e.sessions sessions
+-- the open session of this slot publishes
+pub record IsPublishing (sessions : List Session) (at : ℕ) (s : Session) : Type 0 where
+  pub found : find (is_open_in at) sessions ≡ Some s
+  pub publishes : is_publisher s ≡ true
 
--- this is the table of these sessions
-pub record IsTable (e : Terms) (index : ℕ) (t : Table) (sessions : List Session) : Type 0 where
+-- open publishers use different buffers, and one that uses the older's is active: of two open ones it was opened first,
+-- and one that is open alone may use either
+pub record ArePublishers (second_is_older : Bool) (seats : List Seat) (sessions : List Session) : Type 0 where
+  pub apart : (at k : ℕ) (d : Seat) (s t : Session) → IsPublishing sessions at s → IsPublishing sessions k t
+      → uses_second (slice_index_or seats at d) ≡ uses_second (slice_index_or seats k d) → at ≡ k
+  pub older_is_active : (at : ℕ) (d : Seat) (s : Session) → IsPublishing sessions at s
+      → uses_second (slice_index_or seats at d) ≡ second_is_older → active sessions ≡ Some s
+
+-- the session of this slot uses the second publisher buffers, or the first
+abbrev pub Uses : Table → (at : ℕ) → (second : Bool) → Type 0
+Uses t at second = (d : Seat) → second ≡ uses_second (slice_index_or t.seats.items at d)
+
+abbrev pub UseTheSame : (old new : Table) → Type 0
+UseTheSame old new = (at : ℕ) (d : Seat) → uses_second (slice_index_or new.seats.items at d) ≡ uses_second (slice_index_or old.seats.items at d)
+
+-- both publisher buffers have this width
+abbrev pub AreWide : (width : ℕ) → List Publisher → Type 0
+AreWide width publishers = (second : Bool) (p : Publisher) → publisher.width_of (slice_index_or publishers (place_of second) p) ≡ width
+
+-- this is the table of these sessions at this clock
+pub record IsTable (e : Terms) (index clock : ℕ) (t : Table) (sessions : List Session) : Type 0 where
+  pub limits : in_limits e ≡ true
+  pub early : clock < 2 ^ 62
   pub index_is : t.index ≡ index
   pub mode_is : t.mode ≡ e.mode
   pub latency_is : t.latency_ms ≡ e.latency_ms
   pub buffer_is : t.buffer ≡ e.buffer
-  pub stored : AreStored e index t.slots.items sessions
+  pub publishers_wide : AreWide e.buffer t.publishers.items
+  pub places_are : length t.seats.items ≡ e.sessions
+  pub seats_are : AreSeats e index clock t.publishers.items t.seats.items sessions
+  pub alone : AreAlone e.sessions sessions
+  pub publishers_are : ArePublishers t.second_is_older t.seats.items sessions
 
 -- the datagram of a reply, or none
 abbrev pub written_of : Option TheReply → List Datagram
 written_of r = map written (option_to_list r)
 
 -- the table after an item, and the replies to it, are these
-pub record IsTaken (e : Terms) (index : ℕ) (t : Table) (replies : List Datagram) (taken : Taken) : Type 0 where
-  pub table_is : IsTable e index t taken.sessions
+pub record IsTaken (e : Terms) (index clock : ℕ) (t : Table) (replies : List Datagram) (taken : Taken) : Type 0 where
+  pub table_is : IsTable e index clock t taken.sessions
   pub replies_are : replies ≡ map sent taken.answers
 
 -- the tests by which a stored session is found
 abbrev pub is_session_of : Peer → (caller : ℕ) → TheSession → Bool
 is_session_of peer caller t = is_same_peer t.peer peer && t.caller == caller
 
-abbrev pub session_passes : (TheSession → Bool) → Option TheSession → Bool
-session_passes test None = false
-session_passes test (Some t) = test t
+abbrev pub holds : Peer → (caller : ℕ) → Seat → Bool
+holds peer caller seat = session_passes (is_session_of peer caller) seat.session
 
-abbrev pub holds : Peer → (caller : ℕ) → Slot → Bool
-holds peer caller slot = session_passes (is_session_of peer caller) slot.session
+abbrev pub has_publisher : Seat → Bool
+has_publisher seat = session_passes (λ t. publishes t.role) seat.session
 
-abbrev pub has_publisher : Slot → Bool
-has_publisher slot = session_passes (λ t. publishes t.role) slot.session
+-- whether it is a publisher's with these buffers
+abbrev pub publishes_from : (second : Bool) → Seat → Bool
+publishes_from second seat = session_passes (λ t. publishes t.role && is_same t.second second) seat.session
 
-abbrev pub is_vacant : Slot → Bool
-is_vacant slot = no_session slot.session
+abbrev pub has_subscriber : Seat → Bool
+has_subscriber seat = session_passes (λ t. not (publishes t.role)) seat.session
+
+abbrev pub is_vacant : Seat → Bool
+is_vacant seat = no_session seat.session
   where
     no_session : Option TheSession → Bool
     no_session None = true
     no_session (Some t) = false
+
+-- a seat with another session
+abbrev pub with_stored : Option TheSession → Seat → Seat
+with_stored session seat = record { generation = seat.generation; session = session; subscriber = seat.subscriber }
 
 -- a stored session whose peer is heard of at this clock
 abbrev pub heard_at : (clock : ℕ) → TheSession → TheSession

@@ -1,23 +1,22 @@
 //! Step 3 of an event, a conclusion at its route (sections 3.2.1, 4.3.1.2 and 4.4): every refusal in its order, and
 //! what both sides agree on.
 
-ghost use Rattle.std.specs.Prelude.{◌≡◌, ℕ, ◌<◌, ◌^◌, ◌∷◌, [], None, Some, List, length, find, IfOk};
-ghost use Rattle.std.specs.List.{list_any};
+ghost use Rattle.std.specs.Prelude.{◌≡◌, ℕ, ◌<◌, ◌≤◌, ◌^◌, ◌∷◌, [], true, None, Some, List, length, find, IfOk};
 ghost use Rattle.srt_seq.specs.Given.{given};
 ghost use Rattle.srt_seq.specs.Terms.{Terms};
-ghost use Rattle.srt_route.specs.Sessions.{Session as TheSession, agreed_ms, is_open_in, is_publisher};
+ghost use Rattle.srt_route.specs.Sessions.{Session as TheSession, agreed_ms, is_open_in, open_publishers, publishes};
 ghost use Rattle.srt_route.specs.Route.{is_buffer, differ, is_of, refused, concluded, considered, opens};
 ghost use Rattle.srt_route.specs.Written.{written};
 ghost use Rattle.srt_route.specs.Tables.{IsTable, IsTaken, written_of};
-ghost use Rattle.srt_route.specs.Media.{IsBody, IsBodyTaken};
-ghost use Rattle.srt_route.specs.Admission.{agreement_of, admitted};
+ghost use Rattle.srt_route.specs.Admission.{agreement_of, admitted, older_after};
 
 use crate::answer::{accepted, answer_to, refusal};
 use crate::arrival::Arrival;
 use crate::conclusion::Conclusion;
-use crate::media::Media;
+use crate::places::place_of;
 use crate::replies::Reply;
-use crate::slot::{Session, free_slot, have_publisher, id_at, slot_of};
+use crate::seat::{Session, count_publishers, free_slot, have_publisher, id_at, slot_of};
+use crate::start::start_buffers;
 use crate::table::Table;
 use srt_hs::RefusalCode;
 use srt_seq::{Mode, Role};
@@ -76,9 +75,9 @@ fn agree(mode: Mode, latency_ms: u16, c: &Conclusion) -> Agreement
 
 /// The first reason to refuse a conclusion, free slots aside. In order: 1012 (SRT_REJ_MESSAGEAPI) if the flag STREAM
 /// and the route's mode differ; 1004 (SRT_REJ_ROGUE) if the MTU is below 76, the flow window is 0, or a subscriber of
-/// buffer mode has an MTU below 1500; 1002 (SRT_REJ_PEER) if a second caller wants to publish.
-fn refused(mode: Mode, has_publisher: bool, c: &Conclusion) -> Option<RefusalCode>
-    ensures { result ≡ refused mode has_publisher c.now }
+/// buffer mode has an MTU below 1500; 1002 (SRT_REJ_PEER) if the caller wants to publish while two publishers are open.
+fn refused(mode: Mode, publishers: usize, c: &Conclusion) -> Option<RefusalCode>
+    ensures { result ≡ refused mode publishers c.now }
 {
     if c.wants_stream != is_buffer(mode) {
         return Some(RefusalCode::MessageApi);
@@ -87,7 +86,7 @@ fn refused(mode: Mode, has_publisher: bool, c: &Conclusion) -> Option<RefusalCod
     if c.mtu < 76 || c.window == 0 || (!publishes && is_buffer(mode) && c.mtu < 1500) {
         return Some(RefusalCode::Rogue);
     }
-    if publishes && has_publisher {
+    if publishes && publishers >= 2 {
         return Some(RefusalCode::Peer);
     }
     None
@@ -96,13 +95,13 @@ fn refused(mode: Mode, has_publisher: bool, c: &Conclusion) -> Option<RefusalCod
 /// The least free slot and the agreement, or the first reason to refuse: 1012, 1004, 1002, and then 1003
 /// (SRT_REJ_RESOURCE) if no slot is free.
 fn admit(table: &Table, c: &Conclusion) -> Result<Admission, RefusalCode>
-    ensures inside { IfOk result (λ a. a.at < length table.now.slots.items) }
-    ensures value { (e : Terms) (index : ℕ) (sessions : List TheSession) → IsTable e index table.now sessions → result ≡ admitted e sessions c.now }
+    ensures inside { IfOk result (λ a. a.at < length table.now.seats.items) }
+    ensures value { (e : Terms) (index clock : ℕ) (sessions : List TheSession) → IsTable e index clock table.now sessions → result ≡ admitted e sessions c.now }
 {
-    if let Some(reason) = refused(table.mode, have_publisher(&table.slots), c) {
+    if let Some(reason) = refused(table.mode, count_publishers(&table.seats), c) {
         return Err(reason);
     }
-    match free_slot(&table.slots) {
+    match free_slot(&table.seats) {
         Some(at) => Ok(Admission {
             at,
             agreement: agree(table.mode, table.latency_ms, c),
@@ -111,7 +110,19 @@ fn admit(table: &Table, c: &Conclusion) -> Result<Admission, RefusalCode>
     }
 }
 
-/// Opens the session in its slot, and writes the answer into `reply`.
+/// Which of two open publishers is older after a session has opened: if it is a publisher's with the second buffers,
+/// the one with the first, and the other way round. A subscriber's changes nothing.
+fn older_after(older: bool, role: Role, second: bool) -> bool
+    ensures { result ≡ older_after older role second }
+{
+    match role {
+        Role::Publish => !second,
+        Role::Request => older,
+    }
+}
+
+/// Opens the session in its slot, in which none is open, and writes the answer into `reply`. A publisher's opens only
+/// if one publisher at most is open, and it takes the buffers that this one doesn't use.
 fn open_session(
     table: &mut Table,
     admission: Admission,
@@ -119,41 +130,43 @@ fn open_session(
     c: Conclusion,
     reply: &mut Reply,
 )
-    requires { admission.at < length table.old.slots.items }
-    ensures { (e : Terms) (index : ℕ) (sessions : List TheSession) → IsTable e index table.old sessions → admission.agreement ≡ agreement_of e c → find (is_of arrival.peer c.caller) sessions ≡ None → find (is_open_in admission.at) sessions ≡ None → IsTaken e index table.new (written reply.new ∷ []) (opens e index arrival.clock arrival.peer arrival.stamp c sessions (Some admission.at)) }
+    requires initial { c.initial < 2 ^ 31 }
+    requires inside { admission.at < length table.old.seats.items }
+    ensures { (e : Terms) (index : ℕ) (sessions : List TheSession) → IsTable e index arrival.clock table.old sessions → admission.agreement ≡ agreement_of e c → find (is_of arrival.peer c.caller) sessions ≡ None → find (is_open_in admission.at) sessions ≡ None → (publishes c.role ≡ true → open_publishers sessions ≤ 1) → IsTaken e index arrival.clock table.new (written reply.new ∷ []) (opens e index arrival.clock arrival.peer arrival.stamp c sessions (Some admission.at)) }
 {
     let caller = c.caller;
     let role = c.role;
     let at = admission.at;
-    let id = id_at(table.index, table.slots[at].generation, at);
+    let id = id_at(table.index, table.seats[at].generation, at);
+    let second = have_publisher(&table.seats, false);
+    start_buffers(
+        &mut table.seats[at],
+        &mut table.publishers[place_of(second)],
+        arrival,
+        admission.agreement,
+        &c,
+    );
+    table.second_is_older = older_after(table.second_is_older, role, second);
     let answer = accepted(admission.agreement, table.buffer, id, c);
     answer_to(reply, arrival.peer, caller, &answer);
-    table.slots[at].fill(Session {
+    table.seats[at].fill(Session {
         peer: arrival.peer,
         caller,
         id,
         role,
+        second,
         heard: arrival.clock,
         answer,
     });
 }
 
 /// Admits or refuses a conclusion of a caller without a session, and writes the answer into `reply`.
-fn consider(
-    table: &mut Table,
-    media: &mut Media,
-    arrival: Arrival,
-    c: Conclusion,
-    reply: &mut Reply,
-)
+fn consider(table: &mut Table, arrival: Arrival, c: Conclusion, reply: &mut Reply)
     requires { c.initial < 2 ^ 31 }
-    ensures { (e : Terms) (index : ℕ) (sessions : List TheSession) → IsBody e index arrival.clock table.old media.old sessions → find (is_of arrival.peer c.caller) sessions ≡ None → IsBodyTaken e index arrival.clock table.new media.new (written reply.new ∷ []) (considered e index arrival.clock arrival.peer arrival.stamp c sessions (refused e.mode (list_any is_publisher sessions) c)) }
+    ensures { (e : Terms) (index : ℕ) (sessions : List TheSession) → IsTable e index arrival.clock table.old sessions → find (is_of arrival.peer c.caller) sessions ≡ None → IsTaken e index arrival.clock table.new (written reply.new ∷ []) (considered e index arrival.clock arrival.peer arrival.stamp c sessions (refused e.mode (open_publishers sessions) c)) }
 {
     match admit(table, &c) {
-        Ok(admission) => {
-            media.start(admission, arrival, &c);
-            open_session(table, admission, arrival, c, reply);
-        }
+        Ok(admission) => open_session(table, admission, arrival, c, reply),
         Err(reason) => {
             answer_to(reply, arrival.peer, c.caller, &refusal(c.initial, reason));
         }
@@ -162,19 +175,13 @@ fn consider(
 
 /// Applies a conclusion. A caller with an open session gets its first answer again; another one is admitted or refused.
 /// Returns true if `reply` has an answer.
-pub fn conclude(
-    table: &mut Table,
-    media: &mut Media,
-    arrival: Arrival,
-    c: Conclusion,
-    reply: &mut Reply,
-) -> bool
+pub fn conclude(table: &mut Table, arrival: Arrival, c: Conclusion, reply: &mut Reply) -> bool
     requires { c.initial < 2 ^ 31 }
-    ensures { (e : Terms) (index : ℕ) (sessions : List TheSession) → IsBody e index arrival.clock table.old media.old sessions → IsBodyTaken e index arrival.clock table.new media.new (written_of (given result reply.new)) (concluded e index arrival.clock arrival.peer arrival.stamp c sessions (find (is_of arrival.peer c.caller) sessions)) }
+    ensures { (e : Terms) (index : ℕ) (sessions : List TheSession) → IsTable e index arrival.clock table.old sessions → IsTaken e index arrival.clock table.new (written_of (given result reply.new)) (concluded e index arrival.clock arrival.peer arrival.stamp c sessions (find (is_of arrival.peer c.caller) sessions)) }
 {
-    if let Some(at) = slot_of(&table.slots, arrival.peer, c.caller) {
-        return table.slots[at].again(arrival.clock, arrival.peer, reply);
+    if let Some(at) = slot_of(&table.seats, arrival.peer, c.caller) {
+        return table.seats[at].again(arrival.clock, arrival.peer, reply);
     }
-    consider(table, media, arrival, c, reply);
+    consider(table, arrival, c, reply);
     true
 }

@@ -1,41 +1,38 @@
 //! Step 3 of an event: a datagram is for an open session, or is a conclusion. What is neither changes nothing.
 
-ghost use Rattle.std.specs.Prelude.{◌≡◌, ℕ, ◌+◌, ◌-◌, ◌<◌, ◌≤◌, ◌^◌, List, map, is_some};
+ghost use Rattle.std.specs.Prelude.{◌≡◌, ℕ, ◌<◌, ◌^◌, List, map};
 ghost use Rattle.srt_seq.specs.Given.{given};
 ghost use Rattle.srt_seq.specs.Items.{told};
 ghost use Rattle.srt_seq.specs.Terms.{Terms};
 ghost use Rattle.srt_packet.specs.View.{body_of, packet_of};
-ghost use Rattle.srt_pub.specs.Calls.{payload_length};
 ghost use Rattle.srt_sub.specs.Endings.{is_ended, is_shutdown};
 ghost use Rattle.srt_sub.specs.Stands.{texts_of};
 ghost use Rattle.srt_route.specs.Sessions.{Session as TheSession};
 ghost use Rattle.srt_route.specs.Route.{arrived, packet_taken, sent, taken};
-ghost use Rattle.srt_route.specs.Tables.{stored_after, written_of};
-ghost use Rattle.srt_route.specs.Media.{IsBody, IsBodyTaken, datagrams_to};
+ghost use Rattle.srt_route.specs.Buffers.{datagrams_to};
+ghost use Rattle.srt_route.specs.Tables.{IsTable, IsTaken, stored_after, written_of};
 ghost use Rattle.srt_route.specs.OneSession.{PublisherTook, PublisherEnds, SubscriberTook, SubscriberAnswers};
 
 use crate::admission::conclude;
 use crate::arrival::Arrival;
 use crate::conclusion::conclusion_in;
-use crate::media::Media;
+use crate::places::place_of;
 use crate::replies::Reply;
-use crate::slot::Slot;
+use crate::seat::Seat;
 use crate::table::Table;
 use srt_packet::{Kind, PacketRef, decode_parts};
 use srt_pub::Publisher;
 use srt_seq::{Item, Peer};
-use srt_sub::{Subscriber, Took};
+use srt_sub::Took;
 
-/// Applies a packet to the publisher in this slot: its session is heard of, or ends.
-fn hear_publisher(slot: &mut Slot, publisher: &mut Publisher, clock: u64, packet: &PacketRef<'_>)
-    requires early { clock < 2 ^ 62 }
-    requires some { 0 < payload_length (body_of packet.now.kind) }
-    requires fits { payload_length (body_of packet.now.kind) ≤ 1456 }
+/// Applies a packet to the publisher in this seat: its session is heard of, or ends.
+fn hear_publisher(seat: &mut Seat, publisher: &mut Publisher, clock: u64, packet: &PacketRef<'_>)
+    requires { clock < 2 ^ 62 }
     ensures publisher { PublisherTook clock (packet_of packet.now) publisher.old publisher.new }
-    ensures slot { PublisherEnds clock (packet_of packet.now) publisher.old slot.old slot.new }
+    ensures seat { PublisherEnds clock (packet_of packet.now) publisher.old seat.old seat.new }
 {
     let end = publisher.datagram(packet, clock);
-    slot.keep_or_end(clock, end.is_some());
+    seat.keep_or_end(clock, end.is_some());
 }
 
 fn is_ended(took: Took) -> bool
@@ -58,22 +55,24 @@ fn answer_of(peer: Peer, took: Took, reply: &mut Reply) -> bool
     }
 }
 
-/// Applies a packet to the subscriber in this slot: its session is heard of, or ends. Returns true if `reply` has an
+/// Applies a packet to the subscriber in this seat: its session is heard of, or ends. Returns true if `reply` has an
 /// answer.
 fn hear_subscriber(
-    slot: &mut Slot,
-    subscriber: &mut Subscriber,
+    seat: &mut Seat,
     arrival: Arrival,
     packet: &PacketRef<'_>,
     reply: &mut Reply,
 ) -> bool
-    requires early { arrival.clock < 2 ^ 62 }
-    ensures subscriber { SubscriberTook arrival.clock (packet_of packet.now) subscriber.old subscriber.new }
-    ensures slot { slot.new ≡ record { generation = slot.old.generation; session = stored_after (is_shutdown (body_of packet.now.kind)) arrival.clock slot.old.session } }
-    ensures answer { SubscriberAnswers arrival.clock arrival.peer (packet_of packet.now) subscriber.old (written_of (given result reply.new)) }
+    requires { arrival.clock < 2 ^ 62 }
+    ensures subscriber { SubscriberTook arrival.clock (packet_of packet.now) seat.old.subscriber seat.new.subscriber }
+    ensures generation { seat.new.generation ≡ seat.old.generation }
+    ensures session { seat.new.session ≡ stored_after (is_shutdown (body_of packet.now.kind)) arrival.clock seat.old.session }
+    ensures answer { SubscriberAnswers arrival.clock arrival.peer (packet_of packet.now) seat.old.subscriber (written_of (given result reply.new)) }
 {
-    let took = subscriber.datagram(packet, arrival.clock, &mut reply.packet);
-    slot.keep_or_end(arrival.clock, is_ended(took));
+    let took = seat
+        .subscriber
+        .datagram(packet, arrival.clock, &mut reply.packet);
+    seat.keep_or_end(arrival.clock, is_ended(took));
     answer_of(arrival.peer, took, reply)
 }
 
@@ -81,63 +80,49 @@ fn hear_subscriber(
 /// true if `reply` has an answer.
 fn to_session(
     table: &mut Table,
-    media: &mut Media,
     arrival: Arrival,
     packet: &PacketRef<'_>,
     reply: &mut Reply,
 ) -> bool
-    requires early { arrival.clock < 2 ^ 62 }
-    requires some { 0 < payload_length (body_of packet.now.kind) }
-    requires fits { payload_length (body_of packet.now.kind) ≤ 1456 }
-    ensures { (e : Terms) (index : ℕ) (sessions : List TheSession) → IsBody e index arrival.clock table.old media.old sessions → IsBodyTaken e index arrival.clock table.new media.new (written_of (given result reply.new)) (arrived e index arrival.clock arrival.peer (packet_of packet.now) sessions) }
+    requires { arrival.clock < 2 ^ 62 }
+    ensures { (e : Terms) (index : ℕ) (sessions : List TheSession) → IsTable e index arrival.clock table.old sessions → IsTaken e index arrival.clock table.new (written_of (given result reply.new)) (arrived e index arrival.clock arrival.peer (packet_of packet.now) sessions) }
 {
     // The least byte of a session's ID is its slot.
     let at = (packet.dest % 256) as usize;
-    if at >= table.slots.len() {
+    if at >= table.seats.len() {
         return false;
     }
-    if at >= media.subscribers.len() {
+    if !table.seats[at].is_for(arrival.peer, packet.dest) {
         return false;
     }
-    if !table.slots[at].is_for(arrival.peer, packet.dest) {
-        return false;
-    }
-    if table.slots[at].has_publisher() {
+    if table.seats[at].has_publisher() {
+        let second = table.seats[at].uses_second();
         hear_publisher(
-            &mut table.slots[at],
-            &mut media.publisher,
+            &mut table.seats[at],
+            &mut table.publishers[place_of(second)],
             arrival.clock,
             packet,
         );
         return false;
     }
-    hear_subscriber(
-        &mut table.slots[at],
-        &mut media.subscribers[at],
-        arrival,
-        packet,
-        reply,
-    )
+    hear_subscriber(&mut table.seats[at], arrival, packet, reply)
 }
 
 /// Applies a packet. If its destination is 0, only a conclusion is taken; otherwise it is for a session. Returns true
-/// if `reply` has an answer. A data packet has a payload of 1 to 1456 bytes.
+/// if `reply` has an answer.
 fn to_destination(
     table: &mut Table,
-    media: &mut Media,
     arrival: Arrival,
     packet: &PacketRef<'_>,
     reply: &mut Reply,
 ) -> bool
     requires stamp { arrival.stamp ≡ packet.now.stamp }
     requires early { arrival.clock < 2 ^ 62 }
-    requires some { 0 < payload_length (body_of packet.now.kind) }
-    requires fits { payload_length (body_of packet.now.kind) ≤ 1456 }
-    ensures body { (e : Terms) (index : ℕ) (sessions : List TheSession) → IsBody e index arrival.clock table.old media.old sessions → IsBody e index arrival.clock table.new media.new (packet_taken e index arrival.clock arrival.peer (packet_of packet.now) sessions).sessions }
-    ensures answer { (e : Terms) (index : ℕ) (sessions : List TheSession) → IsBody e index arrival.clock table.old media.old sessions → written_of (given result reply.new) ≡ map sent (packet_taken e index arrival.clock arrival.peer (packet_of packet.now) sessions).answers }
+    ensures table { (e : Terms) (index : ℕ) (sessions : List TheSession) → IsTable e index arrival.clock table.old sessions → IsTable e index arrival.clock table.new (packet_taken e index arrival.clock arrival.peer (packet_of packet.now) sessions).sessions }
+    ensures answer { (e : Terms) (index : ℕ) (sessions : List TheSession) → IsTable e index arrival.clock table.old sessions → written_of (given result reply.new) ≡ map sent (packet_taken e index arrival.clock arrival.peer (packet_of packet.now) sessions).answers }
 {
     if packet.dest != 0 {
-        return to_session(table, media, arrival, packet, reply);
+        return to_session(table, arrival, packet, reply);
     }
     let Kind::Handshake { info } = packet.kind else {
         return false;
@@ -145,20 +130,14 @@ fn to_destination(
     let Some(c) = conclusion_in(info) else {
         return false;
     };
-    conclude(table, media, arrival, c, reply)
+    conclude(table, arrival, c, reply)
 }
 
 /// Applies an item's datagram at this clock in microseconds; a tick changes nothing here. Returns true if `reply` has
 /// an answer. A datagram that isn't a packet changes nothing.
-pub fn dispatch(
-    table: &mut Table,
-    media: &mut Media,
-    clock: u64,
-    item: &Item,
-    reply: &mut Reply,
-) -> bool
+pub fn dispatch(table: &mut Table, clock: u64, item: &Item, reply: &mut Reply) -> bool
     requires { clock < 2 ^ 62 }
-    ensures { (e : Terms) (index : ℕ) (sessions : List TheSession) → IsBody e index clock table.old media.old sessions → IsBodyTaken e index clock table.new media.new (written_of (given result reply.new)) (taken e index clock (told item.now) sessions) }
+    ensures { (e : Terms) (index : ℕ) (sessions : List TheSession) → IsTable e index clock table.old sessions → IsTaken e index clock table.new (written_of (given result reply.new)) (taken e index clock (told item.now) sessions) }
 {
     match item {
         Item::Tick { moment: _ } => false,
@@ -174,7 +153,7 @@ pub fn dispatch(
                     peer: *peer,
                     stamp: packet.stamp,
                 };
-                to_destination(table, media, arrival, &packet, reply)
+                to_destination(table, arrival, &packet, reply)
             }
             Err(_) => false,
         },

@@ -4,19 +4,15 @@
 ghost use Rattle.std.specs.Prelude.{◌≡◌, ℕ, ◌<◌, ◌≤◌, ◌^◌, true, false, List, map};
 ghost use Rattle.srt_seq.specs.Terms.{Terms};
 ghost use Rattle.srt_route.specs.Sessions.{Session as TheSession, aged};
-ghost use Rattle.srt_route.specs.Tables.{session_passes, peer_idle, is_kept_subscriber, stored_aged};
-ghost use Rattle.srt_route.specs.Media.{IsBody, ExpiresTo};
+ghost use Rattle.srt_route.specs.Buffers.{ExpiresTo};
+ghost use Rattle.srt_route.specs.Tables.{IsTable, session_passes, peer_idle, is_kept_subscriber, stored_aged, with_stored};
 
-use crate::media::Media;
-use crate::slot::Slot;
+use crate::seat::Seat;
 use crate::table::Table;
 use srt_seq::Role;
-use srt_sub::Subscriber;
+use srt_seq::limits::PEER_IDLE_TIMEOUT_US;
 
-/// A session ends if its peer sent nothing for this long: five seconds, in microseconds (this profile).
-const PEER_IDLE_TIMEOUT_US: u64 = 5_000_000;
-
-impl Slot {
+impl Seat {
     /// Whether the session's peer sent nothing for five seconds.
     fn peer_idle(&self, clock: u64) -> bool
         ensures { result ≡ session_passes (peer_idle clock) self.now.session }
@@ -29,7 +25,7 @@ impl Slot {
 
     /// Closes the session if its peer is idle. No packet is sent.
     fn end_if_idle(&mut self, clock: u64)
-        ensures { self.new ≡ record { generation = self.old.generation; session = stored_aged clock self.old.session } }
+        ensures { self.new ≡ with_stored (stored_aged clock self.old.session) self.old }
     {
         if self.peer_idle(clock) {
             self.session = None;
@@ -50,29 +46,31 @@ impl Slot {
     }
 }
 
-/// Advances the time of one slot and of its subscriber's buffers.
-fn pass_time(slot: &mut Slot, subscriber: &mut Subscriber, clock: u64)
+/// Advances the time of one seat.
+fn pass_time(seat: &mut Seat, clock: u64)
     requires { clock < 2 ^ 62 }
-    ensures slot { slot.new ≡ record { generation = slot.old.generation; session = stored_aged clock slot.old.session } }
-    ensures expires { session_passes (is_kept_subscriber clock) slot.old.session ≡ true → ExpiresTo clock subscriber.old subscriber.new }
-    ensures stays { session_passes (is_kept_subscriber clock) slot.old.session ≡ false → subscriber.new ≡ subscriber.old }
+    ensures generation { seat.new.generation ≡ seat.old.generation }
+    ensures session { seat.new.session ≡ stored_aged clock seat.old.session }
+    ensures expires { session_passes (is_kept_subscriber clock) seat.old.session ≡ true → ExpiresTo clock seat.old.subscriber seat.new.subscriber }
+    ensures stays { session_passes (is_kept_subscriber clock) seat.old.session ≡ false → seat.new.subscriber ≡ seat.old.subscriber }
 {
-    if slot.is_kept_subscriber(clock) {
-        subscriber.expire(clock);
+    if seat.is_kept_subscriber(clock) {
+        seat.subscriber.expire(clock);
+        return;
     }
-    slot.end_if_idle(clock);
+    seat.end_if_idle(clock);
 }
 
 /// Advances the time to this clock, in microseconds: closes sessions whose peer sent nothing for five seconds, and lets
 /// the other subscribers drop what is too late.
-pub fn end_idle(table: &mut Table, media: &mut Media, clock: u64)
+pub fn end_idle(table: &mut Table, clock: u64)
     requires early { clock < 2 ^ 62 }
-    ensures { (e : Terms) (index before : ℕ) (sessions : List TheSession) → IsBody e index before table.old media.old sessions → before ≤ clock → clock < 2 ^ 62 → IsBody e index clock table.new media.new (map (aged e clock) sessions) }
+    ensures { (e : Terms) (index before : ℕ) (sessions : List TheSession) → IsTable e index before table.old sessions → before ≤ clock → clock < 2 ^ 62 → IsTable e index clock table.new (map (aged e clock) sessions) }
 {
-    let places = table.slots.len().min(media.subscribers.len());
+    let places = table.seats.len();
     let mut at = 0;
     while at < places {
-        pass_time(&mut table.slots[at], &mut media.subscribers[at], clock);
+        pass_time(&mut table.seats[at], clock);
         at += 1;
     }
 }

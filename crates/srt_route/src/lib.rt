@@ -1,18 +1,19 @@
-//! A route: its sessions open and close, and payloads go from its publisher to its subscribers.
+//! A route: its sessions open and close, and payloads go from its active publisher to its subscribers. A second
+//! publisher stands by, and takes over when the active one ends.
 //!
 //! It reads no clock and no socket: a datagram or a tick comes in as an item, and replies wait to be taken. It doesn't
 //! choose the route of a datagram and checks no cookie (`srt_lobby` does), and what a session does by itself is in
 //! `srt_pub` and `srt_sub`.
 //!
-//! Types: `Route`; in it `Table`, the slots with their sessions, `Media`, their buffers, and `ReplyQueue`. A `Reply` is
-//! a packet and its receiver; a `Conclusion` is what is read from a caller's handshake.
+//! Types: `Route`; in it `Table`, the seats of its slots and the publishers' buffers, and `ReplyQueue`. A `Seat` has a
+//! session and its buffers. A `Reply` is a packet and its receiver.
 //!
 //! Calls: `Route::open`; then `step` for each item, and `next_reply` until it returns false, before the next `step`.
 //!
 //! An event's six steps, as `step` in `route.rt` calls them: the clock; `idle.rt`, idle peers and what is too late;
 //! `dispatch.rt`, a packet for a session or a conclusion (`conclusion.rt` reads it, `admission.rt` has each refusal and
-//! the agreement, `answer.rt` its answer); `delivery.rt`; `transmit.rt`, the publisher's packets and then the
-//! subscribers'. Socket IDs are in `slot.rt`, waiting replies in `reply_queue.rt`, the definition of all of it in
+//! the agreement, `answer.rt` its answer); `delivery.rt`; `transmit.rt`, the publishers' packets and then the
+//! subscribers'. Socket IDs are in `seat.rt`, waiting replies in `reply_queue.rt`, the definition of all of it in
 //! `specs/Route.antt`.
 #![tactic(auto)]
 
@@ -24,17 +25,17 @@ mod delivery;
 mod dispatch;
 mod idle;
 pub mod laws;
-mod media;
 mod opening;
+mod places;
 mod replies;
 mod reply_queue;
 mod route;
-mod slot;
+mod seat;
+mod start;
 mod state;
 mod table;
 mod transmit;
 
-pub use conclusion::Conclusion;
 pub use replies::Reply;
 pub use state::Route;
 

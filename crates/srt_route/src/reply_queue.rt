@@ -49,7 +49,7 @@ impl ReplyQueue {
     ghost use Rattle.srt_seq.specs.Given.{given};
     ghost use Rattle.srt_packet.specs.Text.{text};
     ghost use Rattle.srt_pub.specs.Calls.{texts, listed};
-    ghost use Rattle.srt_route.specs.Media.{datagrams_to};
+    ghost use Rattle.srt_route.specs.Buffers.{datagrams_to};
     ghost use Rattle.srt_route.specs.Reports.{Queues};
     ghost use Rattle.srt_route.specs.Tables.{written_of};
     ghost use Rattle.srt_route.specs.Waits.{replies_of, places_of};

@@ -11,20 +11,18 @@ ghost use Rattle.srt_route.specs.Sessions.{Session as TheSession, is_publisher, 
 ghost use Rattle.srt_route.specs.Route.{Route as TheRoute, sent, taken_by, delivered, packets_where, reply};
 ghost use Rattle.srt_route.specs.Tables.{written_of};
 ghost use Rattle.srt_route.specs.Waits.{replies_of, places_of};
-ghost use Rattle.srt_route.specs.Media.{IsBody};
 ghost use Rattle.srt_route.specs.Reports.{AreSaid};
 ghost use Rattle.srt_route.specs.Stands.{IsRoute, stands, waiting, places};
 
 use crate::delivery::deliver;
 use crate::dispatch::dispatch;
 use crate::idle::end_idle;
-use crate::media::Media;
 use crate::opening::check_entry;
 use crate::replies::Reply;
 use crate::reply_queue::{ReplyQueue, ScratchBoxes};
 use crate::state::Route;
 use crate::table::Table;
-use crate::transmit::{transmit_publisher, transmit_subscribers};
+use crate::transmit::{transmit_publishers, transmit_subscribers};
 use arrayvec::ArrayVec;
 use srt_seq::{Entry, Item, OpenFault};
 use std::alloc::Global;
@@ -66,7 +64,6 @@ impl Route {
     {
         check_entry(entry, index)?;
         let table = Table::open(alloc, entry, index)?;
-        let media = Media::open(alloc, entry)?;
         let room = 4 + 66 * (entry.sessions as usize);
         let Ok(waiting) = ReplyQueue::open(alloc, room) else {
             return Err(OpenFault::OutOfMemory);
@@ -77,7 +74,6 @@ impl Route {
         Ok(Route {
             clock: 0,
             table,
-            media,
             payload: ArrayVec::new(),
             scratch,
             waiting,
@@ -97,30 +93,22 @@ impl Route {
         // 1: the clock never goes back.
         self.clock = later(self.clock, moment(&item));
         // 2: idle sessions end, and what is too late is dropped.
-        end_idle(&mut self.table, &mut self.media, self.clock);
+        end_idle(&mut self.table, self.clock);
         // 3: a datagram is for a session, or is a conclusion.
-        let answered = dispatch(
-            &mut self.table,
-            &mut self.media,
-            self.clock,
-            &item,
-            &mut self.scratch.reply,
-        );
+        let answered = dispatch(&mut self.table, self.clock, &item, &mut self.scratch.reply);
         self.waiting.put_if(&mut self.scratch.reply, answered);
-        // 4: payloads go from the publisher to the subscribers.
-        deliver(&self.table, &mut self.media, self.clock, &mut self.payload);
-        // 5: the publisher's packets.
-        transmit_publisher(
-            &self.table,
-            &mut self.media,
+        // 4: payloads go from the active publisher to the subscribers.
+        deliver(&mut self.table, self.clock, &mut self.payload);
+        // 5: the publishers' packets.
+        transmit_publishers(
+            &mut self.table,
             self.clock,
             &mut self.scratch,
             &mut self.waiting,
         );
         // 6: the subscribers' packets.
         transmit_subscribers(
-            &self.table,
-            &mut self.media,
+            &mut self.table,
             self.clock,
             &mut self.scratch.reply,
             &mut self.waiting,

@@ -2,7 +2,6 @@
 
 ghost use Rattle.std.specs.Prelude.{◌<◌, ◌^◌};
 
-use crate::media::Media;
 use crate::reply_queue::{ReplyQueue, ScratchBoxes};
 use crate::table::Table;
 use srt_seq::Payload;
@@ -12,10 +11,8 @@ use srt_seq::Payload;
 pub struct Route {
     /// The greatest moment of any item so far, in microseconds.
     pub(crate) clock: u64,
-    /// The sessions.
+    /// The sessions and their buffers.
     pub(crate) table: Table,
-    /// Their buffers.
-    pub(crate) media: Media,
     /// The buffer for the payload that is being delivered.
     pub(crate) payload: Payload,
     /// The boxes that an event writes its packets into.

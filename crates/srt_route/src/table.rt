@@ -1,12 +1,15 @@
-//! The sessions of a route, each in its slot.
+//! The sessions of a route and their buffers.
 
 ghost use Rattle.std.specs.Prelude.{◌≡◌, ◌<◌, ◌≤◌, [], None, length, IfOk, IfErr};
 
-use crate::slot::Slot;
+use crate::seat::Seat;
+use srt_pub::Publisher;
 use srt_seq::{Entry, Mode, OpenFault};
-use std::alloc::Global;
+use srt_sub::Subscriber;
+use std::alloc::{AllocError, Global};
 
-/// The slots of a route, and the values of its entry that are needed to answer conclusions.
+/// The seats of a route with their sessions, the publishers' buffers, and the values of its entry that are needed to
+/// answer conclusions.
 #[derive(Drop)]
 pub struct Table {
     /// The route's index: below 511.
@@ -17,29 +20,55 @@ pub struct Table {
     pub latency_ms: u16,
     /// The size of each session's window, in packets: 32 to 8192.
     pub buffer: u32,
-    /// At most 17 slots.
-    pub slots: Vec<Slot>,
+    /// A seat for each slot: at most 17.
+    pub seats: Vec<Seat>,
+    /// The buffers of two publishers' sessions, the first and the second; meaningless while no session uses them.
+    pub publishers: Vec<Publisher>,
+    /// Whether of two open publishers the one with the second buffers was opened first. The one that was opened first is
+    /// active, and the other stands by. A publisher that is open alone is active, whatever this says: so if the active
+    /// one ends, the other takes over by that alone.
+    pub second_is_older: bool,
     pub ghost index_below: { index < 511 },
-    pub ghost few: { length slots.items ≤ 17 },
+    pub ghost few: { length seats.items ≤ 17 },
+    pub ghost two: { length publishers.items ≡ 2 },
 }
 
 impl Table {
     ghost use Rattle.srt_seq.specs.Terms.{terms_of};
     ghost use Rattle.srt_route.specs.Opening.{fault_of};
-    ghost use Rattle.srt_route.specs.Tables.{IsTable};
+    ghost use Rattle.srt_route.specs.Tables.{IsTable, AreWide};
 
-    /// The table of a route without sessions.
+    /// The buffers of two publishers, each with a window of this number of packets.
+    fn open_publishers(alloc: Global, buffer: u32) -> Result<Vec<Publisher>, AllocError>
+        requires least { 32 ≤ buffer }
+        requires most { buffer ≤ 8192 }
+        ensures two { IfOk result (λ v. length v.items ≡ 2) }
+        ensures wide { IfOk result (λ v. AreWide buffer v.items) }
+    {
+        let mut publishers = Vec::with_capacity(alloc, 2)?;
+        publishers.push(Publisher::open(alloc, buffer)?)?;
+        publishers.push(Publisher::open(alloc, buffer)?)?;
+        Ok(publishers)
+    }
+
+    /// The table of a route without sessions, at clock 0. Takes the memory of all buffers.
     pub fn open(alloc: Global, entry: &Entry, index: usize) -> Result<Table, OpenFault>
         requires { fault_of (terms_of entry.now) index ≡ None }
-        ensures empty { IfOk result (λ table. IsTable (terms_of entry.now) index table []) }
+        ensures empty { IfOk result (λ table. IsTable (terms_of entry.now) index 0 table []) }
         ensures memory { IfErr result (λ fault. fault ≡ OpenFault.OutOfMemory) }
     {
-        let sessions = entry.sessions as usize;
-        let Ok(mut slots) = Vec::with_capacity(alloc, sessions) else {
+        let Ok(publishers) = Table::open_publishers(alloc, entry.buffer) else {
             return Err(OpenFault::OutOfMemory);
         };
-        while slots.len() < sessions {
-            let Ok(()) = slots.push(Slot::vacant()) else {
+        let sessions = entry.sessions as usize;
+        let Ok(mut seats) = Vec::with_capacity(alloc, sessions) else {
+            return Err(OpenFault::OutOfMemory);
+        };
+        while seats.len() < sessions {
+            let Ok(subscriber) = Subscriber::open(alloc, entry.buffer) else {
+                return Err(OpenFault::OutOfMemory);
+            };
+            let Ok(()) = seats.push(Seat::vacant(subscriber)) else {
                 return Err(OpenFault::OutOfMemory);
             };
         }
@@ -48,7 +77,9 @@ impl Table {
             mode: entry.mode,
             latency_ms: entry.latency_ms as u16,
             buffer: entry.buffer,
-            slots,
+            seats,
+            publishers,
+            second_is_older: false,
         })
     }
 }

@@ -143,6 +143,11 @@ const FIRST: [&str; 4] = ["00000005", "000005dc", "00002000", "00000001"];
 
 const SECOND: [&str; 4] = ["00000009", "000005dc", "00002000", "00000002"];
 
+/// The answer to the second caller, in slot 1.
+const SECOND_ANSWER: &str = "8000000000000000000000000000000200000005000000010000000900\
+    0005dc00000400ffffffff0010000100000000000000000000000000000000000000000002000300010500\
+    0000003f00780078";
+
 #[test]
 fn a_publisher_is_answered_again_and_ends(rt: HostRuntime) -> Result<(), Fail> {
     let alloc = rt.alloc();
@@ -151,16 +156,9 @@ fn a_publisher_is_answered_again_and_ends(rt: HostRuntime) -> Result<(), Fail> {
     let answer = agreed(alloc, "00100000", "00780078")?;
     assert_told(&rt, &mut route, peer(5000), first.as_str(), answer.as_str())?;
     assert_told(&rt, &mut route, peer(5000), first.as_str(), answer.as_str())?;
-    // Another publisher, and a shutdown of another peer.
+    // Another publisher, which stands by, and a shutdown of another peer.
     let second = conclusion(alloc, SECOND, &[HSREQ, PUBLISH])?;
-    let refused = refusal(alloc, "00000002", "00000009", "000003ea")?;
-    assert_told(
-        &rt,
-        &mut route,
-        peer(5001),
-        second.as_str(),
-        refused.as_str(),
-    )?;
+    assert_told(&rt, &mut route, peer(5001), second.as_str(), SECOND_ANSWER)?;
     let end = "80050000000000000000000000100000";
     assert_told(&rt, &mut route, peer(5001), end, "")?;
     assert_told(&rt, &mut route, peer(5000), first.as_str(), answer.as_str())?;
@@ -214,13 +212,15 @@ fn refusals_come_in_their_order(rt: HostRuntime) -> Result<(), Fail> {
     let answer = agreed(alloc, ids[0], "00780078")?;
     assert_told(&rt, &mut route, peer(5000), first.as_str(), answer.as_str())?;
     let request = conclusion(alloc, FIRST, &[HSREQ, REQUEST])?;
+    // A publisher that stands by, and three subscribers.
     for k in 1..5 {
+        let text = if k == 1 { &first } else { &request };
         let answer = agreed(alloc, ids[k], "00780078")?;
         assert_told(
             &rt,
             &mut route,
             peer(5000 + k as u16),
-            request.as_str(),
+            text.as_str(),
             answer.as_str(),
         )?;
     }

@@ -1,5 +1,6 @@
 -- Round-trip times and the timers that follow from them (section 4.10). All are microseconds.
 use Rattle.std.specs.Prelude.{◌≡◌, ℕ, ◌+◌, ◌-◌, ◌*◌, ◌/◌, max, List, [], ◌∷◌}
+use Rattle.srt_seq.specs.Limits.{nak_interval_min_us, resend_margin_us}
 use Rattle.srt_rtt.specs.declared.round_trip.Rtt.{Rtt}
 
 -- a round-trip time and its variance, in microseconds
@@ -27,11 +28,11 @@ after_samples (sample ∷ samples) = with_sample sample (after_samples samples)
 
 -- the interval between two periodic NAKs, which name all gaps (section 4.8.2); rounded down (this profile)
 abbrev pub nak_interval : RoundTrip → ℕ
-nak_interval r = max ((r.time + 4 * r.variance) / 2) 20_000
+nak_interval r = max ((r.time + 4 * r.variance) / 2) nak_interval_min_us
 
 -- the time after which everything in flight is sent again, if nothing is acknowledged or sent meanwhile (this profile)
 abbrev pub resend_after : RoundTrip → ℕ
-resend_after r = r.time + 4 * r.variance + 20_000
+resend_after r = r.time + 4 * r.variance + resend_margin_us
 
 -- the round-trip time and variance of the code's value
 abbrev pub round_trip_of : Rtt → RoundTrip

@@ -4,16 +4,11 @@ ghost use Rattle.std.specs.Prelude.{◌≡◌, ℕ, ◌+◌, ◌-◌, ◌%◌, �
 ghost use Rattle.srt_seq.specs.Counts.{ack_number};
 ghost use Rattle.srt_rtt.specs.Steps.{IsStepsBack};
 
+use srt_seq::limits::{FULL_ACKS_KEPT, RTT_SAMPLE_MAX_US};
 use std::alloc::{AllocError, Global};
-
-/// The number of newest Full ACKs that can be confirmed (this profile).
-const PLACES: usize = 64;
 
 /// The greatest number of a Full ACK. The one after it has number 1 (this profile).
 const LAST_NUMBER: u32 = u32::MAX;
-
-/// The greatest sample, in microseconds: 10 s (this profile).
-const LONGEST: u64 = 10_000_000;
 
 /// The last 64 Full ACKs that were sent: when each was sent, and whether it was confirmed. A fixed ring of about 1 KB.
 #[derive(Drop)]
@@ -40,7 +35,7 @@ impl AckBook {
         Ok(AckBook {
             next: 1,
             at: 0,
-            moments: vec![in alloc; None; PLACES]?,
+            moments: vec![in alloc; None; FULL_ACKS_KEPT]?,
         })
     }
 
@@ -61,7 +56,7 @@ impl AckBook {
     {
         let number = self.next;
         self.moments[self.at] = Some(moment);
-        self.at = (self.at + 1) % PLACES;
+        self.at = (self.at + 1) % FULL_ACKS_KEPT;
         self.next = if number == LAST_NUMBER { 1 } else { number + 1 };
         number
     }
@@ -92,7 +87,7 @@ impl AckBook {
         let index = self.index_of(place);
         let moment = self.moments[index]?;
         self.moments[index] = None;
-        Some(now.saturating_sub(moment).min(LONGEST))
+        Some(now.saturating_sub(moment).min(RTT_SAMPLE_MAX_US))
     }
 
     /// The index of the moment of the Full ACK after which `place` others were noted.
@@ -101,7 +96,7 @@ impl AckBook {
         ensures value { result ≡ (self.now.at + (63 - place)) % 64 }
         ensures inside { result < 64 }
     {
-        (self.at + (PLACES - 1 - place)) % PLACES
+        (self.at + (FULL_ACKS_KEPT - 1 - place)) % FULL_ACKS_KEPT
     }
 }
 
@@ -120,7 +115,7 @@ fn steps_back(next: u32, number: u32) -> Option<usize>
     } else {
         LAST_NUMBER - number + (next - 1)
     };
-    if (steps as usize) < PLACES {
+    if (steps as usize) < FULL_ACKS_KEPT {
         Some(steps as usize)
     } else {
         None

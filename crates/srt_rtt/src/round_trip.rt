@@ -3,6 +3,8 @@
 ghost use Rattle.std.specs.Prelude.{◌≡◌, ℕ, ◌≤◌, List, [], ◌∷◌};
 ghost use Rattle.srt_rtt.specs.RoundTrip.{start as at_first, with_sample, nak_interval as interval_of, resend_after as resend_of, round_trip_of, StandsFor};
 
+use srt_seq::limits::{NAK_INTERVAL_MIN_US, RESEND_MARGIN_US};
+
 /// A smoothed round-trip time and its variance, both in microseconds. No method takes memory, and each is O(1).
 #[derive(Clone, Copy, Debug, PartialEq, Eq)]
 pub struct Rtt {
@@ -49,7 +51,7 @@ impl Rtt {
     pub fn nak_interval(&self) -> u64
         ensures { result ≡ interval_of (round_trip_of self.now) }
     {
-        ((u64::from(self.time) + 4 * u64::from(self.variance)) / 2).max(20_000)
+        ((u64::from(self.time) + 4 * u64::from(self.variance)) / 2).max(NAK_INTERVAL_MIN_US)
     }
 
     /// The time, in microseconds, after which everything in flight is sent again, counted from the last new
@@ -58,7 +60,7 @@ impl Rtt {
     pub fn resend_after(&self) -> u64
         ensures { result ≡ resend_of (round_trip_of self.now) }
     {
-        u64::from(self.time) + 4 * u64::from(self.variance) + 20_000
+        u64::from(self.time) + 4 * u64::from(self.variance) + RESEND_MARGIN_US
     }
 
     /// The smoothed round-trip time, in microseconds, as an ACK carries it.
@@ -69,7 +71,7 @@ impl Rtt {
     }
 
     /// The variance, in microseconds, as an ACK carries it.
-    pub fn var(&self) -> u32
+    pub fn variance(&self) -> u32
         ensures { result ≡ (round_trip_of self.now).variance }
     {
         self.variance

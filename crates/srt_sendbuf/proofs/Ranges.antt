@@ -1,15 +1,18 @@
 -- The part of a window that a range names.
-use Rattle.std.proofs.Common.{◌≡◌, ℕ, zero, suc, ◌+◌, ◌^◌, ◌<◌, ◌≤◌, Bool, true, false, ◌||◌, Option, None, Some, List, [], ◌∷◌, refl, sym, ap, ◌∙◌, arith}
+use Rattle.std.proofs.Common.{◌≡◌, ℕ, zero, suc, ◌+◌, ◌-◌, ◌%◌, ◌^◌, ◌<◌, ◌≤◌, min, Bool, true, false, ◌||◌, Option, None, Some, List, [], ◌∷◌, refl, sym, ap, ◌∙◌, arith}
 use Rattle.std.specs.List.{list_any}
 use Rattle.std.proofs.lemmas.Bool.{or_right, true≢false}
 use Rattle.std.proofs.lemmas.Bool.Decides.{nat_tests}
 use Rattle.srt_seq.specs.Window.{counted_from}
 use Rattle.srt_seq.specs.Runs.{Range, is_in, is_asked, numbers_from, range_from}
 use Rattle.std.specs.Prelude.{option_map, unwrap_or}
-use Rattle.srt_seq.specs.Window.{in_window}
+use Rattle.srt_seq.specs.Window.{word_of, in_window}
 use Rattle.srt_seq.proofs.Windows.{numbers_from_initial}
 use Rattle.srt_seq.proofs.Ranges.{ranges_from_initial}
 use Rattle.srt_loss.specs.Window.{is_in_part, IsPartOf}
+use Rattle.srt_sendbuf.specs.Sending.{Sending, front, base, next}
+use Rattle.srt_sendbuf.specs.Stands.{StandsFor}
+use Rattle.srt_sendbuf.specs.declared.buffer.SendBuf.{SendBuf}
 
 any_at : (test : ℕ → Bool) (from places d : ℕ) → d < places → test (from + d) ≡ true → list_any test (numbers_from from places) ≡ true
 any_at test from zero d lt here = absurd (omega (arith, lt))
@@ -78,3 +81,17 @@ none_asked (n ∷ ns) = none_asked ns
 pub some_asked : (test : ℕ → Bool) (from places : ℕ) → list_any test (numbers_from from places) ≡ true → 0 < places
 some_asked test from zero e = absurd (true≢false (sym e))
 some_asked test from (suc places) e = omega arith
+
+-- where the base stands: as many numbers before the front as the buffer keeps
+pub record IsBase (initial word back sent : ℕ) (r : Sending) : Type 0 where
+  pub behind : back ≡ front r - base r
+  pub near : (initial + base r + back) % 2 ^ 31 ≡ word
+  pub flying : back + sent + 1 ≡ next r - base r + 1
+
+pub base_is : (width initial back : ℕ) (b : SendBuf) (r : Sending) → StandsFor width initial b r → back ≡ min b.behind 8192 → IsBase initial (word_of b.front) back b.sent r
+base_is width initial back b r h is =
+    let m = h.fields.behind_is in
+    let w = h.fields.word_is in
+    let n = h.fields.flying_is in
+    let behind : back ≡ front r - base r = omega (arith, is, m) in
+    record { behind = behind; near = omega (arith, w, behind); flying = omega (arith, behind, n) }

@@ -6,7 +6,7 @@ use Rattle.std.proofs.lemmas.Bool.Decides.{nat_tests}
 use Rattle.std.proofs.lemmas.List.Elements.{All-head, All-tail, All-nil, All-push}
 use Rattle.srt_seq.specs.Counts.{message_number}
 use Rattle.srt_seq.specs.Runs.{Range, is_in, is_asked, numbers_from, range_from}
-use Rattle.srt_sendbuf.specs.Sending.{Queued, Mark, Sent, Asked, Sending, nothing_yet, front, next, sent_end, in_flight, lost, is_between, is_marked, queued, asked, all_lost, sent, due_number, IsTimely}
+use Rattle.srt_sendbuf.specs.Sending.{Queued, Mark, Sent, Asked, All_of, Sending, nothing_yet, front, next, sent_end, in_flight, lost, is_in_span, is_marked, queued, asked, all_lost, sent, due_number, IsTimely}
 use Rattle.srt_sendbuf.specs.Places.{Kept}
 use Rattle.srt_sendbuf.specs.Stands.{IsInOrder, kept_as, IsKept, IsMoved}
 use Rattle.srt_loss.specs.Window.{IsPartOf}
@@ -137,23 +137,30 @@ sent_next initial word behind count flying low high base_message end_message kep
     inside d k b (inl same) = absurd (true≢false (sym b ∙ ls d ∙ ap (λ t. if t then false else lost d) (eq-eqb _ _ same)))
     inside d k b (inr other) = h.within d (omega (arith, k, other)) (sym (ls d ∙ ap (λ t. if t then false else lost d) (ne_eqb _ _ other)) ∙ b)
 
-pub asked_more : (initial word behind count flying low high base_message end_message low2 high2 : ℕ) (x : Range) (taken : List Range) (kept kept2 : ℕ → Option Kept) (lost lost2 : ℕ → Bool) (r : Sending) → IsKept initial word behind count flying low high base_message end_message kept lost (asked taken r) → ((d : ℕ) → kept2 d ≡ kept d) → ((d : ℕ) → d < flying → lost2 d ≡ (is_in x (front r + d) || lost d)) → ((d : ℕ) → d < flying → lost2 d ≡ true → (low2 ≤ d) × (d < high2)) → (low2 < high2 → lost2 low2 ≡ true) → IsKept initial word behind count flying low2 high2 base_message end_message kept2 lost2 (asked (x ∷ taken) r)
-asked_more initial word behind count flying low high base_message end_message low2 high2 x taken kept kept2 lost lost2 r h ks ls wi lw =
+-- other marks, which end at the same number sent
+remarked : (initial word behind count flying low high base_message end_message low2 high2 : ℕ) (kept kept2 : ℕ → Option Kept) (lost lost2 : ℕ → Bool) (marks2 : List Mark) (r : Sending) → IsKept initial word behind count flying low high base_message end_message kept lost r → sent_end marks2 ≡ sent_end r.marks → ((d : ℕ) → kept2 d ≡ kept d) → ((d : ℕ) → d < flying → lost2 d ≡ is_marked marks2 (front r + d)) → ((d : ℕ) → d < flying → lost2 d ≡ true → (low2 ≤ d) × (d < high2)) → (low2 < high2 → lost2 low2 ≡ true) → IsKept initial word behind count flying low2 high2 base_message end_message kept2 lost2 (record r { marks = marks2 })
+remarked initial word behind count flying low high base_message end_message low2 high2 kept kept2 lost lost2 marks2 r h s ks ls wi lw =
     record {
       word_is = h.word_is;
       behind_is = h.behind_is;
       queued_is = h.queued_is;
-      flying_is = h.flying_is;
+      flying_is = h.flying_is ∙ ap (max (front r)) (sym s);
       base_message_is = h.base_message_is;
       end_message_is = h.end_message_is;
       kept_is = λ d k. ks d ∙ h.kept_is d k;
-      lost_is = λ d k. ls d k ∙ ap (λ b. is_in x (front r + d) || b) (h.lost_is d k) ∙ mixed (is_in x (front r + d)) (is_asked taken (front r + d)) (is_between (front r) (next r) (front r + d)) (is_marked r.marks (front r + d)) (flies d k);
+      lost_is = ls;
       within = wi;
       lowest = lw;
       in_order = h.in_order;
     }
+
+pub asked_more : (initial word behind count flying low high base_message end_message low2 high2 : ℕ) (x : Range) (taken : List Range) (kept kept2 : ℕ → Option Kept) (lost lost2 : ℕ → Bool) (r : Sending) → IsKept initial word behind count flying low high base_message end_message kept lost (asked taken r) → ((d : ℕ) → kept2 d ≡ kept d) → ((d : ℕ) → d < flying → lost2 d ≡ (is_in x (front r + d) || lost d)) → ((d : ℕ) → d < flying → lost2 d ≡ true → (low2 ≤ d) × (d < high2)) → (low2 < high2 → lost2 low2 ≡ true) → IsKept initial word behind count flying low2 high2 base_message end_message kept2 lost2 (asked (x ∷ taken) r)
+asked_more initial word behind count flying low high base_message end_message low2 high2 x taken kept kept2 lost lost2 r h ks ls wi lw =
+    remarked initial word behind count flying low high base_message end_message low2 high2 kept kept2 lost lost2 (Asked (front r) (next r) (x ∷ taken) ∷ r.marks) (asked taken r) h refl ks
+    (λ d k. ls d k ∙ ap (λ b. is_in x (front r + d) || b) (h.lost_is d k) ∙ mixed (is_in x (front r + d)) (is_asked taken (front r + d)) (is_in_span (front r) (next r) (front r + d)) (is_marked r.marks (front r + d)) (flies d k))
+    wi lw
   where
-    flies : (d : ℕ) → d < flying → is_between (front r) (next r) (front r + d) ≡ true
+    flies : (d : ℕ) → d < flying → is_in_span (front r) (next r) (front r + d) ≡ true
     flies d k = let n = h.flying_is in grind (arith, nat_tests, n, k)
 
     mixed : (a b c m : Bool) → c ≡ true → (a || ((c && b) || m)) ≡ ((c && (a || b)) || m)
@@ -164,35 +171,13 @@ asked_more initial word behind count flying low high base_message end_message lo
 -- only the marks differ, and not at numbers in flight
 pub marked_alike : (initial word behind count flying low high base_message end_message : ℕ) (kept : ℕ → Option Kept) (lost : ℕ → Bool) (marks marks2 : List Mark) (r : Sending) → IsKept initial word behind count flying low high base_message end_message kept lost (record r { marks = marks }) → sent_end marks2 ≡ sent_end marks → ((d : ℕ) → d < flying → is_marked marks2 (front r + d) ≡ is_marked marks (front r + d)) → IsKept initial word behind count flying low high base_message end_message kept lost (record r { marks = marks2 })
 marked_alike initial word behind count flying low high base_message end_message kept lost marks marks2 r h s m =
-    record {
-      word_is = h.word_is;
-      behind_is = h.behind_is;
-      queued_is = h.queued_is;
-      flying_is = h.flying_is ∙ ap (max (front r)) (sym s);
-      base_message_is = h.base_message_is;
-      end_message_is = h.end_message_is;
-      kept_is = h.kept_is;
-      lost_is = λ d k. h.lost_is d k ∙ sym (m d k);
-      within = h.within;
-      lowest = h.lowest;
-      in_order = h.in_order;
-    }
+    remarked initial word behind count flying low high base_message end_message low high kept kept lost lost marks2 (record r { marks = marks }) h s (λ d. refl) (λ d k. h.lost_is d k ∙ sym (m d k)) h.within h.lowest
 
 pub lost_are_all : (initial word behind count flying low high base_message end_message : ℕ) (kept kept2 : ℕ → Option Kept) (lost lost2 : ℕ → Bool) (r : Sending) → IsKept initial word behind count flying low high base_message end_message kept lost r → ((d : ℕ) → kept2 d ≡ kept d) → ((d : ℕ) → d < flying → lost2 d ≡ true) → IsKept initial word behind count flying 0 flying base_message end_message kept2 lost2 (all_lost r)
 lost_are_all initial word behind count flying low high base_message end_message kept kept2 lost lost2 r h ks ls =
-    record {
-      word_is = h.word_is;
-      behind_is = h.behind_is;
-      queued_is = h.queued_is;
-      flying_is = h.flying_is;
-      base_message_is = h.base_message_is;
-      end_message_is = h.end_message_is;
-      kept_is = λ d k. ks d ∙ h.kept_is d k;
-      lost_is = λ d k. let n = h.flying_is in let l = ls d k in grind (arith, nat_tests, n, k, l);
-      within = λ d k b. (omega arith, k);
-      lowest = λ lt. ls 0 lt;
-      in_order = h.in_order;
-    }
+    remarked initial word behind count flying low high base_message end_message 0 flying kept kept2 lost lost2 (All_of (front r) (next r) ∷ r.marks) r h refl ks
+    (λ d k. let n = h.flying_is in let l = ls d k in grind (arith, nat_tests, n, k, l))
+    (λ d k b. (omega arith, k)) (λ lt. ls 0 lt)
 
 first_of : (test : ℕ → Bool) (from places d : ℕ) → d < places → ((k : ℕ) → k < d → test (from + k) ≡ false) → test (from + d) ≡ true → (ns : List ℕ) × (filter test (numbers_from from places) ≡ (from + d) ∷ ns)
 first_of test from zero d lt before here = absurd (omega (arith, lt))
@@ -280,7 +265,7 @@ is_any_lost initial word behind count flying low high base_message end_message k
 -- an empty loss list
 pub asked_nothing : (initial word behind count flying low high base_message end_message : ℕ) (kept : ℕ → Option Kept) (lost : ℕ → Bool) (r : Sending) → IsKept initial word behind count flying low high base_message end_message kept lost r → IsKept initial word behind count flying low high base_message end_message kept lost (asked [] r)
 asked_nothing initial word behind count flying low high base_message end_message kept lost r h =
-    marked_alike initial word behind count flying low high base_message end_message kept lost r.marks (Asked (front r) (next r) [] ∷ r.marks) r h refl (λ d k. off (is_between (front r) (next r) (front r + d)) (is_marked r.marks (front r + d)))
+    marked_alike initial word behind count flying low high base_message end_message kept lost r.marks (Asked (front r) (next r) [] ∷ r.marks) r h refl (λ d k. off (is_in_span (front r) (next r) (front r + d)) (is_marked r.marks (front r + d)))
   where
     off : (b m : Bool) → ((b && false) || m) ≡ m
     off true m = refl
@@ -289,7 +274,7 @@ asked_nothing initial word behind count flying low high base_message end_message
 -- loss lists that name the same numbers
 pub asked_alike : (initial word behind count flying low high base_message end_message : ℕ) (kept : ℕ → Option Kept) (lost : ℕ → Bool) (xs ys : List Range) (r : Sending) → IsKept initial word behind count flying low high base_message end_message kept lost (asked xs r) → ((n : ℕ) → is_asked ys n ≡ is_asked xs n) → IsKept initial word behind count flying low high base_message end_message kept lost (asked ys r)
 asked_alike initial word behind count flying low high base_message end_message kept lost xs ys r h same =
-    marked_alike initial word behind count flying low high base_message end_message kept lost (Asked (front r) (next r) xs ∷ r.marks) (Asked (front r) (next r) ys ∷ r.marks) r h refl (λ d k. ap (λ b. (is_between (front r) (next r) (front r + d) && b) || is_marked r.marks (front r + d)) (same (front r + d)))
+    marked_alike initial word behind count flying low high base_message end_message kept lost (Asked (front r) (next r) xs ∷ r.marks) (Asked (front r) (next r) ys ∷ r.marks) r h refl (λ d k. ap (λ b. (is_in_span (front r) (next r) (front r + d) && b) || is_marked r.marks (front r + d)) (same (front r + d)))
 
 -- a range that has a part of the numbers in flight
 pub asked_part : (initial word behind count flying low high base_message end_message first last low2 high2 : ℕ) (x : Range) (taken : List Range) (kept kept2 : ℕ → Option Kept) (lost lost2 : ℕ → Bool) (r : Sending) → IsKept initial word behind count flying low high base_message end_message kept lost (asked taken r) → x.first < 2 ^ 31 → x.last < 2 ^ 31 → IsPartOf x (initial + front r) flying (Some (first, last)) → first ≤ last → last < flying → high ≤ flying → ((d : ℕ) → kept2 d ≡ kept d) → ((d : ℕ) → lost2 d ≡ (if nat_le first d && nat_lt d (last + 1) then true else lost d)) → (low < high → (low2 ≡ min low first) × (high2 ≡ max high (last + 1))) → (high ≤ low → (low2 ≡ first) × (high2 ≡ last + 1)) → IsKept initial word behind count flying low2 high2 base_message end_message kept2 lost2 (asked (range_from initial x ∷ taken) r)

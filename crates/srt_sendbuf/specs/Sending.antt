@@ -59,15 +59,15 @@ abbrev pub in_flight : Sending → ℕ
 in_flight s = next s - front s
 
 -- from low on and before high
-abbrev pub is_between : (low high n : ℕ) → Bool
-is_between low high n = nat_le low n && nat_lt n high
+abbrev pub is_in_span : (low high n : ℕ) → Bool
+is_in_span low high n = nat_le low n && nat_lt n high
 
 -- marked as lost since it was last sent (section 4.8.2)
 abbrev pub is_marked : List Mark → ℕ → Bool
 is_marked [] n = false
 is_marked (Sent k ∷ marks) n = if k == n then false else is_marked marks n
-is_marked (Asked low high ranges ∷ marks) n = (is_between low high n && is_asked ranges n) || is_marked marks n
-is_marked (All_of low high ∷ marks) n = is_between low high n || is_marked marks n
+is_marked (Asked low high ranges ∷ marks) n = (is_in_span low high n && is_asked ranges n) || is_marked marks n
+is_marked (All_of low high ∷ marks) n = is_in_span low high n || is_marked marks n
 
 -- the lost numbers in flight, lowest first
 abbrev pub lost : Sending → List ℕ

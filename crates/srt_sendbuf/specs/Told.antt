@@ -21,7 +21,7 @@ told initial d = record { number = number_word initial d.number; message = messa
 
 -- a result of `next_due` with the payload that it wrote
 abbrev pub told_by : Out → (payload : List ℕ) → Told
-told_by o payload = record { number = word_of o.number; message = message_of o.msg; again = o.again; origin = o.origin; payload = payload }
+told_by o payload = record { number = word_of o.number; message = message_of o.message; again = o.again; origin = o.origin; payload = payload }
 
 -- the contents of a drop request: the first sequence number, the last, and the message number of the first
 pub record Gone : Type 0 where
@@ -40,4 +40,4 @@ gone_for initial ranges s = if asks_for_gone ranges s then Some (gone initial s)
 
 -- a result of `lose`
 abbrev pub gone_by : DropRun → Gone
-gone_by d = record { first = word_of d.first; last = word_of d.last; message = message_of d.msg }
+gone_by d = record { first = word_of d.first; last = word_of d.last; message = message_of d.message }

@@ -1,23 +1,21 @@
-//! The sender buffer: what is queued and neither acknowledged nor expired, and which packets of it are lost.
+//! The sender buffer: what is queued and neither acknowledged nor expired, and which packets of it are lost
+//! (draft-sharabayko-srt-01, sections 4.6 and 4.8.2).
 
-ghost use Rattle.std.specs.Prelude.{◌≡◌, ℕ, ◌+◌, ◌-◌, ◌%◌, ◌^◌, ◌<◌, ◌≤◌, ◌↔◌, ◌||◌, ◌++◌, true, false, List, [], ◌∷◌, All, length, map, slice_get, option_map, is_some, min, nat_lt, IsErr, IfOk, IfSome, IfNone, OnErr};
-ghost use Rattle.std.specs.List.{list_any};
-ghost use Rattle.srt_seq.specs.Window.{word_of, counted_from};
+ghost use Rattle.std.specs.Prelude.{◌≡◌, ℕ, ◌+◌, ◌-◌, ◌^◌, ◌<◌, ◌≤◌, ◌↔◌, ◌||◌, ◌++◌, true, false, List, [], ◌∷◌, All, length, map, option_map, nat_lt, IsErr, IfOk, OnErr};
+ghost use Rattle.srt_seq.specs.Window.{word_of};
 ghost use Rattle.srt_seq.specs.Counts.{message_of, message_number};
-ghost use Rattle.srt_seq.specs.Runs.{Range, is_in, is_asked, span, numbers_from, ranges_from, range_from};
+ghost use Rattle.srt_seq.specs.Runs.{Range, is_asked, span, ranges_from, range_from};
 ghost use Rattle.srt_loss.specs.Text.{range_of};
 ghost use Rattle.srt_sendbuf.specs.Places.{length_of, lost_at};
 
 use crate::parts::{next_part, split};
 use crate::ring::{Marked, Ring};
 use srt_loss::{LossRef, Ranges, part_in};
+use srt_seq::limits::ACK_REACH;
 use srt_seq::{Msg26, Payload, Seq31};
 use std::alloc::{AllocError, Global};
 
-/// The greatest distance from the base to the front: how far back an ACK's number may be, in packets (this profile).
-const REACH: usize = 8192;
-
-/// The cap of `behind`. All values above `REACH` behave alike, so the counter stops here.
+/// The cap of `behind`. All values above `ACK_REACH` behave alike, so the counter stops here.
 const BEHIND_END: usize = 16384;
 
 /// The header fields of a packet that is to be sent now. Its bytes are in the payload that `next_due` wrote.
@@ -26,7 +24,7 @@ pub struct Out {
     /// Its sequence number (section 3.1).
     pub number: Seq31,
     /// Its message number (section 3.1).
-    pub msg: Msg26,
+    pub message: Msg26,
     /// Whether it was sent before, so that the packet has the flag R (section 3.1).
     pub again: bool,
     /// The time that `queue` was given with its payload, in microseconds.
@@ -42,7 +40,7 @@ pub struct DropRun {
     /// The last number, which belongs to the run.
     pub last: Seq31,
     /// The message number of the first number.
-    pub msg: Msg26,
+    pub message: Msg26,
 }
 
 /// `queue` refused a payload: all places are taken.
@@ -50,7 +48,7 @@ pub struct DropRun {
 pub struct Full;
 
 /// The message number `steps` packets later. O(steps).
-fn message_after(message: Msg26, steps: usize) -> Msg26
+pub(crate) fn message_after(message: Msg26, steps: usize) -> Msg26
     ensures { (k : ℕ) → message_of message ≡ message_number k → message_of result ≡ message_number (k + steps) }
 {
     let mut reached = message;
@@ -69,19 +67,19 @@ fn message_after(message: Msg26, steps: usize) -> Msg26
 /// front, up to next. Times are microseconds of one clock that the caller chooses; they don't go back.
 #[derive(Drop)]
 pub struct SendBuf {
-    ring: Ring,
+    pub(crate) ring: Ring,
     /// The sequence number of the first place.
-    front: Seq31,
+    pub(crate) front: Seq31,
     /// The distance from the least number not acknowledged to the front, at most `BEHIND_END`.
-    behind: usize,
+    pub(crate) behind: usize,
     /// The number of packets in flight: the places below this one.
-    sent: usize,
+    pub(crate) sent: usize,
     /// The first lost place, if `low` is below `high`.
-    low: usize,
+    pub(crate) low: usize,
     /// No place from this one on is lost.
-    high: usize,
+    pub(crate) high: usize,
     /// The message number of the base.
-    message: Msg26,
+    pub(crate) message: Msg26,
     /// The message number of the payload that is queued next.
     next_message: Msg26,
     ghost queue_in: { length_of ring ≤ 8192 },
@@ -92,8 +90,8 @@ pub struct SendBuf {
 }
 
 impl SendBuf {
-    ghost use Rattle.srt_sendbuf.specs.Sending.{Sending, nothing_yet, front, base, next, room, in_flight, lost, queued, acknowledged_by, after_ack, is_growth, expired_before, asked, asks_for_gone, all_lost, sent, due, due_number, due_of, after_due, IsTimely, IsLater};
-    ghost use Rattle.srt_sendbuf.specs.Told.{told, told_by, gone, gone_for, gone_by};
+    ghost use Rattle.srt_sendbuf.specs.Sending.{Sending, nothing_yet, front, room, in_flight, lost, queued, expired_before, asked, all_lost, IsTimely, IsLater};
+    ghost use Rattle.srt_sendbuf.specs.Told.{gone_for, gone_by};
     ghost use Rattle.srt_sendbuf.specs.Stands.{StandsFor, IsMoved};
 
     /// An empty buffer of `width` packets, 32 to 8192, for a stream with the initial number 0; `start` begins any
@@ -172,24 +170,9 @@ impl SendBuf {
         span > 0
     }
 
-    /// The distance from the base to the front.
-    fn back(&self) -> usize
-        ensures value { result ≡ min self.now.behind 8192 }
-    {
-        self.behind.min(REACH)
-    }
-
-    /// The sequence number `steps` before the front, 8192 at most.
-    fn number_back(&self, steps: usize) -> Seq31
-        requires { steps ≤ 8192 }
-        ensures { (n : ℕ) → (n + steps) % 2 ^ 31 ≡ word_of self.now.front → word_of result ≡ n % 2 ^ 31 }
-    {
-        self.front.add((1 << 31) - steps as u32)
-    }
-
     /// Moves the front on by `count` packets. `behind` and `message` are the fields' values after that. O(count), and
     /// the search for the next lost packet.
-    fn move_front(&mut self, count: usize, behind: usize, message: Msg26)
+    pub(crate) fn move_front(&mut self, count: usize, behind: usize, message: Msg26)
         requires inside { count ≤ length_of self.old.ring }
         requires behind_in { behind ≤ 16384 }
         ensures { (width initial : ℕ) (r moved : Sending) → StandsFor width initial self.old r → IsMoved count behind (message_of message) r moved → StandsFor width initial self.new moved }
@@ -205,49 +188,6 @@ impl SendBuf {
         self.high = high;
     }
 
-    /// The offset of an ACK's number from the base. None if it is outside base..=next.
-    fn steps_of(&self, number: Seq31) -> Option<usize>
-        ensures value { (width initial : ℕ) (r : Sending) → StandsFor width initial self.now r → option_map (λ d. base r + d) result ≡ acknowledged_by (counted_from initial (word_of number)) r }
-        ensures below { IfSome result (λ d. d ≤ min self.now.behind 8192 + self.now.sent) }
-    {
-        let back = self.back();
-        match number.offset_in(self.number_back(back), (back + self.sent) as u32 + 1) {
-            Some(steps) => Some(steps as usize),
-            None => None,
-        }
-    }
-
-    /// An ACK of all numbers below this one (section 3.2.4). False if the number is outside base..=next; then nothing
-    /// changes. Linear in the packets that it acknowledges.
-    pub fn ack(&mut self, number: Seq31) -> bool
-        ensures stands { (width initial : ℕ) (r : Sending) → StandsFor width initial self.old r → StandsFor width initial self.new (after_ack (acknowledged_by (counted_from initial (word_of number)) r) r) }
-        ensures answer { (width initial : ℕ) (r : Sending) → StandsFor width initial self.old r → result ≡ is_some (acknowledged_by (counted_from initial (word_of number)) r) }
-        ensures same { result ≡ false → self.new ≡ self.old }
-    {
-        let Some(steps) = self.steps_of(number) else {
-            return false;
-        };
-        let back = self.back();
-        let message = message_after(self.message, steps);
-        if steps < back {
-            self.move_front(0, back - steps, message);
-        } else {
-            self.move_front(steps - back, 0, message);
-        }
-        true
-    }
-
-    /// Whether an ACK with this number acknowledges more than all before it. False if the number is outside
-    /// base..=next. O(1).
-    pub fn grows(&self, number: Seq31) -> bool
-        ensures { (width initial : ℕ) (r : Sending) → StandsFor width initial self.now r → result ≡ is_growth (acknowledged_by (counted_from initial (word_of number)) r) r }
-    {
-        match self.steps_of(number) {
-            Some(steps) => steps > 0 || self.behind > REACH,
-            None => false,
-        }
-    }
-
     /// Drops the packets that were queued before a time, in microseconds, sent or not (section 4.6). A time of 0 or
     /// less drops nothing, and times don't go back. Returns the number of packets that it dropped. Linear in that
     /// number.
@@ -257,7 +197,7 @@ impl SendBuf {
     {
         let count = self.ring.count_before(before);
         let behind = (self.behind + count).min(BEHIND_END);
-        let steps = count + self.back() - behind.min(REACH);
+        let steps = count + self.back() - behind.min(ACK_REACH);
         let message = message_after(self.message, steps);
         self.move_front(count, behind, message);
         count as u32
@@ -309,42 +249,6 @@ impl SendBuf {
         part.len() > 0
     }
 
-    /// Whether a range names a number from the base up to the front: one that is expired and not acknowledged.
-    fn asks_gone(&self, range: (Seq31, Seq31)) -> bool
-        requires short { span (range_of range) < 2 ^ 30 }
-        ensures { (width initial : ℕ) (r : Sending) → StandsFor width initial self.now r → result ≡ list_any (is_in (range_from initial (range_of range))) (numbers_from (base r) (front r - base r)) }
-    {
-        let back = self.back();
-        match part_in(range, self.number_back(back), back as u32) {
-            Some(_) => true,
-            None => false,
-        }
-    }
-
-    /// Whether any range of a list does. Linear in its ranges.
-    fn asks_any_gone(&self, losses: &LossRef<'_>) -> bool
-        ensures { (width initial : ℕ) (r : Sending) → StandsFor width initial self.now r → result ≡ asks_for_gone (ranges_from initial losses.now) r }
-    {
-        let mut ranges = losses.ranges();
-        while let Some(range) = ranges.next_range() {
-            if self.asks_gone(range) {
-                return true;
-            }
-        }
-        false
-    }
-
-    /// The numbers from the base up to the front. Only for a base below the front.
-    fn gone(&self) -> DropRun
-        ensures { (width initial : ℕ) (r : Sending) → StandsFor width initial self.now r → base r < front r → gone_by result ≡ gone initial r }
-    {
-        DropRun {
-            first: self.number_back(self.back()),
-            last: self.number_back(1),
-            msg: self.message,
-        }
-    }
-
     /// A loss list (NAK, sections 3.2.5 and 4.8.2): marks the numbers in flight that it names as lost. If it names
     /// any number from the base up to the front, which are expired and not acknowledged, returns the run of all of
     /// these, for a drop request (this profile). Linear in the list's ranges and in the numbers in flight that they
@@ -367,75 +271,5 @@ impl SendBuf {
         self.ring.mark_all(0, self.sent);
         self.low = 0;
         self.high = self.sent;
-    }
-
-    /// The packet of a place; its bytes replace those of `payload`.
-    fn out(&self, at: usize, again: bool, payload: &mut Payload) -> Option<Out>
-        requires { at < length_of self.now.ring }
-        ensures answer { (width initial : ℕ) (r : Sending) → StandsFor width initial self.now r → option_map (λ o. told_by o payload.new.items) result ≡ option_map (told initial) (due_of (front r + at) again (slice_get r.queue (front r + at))) }
-        ensures kept { IfNone result (payload.new ≡ payload.old) }
-    {
-        let place = self.ring.place(at)?;
-        self.ring.copy_to(at, payload);
-        Some(Out {
-            number: self.front.add(at as u32),
-            msg: place.message,
-            again,
-            origin: place.origin,
-        })
-    }
-
-    /// Notes that the lowest lost packet was sent again.
-    fn sent_again(&mut self)
-        requires { self.old.low < self.old.high }
-        ensures { (width initial : ℕ) (r : Sending) → StandsFor width initial self.old r → StandsFor width initial self.new (sent (front r + self.old.low) r) }
-    {
-        self.ring.mark(self.low, false);
-        self.low = self.ring.find_lost(self.low + 1, self.high);
-    }
-
-    /// Notes that the first packet not in flight was sent.
-    fn sent_new(&mut self)
-        requires { self.old.sent < length_of self.old.ring }
-        ensures { (width initial : ℕ) (r : Sending) → StandsFor width initial self.old r → StandsFor width initial self.new (sent (front r + self.old.sent) r) }
-    {
-        self.ring.mark(self.sent, false);
-        self.sent += 1;
-    }
-
-    /// Whether `next_due` would return a packet: one is lost, or a new one waits and fewer than `window` (the flow
-    /// window, in packets) are in flight. O(1).
-    pub fn is_due(&self, window: u32) -> bool
-        ensures { (width initial : ℕ) (r : Sending) → StandsFor width initial self.now r → result ≡ is_some (due_number window (lost r) r) }
-    {
-        if self.any_lost() {
-            return true;
-        }
-        if self.sent >= window as usize {
-            return false;
-        }
-        self.sent < self.ring.len()
-    }
-
-    /// Takes the next packet to be sent, which then counts as sent: the lowest lost one (section 4.8.2), or if none
-    /// is lost, the next new one if fewer than `window` (the flow window, in packets) are in flight (section 3.2.4).
-    /// Its bytes replace those of `payload`, one copy. None if no packet is due; then `payload` is unchanged. The
-    /// cost is that of the search for the next lost packet, see `Ring::find_lost`.
-    pub fn next_due(&mut self, window: u32, payload: &mut Payload) -> Option<Out>
-        ensures stands { (width initial : ℕ) (r : Sending) → StandsFor width initial self.old r → StandsFor width initial self.new (after_due window r) }
-        ensures answer { (width initial : ℕ) (r : Sending) → StandsFor width initial self.old r → option_map (λ o. told_by o payload.new.items) result ≡ option_map (told initial) (due window r) }
-        ensures kept { IfNone result (payload.new ≡ payload.old) }
-    {
-        if self.low < self.high {
-            let out = self.out(self.low, true, payload);
-            self.sent_again();
-            out
-        } else if self.sent < window as usize && self.sent < self.ring.len() {
-            let out = self.out(self.sent, false, payload);
-            self.sent_new();
-            out
-        } else {
-            None
-        }
     }
 }

@@ -62,7 +62,7 @@ fn due(buffer: &mut SendBuf, window: u32) -> Result<Answer, Fail> {
         Some(out) if is_due && payload.len() == 1 => match payload.first() {
             Some(byte) => Ok(Answer::Packet(
                 out.number.get(),
-                out.msg.get(),
+                out.message.get(),
                 out.again,
                 out.origin,
                 *byte,
@@ -82,7 +82,7 @@ fn lost(buffer: &mut SendBuf, first: u32, last: u32) -> Result<Answer, Fail> {
         return Err(Fail::from("a loss list"));
     };
     match buffer.lose(&losses) {
-        Some(run) => Ok(Answer::Gone(run.first.get(), run.last.get(), run.msg.get())),
+        Some(run) => Ok(Answer::Gone(run.first.get(), run.last.get(), run.message.get())),
         None => Ok(Answer::Nothing),
     }
 }

@@ -5,6 +5,10 @@ ghost use Rattle.std.specs.List.{list_all};
 ghost use Rattle.srt_seq.specs.Terms.{terms_of};
 ghost use Rattle.srt_seq.specs.Entries.{is_between, is_name_byte, is_name, in_limits};
 
+use crate::limits::{
+    MAX_LATENCY_MS, MAX_NAME, MAX_QUEUE, MAX_SESSIONS, MAX_WINDOW, MIN_LATENCY_MS, MIN_QUEUE,
+    MIN_WINDOW,
+};
 use crate::shared::Entry;
 
 /// Whether `low <= n <= high`.
@@ -35,7 +39,7 @@ fn are_name_bytes(bytes: &[u8]) -> bool
 pub fn is_name(name: &[u8]) -> bool
     ensures { result ≡ is_name name.now }
 {
-    is_between(1, 64, name.len()) && are_name_bytes(name)
+    is_between(1, MAX_NAME, name.len()) && are_name_bytes(name)
 }
 
 impl Entry {
@@ -43,10 +47,10 @@ impl Entry {
     pub fn in_limits(&self) -> bool
         ensures { result ≡ in_limits (terms_of self.now) }
     {
-        is_between(20, 8000, self.latency_ms as usize)
-            && is_between(32, 8192, self.buffer as usize)
-            && is_between(1, 17, self.sessions as usize)
-            && is_between(16, 4096, self.inbox as usize)
-            && is_between(16, 4096, self.outbox as usize)
+        is_between(MIN_LATENCY_MS, MAX_LATENCY_MS, self.latency_ms as usize)
+            && is_between(MIN_WINDOW, MAX_WINDOW, self.buffer as usize)
+            && is_between(1, MAX_SESSIONS, self.sessions as usize)
+            && is_between(MIN_QUEUE, MAX_QUEUE, self.inbox as usize)
+            && is_between(MIN_QUEUE, MAX_QUEUE, self.outbox as usize)
     }
 }

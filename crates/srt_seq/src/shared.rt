@@ -4,10 +4,6 @@ ghost use Rattle.std.specs.Prelude.{◌<◌, ◌≤◌, length};
 
 use arrayvec::ArrayVec;
 
-/// The upper bound of moments, itself excluded: 2^62 microseconds. Moments count from the gateway's start; in a replay
-/// they are what the tape gives.
-pub const MOMENT_END: u64 = 1 << 62;
-
 /// The address and port that a datagram comes from or goes to. An IPv4 address has the form `::ffff:a.b.c.d`.
 #[derive(Clone, Copy, Debug, PartialEq, Eq)]
 pub struct Peer {
@@ -60,7 +56,7 @@ pub struct Entry {
     pub latency_ms: u32,
     /// The size of each session's window, in packets: 32 to 8192.
     pub buffer: u32,
-    /// The greatest number of open sessions: 1 to 17, of which at most one publishes.
+    /// The greatest number of open sessions: 1 to 17, of which at most two publish.
     pub sessions: u32,
     /// The greatest number of items that wait to be applied: 16 to 4096.
     pub inbox: u32,
@@ -75,7 +71,7 @@ pub enum Item {
     Datagram {
         /// The sender.
         peer: Peer,
-        /// The moment of arrival, in microseconds: below [`MOMENT_END`].
+        /// The moment of arrival, in microseconds: below [`MOMENT_END`](crate::MOMENT_END).
         moment: u64,
         /// Its first 16 bytes: the header of a packet.
         head: [u8; 16],
@@ -84,7 +80,7 @@ pub enum Item {
     },
     /// Time passes, and nothing arrived.
     Tick {
-        /// The moment, in microseconds: below [`MOMENT_END`].
+        /// The moment, in microseconds: below [`MOMENT_END`](crate::MOMENT_END).
         moment: u64,
     },
 }

@@ -12,7 +12,7 @@ ghost use Rattle.srt_serve.specs.Ran.{told_by, Ran as TheRan};
 
 use crate::hall::Hall;
 use crate::opening::{Opened, open_routes};
-use crate::serving::serve_routes;
+use crate::serving::{Context, Crew, serve_routes};
 use crate::settling::settle_routes;
 use crate::ticking::{Clocks, Ticker};
 use srt_cookie::Secret;
@@ -64,7 +64,8 @@ fn open_stage<R: Wait>(
     workers: usize,
 ) -> Result<Stage, AllocError>
     ensures names { IfOk result (λ s. names_of s.names ≡ map name_of (map terms_of entries.now)) }
-    ensures routes { IfOk result (λ s. AreOpened (map terms_of entries.now) s.routes.ends.items s.routes.clocks.items s.routes.cells.items) }
+    ensures routes { IfOk result (λ s. AreOpened (map terms_of entries.now)
+        s.routes.ends.items s.routes.clocks.items s.routes.cells.items) }
     ensures accounts { IfOk result (λ s. (s.accounts.items ≡ []) × (length entries.now ≤ vec_capacity s.accounts)) }
 {
     let Ok(names) = Names::open(alloc, entries) else {
@@ -106,7 +107,10 @@ where
     G: Gate + Send + Drop,
     requires entries { fault_of (map terms_of entries.now) ≡ None }
     requires workers { (1 ≤ vec_len workers) × (vec_len workers ≤ 16) }
-    ensures ran { IfOk result (λ r. TheRan (class_of (secret_bytes secret.now) (map name_of (map terms_of entries.now))) (map terms_of entries.now) rounds (told_by (S.gave source.old) (W.handed wire.old) (K.gave ticker)) (told_by (S.gave source.new) (W.handed wire.new) (K.gave r.ticker)) r.report r.accounts.items) }
+    ensures ran { IfOk result (λ r. let entries = map terms_of entries.now in
+        TheRan (class_of (secret_bytes secret.now) (map name_of entries)) entries rounds
+        (told_by (S.gave source.old) (W.handed wire.old) (K.gave ticker))
+        (told_by (S.gave source.new) (W.handed wire.new) (K.gave r.ticker)) r.report r.accounts.items) }
     ensures unread { (result ≡ Err RunFault.OutOfMemory) ⊎ (result ≡ Err RunFault.Thread) → (source.new ≡ source.old) × (wire.new ≡ wire.old) }
 {
     let Ok(stage) = open_stage(rt, alloc, entries, workers.len()) else {
@@ -123,31 +127,29 @@ where
         clocks,
         cells,
     } = routes;
-    let mut clocks = Clocks {
-        ends: clocks,
-        ticker,
-    };
-    let mut workers = workers;
-    let Some(report) = serve_routes(
+    let context = Context {
         rt,
         alloc,
         secret,
-        &names,
-        source,
-        wire,
-        &mut ends,
-        &mut clocks,
-        cells.as_slice(),
-        &mut workers,
-        &hall,
+        names: &names,
+        cells: cells.as_slice(),
+        hall: &hall,
         rounds,
-    ) else {
+    };
+    let mut crew = Crew {
+        clocks: Clocks {
+            ends: clocks,
+            ticker,
+        },
+        gates: workers,
+    };
+    let Some(report) = serve_routes(&context, source, wire, &mut ends, &mut crew) else {
         return Err(RunFault::Thread);
     };
     let Clocks {
         ends: clocks,
         ticker,
-    } = clocks;
+    } = crew.clocks;
     let Ok(accounts) = settle_routes(rt, ends, clocks, cells, accounts) else {
         return Err(RunFault::Busy);
     };

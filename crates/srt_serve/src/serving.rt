@@ -19,14 +19,48 @@ use std::sync::Wait;
 use std::thread::{Threads, join_mut};
 use std::{mem, thread};
 
+/// What the threads of a run use besides what each has for itself.
+#[derive(Drop)]
+pub struct Context<'a, R, C> {
+    /// The host, which starts threads.
+    pub rt: &'a R,
+    /// Gives the memory for threads and for copies of datagrams.
+    pub alloc: Global,
+    /// The secret of the lobby's cookies.
+    pub secret: &'a Secret,
+    /// The names of the routes, in the order of their indexes.
+    pub names: &'a Names,
+    /// The routes, which all workers serve.
+    pub cells: &'a [C],
+    /// The hints, and whether the run is over.
+    pub hall: &'a Hall,
+    /// The number of the poller's rounds.
+    pub rounds: u32,
+}
+
+/// What the threads besides the polling one have for themselves.
+#[derive(Drop)]
+pub struct Crew<K: Ticker + Drop, G: Drop> {
+    /// The ticking thread's: the clock's ends of all routes, and the ticker.
+    pub clocks: Clocks<K>,
+    /// A gate for each worker. `serve_routes` takes them out.
+    pub gates: Vec<G>,
+}
+
 // Starts a worker for each gate, and waits until all have ended. If one can't be started, the run ends.
-fn start_workers<R, G, C>(rt: &R, alloc: Global, cells: &[C], workers: &mut Vec<G>, hall: &Hall)
+fn start_workers<R, G, C>(context: &Context<R, C>, gates: &mut Vec<G>)
 where
     R: Threads + Wait + Sync,
     G: Gate + Send + Drop,
     C: Serve + Sync,
 {
-    let gates = mem::replace(workers, Vec::new(alloc));
+    let Context {
+        rt,
+        cells,
+        hall,
+        ..
+    } = *context;
+    let gates = mem::replace(gates, Vec::new(context.alloc));
     thread::scope(thread::scope_env(), rt, |scope| {
         let mut first = 0usize;
         for gate in gates {
@@ -45,21 +79,27 @@ where
 // Waits until all threads have arrived, polls for `rounds` rounds, and ends the run. `None` if they don't arrive; then
 // nothing was read.
 #[tactic(auto, unfolding(crate::specs::Polled::Polled, crate::specs::Polled::AreUntouched))]
-fn poll<R: Wait, S: Source, W: Wire>(
-    rt: &R,
-    alloc: Global,
-    secret: &Secret,
-    names: &Names,
+fn poll<R: Wait, S: Source, W: Wire, C>(
+    context: &Context<R, C>,
     source: &mut S,
     wire: &mut W,
     ends: &mut [Ends],
-    hall: &Hall,
-    rounds: u32,
 ) -> Option<Report>
-    requires { length ends.old ≡ length (names_of names.now) }
-    ensures pumped { IfSome result (λ report. Polled (sorting secret.now names.now) rounds (before (S.gave source.old) (W.handed wire.old) ends.old) (after (S.gave source.new) (W.handed wire.new) ends.new report)) }
+    requires { length ends.old ≡ length (names_of context.now.names.now) }
+    ensures pumped { IfSome result (λ report. Polled (sorting context.now.secret.now context.now.names.now) context.now.rounds
+        (before (S.gave source.old) (W.handed wire.old) ends.old)
+        (after (S.gave source.new) (W.handed wire.new) ends.new report)) }
     ensures unread { IfNone result (AreUntouched source.old source.new wire.old wire.new) }
 {
+    let Context {
+        rt,
+        alloc,
+        secret,
+        names,
+        hall,
+        rounds,
+        ..
+    } = *context;
     if !hall.gather(rt) {
         hall.finish();
         return None;
@@ -70,51 +110,42 @@ fn poll<R: Wait, S: Source, W: Wire>(
 }
 
 // Ticks in a new thread, and polls in this one. Returns when both have ended.
-fn tick_and_poll<R, S, W, K>(
-    rt: &R,
-    alloc: Global,
-    secret: &Secret,
-    names: &Names,
+fn tick_and_poll<R, S, W, K, C>(
+    context: &Context<R, C>,
     source: &mut S,
     wire: &mut W,
     ends: &mut [Ends],
     clocks: &mut Clocks<K>,
-    hall: &Hall,
-    rounds: u32,
 ) -> Option<Report>
 where
     R: Threads + Wait + Sync,
     S: Source,
     W: Wire,
     K: Ticker + Send + Drop,
-    requires { length ends.old ≡ length (names_of names.now) }
-    ensures pumped { IfSome result (λ report. Polled (sorting secret.now names.now) rounds (before (S.gave source.old) (W.handed wire.old) ends.old) (after (S.gave source.new) (W.handed wire.new) ends.new report)) }
+    C: Sync,
+    requires { length ends.old ≡ length (names_of context.now.names.now) }
+    ensures pumped { IfSome result (λ report. Polled (sorting context.now.secret.now context.now.names.now) context.now.rounds
+        (before (S.gave source.old) (W.handed wire.old) ends.old)
+        (after (S.gave source.new) (W.handed wire.new) ends.new report)) }
     ensures ticked { Ticked (K.gave clocks.old.ticker) (K.gave clocks.new.ticker) clocks.old.ends.items clocks.new.ends.items }
     ensures unread { IfNone result (AreUntouched source.old source.new wire.old wire.new) }
 {
     let (_, report) = join_mut(
-        rt,
-        &mut || tick(rt, clocks, hall),
-        &mut || poll(rt, alloc, secret, names, source, wire, ends, hall, rounds),
+        context.rt,
+        &mut || tick(context.rt, clocks, context.hall),
+        &mut || poll(context, source, wire, ends),
     );
     report
 }
 
-/// Starts the workers and the ticking thread, and then polls for `rounds` rounds. All threads have ended when it
-/// returns. `None` if one could not be started, or wasn't running after ten seconds; then nothing was read.
+/// Starts the workers and the ticking thread, and then polls. All threads have ended when it returns. `None` if one
+/// could not be started, or wasn't running after ten seconds; then nothing was read.
 pub fn serve_routes<R, S, W, K, G, C>(
-    rt: &R,
-    alloc: Global,
-    secret: &Secret,
-    names: &Names,
+    context: &Context<R, C>,
     source: &mut S,
     wire: &mut W,
     ends: &mut [Ends],
-    clocks: &mut Clocks<K>,
-    cells: &[C],
-    workers: &mut Vec<G>,
-    hall: &Hall,
-    rounds: u32,
+    crew: &mut Crew<K, G>,
 ) -> Option<Report>
 where
     R: Threads + Wait + Sync,
@@ -123,21 +154,22 @@ where
     K: Ticker + Send + Drop,
     G: Gate + Send + Drop,
     C: Serve + Sync,
-    requires { length ends.old ≡ length (names_of names.now) }
-    ensures pumped { IfSome result (λ report. Polled (sorting secret.now names.now) rounds (before (S.gave source.old) (W.handed wire.old) ends.old) (after (S.gave source.new) (W.handed wire.new) ends.new report)) }
-    ensures ticked { Ticked (K.gave clocks.old.ticker) (K.gave clocks.new.ticker) clocks.old.ends.items clocks.new.ends.items }
+    requires { length ends.old ≡ length (names_of context.now.names.now) }
+    ensures pumped { IfSome result (λ report. Polled (sorting context.now.secret.now context.now.names.now) context.now.rounds
+        (before (S.gave source.old) (W.handed wire.old) ends.old)
+        (after (S.gave source.new) (W.handed wire.new) ends.new report)) }
+    ensures ticked { Ticked (K.gave crew.old.clocks.ticker) (K.gave crew.new.clocks.ticker)
+        crew.old.clocks.ends.items crew.new.clocks.ends.items }
     ensures unread { IfNone result (AreUntouched source.old source.new wire.old wire.new) }
 {
+    let gates = &mut crew.gates;
+    let clocks = &mut crew.clocks;
     let (_, report) = join_mut(
-        rt,
-        &mut || start_workers(rt, alloc, cells, workers, hall),
+        context.rt,
+        &mut || start_workers(context, gates),
         &mut ||
-            requires { length ends.now ≡ length (names_of names.now) }
-        {
-            tick_and_poll(
-                rt, alloc, secret, names, source, wire, ends, clocks, hall, rounds,
-            )
-        },
+            requires { length ends.now ≡ length (names_of context.now.names.now) }
+        { tick_and_poll(context, source, wire, ends, clocks) },
     );
     report
 }

@@ -9,7 +9,7 @@ use srt_poller::Ends;
 use std::sync::Wait;
 
 /// A route could not be settled, since another call had claimed it.
-#[derive(Clone, Copy, Debug, PartialEq, Eq)]
+#[derive(Clone, Copy)]
 pub struct Busy;
 
 /// Settles all routes and returns their accounts, in the order of their indexes. The lists must be in that order too.

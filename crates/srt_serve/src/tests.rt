@@ -40,17 +40,11 @@ const PAUSE: u64 = 1_000;
 /// The number of answers after which no conclusion comes again.
 const ANSWERS: u64 = 100;
 
-const NOTHING: Report = Report {
-    read: 0,
-    answered: 0,
-    accepted: 0,
-    full: 0,
-    dropped: 0,
-    memory: 0,
-    sent: 0,
-    lost: 0,
-    faults: 0,
-};
+/// The bytes 0 to 31.
+const SECRET: [u8; 32] = [
+    0, 1, 2, 3, 4, 5, 6, 7, 8, 9, 10, 11, 12, 13, 14, 15, 16, 17, 18, 19, 20, 21, 22, 23, 24, 25,
+    26, 27, 28, 29, 30, 31,
+];
 
 /// What the threads of a test share.
 #[derive(Drop)]
@@ -173,13 +167,22 @@ impl Source for Callers {
     }
 }
 
-/// A wire that takes everything.
+/// A wire, a ticker or a gate that takes part in a meeting.
 #[derive(Drop)]
-struct Taking {
+struct Member {
     meeting: Arc<Meeting>,
 }
 
-impl Wire for Taking {
+impl Member {
+    fn of(meeting: &Arc<Meeting>) -> Result<Member, Fail> {
+        Ok(Member {
+            meeting: Arc::try_clone(meeting)?,
+        })
+    }
+}
+
+/// It takes everything.
+impl Wire for Member {
     ghost failures = { λ wire. 0 };
 
     ghost handed = { λ wire. None };
@@ -197,13 +200,8 @@ impl Wire for Taking {
     }
 }
 
-/// A ticker that always gives the same moment. It waits before the first until the source waits for the second time.
-#[derive(Drop)]
-struct Standing {
-    meeting: Arc<Meeting>,
-}
-
-impl Ticker for Standing {
+/// It always gives the same moment. It waits before the first until the source waits for the second time.
+impl Ticker for Member {
     ghost gave = { λ ticker. None };
 
     fn next(&mut self) -> u64 {
@@ -215,6 +213,27 @@ impl Ticker for Standing {
         }
         thread::yield_now();
         MOMENT
+    }
+}
+
+/// It lets a turn of the first route pass once the second caller was answered, and a turn of the second route once a
+/// gate was asked about the first.
+impl Gate for Member {
+    ghost held = { λ gate. 0 };
+
+    fn pass(&mut self, route: usize) -> bool {
+        let meeting = &self.meeting;
+        if route == 0 {
+            meeting.entered.store(true, Ordering::SeqCst);
+            meeting.await_all(&[&meeting.answered]);
+        } else {
+            meeting.await_all(&[&meeting.entered, &meeting.waited]);
+        }
+        true
+    }
+
+    fn held(&self) -> u64 {
+        0
     }
 }
 
@@ -234,46 +253,11 @@ impl Gate for Open {
     }
 }
 
-/// A gate that lets a turn of the first route pass once the second caller was answered, and a turn of the second route
-/// once a gate was asked about the first.
-#[derive(Drop)]
-struct Meets {
-    meeting: Arc<Meeting>,
-}
-
-impl Gate for Meets {
-    ghost held = { λ gate. 0 };
-
-    fn pass(&mut self, route: usize) -> bool {
-        let meeting = &self.meeting;
-        if route == 0 {
-            meeting.entered.store(true, Ordering::SeqCst);
-            meeting.await_all(&[&meeting.answered]);
-        } else {
-            meeting.await_all(&[&meeting.entered, &meeting.waited]);
-        }
-        true
-    }
-
-    fn held(&self) -> u64 {
-        0
-    }
-}
-
 fn peer() -> Peer {
     Peer {
         ip: [0, 0, 0, 0, 0, 0, 0, 0, 0, 0, 0xff, 0xff, 127, 0, 0, 1],
         port: 5000,
     }
-}
-
-/// The bytes 0 to 31.
-fn secret() -> Secret {
-    let mut bytes = [0u8; 32];
-    for i in 0..32 {
-        bytes[i] = i as u8;
-    }
-    Secret::new(bytes)
 }
 
 fn entry(alloc: Global, name: &str) -> Result<Entry, Fail> {
@@ -297,7 +281,7 @@ fn run_of<R, G>(
     source: &mut Callers,
     workers: Vec<G>,
     rounds: u32,
-) -> Result<Ran<Standing>, Fail>
+) -> Result<Ran<Member>, Fail>
 where
     R: Threads + Wait + Sync,
     G: Gate + Send + Drop,
@@ -306,16 +290,12 @@ where
     let Ok(_names) = Names::open(alloc, entries) else {
         return Err(Fail::from("the entries are right"));
     };
-    let mut wire = Taking {
-        meeting: Arc::try_clone(meeting)?,
-    };
-    let ticker = Standing {
-        meeting: Arc::try_clone(meeting)?,
-    };
+    let mut wire = Member::of(meeting)?;
+    let ticker = Member::of(meeting)?;
     match run(
         rt,
         alloc,
-        &secret(),
+        &Secret::new(SECRET),
         entries,
         source,
         &mut wire,
@@ -345,7 +325,7 @@ fn with_nobody_calling_nothing_is_counted(rt: HostRuntime) -> Result<(), Fail> {
         vec![in alloc; Open]?,
         3,
     )?;
-    assert_eq!(rt; ran.report, NOTHING);
+    assert_eq!(rt; ran.report, Report::NOTHING);
     assert_eq!(rt; ran.accounts.len(), 2);
     assert_eq!(rt; source.waits, 3);
     for account in &ran.accounts {
@@ -362,14 +342,7 @@ fn two_routes_are_served_at_once(rt: HostRuntime) -> Result<(), Fail> {
     let meeting = Meeting::open(alloc)?;
     let texts = vec![in alloc; hex::decode(alloc, STUDIO)?, hex::decode(alloc, STUDIA)?]?;
     let mut source = Callers::new(Arc::try_clone(&meeting)?, texts, false);
-    let workers = vec![in alloc;
-        Meets {
-            meeting: Arc::try_clone(&meeting)?
-        },
-        Meets {
-            meeting: Arc::try_clone(&meeting)?
-        },
-    ]?;
+    let workers = vec![in alloc; Member::of(&meeting)?, Member::of(&meeting)?]?;
     let ran = run_of(&rt, alloc, &entries, &meeting, &mut source, workers, LIMIT)?;
     assert!(rt; !meeting.is_late.load(Ordering::SeqCst));
     assert_eq!(rt;
@@ -378,7 +351,7 @@ fn two_routes_are_served_at_once(rt: HostRuntime) -> Result<(), Fail> {
             read: 2,
             accepted: 2,
             sent: 2,
-            ..NOTHING
+            ..Report::NOTHING
         }
     );
     for account in &ran.accounts {
@@ -417,7 +390,7 @@ fn a_hundred_answers_are_sent(rt: HostRuntime) -> Result<(), Fail> {
 
 /// As many routes and workers as there can be. One caller calls the last route; nobody calls the others.
 #[test]
-fn all_routes_and_workers_run(rt: HostRuntime) -> Result<(), Fail> {
+fn as_many_routes_and_workers_as_there_can_be_run(rt: HostRuntime) -> Result<(), Fail> {
     let alloc = rt.alloc();
     let mut entries = Vec::new(alloc);
     for index in 0..510u32 {

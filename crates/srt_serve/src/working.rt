@@ -8,11 +8,17 @@ use std::sync::Wait;
 // The most turns that a worker makes at a route before it goes on to the next.
 const TURNS: u32 = 64;
 
+// A worker wakes another one if its round has moved at least this many replies and a further route asks. Routes that
+// only apply a tick move none, so one worker serves them all: for so little work the caches of one processor do best.
+const MANY: u32 = 32;
+
 // The outcome of a visit to a route.
 #[derive(Clone, Copy)]
 struct Visit {
     // at least one turn was made that applied an item or moved a reply
     is_served: bool,
+    // the number of replies that were moved
+    moved: u32,
     // more may be left to do, so the route is to ask again
     is_left: bool,
 }
@@ -27,22 +33,26 @@ fn serve_route<R: Wait, C: Serve, G: Gate>(
     hall: &Hall,
 ) -> Visit {
     let mut is_served = false;
+    let mut moved = 0u32;
     for _ in 0..TURNS {
         match cell.serve(rt, gate) {
             Served::Turned(Turned::Applied) => is_served = true,
             Served::Turned(Turned::Moved) => {
                 is_served = true;
+                moved = moved.wrapping_add(1);
                 hall.moved(route);
             }
             Served::Turned(Turned::Idle) | Served::Held => {
                 return Visit {
                     is_served,
+                    moved,
                     is_left: false,
                 };
             }
             Served::Turned(Turned::Blocked) | Served::Busy => {
                 return Visit {
                     is_served,
+                    moved,
                     is_left: true,
                 };
             }
@@ -50,12 +60,13 @@ fn serve_route<R: Wait, C: Serve, G: Gate>(
     }
     Visit {
         is_served,
+        moved,
         is_left: true,
     }
 }
 
-// Goes once round the routes, from the route `first`, and serves each that asks and has no visitor. When it finds the
-// second that asks, it wakes another worker. True if it applied an item or moved a reply.
+// Goes once round the routes, from the route `first`, and serves each that asks and has no visitor. If there is much to
+// do, it wakes another worker. True if it applied an item or moved a reply.
 fn go_round<R: Wait, C: Serve, G: Gate>(
     rt: &R,
     cells: &[C],
@@ -65,13 +76,14 @@ fn go_round<R: Wait, C: Serve, G: Gate>(
 ) -> bool {
     let mut is_served = false;
     let mut is_shared = false;
+    let mut moved = 0u32;
     let mut route = first;
     for _ in 0..cells.len() {
         if route >= cells.len() {
             route = 0;
         }
         if hall.asks(route) {
-            if is_served && !is_shared {
+            if moved >= MANY && !is_shared {
                 is_shared = true;
                 hall.share();
             }
@@ -79,9 +91,8 @@ fn go_round<R: Wait, C: Serve, G: Gate>(
                 if hall.enter(route) {
                     let visit = serve_route(rt, cell, route, gate, hall);
                     hall.leave(route, visit.is_left);
-                    if visit.is_served {
-                        is_served = true;
-                    }
+                    is_served |= visit.is_served;
+                    moved = moved.wrapping_add(visit.moved);
                 }
             }
         }

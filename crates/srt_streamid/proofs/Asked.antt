@@ -9,8 +9,8 @@ use Rattle.std.proofs.lemmas.List.{nil_from_length}
 use Rattle.std.proofs.lemmas.Slice.Eq.{bytes_eq-Decides}
 use Rattle.srt_seq.specs.declared.shared.Role.{Role}
 use Rattle.srt_seq.specs.declared.shared.Role.TheVariants.{Request}
-use Rattle.srt_streamid.specs.declared.found.Found.{Found}
-use Rattle.srt_streamid.specs.declared.found.Span.{Span}
+use Rattle.srt_streamid.specs.declared.keys.Found.{Found}
+use Rattle.srt_streamid.specs.declared.keys.Span.{Span}
 use Rattle.srt_streamid.specs.declared.reading.Ask.{Ask}
 use Rattle.srt_streamid.specs.declared.reading.AskFault.{AskFault}
 use Rattle.srt_streamid.specs.declared.reading.AskFault.TheVariants.{NotUtf8, NoRoute, BadMode, RepeatedKey}

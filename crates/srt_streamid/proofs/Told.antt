@@ -7,8 +7,8 @@ use Rattle.std.proofs.lemmas.Slice.Eq.{bytes_eq-Decides}
 use Rattle.std.proofs.lemmas.List.Elements.{filter_map-append}
 use Rattle.srt_seq.specs.declared.shared.Role.{Role}
 use Rattle.srt_seq.specs.declared.shared.Role.TheVariants.{Publish, Request}
-use Rattle.srt_streamid.specs.declared.found.Found.{Found}
-use Rattle.srt_streamid.specs.declared.found.Span.{Span}
+use Rattle.srt_streamid.specs.declared.keys.Found.{Found}
+use Rattle.srt_streamid.specs.declared.keys.Span.{Span}
 use Rattle.srt_streamid.specs.declared.reading.AskFault.{AskFault}
 use Rattle.srt_streamid.specs.declared.reading.AskFault.TheVariants.{NotUtf8, NoRoute, BadMode, RepeatedKey}
 use Rattle.srt_streamid.specs.Parts.{Piece, value_behind, equals_in, name_in, mode_in, names_in, modes_in}

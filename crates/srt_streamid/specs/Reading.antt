@@ -4,8 +4,8 @@ use Rattle.std.specs.List.{starts_with}
 use Rattle.std.specs.Str.{is_utf8, bytes_eq}
 use Rattle.srt_seq.specs.declared.shared.Role.{Role}
 use Rattle.srt_seq.specs.declared.shared.Role.TheVariants.{Publish, Request}
-use Rattle.srt_streamid.specs.declared.found.Found.{Found}
-use Rattle.srt_streamid.specs.declared.found.Span.{Span}
+use Rattle.srt_streamid.specs.declared.keys.Found.{Found}
+use Rattle.srt_streamid.specs.declared.keys.Span.{Span}
 use Rattle.srt_streamid.specs.declared.reading.Ask.{Ask}
 use Rattle.srt_streamid.specs.declared.reading.AskFault.{AskFault}
 use Rattle.srt_streamid.specs.declared.reading.AskFault.TheVariants.{NotUtf8, NoRoute, BadMode, RepeatedKey}

@@ -7,12 +7,13 @@
 //! or an [`AskFault`]. Two forms are read: a list such as `#!::r=studio,m=publish`, and any other text, which is itself
 //! the name of a route that is requested.
 //!
-//! `reading.rt` splits a list into parts at its commas; `found.rt` reads one part after another, which is a key, `=`
-//! and a value, and keeps the name and the role. `specs/Spelling.antt` defines what a Stream ID means, all parts at
-//! once; `specs/Reading.antt` reads them from left to right; `laws.rt` ties the two.
+//! Files: `reading.rt` has the types, and tells a list from a plain name; `keys.rt` splits a list into parts at its commas
+//! and reads one after another, which is a key, `=` and a value: it keeps the name and the role, and refuses a repeated
+//! key. `specs/Spelling.antt` defines what a Stream ID means, all parts at once; `specs/Reading.antt` reads them from left
+//! to right; `laws.rt` ties the two.
 #![tactic(auto)]
 
-mod found;
+mod keys;
 pub mod laws;
 mod reading;
 

@@ -1,15 +1,14 @@
-//! Stream IDs read from borrowed bytes (draft-sharabayko-srt-01, appendix B).
+//! Stream IDs read from borrowed bytes: whether they are text, and a list or a plain name (draft-sharabayko-srt-01,
+//! appendix B).
 
-ghost use Rattle.std.specs.Prelude.{◌≡◌, ℕ, ◌+◌, ◌≤◌, ◌∷◌, ◌↔◌, List, length, MatchOption, IfOk, Ok, Err};
-ghost use Rattle.std.specs.Option.{option_copied};
-ghost use Rattle.srt_streamid.specs.Parts.{Piece, parts_from, parts_behind};
+ghost use Rattle.std.specs.Prelude.{◌≡◌, ◌+◌, ◌≤◌, ◌↔◌, length, IfOk, Ok, Err};
 ghost use Rattle.std.specs.Str.{is_utf8};
-ghost use Rattle.srt_streamid.specs.Reading.{ask_in, list_in, named};
+ghost use Rattle.srt_streamid.specs.Reading.{ask_in, named};
 ghost use Rattle.srt_streamid.specs.Spelling.{Asks, HasFault};
 ghost use Rattle.srt_streamid.specs.declared.reading.Ask.{Ask as TheAsk};
 ghost use Rattle.srt_streamid.specs.declared.reading.AskFault.{AskFault as TheFault};
 
-use crate::found::{Found, place_of};
+use crate::keys::read_list;
 use srt_seq::Role;
 use std::str;
 
@@ -86,37 +85,5 @@ pub(crate) fn named(start: usize, len: usize, role: Role) -> Result<Ask, AskFaul
         Err(AskFault::NoRoute)
     } else {
         Ok(Ask { start, len, role })
-    }
-}
-
-/// The first part of a list, and what follows its comma; None if there is no comma.
-fn first_part(list: &[u8]) -> (&[u8], Option<&[u8]>)
-    ensures parts { (start : ℕ) → parts_from start list.now ≡ record { start = start; text = result.0.now }
-        ∷ parts_behind (start + (length result.0.now + 1)) (option_copied result.1) }
-    ensures len { MatchOption result.1 (length result.0.now ≡ length list.now)
-        (λ more. length result.0.now + (length more.now + 1) ≡ length list.now) }
-{
-    match place_of(b',', list) {
-        Some(len) => (&list[..len], Some(&list[len + 1..])),
-        None => (list, None),
-    }
-}
-
-/// What a list asks for. `bytes` begins with the four bytes of [`LIST`].
-fn read_list(bytes: &[u8]) -> Result<Ask, AskFault>
-    requires { 4 ≤ length bytes.now }
-    ensures { result ≡ list_in bytes.now }
-{
-    let mut found = Found::nothing();
-    let mut start = 4;
-    let mut list = &bytes[4..];
-    loop {
-        let (part, more) = first_part(list);
-        found = found.with_part(start, part)?;
-        let Some(more) = more else {
-            return found.asked();
-        };
-        start += part.len() + 1;
-        list = more;
     }
 }

@@ -2,7 +2,7 @@ pub mod Sound
 pub mod Turns
 pub mod Dues
 pub mod Medias
-pub mod Feeding
+pub mod Queueing
 pub mod Unheard
 pub mod Freshness
 pub mod Counted

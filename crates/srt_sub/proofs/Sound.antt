@@ -1,5 +1,5 @@
 -- What always holds of a session keeps holding.
-use Rattle.std.proofs.Common.{◌≡◌, ℕ, ◌-◌, ◌^◌, ◌<◌, ◌≤◌, Bool, true, false, Option, None, Some, List, length, refl, arith}
+use Rattle.std.proofs.Common.{◌≡◌, ℕ, ◌-◌, ◌^◌, ◌<◌, ◌≤◌, Bool, true, false, Option, None, Some, List, [], length, refl, sym, ap, subst, ◌∙◌, arith}
 use Rattle.std.specs.Prelude.{◌≤ℤ◌, nat_lt}
 use Rattle.std.proofs.lemmas.Bool.{lt-ltb}
 use Rattle.std.proofs.lemmas.Bool.Decides.{nat_tests}
@@ -11,7 +11,7 @@ use Rattle.srt_seq.specs.Window.{counted_from, in_window}
 use Rattle.srt_tsbpd.specs.Deadline.{too_late_at}
 use Rattle.srt_sendbuf.specs.Sending.{Queued, Sending, nothing_yet, queued}
 use Rattle.srt_sendbuf.proofs.OneByOne.{times_go_on, expiry_goes_on}
-use Rattle.srt_sub.specs.Subscribing.{Terms, Subscribing, expired_in, fits}
+use Rattle.srt_sub.specs.Subscribing.{Terms, Subscribing, opened, expired_in, fits}
 use Rattle.srt_sub.specs.Stands.{IsHistory, IsSound, StandsIn, run_gone}
 use Rattle.srt_sendbuf.specs.Stands as places
 use Rattle.srt_sendbuf.specs.declared.buffer.SendBuf.{SendBuf}
@@ -40,12 +40,27 @@ sound_later terms time later s le h =
       some = h.some;
     }
 
-pub sound_at_first : (terms : Terms) (time : ℕ) → IsSound terms time nothing_yet
+sound_at_first : (terms : Terms) (time : ℕ) → IsSound terms time nothing_yet
 sound_at_first terms time =
     record {
       timely = times_go_on.none time;
       later = expiry_goes_on.none (too_late_at time terms.delay);
       some = All-nil (λ (q : Queued). 0 < length q.payload);
+    }
+
+-- a session whose fields are those of an opening
+pub stands_at_first : (terms : Terms) (initial opening caller time : ℕ) (s : Subscriber) → places.StandsFor terms.width initial s.buffer nothing_yet → IsHistory initial terms.window s.history [] → s.mode ≡ terms.mode → s.delay ≡ terms.delay → s.mtu ≡ terms.mtu → s.opening ≡ opening → s.caller ≡ caller → s.given ≡ 0 → StandsIn terms initial opening caller time 0 s opened
+stands_at_first terms initial opening caller time s buffer history mode delay mtu moment socket given =
+    record {
+      buffer_is = buffer;
+      history_is = history;
+      mode_is = mode;
+      delay_is = delay;
+      mtu_is = mtu;
+      opening_is = moment;
+      caller_is = socket;
+      given_is = given;
+      sound = sound_at_first terms time;
     }
 
 -- a change that affects neither the queue nor the number of expired payloads
@@ -113,6 +128,16 @@ changed terms initial opening caller time given s m h later count g b x n given_
 pub stands_later : StandsLater
 stands_later terms initial opening caller last later s m h le =
     changed terms initial opening caller (last - opening) 0 s m h (later - opening) 0 s.given s.buffer s.history m h.given_is h.buffer_is h.history_is (sound_later terms (last - opening) (later - opening) m.sending (omega (arith, le)) h.sound)
+
+-- the session at its own time, which is the moment less the opening
+pub record IsAtTime (terms : Terms) (initial opening caller now time : ℕ) (s : Subscriber) (m : Subscribing) : Type 0 where
+  pub time_is : time ≡ now - opening
+  pub stands : StandsIn terms initial opening caller time 0 s m
+
+pub at_time : (terms : Terms) (initial opening caller now time : ℕ) (s : Subscriber) (m : Subscribing) → time ≡ now - s.opening → StandsIn terms initial opening caller (now - opening) 0 s m → IsAtTime terms initial opening caller now time s m
+at_time terms initial opening caller now time s m is h =
+    let same : time ≡ now - opening = is ∙ ap (λ o. now - o) h.opening_is in
+    record { time_is = same; stands = subst (λ (t : ℕ). StandsIn terms initial opening caller t 0 s m) (sym same) h }
 
 pub begins : EmissionBegins
 begins terms initial opening caller last now s m h le =

@@ -11,11 +11,11 @@ use Rattle.srt_seq.specs.declared.shared.Mode.TheVariants.{Live, Buffer}
 use Rattle.srt_rtt.specs.RoundTrip.{resend_after}
 use Rattle.srt_packet.specs.Text.{text}
 use Rattle.srt_packet.specs.declared.writing.Packet.{Packet}
-use Rattle.srt_sendbuf.specs.Sending.{Queued, Sending, All_of, front, next, in_flight, is_between, is_marked, lost, all_lost, sent, Due, due, due_at, due_number, due_of as due_for}
+use Rattle.srt_sendbuf.specs.Sending.{Queued, Sending, All_of, front, next, in_flight, is_in_span, is_marked, lost, all_lost, sent, Due, due, due_at, due_number, due_of as due_for}
 use Rattle.srt_sendbuf.proofs.OneByOne.{lost_one_by_one, new_one_by_one}
-use Rattle.srt_sub.specs.Subscribing.{Terms, Report, Dropped, Media, KeepAlive, Note, Sent, Subscribing, is_media, last_sent, last_growth, round_trip, flow_window, untold, drops_of, expired, expired_in, is_stale, presumed, most, again_of, new_of, media, media_of, keep_alives, noted, due_of, reports_of, sent_each, sent_of}
+use Rattle.srt_sub.specs.Subscribing.{Terms, Report, Dropped, Media, KeepAlive, Note, Sent, Subscribing, is_media, last_sent, last_growth, round_trip, flow_window, untold, drops, drops_of, expired, expired_in, resend_due, presumed, most, again_of, new_of, media, media_of, keep_alives, noted, due_of, reports_of, sent_each, sent_of}
 use Rattle.srt_sub.specs.Says.{says}
-use Rattle.srt_sub.specs.Turns.{due_in, with_due, texts}
+use Rattle.srt_sub.specs.Turns.{due_in, with_due, given_with, texts}
 use Rattle.srt_sub.specs.Stands.{StandsIn}
 use Rattle.srt_sub.specs.Emission.{IsLeft, IsNextAt}
 use Rattle.srt_sub.specs.declared.session.Subscriber.{Subscriber}
@@ -257,7 +257,7 @@ over p terms time s u h k =
 -- after what is too late was dropped, and after what is stale was presumed lost
 pub record IsSettled (terms : Terms) (time : ℕ) (s : Subscribing) : Type 0 where
   pub fresh : expired_in terms.mode terms time s.sending ≡ s.sending
-  pub calm : is_stale time s ≡ false
+  pub calm : resend_due time s ≡ false
 
 pub settled_stays : (terms : Terms) (time : ℕ) (s : Subscribing) → IsSettled terms time s → presumed time (expired terms time s) ≡ s
 unfolding made
@@ -290,7 +290,7 @@ false_first false b c e = refl
 all_are_lost : (s : Sending) → front s < next s → (length (lost (all_lost s)) == 0) ≡ false
 all_are_lost s lt =
     let places : in_flight s ≡ suc (in_flight s - 1) = omega (arith, lt) in
-    let here : is_between (front s) (next s) (front s) ≡ true = grind (arith, nat_tests, lt) in
+    let here : is_in_span (front s) (next s) (front s) ≡ true = grind (arith, nat_tests, lt) in
     let test : ℕ → Bool = is_marked (All_of (front s) (next s) ∷ s.marks) in
     let first : test (front s) ≡ true = rw here refl in
     let some : filter test (numbers_from (front s) (suc (in_flight s - 1))) ≡ front s ∷ filter test (numbers_from (front s + 1) (in_flight s - 1)) = rw first refl in
@@ -298,7 +298,7 @@ all_are_lost s lt =
     ne_eqb _ _ (λ e. omega (arith, all, e))
 
 pub settled : (terms : Terms) (time : ℕ) (s : Subscribing) → IsSettled terms time (presumed time (expired terms time s))
-settled terms time s = by (is_stale time (expired terms time s)) refl
+settled terms time s = by (resend_due time (expired terms time s)) refl
   where
     t : Subscribing
     t = expired terms time s
@@ -306,10 +306,10 @@ settled terms time s = by (is_stale time (expired terms time s)) refl
     fresh : expired_in terms.mode terms time t.sending ≡ t.sending
     fresh = fresh_twice terms.mode terms time s.sending
 
-    stale : is_stale time t ≡ true → front t.sending < next t.sending
+    stale : resend_due time t ≡ true → front t.sending < next t.sending
     stale e = grind (arith, nat_tests, e)
 
-    by : (b : Bool) → is_stale time t ≡ b → IsSettled terms time (if b then record t { sending = all_lost t.sending } else t)
+    by : (b : Bool) → resend_due time t ≡ b → IsSettled terms time (if b then record t { sending = all_lost t.sending } else t)
     by true e =
         record {
           fresh = fresh_lost terms.mode terms time t.sending fresh;
@@ -401,3 +401,31 @@ at_most_one time notes = by (nat_le 1_000_000 (time - last_sent notes))
 pub due_there : (p : ℕ) (terms : Terms) (s : Subscribing) (d : Due) → due_in p terms s ≡ Some d → (0 < p) × (due (flow_window terms.window s.notes) s.sending ≡ Some d)
 due_there zero terms s d e = absurd cc
 due_there (suc p) terms s d e = let b : (suc p == 0) ≡ false = ne_eqb _ _ (λ x. omega (arith, x)) in (omega arith, rw b at e)
+
+-- what is known once no drop request was written
+pub record NoDrop (terms : Terms) (initial opening caller time count : ℕ) (s : Subscriber) (x : Subscribing) : Type 0 where
+  pub silent : untold x.notes ≡ None
+  pub stands : StandsIn terms initial opening caller time count s x
+
+pub no_drop : (terms : Terms) (initial opening caller time count : ℕ) (before after : Subscriber) (x : Subscribing) (b : Bool) (p : Packet) → b ≡ false → (StandsIn terms initial opening caller time count before x → texts (given b p) ≡ map (says caller initial time) (drops x.notes)) → (StandsIn terms initial opening caller time count before x → StandsIn terms initial opening caller time count after (record x { notes = noted time (drops x.notes) x.notes })) → StandsIn terms initial opening caller time count before x → NoDrop terms initial opening caller time count after x
+no_drop terms initial opening caller time count before after x b p is answer stands h =
+    let silent = no_drop_said (untold x.notes) (says caller initial time) (wrote_none b p _ is (answer h)) in
+    record {
+      silent = silent;
+      stands = subst (λ (o : Option Run). StandsIn terms initial opening caller time count after (record x { notes = noted time (drops_of o) x.notes })) silent (stands h);
+    }
+
+-- what is known once no data packet was written either
+pub record NoMedia (terms : Terms) (initial opening caller time count : ℕ) (s : Subscriber) (x : Subscribing) : Type 0 where
+  pub silent : untold x.notes ≡ None
+  pub none : due_in (64 - count) terms x ≡ None
+  pub stands : StandsIn terms initial opening caller time count s x
+
+pub no_data : (terms : Terms) (initial opening caller time count : ℕ) (before after : Subscriber) (x : Subscribing) (b : Bool) (p : Packet) → b ≡ false → (StandsIn terms initial opening caller time count before x → count ≤ 64 → texts (given b p) ≡ map (λ d. says caller initial time (Media d.number d.again d.origin d.payload)) (option_to_list (due_in (64 - count) terms x))) → (StandsIn terms initial opening caller time count before x → count ≤ 64 → StandsIn terms initial opening caller time (given_with (due_in (64 - count) terms x) count) after (with_due time (due_in (64 - count) terms x) x)) → NoDrop terms initial opening caller time count before x → count ≤ 64 → NoMedia terms initial opening caller time count after x
+no_data terms initial opening caller time count before after x b p is answer stands h few =
+    let none = no_media_said (due_in (64 - count) terms x) (λ d. says caller initial time (Media d.number d.again d.origin d.payload)) (wrote_none b p _ is (answer h.stands few)) in
+    record {
+      silent = h.silent;
+      none = none;
+      stands = subst (λ (o : Option Due). StandsIn terms initial opening caller time (given_with o count) after (with_due time o x)) none (stands h.stands few);
+    }

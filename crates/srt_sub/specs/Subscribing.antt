@@ -1,6 +1,7 @@
 -- A subscriber's session, defined by what it was fed, what it received and what it sent. It counts from its own
 -- beginning: times in microseconds from its opening, and numbers from its initial number.
 use Rattle.std.specs.Prelude.{ℕ, ◌-◌, Bool, true, false, Option, None, Some, List, [], ◌∷◌, ◌++◌, take, min, max, length, slice_get, nat_lt, nat_le, ◌==◌, ◌&&◌, if◌then◌else◌}
+use Rattle.srt_seq.specs.Limits.{keep_alive_after_us}
 use Rattle.srt_seq.specs.declared.shared.Mode.{Mode}
 use Rattle.srt_seq.specs.declared.shared.Mode.TheVariants.{Live, Buffer}
 use Rattle.srt_seq.specs.Runs.{Range, Run, numbers_from}
@@ -195,14 +196,14 @@ drops notes = drops_of (untold notes)
 
 -- whether it is time to resend all: packets are in flight, none of them is lost, and both the last data packet and
 -- the last growth are long ago (this profile)
-abbrev pub is_stale : (time : ℕ) → Subscribing → Bool
-is_stale time s =
+abbrev pub resend_due : (time : ℕ) → Subscribing → Bool
+resend_due time s =
     nat_lt (front s.sending) (next s.sending) && (length (lost s.sending) == 0)
     && nat_le (resend_after (round_trip s.notes)) (time - max (last_media s.notes) (last_growth s.notes))
 
 -- all in flight count as lost then
 abbrev pub presumed : (time : ℕ) → Subscribing → Subscribing
-presumed time s = if is_stale time s then record s { sending = all_lost s.sending } else s
+presumed time s = if resend_due time s then record s { sending = all_lost s.sending } else s
 
 -- the most data packets that an event sends (this profile)
 abbrev pub most : ℕ
@@ -233,7 +234,7 @@ media repeat (n ∷ ns) queue = media_of repeat n (slice_get queue n) ++ media r
 -- a KEEPALIVE, if nothing else is sent and nothing was for a second (section 3.2.3)
 abbrev pub keep_alives : (time : ℕ) → List Report → List Note → List Report
 keep_alives time (r ∷ rs) notes = []
-keep_alives time [] notes = if nat_le 1_000_000 (time - last_sent notes) then KeepAlive ∷ [] else []
+keep_alives time [] notes = if nat_le keep_alive_after_us (time - last_sent notes) then KeepAlive ∷ [] else []
 
 -- all packets but the KEEPALIVE, with at most `places` data packets: a drop request, those sent again, new ones
 abbrev pub due_of : (places : ℕ) → Terms → Subscribing → List Report

@@ -1,53 +1,21 @@
-//! The packets that a session sends at the end of an event, one by one.
+//! The packets that a session sends at the end of an event, one by one: their order, and data packets.
 
-ghost use Rattle.std.specs.Prelude.{◌≡◌, ℕ, ◌+◌, ◌-◌, ◌^◌, ◌<◌, ◌≤◌, List, [], ◌∷◌, map, true, false};
+ghost use Rattle.std.specs.Prelude.{◌≡◌, ℕ, ◌-◌, ◌^◌, ◌<◌, ◌≤◌, List, [], map, true, false};
 ghost use Rattle.std.specs.Option.{option_to_list};
 ghost use Rattle.srt_seq.specs.Given.{given as written};
 ghost use Rattle.srt_packet.specs.Text.{IsWritable};
-ghost use Rattle.srt_sub.specs.Subscribing.{Terms, Subscribing, Report, Media, KeepAlive, expired, presumed, reported, drops, noted, most, keep_alives, is_stale};
+ghost use Rattle.srt_sub.specs.Subscribing.{Terms, Subscribing, Report, Media, expired, reported};
 ghost use Rattle.srt_sub.specs.Says.{says};
 
-use crate::packets::{dropped, keep_alive, media};
+use crate::packets::media;
 use crate::session::Subscriber;
 use srt_packet::Packet;
-
-/// The most data packets that one event sends (this profile).
-const MOST: u32 = 64;
+use srt_seq::limits::EVENT_PACKETS_MAX;
 
 impl Subscriber {
     ghost use Rattle.srt_sub.specs.Stands.{StandsIn, StandsFor};
     ghost use Rattle.srt_sub.specs.Emission.{Emitting, IsNext, IsLeft, IsNextAt, IsOverAt};
     ghost use Rattle.srt_sub.specs.Turns.{due_in, with_due, given_with, texts};
-
-    /// Marks all packets in flight as lost if none of them is yet and it is time to resend all; `time` is in
-    /// microseconds since the opening.
-    fn presume(&mut self, time: u64)
-        ensures { (terms : Terms) (initial opening caller given : ℕ) (m : Subscribing) → StandsIn terms initial opening caller time given self.old m → StandsIn terms initial opening caller time given self.new (presumed time m) }
-    {
-        if self.buffer.in_flight() == 0 {
-            return;
-        }
-        if self.buffer.any_lost() {
-            return;
-        }
-        if self.history.is_silent(time) {
-            self.buffer.lose_all();
-        }
-    }
-
-    /// Writes the drop request that is to be sent. Returns whether there is one; if not, `packet` is unchanged.
-    fn next_drop(&mut self, time: u64, packet: &mut Packet) -> bool
-        ensures stands { (terms : Terms) (initial opening caller given : ℕ) (m : Subscribing) → StandsIn terms initial opening caller time given self.old m → StandsIn terms initial opening caller time given self.new (record m { notes = noted time (drops m.notes) m.notes }) }
-        ensures answer { (terms : Terms) (initial opening caller given : ℕ) (m : Subscribing) → StandsIn terms initial opening caller time given self.old m → texts (written result packet.new) ≡ map (says caller initial time) (drops m.notes) }
-        ensures writable { result ≡ true → IsWritable packet.new.body }
-        ensures kept { result ≡ false → packet.new ≡ packet.old }
-    {
-        let Some(run) = self.history.take_missed(time) else {
-            return false;
-        };
-        dropped(run, time, self.caller, packet);
-        true
-    }
 
     /// Writes the data packet that is due, as long as the event has sent fewer than 64. Returns whether there is one.
     fn next_media(&mut self, time: u64, packet: &mut Packet) -> bool
@@ -57,7 +25,7 @@ impl Subscriber {
         ensures kept { result ≡ false → IsWritable packet.old.body → IsWritable packet.new.body }
         ensures same { result ≡ false → (terms : Terms) (initial opening caller given : ℕ) (m : Subscribing) → StandsIn terms initial opening caller time given self.old m → packet.new ≡ packet.old }
     {
-        if self.given >= MOST {
+        if self.given >= EVENT_PACKETS_MAX {
             return false;
         }
         if !media(packet, &mut self.buffer, self.history.window, self.caller) {
@@ -68,24 +36,9 @@ impl Subscriber {
         true
     }
 
-    /// Writes a KEEPALIVE if nothing was sent for a second. Returns whether it does; if not, `packet` is unchanged.
-    fn next_keep_alive(&mut self, time: u64, packet: &mut Packet) -> bool
-        ensures stands { (terms : Terms) (initial opening caller given : ℕ) (m : Subscribing) → StandsIn terms initial opening caller time given self.old m → StandsIn terms initial opening caller time given self.new (record m { notes = noted time (keep_alives time [] m.notes) m.notes }) }
-        ensures answer { (terms : Terms) (initial opening caller given : ℕ) (m : Subscribing) → StandsIn terms initial opening caller time given self.old m → texts (written result packet.new) ≡ map (says caller initial time) (keep_alives time [] m.notes) }
-        ensures writable { result ≡ true → IsWritable packet.new.body }
-        ensures kept { result ≡ false → packet.new ≡ packet.old }
-    {
-        if !self.history.is_quiet(time) {
-            return false;
-        }
-        self.history.say(time);
-        keep_alive(time, self.caller, packet);
-        true
-    }
-
     /// Writes the next packet of the event's end, after what is too late was dropped. `time` is in microseconds since
     /// the opening.
-    fn turn(&mut self, time: u64, packet: &mut Packet) -> bool
+    fn next_packet(&mut self, time: u64, packet: &mut Packet) -> bool
         ensures some { result ≡ true → (terms : Terms) (initial opening caller given : ℕ) (middle m : Subscribing) (left : List Report) → StandsIn terms initial opening caller time given self.old (expired terms time middle) → IsLeft terms time given (expired terms time middle) m left → IsNextAt terms initial opening caller time packet.new self.new m left }
         ensures none { result ≡ false → (terms : Terms) (initial opening caller given : ℕ) (middle m : Subscribing) (left : List Report) → StandsIn terms initial opening caller time given self.old (expired terms time middle) → IsLeft terms time given (expired terms time middle) m left → IsOverAt terms initial opening caller time self.new m left }
         ensures writable { result ≡ true → IsWritable packet.new.body }
@@ -126,6 +79,6 @@ impl Subscriber {
     {
         self.drop_old(now);
         let time = self.time(now);
-        self.turn(time, packet)
+        self.next_packet(time, packet)
     }
 }

@@ -1,18 +1,13 @@
-//! What a session remembers of its events. Times are microseconds since the opening.
+//! What a session remembers of its events, with what an ACK reports (draft-sharabayko-srt-01, section 3.2.4). Times are
+//! microseconds since the opening.
 
-ghost use Rattle.std.specs.Prelude.{◌≡◌, ℕ, ◌-◌, ◌≤◌, List, [], ◌∷◌, ◌++◌, max, nat_le, option_map, None, IfSome, IfNone, true, false, Bool};
-ghost use Rattle.srt_rtt.specs.RoundTrip.{resend_after, round_trip_of};
-ghost use Rattle.srt_sendbuf.specs.Told.{gone_by};
-ghost use Rattle.srt_seq.specs.Runs.{Run};
+ghost use Rattle.std.specs.Prelude.{◌≡◌, ℕ, List, [], ◌∷◌, ◌++◌, true, false};
 ghost use Rattle.srt_sub.specs.Heard.{more_of};
-ghost use Rattle.srt_sub.specs.Subscribing.{Note, Report, Sent, Missed, grown, is_media, is_drop, last_sent, last_media, last_growth, round_trip, told, untold};
+ghost use Rattle.srt_sub.specs.Subscribing.{Note, Report, Sent, grown, is_media, is_drop, told};
 
 use srt_rtt::Rtt;
 use srt_sendbuf::DropRun;
 use srt_seq::read_word;
-
-/// The time without a packet sent after which a KEEPALIVE is sent, in microseconds (section 3.2.3).
-const QUIET: u64 = 1_000_000;
 
 /// What the last ACKs reported, and when packets were last sent. Times are microseconds since the opening, which
 /// counts as the last packet, data packet and growth at first.
@@ -35,7 +30,7 @@ pub struct History {
 }
 
 impl History {
-    ghost use Rattle.srt_sub.specs.Stands.{IsHistory, run_gone};
+    ghost use Rattle.srt_sub.specs.Stands.{IsHistory};
 
     /// A session in which nothing has happened yet, with the agreed flow window in packets.
     pub fn start(window: u32) -> History
@@ -64,27 +59,6 @@ impl History {
     {
         self.sent = time;
         self.media = time;
-    }
-
-    /// Takes the drop request that is to be sent, and notes that it is sent. None if there is none; then nothing
-    /// changes.
-    pub fn take_missed(&mut self, time: u64) -> Option<DropRun>
-        ensures answer { (initial agreed : ℕ) (notes : List Note) → IsHistory initial agreed self.old notes → option_map gone_by result ≡ option_map (run_gone initial) (untold notes) }
-        ensures some { IfSome result (λ run. (initial agreed : ℕ) (notes : List Note) (r : Report) → is_media r ≡ false → is_drop r ≡ true → IsHistory initial agreed self.old notes → IsHistory initial agreed self.new (Sent time r ∷ notes)) }
-        ensures none { IfNone result (self.new ≡ self.old) }
-    {
-        let run = self.missed?;
-        self.missed = None;
-        self.sent = time;
-        Some(run)
-    }
-
-    /// Notes that a NAK asked for expired numbers; `run` is the drop request for them. It replaces one that wasn't
-    /// sent yet.
-    pub fn miss(&mut self, run: DropRun)
-        ensures { (initial agreed : ℕ) (notes : List Note) (r : Run) → gone_by run ≡ run_gone initial r → IsHistory initial agreed self.old notes → IsHistory initial agreed self.new (Missed r ∷ notes) }
-    {
-        self.missed = Some(run);
     }
 
     /// Notes whether an ACK acknowledged more than those before.
@@ -117,20 +91,5 @@ impl History {
     {
         self.grow(grows, time);
         self.hear(info);
-    }
-
-    /// Whether it is time to resend all: the last data packet sent and the last growth are both RTT + 4 x variance +
-    /// 20 ms ago, or longer (this profile).
-    pub fn is_silent(&self, time: u64) -> bool
-        ensures { (initial agreed : ℕ) (notes : List Note) → IsHistory initial agreed self.now notes → result ≡ nat_le (resend_after (round_trip notes)) (time - max (last_media notes) (last_growth notes)) }
-    {
-        self.round_trip.resend_after() <= time.saturating_sub(self.media.max(self.growth))
-    }
-
-    /// Whether nothing was sent for a second, so that a KEEPALIVE is due.
-    pub fn is_quiet(&self, time: u64) -> bool
-        ensures { (initial agreed : ℕ) (notes : List Note) → IsHistory initial agreed self.now notes → result ≡ nat_le 1_000_000 (time - last_sent notes) }
-    {
-        time.saturating_sub(self.sent) >= QUIET
     }
 }

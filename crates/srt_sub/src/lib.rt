@@ -10,17 +10,22 @@
 //! Calls: `Subscriber::open` once; `start` for each session; then for each event `expire`, `datagram` if a packet
 //! came, `feed` for each payload of the route, and `emit` until it returns false, which writes one packet each time.
 //!
-//! `session.rt` has the rules of feeding and expiry; `hearing.rt` of ACK, NAK and SHUTDOWN; `emission.rt` of the
-//! packets at an event's end and of resending all; `history.rt` of the times and of the flow window; `packets.rt`
-//! writes packets. `specs/Subscribing.antt` defines what a session sends, `specs/Says.antt` its bytes; `laws.rt` has
-//! facts about these.
+//! Files: `feeding.rt` has the rules of feeding and of the too-late drop; `hearing.rt` of ACK, NAK and SHUTDOWN;
+//! `emission.rt` of the packets at an event's end and their order; `drop_request.rt` of drop requests;
+//! `resend_all.rt` of resending all; `keep_alive.rt` of KEEPALIVEs; `history.rt` of the flow window and of what else is
+//! remembered; `session.rt` begins a session; `packets.rt` writes packets. `specs/Subscribing.antt` defines what a
+//! session sends, `specs/Says.antt` its bytes; `laws.rt` has facts about these.
 #![tactic(auto)]
 
+mod drop_request;
 mod emission;
+mod feeding;
 mod hearing;
 mod history;
+mod keep_alive;
 pub mod laws;
 mod packets;
+mod resend_all;
 mod session;
 
 pub use hearing::Took;

@@ -54,7 +54,7 @@ pub fn dropped(run: DropRun, time: u64, caller: u32, packet: &mut Packet)
     packet.stamp = stamp(time);
     packet.dest = caller;
     packet.body = Body::DropRequest {
-        message: run.msg,
+        message: run.message,
         first: run.first,
         last: run.last,
     };
@@ -95,7 +95,7 @@ fn fill(body: &mut Body, buffer: &mut SendBuf, window: u32) -> Option<u64>
         } => {
             let out = buffer.next_due(window, payload)?;
             *number = out.number;
-            *message = out.msg;
+            *message = out.message;
             *again = out.again;
             if payload.len() == 0 {
                 return None;

@@ -1,5 +1,6 @@
 -- When a packet is due, and when it is too late. All times are whole microseconds.
 use Rattle.std.specs.Prelude.{◌≡◌, ℕ, ◌+◌, ◌*◌, ◌/◌, max, ℤ, pos, ◌+ℤ◌, ◌-ℤ◌, ◌*ℤ◌, ◌<ℤ◌}
+use Rattle.srt_seq.specs.Limits.{tlpktdrop_min_us}
 use Rattle.srt_seq.specs.Lift.{IsLift, lift, stamped_from}
 use Rattle.srt_tsbpd.specs.declared.deadlines.Base.{Base}
 
@@ -42,11 +43,11 @@ DeadlinesFromOpening = (opening first word time delay : ℕ) →
 -- a packet to be sent is too late if it is older than 1.25 times the delay and older than a second (section 4.6)
 pub record IsTooLate (delay : ℕ) (age : ℤ) : Type 0 where
   pub than_delay : pos (5 * delay) <ℤ (pos 4 *ℤ age)
-  pub than_second : pos 1_000_000 <ℤ age
+  pub than_second : pos tlpktdrop_min_us <ℤ age
 
 -- the greater of these two ages, rounded down
 abbrev pub threshold : (delay : ℕ) → ℕ
-threshold delay = max (delay * 5 / 4) 1_000_000
+threshold delay = max (delay * 5 / 4) tlpktdrop_min_us
 
 -- a packet queued before this moment is too late
 abbrev pub too_late_at : (now delay : ℕ) → ℤ

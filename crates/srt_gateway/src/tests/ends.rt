@@ -24,7 +24,7 @@ fn narrow(alloc: Global, room: usize) -> Narrow {
 }
 
 #[test]
-fn a_reader_that_fails_in_a_line(rt: HostRuntime) -> Result<(), Fail> {
+fn a_reader_that_fails_in_a_line_ends_the_replay(rt: HostRuntime) -> Result<(), Fail> {
     let config = config_of(&rt, RIGHT)?;
     let reader = Dripping {
         bytes: &TWO_LINES[..60],
@@ -50,15 +50,20 @@ fn a_reader_that_fails_in_a_line(rt: HostRuntime) -> Result<(), Fail> {
     Ok(())
 }
 
-/// Asserts the result of a replay that uses all of this number of reads, what it writes, and the result of its last
-/// read.
+/// What a replay writes, its result, and the result of its last read.
+#[derive(Clone, Copy)]
+struct Ended {
+    text: &'static str,
+    result: Result<(), ReplayFault>,
+    brought: Brought,
+}
+
+/// Asserts the end of a replay that uses all of this number of reads.
 fn assert_within<B: BufRead + Drop>(
     rt: &(impl AllocGlobal + Abort),
     reader: B,
     reads: u64,
-    text: &str,
-    end: Result<(), ReplayFault>,
-    brought: Brought,
+    ended: &Ended,
 ) -> Result<(), Fail> {
     let config = config_of(rt, RIGHT)?;
     let Ok(mut hub) = SrtGateway::open(rt.alloc(), config.secret, config.entries.as_slice()) else {
@@ -66,102 +71,150 @@ fn assert_within<B: BufRead + Drop>(
     };
     let mut writer = CountedWriter::new(Vec::new(rt.alloc()));
     let mut reader = CountedReader::within(reader, reads);
-    let ended = replay_over(rt.alloc(), &mut hub, &mut reader, &mut writer);
-    assert_eq!(rt; writer.get_ref().as_slice(), text.as_bytes());
-    assert_eq!(rt; ended, end);
-    assert_eq!(rt; reader.brought(), brought);
-    assert_eq!(rt; reader.left(), 0);
+    let result = replay_over(rt.alloc(), &mut hub, &mut reader, &mut writer);
+    assert_eq!(rt; writer.get_ref().as_slice(), ended.text.as_bytes());
+    assert_eq!(rt; result, ended.result);
+    assert_eq!(rt; (reader.brought(), reader.left()), (ended.brought, 0));
     Ok(())
 }
 
 #[test]
-fn each_look_is_one_read(rt: HostRuntime) -> Result<(), Fail> {
+fn an_interrupted_read_counts(rt: HostRuntime) -> Result<(), Fail> {
     let reader = Dripping {
         bytes: TWO_LINES,
         is_ready: false,
         fails: false,
     };
+    let reader = BufReader::with_capacity(rt.alloc(), 7, reader)?;
     // Each byte, and the end, comes after an interruption.
     let reads = 2 * TWO_LINES.len() as u64 + 2;
-    assert_within(
-        &rt,
-        BufReader::with_capacity(rt.alloc(), 7, reader)?,
-        reads,
-        "dropped 1\ndropped 3\n",
-        Ok(()),
-        Brought::End,
-    )
+    let ended = Ended {
+        text: "dropped 1\ndropped 3\n",
+        result: Ok(()),
+        brought: Brought::End,
+    };
+    assert_within(&rt, reader, reads, &ended)
 }
 
 #[test]
-fn a_reader_that_is_interrupted_for_ever(rt: HostRuntime) -> Result<(), Fail> {
+fn a_reader_that_is_always_interrupted_ends_the_replay(rt: HostRuntime) -> Result<(), Fail> {
     let reader = Stuck { bytes: TWO_LINES };
     let reader = BufReader::with_capacity(rt.alloc(), 4096, reader)?;
-    assert_within(
-        &rt,
-        reader,
-        1000,
-        "dropped 1\ndropped 3\n",
-        Err(ReplayFault::Read),
-        Brought::Nothing,
-    )
+    let ended = Ended {
+        text: "dropped 1\ndropped 3\n",
+        result: Err(ReplayFault::Read),
+        brought: Brought::Nothing,
+    };
+    assert_within(&rt, reader, 1000, &ended)
 }
 
 #[test]
-fn a_reader_without_an_end(rt: HostRuntime) -> Result<(), Fail> {
+fn an_endless_reader_ends_the_replay(rt: HostRuntime) -> Result<(), Fail> {
     let reader = Repeating {
         line: b"A 0 00000000000000000000ffff7f000001 0 \n",
         at: 0,
         times: u32::MAX,
     };
     let reader = BufReader::with_capacity(rt.alloc(), 4096, reader)?;
-    assert_within(
-        &rt,
-        reader,
-        3,
-        "dropped 1\ndropped 1\ndropped 1\n",
-        Err(ReplayFault::Read),
-        Brought::Bytes,
-    )
+    let ended = Ended {
+        text: "dropped 1\ndropped 1\ndropped 1\n",
+        result: Err(ReplayFault::Read),
+        brought: Brought::Bytes,
+    };
+    assert_within(&rt, reader, 3, &ended)
 }
 
 #[test]
-fn the_read_that_shows_the_end(rt: HostRuntime) -> Result<(), Fail> {
-    for (reads, end, brought) in [
+fn the_end_takes_a_read_of_its_own(rt: HostRuntime) -> Result<(), Fail> {
+    for (reads, result, brought) in [
         (2, Err(ReplayFault::Read), Brought::Bytes),
         (3, Ok(()), Brought::End),
     ] {
-        assert_within(
-            &rt,
-            TWO_LINES,
-            reads,
-            "dropped 1\ndropped 3\n",
-            end,
+        let ended = Ended {
+            text: "dropped 1\ndropped 3\n",
+            result,
             brought,
-        )?;
+        };
+        assert_within(&rt, TWO_LINES, reads, &ended)?;
     }
+    Ok(())
+}
+
+/// What a replay leaves of a writer: the bytes that it took, the result of its last try, and its number of flushes.
+#[derive(Clone, Copy)]
+struct Written {
+    text: &'static str,
+    tried: Tried,
+    flushes: u32,
+}
+
+/// Asserts the result of a replay onto a narrow writer, and what it leaves of it.
+fn assert_written(
+    rt: &(impl AllocGlobal + Abort),
+    tape: &[u8],
+    narrow: Narrow,
+    end: Result<(), ReplayFault>,
+    written: &Written,
+) -> Result<(), Fail> {
+    let config = config_of(rt, RIGHT)?;
+    let mut reader = CountedReader::new(tape);
+    let mut writer = CountedWriter::new(narrow);
+    assert_eq!(rt; replay(rt.alloc(), &config, &mut reader, &mut writer), end);
+    let narrow = writer.get_ref();
+    assert_eq!(rt; narrow.taken.as_slice(), written.text.as_bytes());
+    assert_eq!(rt; writer.tried(), written.tried);
+    assert_eq!(rt;
+        (narrow.flushes, narrow.interruptions),
+        (written.flushes, 0)
+    );
     Ok(())
 }
 
 #[test]
 fn an_interrupted_writer_is_written_on(rt: HostRuntime) -> Result<(), Fail> {
-    let config = config_of(&rt, RIGHT)?;
-    let mut reader = CountedReader::new(TWO_LINES);
     let mut narrow = narrow(rt.alloc(), 20);
     narrow.interruptions = 3;
-    let mut writer = CountedWriter::new(narrow);
-    assert_eq!(rt;
-        replay(rt.alloc(), &config, &mut reader, &mut writer),
-        Ok(())
-    );
-    assert_eq!(rt; writer.get_ref().interruptions, 0);
-    assert_eq!(rt;
-        writer.get_ref().taken.as_slice(),
-        b"dropped 1\ndropped 3\n".as_slice()
-    );
-    assert_eq!(rt; writer.tried(), Tried::Flushed);
-    assert_eq!(rt; writer.get_ref().flushes, 1);
-    Ok(())
+    let written = Written {
+        text: "dropped 1\ndropped 3\n",
+        tried: Tried::Flushed,
+        flushes: 1,
+    };
+    assert_written(&rt, TWO_LINES, narrow, Ok(()), &written)
+}
+
+#[test]
+fn a_writer_that_fails_in_a_line_ends_the_replay(rt: HostRuntime) -> Result<(), Fail> {
+    let written = Written {
+        text: "dropped 1\ndropp",
+        tried: Tried::NoBytes,
+        flushes: 0,
+    };
+    let narrow = narrow(rt.alloc(), 15);
+    assert_written(&rt, TWO_LINES, narrow, Err(ReplayFault::Write), &written)
+}
+
+#[test]
+fn a_failed_flush_ends_the_replay(rt: HostRuntime) -> Result<(), Fail> {
+    let mut narrow = narrow(rt.alloc(), 20);
+    narrow.flush_fails = true;
+    let written = Written {
+        text: "dropped 1\ndropped 3\n",
+        tried: Tried::Failure,
+        flushes: 1,
+    };
+    assert_written(&rt, TWO_LINES, narrow, Err(ReplayFault::Write), &written)
+}
+
+#[test]
+fn a_fault_flushes(rt: HostRuntime) -> Result<(), Fail> {
+    let tape = b"A 0 00000000000000000000ffff7f000001 5000 \nA\n";
+    let written = Written {
+        text: "dropped 1\n",
+        tried: Tried::Flushed,
+        flushes: 1,
+    };
+    let narrow = narrow(rt.alloc(), 20);
+    assert_written(&rt, tape, narrow, Err(ReplayFault::Tape(2)), &written)
 }
 
 /// A publisher's and a subscriber's conclusions, which are applied.
@@ -205,62 +258,7 @@ fn the_longest_line_is_written_byte_by_byte(rt: HostRuntime) -> Result<(), Fail>
 }
 
 #[test]
-fn a_writer_that_fails_in_a_line(rt: HostRuntime) -> Result<(), Fail> {
-    let config = config_of(&rt, RIGHT)?;
-    let mut reader = CountedReader::new(TWO_LINES);
-    let mut writer = CountedWriter::new(narrow(rt.alloc(), 15));
-    assert_eq!(rt;
-        replay(rt.alloc(), &config, &mut reader, &mut writer),
-        Err(ReplayFault::Write)
-    );
-    assert_eq!(rt;
-        writer.get_ref().taken.as_slice(),
-        b"dropped 1\ndropp".as_slice()
-    );
-    assert_eq!(rt; writer.tried(), Tried::NoBytes);
-    assert_eq!(rt; writer.get_ref().flushes, 0);
-    Ok(())
-}
-
-#[test]
-fn a_writer_whose_flush_fails(rt: HostRuntime) -> Result<(), Fail> {
-    let config = config_of(&rt, RIGHT)?;
-    let mut reader = CountedReader::new(TWO_LINES);
-    let mut narrow = narrow(rt.alloc(), 20);
-    narrow.flush_fails = true;
-    let mut writer = CountedWriter::new(narrow);
-    assert_eq!(rt;
-        replay(rt.alloc(), &config, &mut reader, &mut writer),
-        Err(ReplayFault::Write)
-    );
-    assert_eq!(rt;
-        writer.get_ref().taken.as_slice(),
-        b"dropped 1\ndropped 3\n".as_slice()
-    );
-    assert_eq!(rt; writer.tried(), Tried::Failure);
-    Ok(())
-}
-
-#[test]
-fn a_fault_flushes(rt: HostRuntime) -> Result<(), Fail> {
-    let config = config_of(&rt, RIGHT)?;
-    let tape: &[u8] = b"A 0 00000000000000000000ffff7f000001 5000 \nA\n";
-    let mut reader = CountedReader::new(tape);
-    let mut writer = CountedWriter::new(narrow(rt.alloc(), 20));
-    assert_eq!(rt;
-        replay(rt.alloc(), &config, &mut reader, &mut writer),
-        Err(ReplayFault::Tape(2))
-    );
-    assert_eq!(rt;
-        writer.get_ref().taken.as_slice(),
-        b"dropped 1\n".as_slice()
-    );
-    assert_eq!(rt; writer.get_ref().flushes, 1);
-    Ok(())
-}
-
-#[test]
-fn a_million_lines(rt: HostRuntime) -> Result<(), Fail> {
+fn a_tape_has_at_most_a_million_lines(rt: HostRuntime) -> Result<(), Fail> {
     let config = config_of(&rt, RIGHT)?;
     for (times, end) in [
         (1_000_000, Ok(())),

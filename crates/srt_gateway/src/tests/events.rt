@@ -1,6 +1,6 @@
 //! Lines of tapes and the lines that are written for them.
 
-use super::{assert_no_event, assert_replayed};
+use super::{assert_no_events, assert_replayed};
 use crate::ReplayFault;
 use std::test::Fail;
 
@@ -37,7 +37,7 @@ answer 80000000000000000000000000bc614e0000000500004a1700000005000005dc000020000
 }
 
 #[test]
-fn a_tape_of_nothing(rt: HostRuntime) {
+fn an_empty_tape_has_no_answers(rt: HostRuntime) {
     assert_replayed(&rt, b"", "", Ok(()));
 }
 
@@ -73,7 +73,7 @@ fn a_datagram_of_1473_bytes_is_dropped(rt: HostRuntime) -> Result<(), Fail> {
 }
 
 #[test]
-fn numbers_just_below_their_limits(rt: HostRuntime) {
+fn numbers_just_below_their_limits_are_read(rt: HostRuntime) {
     assert_replayed(
         &rt,
         b"A 4611686018427387903 00000000000000000000ffff7f000001 65535 \n\
@@ -84,7 +84,7 @@ A 4611686018427387904 00000000000000000000ffff7f000001 65535 \n",
 }
 
 #[test]
-fn a_line_of_4096_bytes(rt: HostRuntime) -> Result<(), Fail> {
+fn a_line_of_4096_bytes_is_read(rt: HostRuntime) -> Result<(), Fail> {
     let mut tape = Vec::new(rt.alloc());
     tape.extend_from_slice(b"A 0 00000000000000000000ffff7f000001 5000 ")?;
     for _ in 0..2027 {
@@ -96,7 +96,7 @@ fn a_line_of_4096_bytes(rt: HostRuntime) -> Result<(), Fail> {
 }
 
 #[test]
-fn a_line_of_4097_bytes(rt: HostRuntime) -> Result<(), Fail> {
+fn a_line_of_4097_bytes_is_a_fault(rt: HostRuntime) -> Result<(), Fail> {
     let mut tape = Vec::new(rt.alloc());
     tape.extend_from_slice(b"A 0 00000000000000000000ffff7f000001 5000 \n")?;
     tape.extend_from_slice(b"A 10 00000000000000000000ffff7f000001 5000 ")?;
@@ -114,63 +114,73 @@ fn a_line_of_4097_bytes(rt: HostRuntime) -> Result<(), Fail> {
 }
 
 #[test]
-fn a_tape_of_one_empty_line(rt: HostRuntime) {
+fn an_empty_line_is_a_fault(rt: HostRuntime) {
     assert_replayed(&rt, b"\n", "", Err(ReplayFault::Tape(1)));
 }
 
 #[test]
-fn other_letters(rt: HostRuntime) -> Result<(), Fail> {
-    assert_no_event(&rt, "")?;
-    assert_no_event(&rt, "B 0 00000000000000000000ffff7f000001 5000 ")?;
-    assert_no_event(&rt, "a 0 00000000000000000000ffff7f000001 5000 ")?;
-    assert_no_event(&rt, "AA 0 00000000000000000000ffff7f000001 5000 ")?;
-    assert_no_event(&rt, "T 2 5")?;
-    assert_no_event(&rt, "U 2")?;
-    assert_no_event(&rt, "S 2")?;
-    Ok(())
-}
-
-#[test]
-fn other_numbers_of_fields(rt: HostRuntime) -> Result<(), Fail> {
-    assert_no_event(&rt, "A")?;
-    assert_no_event(&rt, " A 0 00000000000000000000ffff7f000001 5000 ")?;
-    assert_no_event(&rt, "A 0 00000000000000000000ffff7f000001 5000")?;
-    assert_no_event(&rt, "A 0 00000000000000000000ffff7f000001 5000 00 00")?;
-    assert_no_event(&rt, "A 0 00000000000000000000ffff7f000001 5000  ")?;
-    assert_no_event(&rt, "A  0 00000000000000000000ffff7f000001 5000 ")?;
-    Ok(())
-}
-
-#[test]
-fn other_forms_of_numbers(rt: HostRuntime) -> Result<(), Fail> {
-    assert_no_event(&rt, "A  00000000000000000000ffff7f000001 5000 ")?;
-    assert_no_event(&rt, "A 00 00000000000000000000ffff7f000001 5000 ")?;
-    assert_no_event(&rt, "A 0x1 00000000000000000000ffff7f000001 5000 ")?;
-    assert_no_event(&rt, "A +1 00000000000000000000ffff7f000001 5000 ")?;
-    assert_no_event(&rt, "A -1 00000000000000000000ffff7f000001 5000 ")?;
-    assert_no_event(
+fn an_unknown_letter_is_a_fault(rt: HostRuntime) -> Result<(), Fail> {
+    assert_no_events(
         &rt,
-        "A 18446744073709551616 00000000000000000000ffff7f000001 5000 ",
-    )?;
-    assert_no_event(
-        &rt,
-        "A 340282366920938463463374607431768211456 00000000000000000000ffff7f000001 5000 ",
-    )?;
-    assert_no_event(&rt, "A 0 00000000000000000000ffff7f000001 65536 ")?;
-    assert_no_event(&rt, "A 0 00000000000000000000ffff7f000001 05000 ")?;
-    assert_no_event(&rt, "A 0 00000000000000000000ffff7f000001  ")?;
-    Ok(())
+        &[
+            "",
+            "B 0 00000000000000000000ffff7f000001 5000 ",
+            "a 0 00000000000000000000ffff7f000001 5000 ",
+            "AA 0 00000000000000000000ffff7f000001 5000 ",
+            "T 2 5",
+            "U 2",
+            "S 2",
+        ],
+    )
 }
 
 #[test]
-fn other_forms_of_digits(rt: HostRuntime) -> Result<(), Fail> {
-    assert_no_event(&rt, "A 0 00000000000000000000ffff7f00001 5000 ")?;
-    assert_no_event(&rt, "A 0 00000000000000000000ffff7f0000001 5000 ")?;
-    assert_no_event(&rt, "A 0 00000000000000000000ffff7f00000001 5000 ")?;
-    assert_no_event(&rt, "A 0 00000000000000000000ffff7g000001 5000 ")?;
-    assert_no_event(&rt, "A 0 00000000000000000000ffff7f000001 5000 0")?;
-    assert_no_event(&rt, "A 0 00000000000000000000ffff7f000001 5000 0g")?;
-    assert_no_event(&rt, "A 0 00000000000000000000ffff7f000001 5000 00\r")?;
-    assert_no_event(&rt, "A 0 00000000000000000000ffff7f000001 5000 \r")?;
-    Ok(())
+fn another_number_of_fields_is_a_fault(rt: HostRuntime) -> Result<(), Fail> {
+    assert_no_events(
+        &rt,
+        &[
+            "A",
+            " A 0 00000000000000000000ffff7f000001 5000 ",
+            "A 0 00000000000000000000ffff7f000001 5000",
+            "A 0 00000000000000000000ffff7f000001 5000 00 00",
+            "A 0 00000000000000000000ffff7f000001 5000  ",
+            "A  0 00000000000000000000ffff7f000001 5000 ",
+        ],
+    )
+}
+
+#[test]
+fn a_number_of_another_form_is_a_fault(rt: HostRuntime) -> Result<(), Fail> {
+    assert_no_events(
+        &rt,
+        &[
+            "A  00000000000000000000ffff7f000001 5000 ",
+            "A 00 00000000000000000000ffff7f000001 5000 ",
+            "A 0x1 00000000000000000000ffff7f000001 5000 ",
+            "A +1 00000000000000000000ffff7f000001 5000 ",
+            "A -1 00000000000000000000ffff7f000001 5000 ",
+            "A 18446744073709551616 00000000000000000000ffff7f000001 5000 ",
+            "A 340282366920938463463374607431768211456 00000000000000000000ffff7f000001 5000 ",
+            "A 0 00000000000000000000ffff7f000001 65536 ",
+            "A 0 00000000000000000000ffff7f000001 05000 ",
+            "A 0 00000000000000000000ffff7f000001  ",
+        ],
+    )
+}
+
+#[test]
+fn digits_that_are_no_bytes_are_a_fault(rt: HostRuntime) -> Result<(), Fail> {
+    assert_no_events(
+        &rt,
+        &[
+            "A 0 00000000000000000000ffff7f00001 5000 ",
+            "A 0 00000000000000000000ffff7f0000001 5000 ",
+            "A 0 00000000000000000000ffff7f00000001 5000 ",
+            "A 0 00000000000000000000ffff7g000001 5000 ",
+            "A 0 00000000000000000000ffff7f000001 5000 0",
+            "A 0 00000000000000000000ffff7f000001 5000 0g",
+            "A 0 00000000000000000000ffff7f000001 5000 00\r",
+            "A 0 00000000000000000000ffff7f000001 5000 \r",
+        ],
+    )
 }

@@ -3,20 +3,24 @@
 //! send loses that datagram alone. A send that returns Later loses an answer, and delays a reply by a round.
 
 use super::{
-    CONCLUSION, CONCLUSION_ANSWER, INDUCTION, INDUCTION_ANSWER, NOTHING, Routes, STRAY, Serving,
-    comes, open_routes,
+    CONCLUSION, CONCLUSION_ANSWER, INDUCTION, INDUCTION_ANSWER, Routes, STRAY, Serving, comes,
+    open_routes, pumped,
 };
-use crate::{Report, Sent, Source, SourceScript, SourceStep, Wire, WireScript, pump};
+use crate::{Report, Sent, Source, SourceStep, Wire, WireScript};
 use std::alloc::Global;
 use std::sync::Wait;
 use std::test::Fail;
 
-/// The refusal of a second publisher, with reason 1002, to the caller with ID 0.
+/// The answer to the second publisher, which stands by in the second slot; as to the caller with ID 1.
+const STANDBY: &str =
+    "80000000000000000000000000000001000000050000000100000005000005dc00000400ffffffff00100001000000000000000000000000000000000000000000020003000105000000003f00780078";
+
+/// The refusal of a third publisher, with reason 1002, to the caller with ID 0.
 const REFUSAL: &str =
     "80000000000000000000000000000000000000050000000000000005000005dc00002000000003ea000000010000000000000000000000000000000000000000";
 
 /// Which call fails or returns Later, counted from 0.
-#[derive(Clone, Copy, Debug, PartialEq, Eq)]
+#[derive(Clone, Copy, PartialEq)]
 enum Fault {
     Nothing,
     Wait(u32),
@@ -28,7 +32,7 @@ enum Fault {
 /// The outcome of the rounds: the report, the failures of the source and of the wire, and the datagrams that were not
 /// put off, in order, as decimal digits: 1 to 3 are the answers to the inductions, 4 to 6 the replies to the
 /// conclusions.
-#[derive(Clone, Copy, Debug, PartialEq, Eq)]
+#[derive(Debug, PartialEq, Drop)]
 struct Outcome {
     report: Report,
     source: u64,
@@ -111,7 +115,7 @@ fn digit(alloc: Global, bytes: &Vec<u8>) -> Result<u32, Fail> {
         (INDUCTION_ANSWER, 2),
         (INDUCTION_ANSWER, 3),
         (CONCLUSION_ANSWER, 1),
-        (REFUSAL, 2),
+        (STANDBY, 2),
         (REFUSAL, 3),
     ] {
         if *bytes == with(alloc, text, 15, caller)? {
@@ -125,32 +129,10 @@ fn digit(alloc: Global, bytes: &Vec<u8>) -> Result<u32, Fail> {
 /// The outcome of six rounds, in which the first route is served at each wait.
 fn played(rt: &(impl AllocGlobal + Wait), fault: Fault) -> Result<Outcome, Fail> {
     let alloc = rt.alloc();
-    let Routes {
-        secret,
-        names,
-        mut ends,
-        cells,
-    } = open_routes(rt, alloc)?;
+    let Routes { mut lobby, cells } = open_routes(rt, alloc)?;
     let mut wire = WireScript::new(alloc, answers(alloc, fault)?);
-    let Some(cell) = cells.first() else {
-        return Err(Fail::from("a first route"));
-    };
-    let mut source = Serving {
-        rt,
-        cell,
-        script: SourceScript::new(script(alloc, fault)?),
-        blocked: 0,
-    };
-    let report = pump(
-        rt,
-        alloc,
-        &secret,
-        &names,
-        &mut source,
-        &mut wire,
-        ends.as_mut_slice(),
-        6,
-    );
+    let mut source = Serving::first(rt, &cells, script(alloc, fault)?)?;
+    let report = pumped(rt, &mut lobby, &mut source, &mut wire, 6);
     let mut handed = 0u32;
     for sent in wire.handed() {
         handed = handed
@@ -173,7 +155,7 @@ fn wanted(fault: Fault, handed: u32) -> Outcome {
         accepted: 3,
         dropped: 3,
         sent: 6,
-        ..NOTHING
+        ..Report::NOTHING
     };
     let fails = Report { faults: 1, ..all };
     let loses = Report {
@@ -198,7 +180,7 @@ fn wanted(fault: Fault, handed: u32) -> Outcome {
 /// In a round the answers go before the replies. A conclusion is served at the wait after it came, so its reply goes
 /// out in the round after, behind that round's answer; if that answer is late, the reply goes before it.
 #[test]
-fn one_call_fails_at_each_place_in_turn(rt: HostRuntime) -> Result<(), Fail> {
+fn one_failed_call_at_each_place_loses_at_most_its_datagram(rt: HostRuntime) -> Result<(), Fail> {
     for (fault, handed) in [
         (Fault::Nothing, 124356),
         (Fault::Wait(0), 124356),

@@ -19,7 +19,7 @@ struct Arrival {
 #[derive(Drop)]
 pub(super) struct Plain {
     width: u64,
-    position: u64,
+    front: u64,
     arrivals: Vec<Arrival>,
     dropped: Vec<u64>,
 }
@@ -37,18 +37,18 @@ impl Plain {
     pub(super) fn new(alloc: Global, width: u32, initial: u32) -> Plain {
         Plain {
             width: u64::from(width),
-            position: u64::from(initial),
+            front: u64::from(initial),
             arrivals: Vec::new(alloc),
             dropped: Vec::new(alloc),
         }
     }
 
-    pub(super) fn position(&self) -> u64 {
-        self.position
+    pub(super) fn front(&self) -> u64 {
+        self.front
     }
 
     fn window_end(&self) -> u64 {
-        self.position.wrapping_add(self.width)
+        self.front.wrapping_add(self.width)
     }
 
     fn arrival(&self, number: u64) -> Option<Arrival> {
@@ -82,15 +82,15 @@ impl Plain {
     }
 
     pub(super) fn top(&self) -> u64 {
-        self.position.max(self.end())
+        self.front.max(self.end())
     }
 
     pub(super) fn is_waiting(&self) -> bool {
-        self.position < self.end()
+        self.front < self.end()
     }
 
     pub(super) fn ack_point(&self) -> u64 {
-        for number in self.position..self.window_end() {
+        for number in self.front..self.window_end() {
             if self.is_missing(number) {
                 return number;
             }
@@ -102,9 +102,9 @@ impl Plain {
         self.window_end().wrapping_sub(self.ack_point())
     }
 
-    /// The number from the position on and before an end that has this 31-bit sequence number.
+    /// The number from the front on and before an end that has this 31-bit sequence number.
     fn number_before(&self, number: Seq31, end: u64) -> Option<u64> {
-        for there in self.position..end {
+        for there in self.front..end {
             if wire(there) == number {
                 return Some(there);
             }
@@ -128,7 +128,7 @@ impl Plain {
         if span >= CIRCLE / 2 {
             return Ok(());
         }
-        for number in self.position..self.window_end() {
+        for number in self.front..self.window_end() {
             if distance(first.get(), wire(number).get()) <= span {
                 self.dropped.push(number)?;
             }
@@ -139,15 +139,15 @@ impl Plain {
 
     fn settle(&mut self) {
         for _ in 0..self.width {
-            if !self.is_dropped(self.position) {
+            if !self.is_dropped(self.front) {
                 return;
             }
-            self.position = self.position.wrapping_add(1);
+            self.front = self.front.wrapping_add(1);
         }
     }
 
     fn first_waiting(&self) -> Option<Arrival> {
-        for number in self.position..self.end() {
+        for number in self.front..self.end() {
             if let Some(arrival) = self.arrival(number) {
                 return Some(arrival);
             }
@@ -160,7 +160,7 @@ impl Plain {
         if room == 0 || first.due > now {
             return None;
         }
-        self.position = first.number.wrapping_add(1);
+        self.front = first.number.wrapping_add(1);
         self.settle();
         Some(first.byte)
     }

@@ -72,18 +72,18 @@ impl Both {
 
     /// A sequence number near the window, or any other.
     fn number(&mut self) -> Seq31 {
-        let position = self.plain.position();
+        let front = self.plain.front();
         let past = u64::from(self.dice.below(self.width));
         let near = u64::from(self.dice.below(4));
-        let end = position.wrapping_add(u64::from(self.width));
+        let end = front.wrapping_add(u64::from(self.width));
         match self.dice.below(12) {
             0 => wire(u64::from(self.dice.below(1 << 31))),
-            1 => wire(position.wrapping_sub(near)),
+            1 => wire(front.wrapping_sub(near)),
             2 => wire(end.wrapping_sub(2).wrapping_add(near)),
             3 => wire(self.plain.ack_point()),
             4 | 5 if self.delivery == Delivery::Buffer => wire(self.plain.ack_point()),
-            4 | 5 | 6 => wire(position.wrapping_add(near).wrapping_add(1)),
-            _ => wire(position.wrapping_add(past)),
+            4 | 5 | 6 => wire(front.wrapping_add(near).wrapping_add(1)),
+            _ => wire(front.wrapping_add(past)),
         }
     }
 
@@ -119,7 +119,7 @@ impl Both {
     }
 
     fn advance(&mut self) -> bool {
-        if self.delivery == Delivery::Buffer && self.plain.ack_point() == self.plain.position() {
+        if self.delivery == Delivery::Buffer && self.plain.ack_point() == self.plain.front() {
             return true;
         }
         let room = self.dice.below(4);
@@ -147,7 +147,7 @@ impl Both {
     }
 
     fn is_same_points(&self) -> bool {
-        self.ours.front() == wire(self.plain.position())
+        self.ours.front() == wire(self.plain.front())
             && self.ours.top() == wire(self.plain.top())
             && self.ours.ack_point() == wire(self.plain.ack_point())
             && u64::from(self.ours.available()) == self.plain.available()

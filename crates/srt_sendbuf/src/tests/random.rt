@@ -54,7 +54,7 @@ fn due_of(out: Out, payload: &Payload) -> Option<Due> {
     let byte = *payload.first()?;
     Some(Due {
         number: out.number,
-        message: u64::from(out.msg.get()),
+        message: u64::from(out.message.get()),
         again: out.again,
         origin: out.origin,
         byte,
@@ -65,7 +65,7 @@ fn gone_of(run: &DropRun) -> Gone {
     Gone {
         first: run.first,
         last: run.last,
-        message: u64::from(run.msg.get()),
+        message: u64::from(run.message.get()),
     }
 }
 

@@ -1,19 +1,23 @@
 use Rattle.std.proofs.Common.{List, ℕ, Option, ◌∙◌, unwrap_or, sym, ap, subst}
-use Rattle.std.specs.List.{position}
 use Rattle.srt_route.specs.Sessions.{Session}
-use Rattle.srt_route.specs.Tables.{has_publisher}
-use Rattle.srt_route.specs.Media.{IsBody}
-use Rattle.srt_route.proofs.Delivered.{nothing_delivered, some_publisher, none_is, some_is}
+use Rattle.srt_route.specs.Tables.{IsTable, Uses}
+use Rattle.srt_route.specs.Route.{least_room}
+use Rattle.srt_route.specs.Delivery.{passed_on}
+use Rattle.srt_route.proofs.Passing.{publisher_passed}
+use Rattle.srt_route.proofs.Delivered.{nothing_delivered, delivered_is}
 use Rattle.srt_route.proofs.delivery.deliver.Goals as goal
 
-pub returns-then-is_none : goal.returns-then-is_none
-returns-then-is_none c e index ss body =
-    let none = ap (position has_publisher) (sym c.deref.ensures.value) ∙ (sym c.publisher_slot.ensures ∙ none_is c.publisher_slot.result c.if-is_none.ensures) in
-    subst (λ (ts : List Session). IsBody e index c.args.clock c.args.table.now c.args.media.now ts) (sym (nothing_delivered e index c.args.clock c.args.table.now c.args.media.now ss body none)) body
+pub returns-in_default : goal.returns-in_default
+returns-in_default c e index ss body =
+    subst (λ (ts : List Session). IsTable e index c.args.clock c.args.table.now ts)
+    (sym (nothing_delivered e index c.args.clock c.args.table.now ss body (c.active_buffers.ensures.none c.in_default.is e index c.args.clock ss body))) body
 
 pub returns : goal.returns
 returns c e index ss body =
-    let found = some_is c.publisher_slot.result c.if-is_none.ensures in
-    let first = ap (position has_publisher) (sym c.deref.ensures.value) ∙ (sym c.publisher_slot.ensures ∙ found.1) in
-    let p = some_publisher e index c.args.clock c.args.table.now c.args.media.now ss body found.0 first in
-    c.deliver_each.ensures e index ss found.0 p.session p.past body p.here (c.unwrap_or-room.ensures ∙ ap (λ (o : Option ℕ). unwrap_or o 0) (c.least_room.ensures e index c.args.clock ss body))
+    let h = c.active_buffers.ensures.some c.in-Some.active c.in-Some.is e index c.args.clock ss body in
+    let room = c.unwrap_or-room.ensures ∙ ap (λ (o : Option ℕ). unwrap_or o 0) (c.least_room.ensures e index c.args.clock ss body) in
+    let fed = c.deliver_each.ensures.table e index ss h.at h.session h.past body h.here h.uses room in
+    let still : Uses c.deliver_each.new.table h.at c.in-Some.active = λ d. h.uses d ∙ sym (c.deliver_each.ensures.stays h.at d) in
+    let there = publisher_passed e c.args.clock ss h.at h.session h.past (least_room e ss) h.here in
+    subst (λ (ts : List Session). IsTable e index c.args.clock c.deliver_standby.new.table ts) (delivered_is e index c.args.clock c.args.table.now ss h.at h.session h.past body h.here h.active_is)
+    (c.deliver_standby.ensures e index (passed_on e c.args.clock h.at (least_room e ss) h.session h.past ss) h.at _ _ fed there still)

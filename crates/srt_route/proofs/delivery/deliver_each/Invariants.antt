@@ -1,17 +1,21 @@
-use Rattle.std.proofs.Common.{◌≡◌, ℕ, ◌-◌, List, map, unwrap_or}
+use Rattle.std.proofs.Common.{◌≡◌, ℕ, Bool, ◌-◌, List, map, unwrap_or}
 use Rattle.srt_seq.specs.Terms.{Terms}
 use Rattle.srt_pub.specs.Publishing.{Publishing}
 use Rattle.srt_pub.specs.Calls.{gives, leaves}
 use Rattle.srt_route.specs.Past.{payload_of}
 use Rattle.srt_route.specs.Sessions.{Session, terms_of, time_in}
 use Rattle.srt_route.specs.Route.{least_room}
-use Rattle.srt_route.specs.Media.{IsBody}
+use Rattle.srt_route.specs.declared.table.Table.{Table}
+use Rattle.srt_route.specs.Tables.{IsTable, Uses, UseTheSame}
 use Rattle.srt_route.specs.Delivery.{IsPublisherAt}
 use Rattle.srt_route.proofs.Turns.{IsPassing}
 use Rattle.srt_route.proofs.delivery.deliver_each.Given as goal
 
--- what was given and what the calls that are left give is what all give
+-- what was given and what the calls that are left give is what all give; and the seats use the buffers that they used
+pub record Passes (second : Bool) (clock turn first room : ℕ) (old table : Table) : Type 0 where
+  pub passing : (e : Terms) (index : ℕ) (sessions : List Session) (at : ℕ) (s : Session) (q : Publishing) → IsTable e index clock old sessions → IsPublisherAt sessions at s q → Uses old at second → first ≡ unwrap_or (least_room e sessions) 0
+      → IsPassing e index clock table sessions at s room (64 - turn) (map payload_of (gives (terms_of e s).publisher (time_in s clock) first 64 q)) (leaves (terms_of e s).publisher (time_in s clock) first 64 q)
+  pub stays : UseTheSame old table
+
 abbrev pub invariant-loop-turn : goal.invariant-loop-turn
-invariant-loop-turn l =
-    (e : Terms) (index : ℕ) (sessions : List Session) (at : ℕ) (s : Session) (q : Publishing) → IsBody e index l.clock l.table l.fn.media sessions → IsPublisherAt sessions at s q → l.fn.room ≡ unwrap_or (least_room e sessions) 0
-    → IsPassing e index l.clock l.table l.media sessions s l.room (64 - l.turn) (map payload_of (gives (terms_of e s).publisher (time_in s l.clock) l.fn.room 64 q)) (leaves (terms_of e s).publisher (time_in s l.clock) l.fn.room 64 q)
+invariant-loop-turn l = Passes l.second l.clock l.turn l.fn.room l.room l.fn.table l.table

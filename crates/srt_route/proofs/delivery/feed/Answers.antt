@@ -1,27 +1,24 @@
-use Rattle.std.proofs.Common.{◌<◌, arith}
-use Rattle.std.specs.Option.{IsSome}
+use Rattle.std.proofs.Common.{refl, arith}
 use Rattle.srt_route.specs.Delivery.{changed, fed}
-use Rattle.srt_route.proofs.Places.{half_begins, half_ends}
-use Rattle.srt_route.proofs.Feeding.{feed_step, not_there}
-use Rattle.srt_route.proofs.delivery.feed.Goals.{in-Some, in_default}
+use Rattle.srt_route.proofs.Changes.{keeps_changed}
+use Rattle.srt_route.proofs.Kept.{none_done, one_done, all_done, all_use_the_same}
+use Rattle.srt_route.proofs.Feeding.{Changes, Feeds, fed_becomes}
 use Rattle.srt_route.proofs.delivery.feed.Goals as goal
 
 pub loop-at-init : goal.loop-at-init
-loop-at-init c e index ss body some has = half_begins e c.args.clock (changed (fed e c.args.clock c.args.payload.now.items)) c.args.media.now ss body.media_is
+loop-at-init c = none_done (Changes (Feeds c.args.clock c.args.payload.now.items)) c.args.table.now
 
 pub loop-at-preserved : goal.loop-at-preserved
-loop-at-preserved c e index ss body some has =
-    let h = c.loop-at.invariant e index ss body some has in
-    let below : c.loop-at.at < e.sessions = omega (arith, c.loop-at-test.true, c.len-at-end.ensures, body.table_is.stored.places_are) in
-    elim c.match-get_mut.branch [
-      | in-Some w ↦
-          feed_step e index c.args.clock c.args.table.now c.args.media.now c.loop-at.media c.match-get_mut.media ss c.loop-at.at w.index.result.now w.in-Some.subscriber.now w.feed_slot.new.subscriber c.args.payload.now.items body below w.index.ensures w.in-Some.ensures.value some has w.feed_slot.ensures.none w.feed_slot.ensures.some w.media-is h
-      | in_default w ↦
-          let there : IsSome c.get_mut.result = c.get_mut.ensures.variant.1 (omega (arith, below, h.as_many, c.loop-at.media.subscribers.ok.0)) in
-          absurd (not_there c.get_mut.result w.in_default.is there)
-    ]
+loop-at-preserved c =
+    one_done (Changes (Feeds c.args.clock c.args.payload.now.items)) c.loop-at.at c.args.table.now c.loop-at.table _ c.index_mut.result.now c.feed_seat.new.seat c.loop-at.invariant (omega (arith, c.loop-at-test.true, c.len-at-end.ensures)) c.index_mut.ensures.value
+    (record { count_is = c.feed_seat.ensures.generation; session_is = c.feed_seat.ensures.session; stays = c.feed_seat.ensures.none; changes = c.feed_seat.ensures.some })
+    (refl, refl, refl, refl, refl) refl refl
 
-pub returns : goal.returns
-returns c e index ss body some has =
-    half_ends e index c.args.clock c.loop-at.at (fed e c.args.clock c.args.payload.now.items) c.args.table.now c.args.media.now c.loop-at.media ss body (c.loop-at.invariant e index ss body some has)
-    (omega (arith, c.loop-at-test.false, c.loop-at.auto.at-end, c.len-at-end.ensures, body.table_is.stored.places_are))
+pub returns-clause-table : goal.returns-clause-table
+returns-clause-table c e index ss body some has =
+    all_done (Changes (Feeds c.args.clock c.args.payload.now.items)) (changed (fed e c.args.clock c.args.payload.now.items)) (keeps_changed (fed e c.args.clock c.args.payload.now.items)) e index c.args.clock c.args.clock c.loop-at.at c.args.table.now c.loop-at.table ss body body.early c.loop-at.invariant (omega (arith, c.loop-at-test.false, c.len-at-end.ensures))
+    (λ k p x y is h. fed_becomes e index c.args.clock k p x y c.args.payload.now.items ss some has is h)
+
+pub returns-clause-stays : goal.returns-clause-stays
+returns-clause-stays c =
+    all_use_the_same (Changes (Feeds c.args.clock c.args.payload.now.items)) c.loop-at.at c.args.table.now c.loop-at.table c.loop-at.invariant (omega (arith, c.loop-at-test.false, c.len-at-end.ensures)) (λ x y h. h.session_is)

@@ -1,6 +1,7 @@
 use Rattle.std.proofs.Common.{◌≡◌, ◌++◌, ◌∷◌, [], map, length, sym, ap, ◌∙◌, subst}
 use Rattle.std.proofs.lemmas.List.{length-append}
 use Rattle.crossbeam_queue.specs.Fifo.{Held}
+use Rattle.srt_seq.specs.declared.shared.Item.{Item}
 use Rattle.srt_seq.specs.Items.{told}
 use Rattle.srt_seq.specs.Terms.{terms_of}
 use Rattle.srt_route.specs.Route.{reply}
@@ -24,8 +25,8 @@ invariant_of-self g c =
     let now = ap (λ l. l ++ waiting c.step-self-inside.new.self) (none_held inside.held inside.route.value none) in
     let taken = ap (λ (k : Consumer). applied k.taken) c.in-Some.ensures ∙ told_last [] inside.taker.taken x in
     let stood : stands c.deref_mut.result.now e r items = rw c.deref_mut.ensures.value c.self.invariant.0 in
-    let waits = now ∙ c.step-self-inside.ensures.replies e r items stood in (
-      rw taken (c.step-self-inside.ensures.stands e r items stood),
+    let waits = now ∙ c.step-self-inside.ensures.replies e r items stood ∙ ap (λ (i : Item). reply e r (told i ∷ items)) c.into_item.ensures.item in (
+      rw taken (subst (λ (i : Item). stands c.step-self-inside.new.self e r (told i ∷ items)) c.into_item.ensures.item (c.step-self-inside.ensures.stands e r items stood)),
       rw taken (applied_replays e r (map written inside.putter.put) (waiting_at inside.held inside.route.value) (waiting_at inside.held c.step-self-inside.new.self) items (told x.item) c.self.invariant.1 none waits),
       c.step-self-inside.ensures.count ∙ ap length (sym now),
       c.saturating_add-self-inside.ensures ∙ counted_more (length inside.taker.taken) inside.taken c.self.invariant.3 ∙ sym (ap counted (ap (λ (k : Consumer). length k.taken) c.in-Some.ensures ∙ length-append inside.taker.taken (x ∷ []))),
@@ -41,7 +42,7 @@ returns-in-Some g c =
     let none = ap (λ (w : Run). w.waiting) c.self.view_is ∙ c.requires in
     let now = ap (λ l. l ++ waiting c.step-self-inside.new.self) (none_held inside.held inside.route.value none) in
     let stood : stands c.deref_mut.result.now e r items = rw c.deref_mut.ensures.value c.self.invariant.0 in
-    let waits = now ∙ c.step-self-inside.ensures.replies e r items stood in (
+    let waits = now ∙ c.step-self-inside.ensures.replies e r items stood ∙ ap (λ (i : Item). reply e r (told i ∷ items)) c.into_item.ensures.item in (
       x,
       c.requires,
       subst

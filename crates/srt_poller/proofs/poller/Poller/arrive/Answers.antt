@@ -13,22 +13,20 @@ offer-requires g c =
     let whole = c.classify.ensures.header c.in-Route.route c.in-Route.is in
     record {
       header = omega (arith, whole, length-take {A = ℕ});
-      len = c.requires.len;
-      timely = c.requires.timely;
-      route = omega (arith, named, c.requires.ends);
+      route = omega (arith, named, c.requires);
     }
 
 pub returns-in-Answer : goal.returns-in-Answer
 returns-in-Answer g c gave =
-    let a = came c.args.peer c.args.len c.args.moment c.args.self.now in
+    let a = came c.args.incoming c.args.self.now in
     went_one _ (Answers a c.in-Answer.answer c.send-sent.result) _ _ (sym c.classify.ensures.class ∙ c.in-Answer.is) refl
-    (c.send-sent.ensures.tells ∙ ap (joined (g.W.Wire.handed c.args.wire.now)) (sent_as c.send-sent.result (from FromLobby (record { peer = c.args.peer; bytes = c.in-Answer.answer }))))
+    (c.send-sent.ensures.tells ∙ ap (joined (g.W.Wire.handed c.args.wire.now)) (sent_as c.send-sent.result (from FromLobby (record { peer = c.args.incoming.peer; bytes = c.in-Answer.answer }))))
     (are_later_none _ _ (λ r. refl) (λ r. refl)) refl c.count_answer.ensures
 
 pub returns-in-Dropped : goal.returns-in-Dropped
 returns-in-Dropped g c gave =
-    let a = came c.args.peer c.args.len c.args.moment c.args.self.now in
+    let a = came c.args.incoming c.args.self.now in
     went_one _ (Drops a c.in-Dropped.field-0) _ _ (sym c.classify.ensures.class ∙ c.in-Dropped.is) refl (sym (joined_none _)) (are_later_none _ _ (λ r. refl) (λ r. refl)) refl c.count_dropped.ensures
 
 pub returns-in-Route : goal.returns-in-Route
-returns-in-Route g c gave = c.offer.ensures _ gave _ (sym c.classify.ensures.class ∙ c.in-Route.is)
+returns-in-Route g c gave = c.offer.ensures _ _ (sym c.classify.ensures.class ∙ c.in-Route.is) gave

@@ -1,12 +1,8 @@
-use Rattle.std.proofs.Common.{◌≡◌, None, Option, List}
-use Rattle.srt_poller.specs.Devices.{Arrival}
-use Rattle.srt_poller.specs.History.{Sorting}
-use Rattle.srt_poller.specs.Rounds.{Went}
-use Rattle.srt_poller.specs.Pollers.{world_of}
+use Rattle.std.proofs.Common.{◌≡◌, None}
+use Rattle.srt_poller.specs.Pollers.{Replies, sending}
 use Rattle.srt_poller.proofs.poller.Poller.drain_route.Given as goal
 
 abbrev pub invariant-loop : goal.invariant-loop
 invariant-loop g l =
     (l.self.kept ≡ None) ×
-    ((class : Sorting) (gave : Option (List Arrival)) →
-    Went class l.counter 0 0 (world_of gave (g.W.Wire.handed l.fn.wire) l.fn.ends l.fn.self) (world_of gave (g.W.Wire.handed l.wire) l.ends l.self))
+    Replies l.counter (sending (g.W.Wire.handed l.fn.wire) l.fn.ends l.fn.self) (sending (g.W.Wire.handed l.wire) l.ends l.self)

@@ -7,7 +7,7 @@ use Rattle.srt_poller.proofs.Steps.{joined_none, sent_as, are_later_none, went_n
 use Rattle.srt_poller.proofs.poller.Poller.resend.Goals as goal
 
 pub returns-in-Taken : goal.returns-in-Taken
-returns-in-Taken g c class gave ends =
+returns-in-Taken g c ends class gave =
     let k = kept c.in-Some.kept.route (record { peer = c.in-Some.kept.peer; bytes = take c.in-Some.kept.len c.args.self.now.text }) in
     let gone : None ≡ kept_if c.send-sent.result k = elim c.in-Taken.is [ inl e ↦ rw e refl | inr e ↦ rw e refl ] in
     went_one class (Resends k.route k.reply c.send-sent.result) _ _
@@ -17,7 +17,7 @@ returns-in-Taken g c class gave ends =
     (are_later_none _ _ (λ r. refl) (λ r. refl)) gone c.count_reply.ensures
 
 pub returns-in-Later : goal.returns-in-Later
-returns-in-Later g c class gave ends =
+returns-in-Later g c ends class gave =
     let k = kept c.in-Some.kept.route (record { peer = c.in-Some.kept.peer; bytes = take c.in-Some.kept.len c.args.self.now.text }) in
     let here = ap (option_map (λ (x : KeptReply). kept x.route (record { peer = x.peer; bytes = take x.len c.args.self.now.text }))) c.in-Some.is in
     went_one class (Resends k.route k.reply c.send-sent.result) _ _ here
@@ -26,4 +26,4 @@ returns-in-Later g c class gave ends =
     (are_later_none _ _ (λ r. refl) (λ r. refl)) (here ∙ rw c.in-Later.is refl) c.count_reply.ensures
 
 pub returns-in_default : goal.returns-in_default
-returns-in_default g c class gave ends = went_none class 1 _
+returns-in_default g c ends class gave = went_none class 1 _

@@ -5,6 +5,6 @@ use Rattle.srt_pub.proofs.Fulls.{acks_came}
 use Rattle.srt_pub.proofs.acknowledgements.Acks.came.Goals as goal
 
 pub returns : goal.returns
-returns c width position point notes h =
+returns c width front point notes h =
     let s = c.args.self.now in
-    (subst (book.StandsFor s.book) (sym (book_came notes)) h.0, acks_came width position point _ notes _ _ _ _ (omega (arith, c.saturating_add.ensures, c.min-self.ensures, h.1.came_is)) h.1)
+    (subst (book.StandsFor s.book) (sym (book_came notes)) h.0, acks_came width front point _ notes _ _ _ _ (omega (arith, c.saturating_add.ensures, c.min-self.ensures, h.1.came_is)) h.1)

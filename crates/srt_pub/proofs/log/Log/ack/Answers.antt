@@ -6,11 +6,11 @@ use Rattle.srt_pub.proofs.Logs.{after_acks}
 use Rattle.srt_pub.proofs.log.Log.ack.Goals as goal
 
 pub returns-then-report-clause-stands : goal.returns-then-report-clause-stands
-returns-then-report-clause-stands c width position a seen notes is h =
+returns-then-report-clause-stands c width front a seen notes is h =
     let k = after_acks width a c.args.available c.args.time notes in
-    let one = sym (c.report.ensures.count width position a notes is h.acks) ∙ ap (λ (b : Bool). length (listed (given b c.report.new.body))) c.if-report.true in
+    let one = sym (c.report.ensures.count width front a notes is h.acks) ∙ ap (λ (b : Bool). length (listed (given b c.report.new.body))) c.if-report.true in
     record {
-      acks = c.report.ensures.stands width position a notes h.times is h.acks;
+      acks = c.report.ensures.stands width front a notes h.times is h.acks;
       times = subst (times.StandsFor c.args.self.now.rtt) (sym k.samples_are) h.times;
       nak_is = h.nak_is ∙ sym k.nak_is;
       sent_is = sym (k.something one);
@@ -18,11 +18,11 @@ returns-then-report-clause-stands c width position a seen notes is h =
     }
 
 pub returns-clause-stands : goal.returns-clause-stands
-returns-clause-stands c width position a seen notes is h =
+returns-clause-stands c width front a seen notes is h =
     let k = after_acks width a c.args.available c.args.time notes in
-    let none = sym (c.report.ensures.count width position a notes is h.acks) ∙ ap (λ (b : Bool). length (listed (given b c.report.new.body))) c.if-report.false in
+    let none = sym (c.report.ensures.count width front a notes is h.acks) ∙ ap (λ (b : Bool). length (listed (given b c.report.new.body))) c.if-report.false in
     record {
-      acks = c.report.ensures.stands width position a notes h.times is h.acks;
+      acks = c.report.ensures.stands width front a notes h.times is h.acks;
       times = subst (times.StandsFor c.args.self.now.rtt) (sym k.samples_are) h.times;
       nak_is = h.nak_is ∙ sym k.nak_is;
       sent_is = h.sent_is ∙ sym (k.nothing none);

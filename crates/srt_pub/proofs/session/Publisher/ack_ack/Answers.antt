@@ -10,7 +10,7 @@ returns-clause-stands c terms initial opening first caller time m n h =
     record {
       agreed = h.agreed;
       buffer = h.buffer;
-      log = subst (λ (x : ℕ). LogStandsFor terms.width m.receiving.position (ack_point terms.width m.receiving) c.confirm.new.self (confirmed_notes x (confirmed_by c.args.number m.notes) m.notes) m.seen) t (c.confirm.ensures _ _ _ _ _ h.log);
+      log = subst (λ (x : ℕ). LogStandsFor terms.width m.receiving.front (ack_point terms.width m.receiving) c.confirm.new.self (confirmed_notes x (confirmed_by c.args.number m.notes) m.notes) m.seen) t (c.confirm.ensures _ _ _ _ _ h.log);
       orderly = h.orderly;
       seen = h.seen;
       narrow = h.narrow;

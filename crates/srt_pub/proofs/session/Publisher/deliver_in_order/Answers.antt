@@ -13,7 +13,7 @@ pub returns-then-steps-eq0-clause-stands : goal.returns-then-steps-eq0-clause-st
 returns-then-steps-eq0-clause-stands c terms initial opening stamp caller time m b n h =
     let r = m.receiving in
     let k = ack_points terms.width r in
-    let s = c.steps.ensures (initial + r.position) (initial + ack_point terms.width r) (omega (arith, k.low)) (omega (arith, k.high, h.narrow)) (c.front.ensures terms.width initial opening r h.buffer) (c.ack_point.ensures terms.width initial opening r h.buffer) in
+    let s = c.steps.ensures (initial + r.front) (initial + ack_point terms.width r) (omega (arith, k.low)) (omega (arith, k.high, h.narrow)) (c.front.ensures terms.width initial opening r h.buffer) (c.ack_point.ensures terms.width initial opening r h.buffer) in
     let none = buffer_none terms time c.args.room m b (omega (arith, s, c.if-steps-eq0.true)) in
     subst (λ (o : Option Arrival). StandsFor terms initial opening stamp caller c.args.self.now (after_delivery terms o m)) (sym none) h
 
@@ -21,7 +21,7 @@ pub returns-then-steps-eq0-clause-payload : goal.returns-then-steps-eq0-clause-p
 returns-then-steps-eq0-clause-payload c terms initial opening stamp caller time m b n h =
     let r = m.receiving in
     let k = ack_points terms.width r in
-    let s = c.steps.ensures (initial + r.position) (initial + ack_point terms.width r) (omega (arith, k.low)) (omega (arith, k.high, h.narrow)) (c.front.ensures terms.width initial opening r h.buffer) (c.ack_point.ensures terms.width initial opening r h.buffer) in
+    let s = c.steps.ensures (initial + r.front) (initial + ack_point terms.width r) (omega (arith, k.low)) (omega (arith, k.high, h.narrow)) (c.front.ensures terms.width initial opening r h.buffer) (c.ack_point.ensures terms.width initial opening r h.buffer) in
     let none = buffer_none terms time c.args.room m b (omega (arith, s, c.if-steps-eq0.true)) in
     sym (ap (option_map (λ (a : Arrival). a.payload)) none)
 
@@ -29,7 +29,7 @@ pub returns-clause-stands : goal.returns-clause-stands
 returns-clause-stands c terms initial opening stamp caller time m b n h =
     let r = m.receiving in
     let k = ack_points terms.width r in
-    let s = c.steps.ensures (initial + r.position) (initial + ack_point terms.width r) (omega (arith, k.low)) (omega (arith, k.high, h.narrow)) (c.front.ensures terms.width initial opening r h.buffer) (c.ack_point.ensures terms.width initial opening r h.buffer) in
+    let s = c.steps.ensures (initial + r.front) (initial + ack_point terms.width r) (omega (arith, k.low)) (omega (arith, k.high, h.narrow)) (c.front.ensures terms.width initial opening r h.buffer) (c.ack_point.ensures terms.width initial opening r h.buffer) in
     let next = buffer_next terms time c.args.room m b (beyond terms.width initial opening c.args.self.now.buffer r h.buffer) (subst (λ (d : Mode). IsOrderly d terms.width r) b h.orderly) (omega (arith, s, c.if-steps-eq0.false)) in
     subst (λ (o : Option Arrival). StandsFor terms initial opening stamp caller c.advance.new.self (after_delivery terms o m)) (sym next) (c.advance.ensures.stands terms initial opening stamp caller time m n h)
 
@@ -37,6 +37,6 @@ pub returns-clause-payload : goal.returns-clause-payload
 returns-clause-payload c terms initial opening stamp caller time m b n h =
     let r = m.receiving in
     let k = ack_points terms.width r in
-    let s = c.steps.ensures (initial + r.position) (initial + ack_point terms.width r) (omega (arith, k.low)) (omega (arith, k.high, h.narrow)) (c.front.ensures terms.width initial opening r h.buffer) (c.ack_point.ensures terms.width initial opening r h.buffer) in
+    let s = c.steps.ensures (initial + r.front) (initial + ack_point terms.width r) (omega (arith, k.low)) (omega (arith, k.high, h.narrow)) (c.front.ensures terms.width initial opening r h.buffer) (c.ack_point.ensures terms.width initial opening r h.buffer) in
     let next = buffer_next terms time c.args.room m b (beyond terms.width initial opening c.args.self.now.buffer r h.buffer) (subst (λ (d : Mode). IsOrderly d terms.width r) b h.orderly) (omega (arith, s, c.if-steps-eq0.false)) in
     c.advance.ensures.payload terms initial opening stamp caller time m n h ∙ sym (ap (option_map (λ (a : Arrival). a.payload)) next)

@@ -16,8 +16,8 @@ returns c terms initial opening first caller m h =
     let width = terms.width in
     let w = c.width.ensures width initial opening r h.buffer in
     let f = c.front.ensures width initial opening r h.buffer in
-    let e = c.add-end.ensures.number (initial + r.position) (sym f) in
-    let end : word_of c.add-end.result ≡ (initial + (r.position + width)) % 2 ^ 31 = omega (arith, e, w) in
-    let there = same_some initial (r.position + width) (2 ^ 30) (word_of c.in-Some.number) (word_of c.add-end.result) c.offset_in.result end c.offset_in.ensures.value in
-    c.is_some.ensures ∙ there ∙ ap (λ x. is_some (in_window (counted_from initial x) (r.position + width) (2 ^ 30))) c.in-Some.ensures.value
+    let e = c.add-end.ensures.number (initial + r.front) (sym f) in
+    let end : word_of c.add-end.result ≡ (initial + (r.front + width)) % 2 ^ 31 = omega (arith, e, w) in
+    let there = same_some initial (r.front + width) (2 ^ 30) (word_of c.in-Some.number) (word_of c.add-end.result) c.offset_in.result end c.offset_in.ensures.value in
+    c.is_some.ensures ∙ there ∙ ap (λ x. is_some (in_window (counted_from initial x) (r.front + width) (2 ^ 30))) c.in-Some.ensures.value
     ∙ past_is width (counted_from initial c.args.word) r h.narrow (sym (c.waiting.ensures width initial opening r h.buffer) ∙ c.if-waiting.false)

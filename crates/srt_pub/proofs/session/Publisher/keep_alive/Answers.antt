@@ -7,13 +7,13 @@ use Rattle.srt_pub.specs.Stands.{StandsFor}
 use Rattle.srt_pub.proofs.Bytes.{keep_alive_bytes}
 use Rattle.srt_pub.proofs.Sendings.{alive_is}
 
-pub returns-then-is_silent-clause-stands : goal.returns-then-is_silent-clause-stands
-returns-then-is_silent-clause-stands c terms initial opening stamp caller m h =
-    let e : keep_alive_after c.args.ack c.args.nak c.args.time m.notes ≡ KeepAlive ∷ [] = alive_is c.args.ack c.args.nak c.args.time m.notes c.if-ack.false c.if-nak.false (sym (c.is_silent.ensures _ _ _ _ m.notes h.log) ∙ c.if-is_silent.true) in
+pub returns-then-keep_alive_due-clause-stands : goal.returns-then-keep_alive_due-clause-stands
+returns-then-keep_alive_due-clause-stands c terms initial opening stamp caller m h =
+    let e : keep_alive_after c.args.ack c.args.nak c.args.time m.notes ≡ KeepAlive ∷ [] = alive_is c.args.ack c.args.nak c.args.time m.notes c.if-ack.false c.if-nak.false (sym (c.keep_alive_due.ensures _ _ _ _ m.notes h.log) ∙ c.if-keep_alive_due.true) in
     subst (λ (rs : List Report). StandsFor terms initial opening stamp caller (record c.args.self.now { log = c.keep_alive.new.self }) (record m { notes = noted c.args.time rs m.notes })) (sym e)
     (record { agreed = h.agreed; buffer = h.buffer; log = c.keep_alive.ensures _ _ _ _ m.notes h.log; orderly = h.orderly; seen = h.seen; narrow = h.narrow })
 
-pub returns-then-is_silent-clause-bytes : goal.returns-then-is_silent-clause-bytes
-returns-then-is_silent-clause-bytes c terms initial opening stamp caller m h =
-    let e : keep_alive_after c.args.ack c.args.nak c.args.time m.notes ≡ KeepAlive ∷ [] = alive_is c.args.ack c.args.nak c.args.time m.notes c.if-ack.false c.if-nak.false (sym (c.is_silent.ensures _ _ _ _ m.notes h.log) ∙ c.if-is_silent.true) in
+pub returns-then-keep_alive_due-clause-bytes : goal.returns-then-keep_alive_due-clause-bytes
+returns-then-keep_alive_due-clause-bytes c terms initial opening stamp caller m h =
+    let e : keep_alive_after c.args.ack c.args.nak c.args.time m.notes ≡ KeepAlive ∷ [] = alive_is c.args.ack c.args.nak c.args.time m.notes c.if-ack.false c.if-nak.false (sym (c.keep_alive_due.ensures _ _ _ _ m.notes h.log) ∙ c.if-keep_alive_due.true) in
     ap (λ (x : List ℕ). x ∷ []) (c.address.ensures.bytes caller h.agreed.caller_is ∙ keep_alive_bytes caller initial c.args.time) ∙ sym (ap (map (says caller initial c.args.time)) e)

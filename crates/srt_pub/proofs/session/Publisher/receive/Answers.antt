@@ -16,7 +16,7 @@ pub returns-in_default-clause-stands : goal.returns-in_default-clause-stands
 returns-in_default-clause-stands c terms initial opening first caller time m n h =
     let r = m.receiving in
     let due = due_in terms.mode terms time (stamped_from first c.args.stamp) in
-    let none = no_number initial c.args.word r.position terms.width (no_top c.args.word c.in_default.ensures.some.1) in
+    let none = no_number initial c.args.word r.front terms.width (no_top c.args.word c.in_default.ensures.some.1) in
     let same : record { receiving = r; notes = Came ∷ m.notes; seen = m.seen } ≡ with_data terms time (stamped_from first c.args.stamp) (counted_from initial c.args.word) c.args.payload.bytes.now m = sym (ap (λ (o : Option ℕ). record { receiving = with_number o c.args.payload.bytes.now due r; notes = Came ∷ m.notes; seen = m.seen }) none) in
     subst (λ (x : Publishing). StandsFor terms initial opening first caller (record c.args.self.now { log = c.came.new.self }) x) same (record {
       agreed = h.agreed;

@@ -13,8 +13,8 @@ returns-then-all c terms initial opening stamp caller m h =
     let r = m.receiving in
     let width = terms.width in
     let f = c.front-front.ensures width initial opening r h.buffer in
-    let n = number_there initial r.position width 0 (word_of c.front-front.result) (omega (arith, f)) (omega arith) h.narrow in
-    let same : r.position + 0 ≡ r.position = omega arith in
+    let n = number_there initial r.front width 0 (word_of c.front-front.result) (omega (arith, f)) (omega arith) h.narrow in
+    let same : r.front + 0 ≡ r.front = omega arith in
     c.runs.ensures width initial opening r h.buffer ∙ ap (λ (o : Option ℕ). map (run_words initial) (runs_from width o r)) n
     ∙ ap (λ (x : ℕ). map (run_words initial) (runs_said (gaps_from width x r))) same
     ∙ sym (ap (λ (b : Bool). map (run_words initial) (runs_said (gaps_told b width m.seen r))) c.if-all.true)
@@ -25,10 +25,10 @@ returns-else-all c terms initial opening stamp caller m h =
     let width = terms.width in
     let seen = c.args.self.now.log.seen in
     let f = c.front-front.ensures width initial opening r h.buffer in
-    let e = c.add.ensures.number (initial + r.position) (sym f) in
+    let e = c.add.ensures.number (initial + r.front) (sym f) in
     let ends = end_within width r (beyond width initial opening c.args.self.now.buffer r h.buffer) in
-    let n = number_there initial r.position width seen (word_of c.add.result) (omega (arith, e)) (omega (arith, h.log.seen_is, h.seen, ends)) h.narrow in
-    let same : r.position + seen ≡ max m.seen r.position = omega (arith, h.log.seen_is) in
+    let n = number_there initial r.front width seen (word_of c.add.result) (omega (arith, e)) (omega (arith, h.log.seen_is, h.seen, ends)) h.narrow in
+    let same : r.front + seen ≡ max m.seen r.front = omega (arith, h.log.seen_is) in
     c.runs-else-all.ensures width initial opening r h.buffer ∙ ap (λ (o : Option ℕ). map (run_words initial) (runs_from width o r)) n
     ∙ ap (λ (x : ℕ). map (run_words initial) (runs_said (gaps_from width x r))) same
     ∙ sym (ap (λ (b : Bool). map (run_words initial) (runs_said (gaps_told b width m.seen r))) c.if-all.false)

@@ -6,4 +6,4 @@ pub returns : goal.returns
 returns c width initial origin r h =
     let s = c.args.self.now in
     let p = point_is width initial origin _ _ _ _ r h.1 (omega (arith, s.point_inside, h.0)) in
-    c.add.ensures.number (initial + r.position) (sym h.1.front_is) ∙ ap (λ x. x % 2 ^ 31) (omega (arith, p))
+    c.add.ensures.number (initial + r.front) (sym h.1.front_is) ∙ ap (λ x. x % 2 ^ 31) (omega (arith, p))

@@ -11,8 +11,8 @@ pub returns-in_default-clause-stands : goal.returns-in_default-clause-stands
 returns-in_default-clause-stands c width initial origin r time t h =
     let s = c.args.self.now in
     let w : c.width.result ≡ width = c.width.ensures.value ∙ h.0 in
-    let o = own_none initial r.position c.width.result (word_of c.args.number) (word_of s.front) h.1.front_is c.in_default.ensures.value in
-    let e = ap (λ x. in_window (counted_from initial (word_of c.args.number)) r.position x) (sym w) ∙ o in
+    let o = own_none initial r.front c.width.result (word_of c.args.number) (word_of s.front) h.1.front_is c.in_default.ensures.value in
+    let e = ap (λ x. in_window (counted_from initial (word_of c.args.number)) r.front x) (sym w) ∙ o in
     let P : Receiving → Type 0 = λ x. StandsFor width initial origin s x in
     subst P (sym (ap (λ x. with_number x c.args.payload.bytes.now time r) e)) h
 
@@ -20,28 +20,28 @@ pub returns-in_default-clause-answer : goal.returns-in_default-clause-answer
 returns-in_default-clause-answer c width initial origin r h =
     let s = c.args.self.now in
     let w : c.width.result ≡ width = c.width.ensures.value ∙ h.0 in
-    let o = own_none initial r.position c.width.result (word_of c.args.number) (word_of s.front) h.1.front_is c.in_default.ensures.value in
-    let e = ap (λ x. in_window (counted_from initial (word_of c.args.number)) r.position x) (sym w) ∙ o in
+    let o = own_none initial r.front c.width.result (word_of c.args.number) (word_of s.front) h.1.front_is c.in_default.ensures.value in
+    let e = ap (λ x. in_window (counted_from initial (word_of c.args.number)) r.front x) (sym w) ∙ o in
     sym (ap (λ x. put_of x r) e)
 
 pub returns-then-is-clause-stands : goal.returns-then-is-clause-stands
 returns-then-is-clause-stands c width initial origin r time t h =
     let s = c.args.self.now in
     let w : c.width.result ≡ width = c.width.ensures.value ∙ h.0 in
-    let o = own_some initial r.position c.width.result (word_of c.args.number) (word_of s.front) c.in-Some.offset h.1.front_is c.in-Some.ensures.value in
-    let e = ap (λ x. in_window (counted_from initial (word_of c.args.number)) r.position x) (sym w) ∙ o in
+    let o = own_some initial r.front c.width.result (word_of c.args.number) (word_of s.front) c.in-Some.offset h.1.front_is c.in-Some.ensures.value in
+    let e = ap (λ x. in_window (counted_from initial (word_of c.args.number)) r.front x) (sym w) ∙ o in
     let got = cell_received width initial origin _ _ _ _ r h.1 c.in-Some.offset ∙ sym c.is.ensures ∙ c.if-is.true in
     let P : Receiving → Type 0 = λ x. StandsFor width initial origin s x in
-    subst P (sym (ap (λ x. with_number x c.args.payload.bytes.now time r) e ∙ repeated r (r.position + c.in-Some.offset) c.args.payload.bytes.now time got)) h
+    subst P (sym (ap (λ x. with_number x c.args.payload.bytes.now time r) e ∙ repeated r (r.front + c.in-Some.offset) c.args.payload.bytes.now time got)) h
 
 pub returns-then-is-clause-answer : goal.returns-then-is-clause-answer
 returns-then-is-clause-answer c width initial origin r h =
     let s = c.args.self.now in
     let w : c.width.result ≡ width = c.width.ensures.value ∙ h.0 in
-    let o = own_some initial r.position c.width.result (word_of c.args.number) (word_of s.front) c.in-Some.offset h.1.front_is c.in-Some.ensures.value in
-    let e = ap (λ x. in_window (counted_from initial (word_of c.args.number)) r.position x) (sym w) ∙ o in
+    let o = own_some initial r.front c.width.result (word_of c.args.number) (word_of s.front) c.in-Some.offset h.1.front_is c.in-Some.ensures.value in
+    let e = ap (λ x. in_window (counted_from initial (word_of c.args.number)) r.front x) (sym w) ∙ o in
     let got = cell_received width initial origin _ _ _ _ r h.1 c.in-Some.offset ∙ sym c.is.ensures ∙ c.if-is.true in
-    sym (ap (λ x. put_of x r) e ∙ is_repeat r (r.position + c.in-Some.offset) got)
+    sym (ap (λ x. put_of x r) e ∙ is_repeat r (r.front + c.in-Some.offset) got)
 
 pub returns-clause-stands : goal.returns-clause-stands
 returns-clause-stands c width initial origin r time t h =
@@ -49,10 +49,10 @@ returns-clause-stands c width initial origin r time t h =
     let n = c.find_point.new.self in
     let d = c.in-Some.offset in
     let w : c.width.result ≡ width = c.width.ensures.value ∙ h.0 in
-    let o = own_some initial r.position c.width.result (word_of c.args.number) (word_of s.front) d h.1.front_is c.in-Some.ensures.value in
-    let e = ap (λ x. in_window (counted_from initial (word_of c.args.number)) r.position x) (sym w) ∙ o in
+    let o = own_some initial r.front c.width.result (word_of c.args.number) (word_of s.front) d h.1.front_is c.in-Some.ensures.value in
+    let e = ap (λ x. in_window (counted_from initial (word_of c.args.number)) r.front x) (sym w) ∙ o in
     let got = cell_received width initial origin _ _ _ _ r h.1 d ∙ sym c.is.ensures ∙ c.if-is.false in
-    let is = ap (λ x. with_number x c.args.payload.bytes.now time r) e ∙ new_one r (r.position + d) c.args.payload.bytes.now time got in
+    let is = ap (λ x. with_number x c.args.payload.bytes.now time r) e ∙ new_one r (r.front + d) c.args.payload.bytes.now time got in
     let wide = c.fill.ensures.width ∙ h.0 in
     let fits = c.ranges.due in
     let cells = rw to_z-of_z at c.fill.ensures.cells in
@@ -63,7 +63,7 @@ pub returns-clause-answer : goal.returns-clause-answer
 returns-clause-answer c width initial origin r h =
     let s = c.args.self.now in
     let w : c.width.result ≡ width = c.width.ensures.value ∙ h.0 in
-    let o = own_some initial r.position c.width.result (word_of c.args.number) (word_of s.front) c.in-Some.offset h.1.front_is c.in-Some.ensures.value in
-    let e = ap (λ x. in_window (counted_from initial (word_of c.args.number)) r.position x) (sym w) ∙ o in
+    let o = own_some initial r.front c.width.result (word_of c.args.number) (word_of s.front) c.in-Some.offset h.1.front_is c.in-Some.ensures.value in
+    let e = ap (λ x. in_window (counted_from initial (word_of c.args.number)) r.front x) (sym w) ∙ o in
     let got = cell_received width initial origin _ _ _ _ r h.1 c.in-Some.offset ∙ sym c.is.ensures ∙ c.if-is.false in
-    sym (ap (λ x. put_of x r) e ∙ is_new r (r.position + c.in-Some.offset) got)
+    sym (ap (λ x. put_of x r) e ∙ is_new r (r.front + c.in-Some.offset) got)

@@ -1,13 +1,13 @@
-use Rattle.std.proofs.Common.{◌≡◌, ℕ, ◌-◌, ◌<◌, ◌≤◌, None, length, get_or}
-use Rattle.srt_route.specs.declared.slot.Slot.{Slot}
+use Rattle.std.proofs.Common.{◌-◌, ◌≤◌, length}
+use Rattle.srt_route.proofs.Starting.{AreVacant}
 use Rattle.srt_route.proofs.table.Table.open.Given as goal
 
--- no more slots than wanted, and all vacant
-abbrev pub invariant-loop-slots : goal.invariant-loop-slots
-invariant-loop-slots l = record {
-  few : length l.slots.items ≤ l.sessions;
-  vacant : (k : ℕ) (d : Slot) → k < length l.slots.items → get_or l.slots.items k d ≡ record { generation = 0; session = None };
+-- no more seats than wanted, all vacant, with buffers as wide as wanted
+abbrev pub invariant-loop-alloc : goal.invariant-loop-alloc
+invariant-loop-alloc l = record {
+  few : length l.seats.items ≤ l.sessions;
+  vacant : AreVacant l.entry.buffer l.seats.items;
 }
 
-abbrev pub decreases-loop-slots : goal.decreases-loop-slots
-decreases-loop-slots l = l.sessions - length l.slots.items
+abbrev pub decreases-loop-alloc : goal.decreases-loop-alloc
+decreases-loop-alloc l = l.sessions - length l.seats.items

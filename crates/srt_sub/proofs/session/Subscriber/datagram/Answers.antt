@@ -1,4 +1,4 @@
-use Rattle.std.proofs.Common.{◌≡◌, ℕ, ◌-◌, refl, sym, ap, subst, ◌∙◌, arith}
+use Rattle.std.proofs.Common.{ℕ, ◌-◌, refl, sym, ap, subst, ◌∙◌, arith}
 use Rattle.std.specs.Prelude.{map}
 use Rattle.srt_packet.specs.View.{body_of}
 use Rattle.srt_packet.specs.declared.reading.Kind.{Kind}
@@ -9,6 +9,7 @@ use Rattle.srt_sub.specs.Heard.{Heard, Ack, heard_from, more_of}
 use Rattle.srt_sub.specs.Subscribing.{expired, took, answers, with_ack, ack_reports}
 use Rattle.srt_sub.specs.Says.{says}
 use Rattle.srt_sub.specs.Stands.{StandsIn}
+use Rattle.srt_sub.proofs.Sound.{at_time}
 use Rattle.srt_sub.proofs.Unheard.{unheard, heard_ack, unheard_ack}
 use Rattle.srt_sub.proofs.session.Subscriber.datagram.Goals as goal
 
@@ -27,28 +28,20 @@ returns-then-info-lt4-clause-answer c terms initial opening caller last m h le =
 
 pub returns-else-info-lt4-clause-stands : goal.returns-else-info-lt4-clause-stands
 returns-else-info-lt4-clause-stands c terms initial opening caller last m h le =
-    let now = c.args.now - opening in
-    let x = expired terms now m in
-    let k = c.time-time.result in
-    let stands = c.drop_old.ensures terms initial opening caller (last - opening) 0 m h (omega (arith, le)) in
-    let at : k ≡ now = c.time-time.ensures.value ∙ ap (λ o. c.args.now - o) stands.opening_is in
-    let acked = c.acknowledge.ensures terms initial opening caller 0 x (subst (λ (t : ℕ). StandsIn terms initial opening caller t 0 c.drop_old.new.self x) (sym at) stands) in
-    let said = c.answer.ensures.stands terms initial opening caller 0 (with_ack k (more_of c.in-Ack.info.now) (acknowledged_by (counted_from initial (word_at c.in-Ack.info.now 0)) x.sending) x) acked in
+    let x = expired terms (c.args.now - opening) m in
+    let here = at_time terms initial opening caller c.args.now c.time-time.result c.drop_old.new.self x c.time-time.ensures.value (c.drop_old.ensures terms initial opening caller (last - opening) 0 m h (omega (arith, le))) in
+    let said = c.answer.ensures.stands terms initial opening caller 0 (with_ack c.time-time.result (more_of c.in-Ack.info.now) (acknowledged_by (counted_from initial (word_at c.in-Ack.info.now 0)) x.sending) x) (c.acknowledge.ensures terms initial opening caller 0 x here.stands) in
     let heard = ap (λ k. heard_from initial (body_of k)) c.in-Ack.is ∙ heard_ack initial c.in-Ack.number c.in-Ack.info c.if-info-lt4.false in
-    subst (λ (y : Heard). StandsIn terms initial opening caller now 0 c.answer.new.self (took now y x)) (sym heard)
-    (subst (λ (t : ℕ). StandsIn terms initial opening caller t 0 c.answer.new.self (took t (Ack c.in-Ack.number (counted_from initial (word_at c.in-Ack.info.now 0)) (more_of c.in-Ack.info.now)) x)) at said)
+    subst (λ (y : Heard). StandsIn terms initial opening caller (c.args.now - opening) 0 c.answer.new.self (took (c.args.now - opening) y x)) (sym heard)
+    (subst (λ (t : ℕ). StandsIn terms initial opening caller t 0 c.answer.new.self (took t (Ack c.in-Ack.number (counted_from initial (word_at c.in-Ack.info.now 0)) (more_of c.in-Ack.info.now)) x)) here.time_is said)
 
 pub returns-else-info-lt4-clause-answer : goal.returns-else-info-lt4-clause-answer
 returns-else-info-lt4-clause-answer c terms initial opening caller last m h le =
-    let now = c.args.now - opening in
-    let x = expired terms now m in
-    let k = c.time-time.result in
-    let stands = c.drop_old.ensures terms initial opening caller (last - opening) 0 m h (omega (arith, le)) in
-    let at : k ≡ now = c.time-time.ensures.value ∙ ap (λ o. c.args.now - o) stands.opening_is in
-    let acked = c.acknowledge.ensures terms initial opening caller 0 x (subst (λ (t : ℕ). StandsIn terms initial opening caller t 0 c.drop_old.new.self x) (sym at) stands) in
-    let said = c.answer.ensures.answer terms initial opening caller 0 (with_ack k (more_of c.in-Ack.info.now) (acknowledged_by (counted_from initial (word_at c.in-Ack.info.now 0)) x.sending) x) acked in
+    let x = expired terms (c.args.now - opening) m in
+    let here = at_time terms initial opening caller c.args.now c.time-time.result c.drop_old.new.self x c.time-time.ensures.value (c.drop_old.ensures terms initial opening caller (last - opening) 0 m h (omega (arith, le))) in
+    let said = c.answer.ensures.answer terms initial opening caller 0 (with_ack c.time-time.result (more_of c.in-Ack.info.now) (acknowledged_by (counted_from initial (word_at c.in-Ack.info.now 0)) x.sending) x) (c.acknowledge.ensures terms initial opening caller 0 x here.stands) in
     let heard = ap (λ k. heard_from initial (body_of k)) c.in-Ack.is ∙ heard_ack initial c.in-Ack.number c.in-Ack.info c.if-info-lt4.false in
-    said ∙ ap (λ t. map (says caller initial t) (ack_reports c.in-Ack.number)) at ∙ sym (ap (λ y. map (says caller initial now) (answers y)) heard)
+    said ∙ ap (λ t. map (says caller initial t) (ack_reports c.in-Ack.number)) here.time_is ∙ sym (ap (λ y. map (says caller initial (c.args.now - opening)) (answers y)) heard)
 
 pub returns-in-Nak-clause-stands : goal.returns-in-Nak-clause-stands
 returns-in-Nak-clause-stands c terms initial opening caller last m h le =

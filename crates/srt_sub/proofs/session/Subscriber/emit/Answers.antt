@@ -10,10 +10,10 @@ returns-clause-some c said terms initial opening caller m left h =
     let now = c.args.now - opening in
     let stands = c.drop_old.ensures terms initial opening caller now h.given h.middle h.stands (omega arith) in
     let at : k ≡ now = c.time-time.ensures.value ∙ ap (λ o. c.args.now - o) stands.opening_is in
-    let there = c.turn.ensures.some said terms initial opening caller h.given h.middle m left
+    let there = c.next_packet.ensures.some said terms initial opening caller h.given h.middle m left
     (subst (λ (t : ℕ). StandsIn terms initial opening caller t h.given c.drop_old.new.self (expired terms t h.middle)) (sym at) stands)
     (subst (λ (t : ℕ). IsLeft terms t h.given (expired terms t h.middle) m left) (sym at) h.left_is) in
-    subst (λ (t : ℕ). IsNextAt terms initial opening caller t c.turn.new.packet c.turn.new.self m left) at there
+    subst (λ (t : ℕ). IsNextAt terms initial opening caller t c.next_packet.new.packet c.next_packet.new.self m left) at there
 
 pub returns-clause-none : goal.returns-clause-none
 returns-clause-none c said terms initial opening caller m left h =
@@ -21,10 +21,10 @@ returns-clause-none c said terms initial opening caller m left h =
     let now = c.args.now - opening in
     let stands = c.drop_old.ensures terms initial opening caller now h.given h.middle h.stands (omega arith) in
     let at : k ≡ now = c.time-time.ensures.value ∙ ap (λ o. c.args.now - o) stands.opening_is in
-    let there = c.turn.ensures.none said terms initial opening caller h.given h.middle m left
+    let there = c.next_packet.ensures.none said terms initial opening caller h.given h.middle m left
     (subst (λ (t : ℕ). StandsIn terms initial opening caller t h.given c.drop_old.new.self (expired terms t h.middle)) (sym at) stands)
     (subst (λ (t : ℕ). IsLeft terms t h.given (expired terms t h.middle) m left) (sym at) h.left_is) in
-    let here = subst (λ (t : ℕ). IsOverAt terms initial opening caller t c.turn.new.self m left) at there in
+    let here = subst (λ (t : ℕ). IsOverAt terms initial opening caller t c.next_packet.new.self m left) at there in
     (here.left_is, here.stands)
 
 pub returns-clause-same : goal.returns-clause-same
@@ -33,5 +33,5 @@ returns-clause-same c said terms initial opening caller m left h =
     let now = c.args.now - opening in
     let stands = c.drop_old.ensures terms initial opening caller now h.given h.middle h.stands (omega arith) in
     let at : k ≡ now = c.time-time.ensures.value ∙ ap (λ o. c.args.now - o) stands.opening_is in
-    c.turn.ensures.same said terms initial opening caller h.given (expired terms now h.middle)
+    c.next_packet.ensures.same said terms initial opening caller h.given (expired terms now h.middle)
     (subst (λ (t : ℕ). StandsIn terms initial opening caller t h.given c.drop_old.new.self (expired terms now h.middle)) (sym at) stands)

@@ -7,7 +7,7 @@ use Rattle.srt_sub.specs.Subscribing.{Subscribing, expired}
 use Rattle.srt_sub.specs.Endings.{is_short}
 use Rattle.srt_sub.specs.Stands.{StandsIn}
 use Rattle.srt_sub.proofs.Sound.{changed, sound_queued, doesnt_fit, does_fit}
-use Rattle.srt_sub.proofs.Feeding.{full, still_full, fed_if, not_fed_if}
+use Rattle.srt_sub.proofs.Queueing.{full, still_full, fed_if, not_fed_if}
 use Rattle.srt_sub.proofs.session.Subscriber.feed.Goals as goal
 
 pub returns-then-not-is_short-clause-stands : goal.returns-then-not-is_short-clause-stands

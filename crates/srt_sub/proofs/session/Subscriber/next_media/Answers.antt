@@ -1,4 +1,4 @@
-use Rattle.std.proofs.Common.{◌≡◌, ℕ, ◌+◌, ◌-◌, ◌<◌, ◌==◌, false, Option, None, Some, [], ◌∷◌, refl, sym, ap, subst, ◌∙◌, arith}
+use Rattle.std.proofs.Common.{◌≡◌, ℕ, ◌+◌, ◌-◌, ◌<◌, ◌==◌, Bool, true, false, Option, None, Some, [], ◌∷◌, refl, sym, ap, subst, ◌∙◌, arith}
 use Rattle.std.specs.Prelude.{map}
 use Rattle.std.specs.Option.{option_to_list}
 use Rattle.std.proofs.lemmas.Bool.{ne_eqb}
@@ -6,8 +6,12 @@ use Rattle.srt_sendbuf.specs.Sending.{Sending, Due, due, sent}
 use Rattle.srt_sendbuf.specs.Stands as places
 use Rattle.srt_sub.specs.Subscribing.{Terms, Subscribing, Media, flow_window}
 use Rattle.srt_sub.specs.Says.{says}
-use Rattle.srt_sub.specs.Turns.{due_in, with_due, given_with}
+use Rattle.srt_seq.specs.Given.{given as written}
+use Rattle.srt_packet.specs.Text.{text}
+use Rattle.srt_packet.specs.declared.writing.Packet.{Packet}
+use Rattle.srt_sub.specs.Turns.{due_in, with_due, given_with, texts}
 use Rattle.srt_sub.specs.Stands.{StandsIn}
+use Rattle.srt_sub.specs.declared.session.Subscriber.{Subscriber}
 use Rattle.srt_sub.proofs.Sound.{changed, sound_marked}
 use Rattle.srt_sub.proofs.Dues.{sent_in_queue, nothing_due_sent, due_sent}
 use Rattle.srt_sub.proofs.Turns.{wrote, wrote_none, media_said, no_media_said}
@@ -19,36 +23,39 @@ there given held terms m o lt w e =
     let b : ((64 - given) == 0) ≡ false = ne_eqb _ _ (λ x. omega (arith, x, lt)) in
     rw b (ap (λ k. due k m.sending) (sym w) ∙ e)
 
+-- no packet was written: the buffer has none that is due, and so the session
+nothing : (terms : Terms) (initial opening caller time given : ℕ) (s : Subscriber) (m : Subscribing) (b : Bool) (p : Packet) → StandsIn terms initial opening caller time given s m → s.given < 64 → b ≡ false → texts (written b p) ≡ map (λ d. says s.caller initial time (Media d.number d.again d.origin d.payload)) (option_to_list (due s.history.window m.sending)) → (due s.history.window m.sending ≡ None) × (due_in (64 - given) terms m ≡ None)
+nothing terms initial opening caller time given s m b p h few is answer =
+    let none = no_media_said (due s.history.window m.sending) (λ d. says s.caller initial time (Media d.number d.again d.origin d.payload)) (wrote_none b p _ is answer) in
+    (none, there given s.history.window terms m None (omega (arith, few, h.given_is)) h.history_is.window_is none)
+
+-- a packet was written, which is due in the buffer, and so in the session
+one : (terms : Terms) (initial opening caller time given : ℕ) (s : Subscriber) (m : Subscribing) (b : Bool) (p : Packet) → StandsIn terms initial opening caller time given s m → s.given < 64 → b ≡ true → texts (written b p) ≡ map (λ d. says s.caller initial time (Media d.number d.again d.origin d.payload)) (option_to_list (due s.history.window m.sending)) → (d : Due) × (due s.history.window m.sending ≡ Some d) × (due_in (64 - given) terms m ≡ Some d) × (text p ≡ says s.caller initial time (Media d.number d.again d.origin d.payload))
+one terms initial opening caller time given s m b p h few is answer =
+    let told = media_said (due s.history.window m.sending) (λ d. says s.caller initial time (Media d.number d.again d.origin d.payload)) _ (wrote b p _ is answer) in
+    (told.0, told.1, there given s.history.window terms m (Some told.0) (omega (arith, few, h.given_is)) h.history_is.window_is told.1, told.2)
+
 pub returns-then-not-media-clause-stands : goal.returns-then-not-media-clause-stands
 returns-then-not-media-clause-stands c terms initial opening caller given m h le =
     let s = c.args.self.now in
-    let w = s.history.window in
-    let none = no_media_said (due w m.sending) (λ d. says s.caller initial c.args.time (Media d.number d.again d.origin d.payload)) (wrote_none c.media.result c.media.new.packet _ c.if-not-media.true (c.media.ensures.answer terms.width initial c.args.time m.sending h.buffer_is h.sound.some)) in
-    let few = h.given_is in
-    let e = there given w terms m None (omega (arith, few)) h.history_is.window_is none in
-    let kept = subst (λ (r : Sending). places.StandsFor terms.width initial c.media.new.buffer r) (nothing_due_sent w m.sending (sent_in_queue terms.width initial s.buffer m.sending h.buffer_is) none) (c.media.ensures.stands terms.width initial m.sending h.buffer_is) in
-    subst (λ (o : Option Due). StandsIn terms initial opening caller c.args.time (given_with o given) (record s { buffer = c.media.new.buffer }) (with_due c.args.time o m)) (sym e)
+    let none = nothing terms initial opening caller c.args.time given s m c.media.result c.media.new.packet h (omega arith) c.if-not-media.true (c.media.ensures.answer terms.width initial c.args.time m.sending h.buffer_is h.sound.some) in
+    let kept = subst (λ (r : Sending). places.StandsFor terms.width initial c.media.new.buffer r) (nothing_due_sent s.history.window m.sending (sent_in_queue terms.width initial s.buffer m.sending h.buffer_is) none.0) (c.media.ensures.stands terms.width initial m.sending h.buffer_is) in
+    subst (λ (o : Option Due). StandsIn terms initial opening caller c.args.time (given_with o given) (record s { buffer = c.media.new.buffer }) (with_due c.args.time o m)) (sym none.1)
     (changed terms initial opening caller c.args.time given s m h c.args.time given s.given c.media.new.buffer s.history m h.given_is kept h.history_is h.sound)
 
 pub returns-then-not-media-clause-answer : goal.returns-then-not-media-clause-answer
 returns-then-not-media-clause-answer c terms initial opening caller given m h le =
     let s = c.args.self.now in
-    let w = s.history.window in
-    let none = no_media_said (due w m.sending) (λ d. says s.caller initial c.args.time (Media d.number d.again d.origin d.payload)) (wrote_none c.media.result c.media.new.packet _ c.if-not-media.true (c.media.ensures.answer terms.width initial c.args.time m.sending h.buffer_is h.sound.some)) in
-    let few = h.given_is in
-    let e = there given w terms m None (omega (arith, few)) h.history_is.window_is none in
-    sym (ap (λ o. map (λ (d : Due). says caller initial c.args.time (Media d.number d.again d.origin d.payload)) (option_to_list o)) e)
+    let none = nothing terms initial opening caller c.args.time given s m c.media.result c.media.new.packet h (omega arith) c.if-not-media.true (c.media.ensures.answer terms.width initial c.args.time m.sending h.buffer_is h.sound.some) in
+    sym (ap (λ o. map (λ (d : Due). says caller initial c.args.time (Media d.number d.again d.origin d.payload)) (option_to_list o)) none.1)
 
 pub returns-clause-stands : goal.returns-clause-stands
 returns-clause-stands c terms initial opening caller given m h le =
     let s = c.args.self.now in
-    let w = s.history.window in
-    let told = media_said (due w m.sending) (λ d. says s.caller initial c.args.time (Media d.number d.again d.origin d.payload)) _ (wrote c.media.result c.media.new.packet _ c.if-not-media.false (c.media.ensures.answer terms.width initial c.args.time m.sending h.buffer_is h.sound.some)) in
+    let told = one terms initial opening caller c.args.time given s m c.media.result c.media.new.packet h (omega arith) c.if-not-media.false (c.media.ensures.answer terms.width initial c.args.time m.sending h.buffer_is h.sound.some) in
     let d = told.0 in
-    let few = h.given_is in
-    let e = there given w terms m (Some d) (omega (arith, few)) h.history_is.window_is told.1 in
-    let kept = subst (λ (r : Sending). places.StandsFor terms.width initial c.media.new.buffer r) (due_sent w m.sending d told.1) (c.media.ensures.stands terms.width initial m.sending h.buffer_is) in
-    subst (λ (o : Option Due). StandsIn terms initial opening caller c.args.time (given_with o given) (record s { buffer = c.media.new.buffer; history = c.give.new.self; given = s.given + 1 }) (with_due c.args.time o m)) (sym e)
+    let kept = subst (λ (r : Sending). places.StandsFor terms.width initial c.media.new.buffer r) (due_sent s.history.window m.sending d told.1) (c.media.ensures.stands terms.width initial m.sending h.buffer_is) in
+    subst (λ (o : Option Due). StandsIn terms initial opening caller c.args.time (given_with o given) (record s { buffer = c.media.new.buffer; history = c.give.new.self; given = s.given + 1 }) (with_due c.args.time o m)) (sym told.2)
     (changed terms initial opening caller c.args.time given s m h c.args.time (given + 1) (s.given + 1) c.media.new.buffer c.give.new.self (with_due c.args.time (Some d) m) (ap (λ n. n + 1) h.given_is) kept
     (c.give.ensures initial terms.window m.notes (Media d.number d.again d.origin d.payload) refl refl h.history_is)
     (sound_marked terms c.args.time m.sending (sent d.number m.sending) refl refl h.sound))
@@ -56,10 +63,6 @@ returns-clause-stands c terms initial opening caller given m h le =
 pub returns-clause-answer : goal.returns-clause-answer
 returns-clause-answer c terms initial opening caller given m h le =
     let s = c.args.self.now in
-    let w = s.history.window in
-    let told = media_said (due w m.sending) (λ d. says s.caller initial c.args.time (Media d.number d.again d.origin d.payload)) _ (wrote c.media.result c.media.new.packet _ c.if-not-media.false (c.media.ensures.answer terms.width initial c.args.time m.sending h.buffer_is h.sound.some)) in
-    let d = told.0 in
-    let few = h.given_is in
-    let e = there given w terms m (Some d) (omega (arith, few)) h.history_is.window_is told.1 in
-    ap (λ t. t ∷ []) (told.2 ∙ ap (λ k. says k initial c.args.time (Media d.number d.again d.origin d.payload)) h.caller_is)
-    ∙ sym (ap (λ o. map (λ (d : Due). says caller initial c.args.time (Media d.number d.again d.origin d.payload)) (option_to_list o)) e)
+    let told = one terms initial opening caller c.args.time given s m c.media.result c.media.new.packet h (omega arith) c.if-not-media.false (c.media.ensures.answer terms.width initial c.args.time m.sending h.buffer_is h.sound.some) in
+    ap (λ t. t ∷ []) (told.3 ∙ ap (λ k. says k initial c.args.time (Media told.0.number told.0.again told.0.origin told.0.payload)) h.caller_is)
+    ∙ sym (ap (λ o. map (λ (d : Due). says caller initial c.args.time (Media d.number d.again d.origin d.payload)) (option_to_list o)) told.2)

@@ -4,7 +4,7 @@ use Rattle.std.proofs.lemmas.Bool.{lt-ltb}
 use Rattle.std.proofs.lemmas.Bool.Decides.{nat_tests}
 use Rattle.srt_rtt.specs.RoundTrip.{resend_after}
 use Rattle.srt_sendbuf.specs.Sending.{front, next, lost, all_lost}
-use Rattle.srt_sub.specs.Subscribing.{is_stale, round_trip, last_media, last_growth}
+use Rattle.srt_sub.specs.Subscribing.{resend_due, round_trip, last_media, last_growth}
 use Rattle.srt_sub.proofs.Sound.{changed, sound_marked}
 use Rattle.srt_sub.proofs.Turns.{false_first}
 use Rattle.srt_sub.proofs.session.Subscriber.presume.Goals as goal
@@ -13,15 +13,15 @@ pub returns-then-any_lost : goal.returns-then-any_lost
 returns-then-any_lost c terms initial opening caller given m h =
     let some = sym (c.any_lost.ensures terms.width initial m.sending h.buffer_is) ∙ c.if-any_lost.true in
     let b : (length (lost m.sending) == 0) ≡ false = grind (arith, nat_tests, some) in
-    let f : is_stale c.args.time m ≡ false = false_first _ _ _ b in
+    let f : resend_due c.args.time m ≡ false = false_first _ _ _ b in
     rw f h
 
-pub returns-then-is_silent : goal.returns-then-is_silent
-returns-then-is_silent c terms initial opening caller given m h =
+pub returns-then-resend_due : goal.returns-then-resend_due
+returns-then-resend_due c terms initial opening caller given m h =
     let none = sym (c.any_lost.ensures terms.width initial m.sending h.buffer_is) ∙ c.if-any_lost.false in
     let flying = c.in_flight.ensures terms.width initial m.sending h.buffer_is in
     let some : nat_lt (front m.sending) (next m.sending) ≡ true = lt-ltb _ _ (omega (arith, flying, c.if-in_flight-eq0.false)) in
     let b : (length (lost m.sending) == 0) ≡ true = grind (arith, nat_tests, none) in
-    let long : nat_le (resend_after (round_trip m.notes)) (c.args.time - max (last_media m.notes) (last_growth m.notes)) ≡ true = sym (c.is_silent.ensures initial terms.window m.notes h.history_is) ∙ c.if-is_silent.true in
-    let t : is_stale c.args.time m ≡ true = rw (some, b, long) refl in
+    let long : nat_le (resend_after (round_trip m.notes)) (c.args.time - max (last_media m.notes) (last_growth m.notes)) ≡ true = sym (c.resend_due.ensures initial terms.window m.notes h.history_is) ∙ c.if-resend_due.true in
+    let t : resend_due c.args.time m ≡ true = rw (some, b, long) refl in
     rw t (changed terms initial opening caller c.args.time given c.args.self.now m h c.args.time given c.args.self.now.given c.lose_all.new.self c.args.self.now.history (record m { sending = all_lost m.sending }) h.given_is (c.lose_all.ensures terms.width initial m.sending h.buffer_is) h.history_is (sound_marked terms c.args.time m.sending (all_lost m.sending) refl refl h.sound))

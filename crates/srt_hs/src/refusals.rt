@@ -1,0 +1,54 @@
+//! The reasons for a refusal with their numbers and causes, and the order in which the causes are checked
+//! (draft-sharabayko-srt-01, section 4.3, table 7).
+
+ghost use Rattle.std.specs.Prelude.{◌≡◌};
+ghost use Rattle.srt_hs.specs.Text.{code_of};
+
+/// Why a conclusion is refused (section 4.3, table 7). The number is written as the handshake type of the answer; the
+/// name after it is libsrt's. Which cause leads to which reason is this profile's. A caller whose conclusion doesn't
+/// read as a handshake, or has a wrong cookie, gets no answer at all.
+///
+/// If several causes apply, the first counts. `srt_lobby` checks, in this order: the version (1008), the initial number
+/// and the HSREQ (1004), KMREQ (1011), FILTER (1014), GROUP (1015), the Stream ID and its route (1002). Then
+/// `srt_route` checks the flag STREAM (1012), the MTU and the window (1004), a second publisher (1002), and a free slot
+/// (1003).
+#[derive(Clone, Copy, Debug, PartialEq, Eq)]
+pub enum RefusalCode {
+    /// 1002, `SRT_REJ_PEER`: the conclusion has no Stream ID block; or its Stream ID has a fault (not UTF-8, a mode
+    /// other than `publish` and `request`, `r` or `m` twice, no name or an empty one); or no route has the name that it
+    /// asks for; or it wants to publish to a route that already has a publisher.
+    Peer,
+    /// 1003, `SRT_REJ_RESOURCE`: as many sessions of the route are open as its configuration allows.
+    Resource,
+    /// 1004, `SRT_REJ_ROGUE`: the top bit of the initial sequence number is set; or there is no HSREQ block; or the MTU
+    /// is below 76 bytes; or the flow window is 0; or the caller requests a stream in buffer mode with an MTU below
+    /// 1500 bytes.
+    Rogue,
+    /// 1008, `SRT_REJ_VERSION`: the version of the handshake isn't 5.
+    Version,
+    /// 1011, `SRT_REJ_UNSECURE`: there is a KMREQ block. The gateway doesn't encrypt.
+    Unsecure,
+    /// 1012, `SRT_REJ_MESSAGEAPI`: the flag STREAM of the HSREQ is set for a route in live mode, or not set for one in
+    /// buffer mode.
+    MessageApi,
+    /// 1014, `SRT_REJ_FILTER`: there is a FILTER block. The gateway has no packet filter.
+    Filter,
+    /// 1015, `SRT_REJ_GROUP`: there is a GROUP block. The gateway has no connection groups.
+    Group,
+}
+
+/// The number of a reason, which is written as the handshake type (section 4.3, table 7).
+pub(crate) fn code(reason: RefusalCode) -> u32
+    ensures { result ≡ code_of reason }
+{
+    match reason {
+        RefusalCode::Peer => 1002,
+        RefusalCode::Resource => 1003,
+        RefusalCode::Rogue => 1004,
+        RefusalCode::Version => 1008,
+        RefusalCode::Unsecure => 1011,
+        RefusalCode::MessageApi => 1012,
+        RefusalCode::Filter => 1014,
+        RefusalCode::Group => 1015,
+    }
+}

@@ -1,0 +1,45 @@
+//! What a session was opened with, and when its packets are due (draft-sharabayko-srt-01, section 4.5.1).
+
+ghost use Rattle.std.specs.Prelude.{◌≡◌, ℕ, ◌+◌, ◌^◌, ◌<◌, ◌≤◌, ℤ, pos, ◌+ℤ◌};
+ghost use Rattle.srt_seq.specs.Lift.{stamped_from};
+ghost use Rattle.srt_pub.specs.Publishing.{Terms, due_in};
+
+use srt_seq::{Mode, Stamp32};
+use srt_tsbpd::Base;
+
+/// What a session was opened with: the result of its handshake.
+#[derive(Clone, Copy, Debug)]
+pub struct Agreed {
+    /// Live or buffer mode.
+    pub mode: Mode,
+    /// The receiver's delay, in microseconds. It counts in live mode only (section 4.4).
+    pub delay: u32,
+    /// The moment of the opening, in microseconds of the route's clock.
+    pub opening: u64,
+    /// The timestamp of the caller's conclusion, from which packet timestamps are counted.
+    pub first: Stamp32,
+    /// The caller's socket ID: the destination of all packets that are sent.
+    pub caller: u32,
+}
+
+impl Agreed {
+    /// The moment at which a packet with this timestamp that comes at `now` is due, in microseconds of the route's
+    /// clock. Live mode: by its timestamp and the delay (section 4.5.1); it may be in the past. Buffer mode: at once,
+    /// given as the moment of the opening. No packet comes before the opening.
+    pub fn due(&self, stamp: u32, now: u64) -> i64
+        requires early { now < 2 ^ 62 }
+        ensures { (terms : Terms) (time : ℕ) → self.now.mode ≡ terms.mode → self.now.delay ≡ terms.delay → now ≡ self.now.opening + time → result ≡ pos self.now.opening +ℤ due_in terms.mode terms time (stamped_from self.now.first.word stamp) }
+    {
+        if now < self.opening {
+            return now as i64;
+        }
+        match self.mode {
+            Mode::Live => Base::new(self.opening, self.first).deadline(
+                Stamp32::new(stamp),
+                now,
+                self.delay,
+            ),
+            Mode::Buffer => self.opening as i64,
+        }
+    }
+}

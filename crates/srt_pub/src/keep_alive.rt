@@ -1,0 +1,68 @@
+//! A publisher's KEEPALIVE: after a second in which nothing was sent (draft-sharabayko-srt-01, section 3.2.3).
+
+ghost use Rattle.std.specs.Prelude.{◌≡◌, ℕ, ◌-◌, List, ◌∷◌, map, true, false, nat_le};
+ghost use Rattle.srt_seq.specs.Given.{given};
+ghost use Rattle.srt_packet.specs.Text.{IsWritable};
+ghost use Rattle.srt_pub.specs.Publishing.{Terms, Publishing, noted, Note, last_sent};
+ghost use Rattle.srt_pub.specs.Says.{says};
+ghost use Rattle.srt_pub.specs.Calls.{keep_alive_after, texts, listed};
+ghost use Rattle.srt_seq.specs.Limits.{keep_alive_after_us};
+ghost use Rattle.srt_pub.specs.Publishing.Note.{Sent};
+ghost use Rattle.srt_pub.specs.Publishing.Report.{KeepAlive as TheKeepAlive};
+
+use crate::log::Log;
+use crate::session::Publisher;
+use srt_packet::{Body, Packet};
+use srt_seq::limits::KEEP_ALIVE_AFTER_US;
+
+impl Publisher {
+    ghost use Rattle.srt_pub.specs.Stands.{StandsFor, opening_of};
+
+    /// Writes a KEEPALIVE, if one is due and neither an ACK nor a NAK is sent. Returns whether there is one; if not,
+    /// `packet` is unchanged.
+    pub(crate) fn keep_alive(
+        &mut self,
+        time: u64,
+        ack: bool,
+        nak: bool,
+        packet: &mut Packet,
+    ) -> bool
+        ensures stands { (terms : Terms) (initial opening stamp caller : ℕ) (m : Publishing) → StandsFor terms initial opening stamp caller self.old m → StandsFor terms initial opening stamp caller self.new (record m { notes = noted time (keep_alive_after ack nak time m.notes) m.notes }) }
+        ensures opening { opening_of self.new ≡ opening_of self.old }
+        ensures bytes { (terms : Terms) (initial opening stamp caller : ℕ) (m : Publishing) → StandsFor terms initial opening stamp caller self.old m → texts (listed (given result packet.new)) ≡ map (says caller initial time) (keep_alive_after ack nak time m.notes) }
+        ensures writable { result ≡ true → IsWritable packet.new.body }
+        ensures kept { result ≡ false → packet.new ≡ packet.old }
+    {
+        if ack {
+            return false;
+        }
+        if nak {
+            return false;
+        }
+        if self.log.keep_alive_due(time) {
+            self.log.keep_alive(time);
+            packet.body = Body::KeepAlive;
+            self.address(time, packet);
+            return true;
+        }
+        false
+    }
+}
+
+impl Log {
+    ghost use Rattle.srt_pub.specs.Kept.{LogStandsFor};
+
+    /// Whether nothing was sent for a second, so that a KEEPALIVE is due.
+    pub fn keep_alive_due(&self, time: u64) -> bool
+        ensures { (width front point seen : ℕ) (notes : List Note) → LogStandsFor width front point self.now notes seen → result ≡ nat_le keep_alive_after_us (time - last_sent notes) }
+    {
+        time.saturating_sub(self.sent) >= KEEP_ALIVE_AFTER_US
+    }
+
+    /// Notes that a KEEPALIVE is sent.
+    pub fn keep_alive(&mut self, time: u64)
+        ensures { (width front point seen : ℕ) (notes : List Note) → LogStandsFor width front point self.old notes seen → LogStandsFor width front point self.new (Sent time TheKeepAlive ∷ notes) seen }
+    {
+        self.sent = time;
+    }
+}

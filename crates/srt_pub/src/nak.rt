@@ -1,0 +1,93 @@
+//! NAKs: of all gaps at each NAK interval, else of the gaps that an event brought (draft-sharabayko-srt-01, sections
+//! 3.2.5 and 4.8.2).
+
+ghost use Rattle.std.specs.Prelude.{◌≡◌, ℕ, List, ◌∷◌, map, true, false, if◌then◌else◌};
+ghost use Rattle.srt_seq.specs.Given.{given};
+ghost use Rattle.srt_packet.specs.Text.{IsWritable};
+ghost use Rattle.srt_recvbuf.specs.Receiving.{end_of};
+ghost use Rattle.srt_recvbuf.specs.Stands.{words_of, run_words};
+ghost use Rattle.srt_seq.specs.Runs.{Run};
+ghost use Rattle.srt_pub.specs.Publishing.{Terms, Publishing, naks, gaps_told, runs_said, noted, Note, is_nak_due, nak_report};
+ghost use Rattle.srt_pub.specs.Says.{says};
+ghost use Rattle.srt_pub.specs.Calls.{texts, listed};
+ghost use Rattle.srt_pub.specs.Publishing.Note.{Sent};
+
+use crate::log::Log;
+use crate::session::{Publisher, steps};
+use arrayvec::ArrayVec;
+use srt_loss::write;
+use srt_packet::{Body, Packet};
+use srt_seq::Seq31;
+
+impl Publisher {
+    ghost use Rattle.srt_pub.specs.Stands.{StandsFor, opening_of};
+
+    /// Writes the NAK that is due: of all gaps at each NAK interval, else of the new gaps (section 4.8.2). Returns
+    /// whether one is; if not, `packet` is unchanged.
+    pub(crate) fn nak(&mut self, time: u64, packet: &mut Packet) -> bool
+        ensures stands { (terms : Terms) (initial opening stamp caller : ℕ) (m : Publishing) → StandsFor terms initial opening stamp caller self.old m → StandsFor terms initial opening stamp caller self.new (record m { notes = noted time (naks terms time m) m.notes }) }
+        ensures opening { opening_of self.new ≡ opening_of self.old }
+        ensures bytes { (terms : Terms) (initial opening stamp caller : ℕ) (m : Publishing) → StandsFor terms initial opening stamp caller self.old m → texts (listed (given result packet.new)) ≡ map (says caller initial time) (naks terms time m) }
+        ensures writable { result ≡ true → IsWritable packet.new.body }
+        ensures kept { result ≡ false → packet.new ≡ packet.old }
+    {
+        let all = self.log.is_nak_due(time);
+        let runs = self.runs(all);
+        if runs.is_empty() {
+            return false;
+        }
+        self.log.nak(time, all);
+        packet.body = Body::Nak {
+            losses: write(&runs),
+        };
+        self.address(time, packet);
+        true
+    }
+
+    /// The runs that a NAK reports: of all gaps, or of those above the numbers received before this event.
+    fn runs(&self, all: bool) -> ArrayVec<(Seq31, Seq31), 32>
+        ensures { (terms : Terms) (initial opening stamp caller : ℕ) (m : Publishing) → StandsFor terms initial opening stamp caller self.now m → words_of result.items ≡ map (run_words initial) (runs_said (gaps_told all terms.width m.seen m.receiving)) }
+    {
+        let front = self.buffer.front();
+        if all {
+            self.buffer.runs(front)
+        } else {
+            self.buffer.runs(front.add(self.log.seen))
+        }
+    }
+
+    /// Ends the event: the received numbers of now count as known for the next NAK of new gaps.
+    pub(crate) fn see(&mut self)
+        ensures stands { (terms : Terms) (initial opening stamp caller : ℕ) (m : Publishing) → StandsFor terms initial opening stamp caller self.old m → StandsFor terms initial opening stamp caller self.new (record m { seen = end_of m.receiving.arrivals }) }
+        ensures opening { opening_of self.new ≡ opening_of self.old }
+    {
+        let seen = steps(self.buffer.front(), self.buffer.top());
+        self.log.see(seen);
+    }
+}
+
+impl Log {
+    ghost use Rattle.srt_pub.specs.Kept.{LogStandsFor};
+
+    /// Whether a NAK of all gaps is due: the last one is at least the NAK interval ago (section 4.8.2).
+    pub fn is_nak_due(&self, time: u64) -> bool
+        ensures { (width front point seen : ℕ) (notes : List Note) → LogStandsFor width front point self.now notes seen → result ≡ is_nak_due time notes }
+    {
+        time.saturating_sub(self.nak) >= self.rtt.nak_interval()
+    }
+
+    /// Notes that a NAK is sent, of all gaps or of new ones only.
+    pub fn nak(&mut self, time: u64, all: bool)
+        ensures { (width front point seen : ℕ) (notes : List Note) (rs : List Run) → LogStandsFor width front point self.old notes seen → LogStandsFor width front point self.new (Sent time (nak_report all rs) ∷ notes) seen }
+    {
+        self.nak = later_if(all, time, self.nak);
+        self.sent = time;
+    }
+}
+
+/// `time` if `all`, else `before`.
+fn later_if(all: bool, time: u64, before: u64) -> u64
+    ensures { result ≡ (if all then time else before) }
+{
+    if all { time } else { before }
+}

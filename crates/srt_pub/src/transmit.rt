@@ -1,0 +1,74 @@
+//! What a publisher's session sends at the end of an event: an ACK, a NAK and a KEEPALIVE (draft-sharabayko-srt-01,
+//! sections 3.2.3 to 3.2.5). Each packet has the session's time as its timestamp, and the caller's socket ID as its
+//! destination (section 3).
+
+ghost use Rattle.std.specs.Prelude.{◌≡◌, ℕ, ◌+◌, ◌^◌, ◌<◌, map, true, false};
+ghost use Rattle.srt_seq.specs.Given.{given};
+ghost use Rattle.srt_packet.specs.Text.{text, IsWritable};
+ghost use Rattle.srt_pub.specs.Publishing.{Terms, Publishing, acks, noted, reports, reported};
+ghost use Rattle.srt_pub.specs.Says.{says, body_bytes};
+ghost use Rattle.srt_pub.specs.Calls.{texts, listed};
+
+use crate::reports::Reports;
+use crate::session::Publisher;
+use srt_packet::Packet;
+
+impl Publisher {
+    ghost use Rattle.srt_pub.specs.Stands.{StandsFor, opening_of};
+    ghost use Rattle.srt_pub.specs.Sent.{packets_of};
+
+    /// Ends an event. Writes the ACK, the NAK and the KEEPALIVE that are due at `now`, each into its place, and
+    /// returns which were written. They are sent in this order, and the other places are unchanged. Linear in the
+    /// distance from the first missing to the highest received number at most; takes no memory.
+    pub fn transmit(
+        &mut self,
+        now: u64,
+        ack: &mut Packet,
+        nak: &mut Packet,
+        keep_alive: &mut Packet,
+    ) -> Reports
+        requires early { now < 2 ^ 62 }
+        ensures stands { (terms : Terms) (initial opening stamp caller time : ℕ) (m : Publishing) → now ≡ opening + time → StandsFor terms initial opening stamp caller self.old m → StandsFor terms initial opening stamp caller self.new (reported terms time m) }
+        ensures opening { opening_of self.new ≡ opening_of self.old }
+        ensures bytes { (terms : Terms) (initial opening stamp caller time : ℕ) (m : Publishing) → now ≡ opening + time → StandsFor terms initial opening stamp caller self.old m → texts (packets_of result ack.new nak.new keep_alive.new) ≡ map (says caller initial time) (reports terms time m) }
+        ensures each { (result.ack ≡ true → IsWritable ack.new.body) × (result.nak ≡ true → IsWritable nak.new.body) × (result.keep_alive ≡ true → IsWritable keep_alive.new.body) }
+        ensures kept { (result.ack ≡ false → ack.new ≡ ack.old) × (result.nak ≡ false → nak.new ≡ nak.old) × (result.keep_alive ≡ false → keep_alive.new ≡ keep_alive.old) }
+    {
+        let time = now.saturating_sub(self.agreed.opening);
+        let is_ack = self.ack(time, ack);
+        let is_nak = self.nak(time, nak);
+        let is_keep_alive = self.keep_alive(time, is_ack, is_nak, keep_alive);
+        self.see();
+        Reports {
+            ack: is_ack,
+            nak: is_nak,
+            keep_alive: is_keep_alive,
+        }
+    }
+
+    /// Writes the ACK that is due. Returns whether one is; if not, `packet` is unchanged.
+    fn ack(&mut self, time: u64, packet: &mut Packet) -> bool
+        ensures stands { (terms : Terms) (initial opening stamp caller : ℕ) (m : Publishing) → StandsFor terms initial opening stamp caller self.old m → StandsFor terms initial opening stamp caller self.new (record m { notes = noted time (acks terms time m) m.notes }) }
+        ensures opening { opening_of self.new ≡ opening_of self.old }
+        ensures bytes { (terms : Terms) (initial opening stamp caller : ℕ) (m : Publishing) → StandsFor terms initial opening stamp caller self.old m → texts (listed (given result packet.new)) ≡ map (says caller initial time) (acks terms time m) }
+        ensures writable { result ≡ true → IsWritable packet.new.body }
+        ensures kept { result ≡ false → packet.new ≡ packet.old }
+    {
+        let point = self.buffer.ack_point();
+        let available = self.buffer.available();
+        if self.log.ack(time, point, available, &mut packet.body) {
+            self.address(time, packet);
+            return true;
+        }
+        false
+    }
+
+    /// Gives a packet with this body its timestamp, modulo 2^32, and its destination.
+    pub(crate) fn address(&self, time: u64, packet: &mut Packet)
+        ensures bytes { (caller : ℕ) → self.now.agreed.caller ≡ caller → text packet.new ≡ body_bytes caller time packet.old.body }
+        ensures body { packet.new.body ≡ packet.old.body }
+    {
+        packet.stamp = (time % (1 << 32)) as u32;
+        packet.dest = self.agreed.caller;
+    }
+}

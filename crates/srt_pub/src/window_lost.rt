@@ -1,0 +1,38 @@
+//! When a live publisher's session ends since its window is lost (this profile).
+
+ghost use Rattle.std.specs.Prelude.{◌≡◌, ℕ, List};
+ghost use Rattle.srt_seq.specs.Window.{counted_from};
+ghost use Rattle.srt_pub.specs.Heard.Heard.{Data};
+ghost use Rattle.srt_pub.specs.Publishing.{Terms, Publishing, loses_window, is_past_window};
+
+use crate::session::Publisher;
+use srt_seq::limits::RANGE_END;
+use srt_seq::{Mode, Seq31};
+
+impl Publisher {
+    ghost use Rattle.srt_pub.specs.Stands.{StandsFor};
+
+    /// Whether an unencrypted data packet with this number ends the session. Never in buffer mode.
+    pub(crate) fn loses_window(&self, word: u32) -> bool
+        ensures { (terms : Terms) (initial opening first caller : ℕ) (m : Publishing) (payload : List ℕ) → StandsFor terms initial opening first caller self.now m → result ≡ loses_window terms.mode terms (Data (counted_from initial word) 0 payload) m }
+    {
+        match self.agreed.mode {
+            Mode::Live => self.is_past(word),
+            Mode::Buffer => false,
+        }
+    }
+
+    /// Whether no received packet waits for delivery, and a number is past the window by fewer than 2^30.
+    fn is_past(&self, word: u32) -> bool
+        ensures { (terms : Terms) (initial opening first caller : ℕ) (m : Publishing) → StandsFor terms initial opening first caller self.now m → result ≡ is_past_window terms.width (counted_from initial word) m.receiving }
+    {
+        if self.buffer.waiting() {
+            return false;
+        }
+        let Some(number) = Seq31::new(word) else {
+            return false;
+        };
+        let end = self.buffer.front().add(self.buffer.width());
+        number.offset_in(end, RANGE_END).is_some()
+    }
+}

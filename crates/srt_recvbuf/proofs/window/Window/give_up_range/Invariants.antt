@@ -1,7 +1,0 @@
-use Rattle.std.proofs.Common.{◌≡◌, ℕ, if◌then◌else◌, ◌&&◌}
-use Rattle.std.specs.Prelude.{nat_le, nat_lt}
-use Rattle.srt_recvbuf.specs.Cells.{cell_at, width_of, given_up}
-use Rattle.srt_recvbuf.proofs.window.Window.give_up_range.Given as goal
-
-abbrev pub invariant-loop-at : goal.invariant-loop-at
-invariant-loop-at l = (width_of l.self ≡ width_of l.fn.self) × ((d : ℕ) → cell_at l.self d ≡ (if nat_le l.from d && nat_lt d l.at then given_up (cell_at l.fn.self d) else cell_at l.fn.self d))

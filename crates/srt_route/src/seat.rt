@@ -1,0 +1,225 @@
+//! Seats: what a route keeps for each slot, a session and its buffers; and the sessions' socket IDs.
+
+ghost use Rattle.std.specs.Prelude.{◌≡◌, ℕ, ◌+◌, ◌*◌, ◌%◌, ◌^◌, ◌<◌, ◌≤◌, true, false, None, Some, position, length, option_map, count_by, if◌then◌else◌};
+ghost use Rattle.std.specs.List.{list_any};
+ghost use Rattle.srt_seq.specs.Given.{given};
+ghost use Rattle.srt_route.specs.Sessions.{is_same_peer, id_of, publishes};
+ghost use Rattle.srt_route.specs.Tables.{is_session_of, session_passes, holds, has_publisher, has_subscriber, uses_second, publishes_from, is_vacant, heard_at, again_of, is_stored_for, stored_after, with_stored, written_of};
+
+use crate::answer::answer_to;
+use crate::replies::Reply;
+use srt_hs::HsAnswer;
+use srt_seq::{Peer, Role};
+use srt_sub::Subscriber;
+
+/// An open session.
+#[derive(Drop)]
+pub struct Session {
+    /// The caller's address.
+    pub peer: Peer,
+    /// The caller's SRT socket ID, to which replies are addressed.
+    pub caller: u32,
+    /// The session's own SRT socket ID, the destination of the caller's packets; see `id_at`.
+    pub id: u32,
+    /// Whether the caller publishes or subscribes.
+    pub role: Role,
+    /// Whether a publisher's session uses the second of the route's two publisher buffers; without meaning for a
+    /// subscriber.
+    pub second: bool,
+    /// The moment of the last packet or conclusion from the peer, in microseconds.
+    pub heard: u64,
+    /// The answer to its conclusion, kept to answer a repeated conclusion with the same bytes (section 4.3.1.2).
+    pub answer: HsAnswer,
+}
+
+/// The seat of a slot. Whether a session is open stands before its buffers: what looks for open sessions reads no more
+/// of a seat without one.
+#[derive(Drop)]
+pub struct Seat {
+    /// The number of sessions that were ever opened in this seat, modulo 2^16.
+    pub generation: u16,
+    /// The open session, if any.
+    pub session: Option<Session>,
+    /// A subscriber's buffers; meaningless while no subscriber's session is open here.
+    pub subscriber: Subscriber,
+}
+
+fn publishes(role: Role) -> bool
+    ensures { result ≡ publishes role }
+{
+    matches!(role, Role::Publish)
+}
+
+/// Whether two addresses are equal: same IP and same UDP port.
+pub fn is_same_peer(peer: Peer, other: Peer) -> bool
+    ensures { result ≡ is_same_peer peer other }
+{
+    peer.ip == other.ip && peer.port == other.port
+}
+
+impl Seat {
+    fn holds(&self, peer: Peer, caller: u32) -> bool
+        ensures { result ≡ holds peer caller self.now }
+    {
+        match &self.session {
+            Some(session) => is_same_peer(session.peer, peer) && session.caller == caller,
+            None => false,
+        }
+    }
+
+    /// Whether a publisher's session is open here.
+    pub fn has_publisher(&self) -> bool
+        ensures { result ≡ has_publisher self.now }
+    {
+        match &self.session {
+            Some(session) => publishes(session.role),
+            None => false,
+        }
+    }
+
+    /// The number of publishers' sessions that are open here: 1 or 0.
+    fn publishers(&self) -> usize
+        ensures value { result ≡ (if has_publisher self.now then 1 else 0) }
+        ensures small { result ≤ 1 }
+    {
+        if self.has_publisher() { 1 } else { 0 }
+    }
+
+    /// Whether a subscriber's session is open here.
+    pub fn has_subscriber(&self) -> bool
+        ensures { result ≡ has_subscriber self.now }
+    {
+        match &self.session {
+            Some(session) => !publishes(session.role),
+            None => false,
+        }
+    }
+
+    /// Whether the session here uses the second publisher buffers; false if none is open.
+    pub fn uses_second(&self) -> bool
+        ensures { result ≡ uses_second self.now }
+    {
+        match &self.session {
+            Some(session) => session.second,
+            None => false,
+        }
+    }
+
+    /// Whether a publisher's session with these buffers is open here: with the second ones if `second`, else with the
+    /// first.
+    fn publishes_from(&self, second: bool) -> bool
+        ensures { result ≡ publishes_from second self.now }
+    {
+        match &self.session {
+            Some(session) => publishes(session.role) && session.second == second,
+            None => false,
+        }
+    }
+
+    fn is_vacant(&self) -> bool
+        ensures { result ≡ is_vacant self.now }
+    {
+        self.session.is_none()
+    }
+
+    /// A seat with these buffers in which no session was opened yet.
+    pub fn vacant(subscriber: Subscriber) -> Seat
+        ensures { result ≡ record { generation = 0; session = None; subscriber = subscriber } }
+    {
+        Seat {
+            generation: 0,
+            session: None,
+            subscriber,
+        }
+    }
+
+    /// Opens a session in this seat, whose buffers have begun; the generation goes up by one, modulo 2^16.
+    pub fn fill(&mut self, session: Session)
+        ensures { self.new ≡ record { generation = (self.old.generation + 1) % 65536; session = Some session; subscriber = self.old.subscriber } }
+    {
+        self.generation = self.generation.wrapping_add(1);
+        self.session = Some(session);
+    }
+
+    /// Handles a repeated conclusion: updates the time at which the session was last heard of, and writes the first
+    /// answer again into `reply`. Returns false if no session is open here.
+    pub fn again(&mut self, clock: u64, peer: Peer, reply: &mut Reply) -> bool
+        ensures seat { self.new ≡ with_stored (option_map (heard_at clock) self.old.session) self.old }
+        ensures answer { written_of (given result reply.new) ≡ again_of peer self.old.session }
+    {
+        match &mut self.session {
+            Some(session) => {
+                session.heard = clock;
+                answer_to(reply, peer, session.caller, &session.answer);
+                true
+            }
+            None => false,
+        }
+    }
+
+    /// Whether a packet from this peer to this socket ID belongs to the session that is open here.
+    pub fn is_for(&self, peer: Peer, dest: u32) -> bool
+        ensures { result ≡ session_passes (is_stored_for peer dest) self.now.session }
+    {
+        match &self.session {
+            Some(session) => is_same_peer(session.peer, peer) && session.id == dest,
+            None => false,
+        }
+    }
+
+    /// After a packet for the session: closes it if `ends`, else updates the time at which it was last heard of.
+    pub fn keep_or_end(&mut self, clock: u64, ends: bool)
+        ensures { self.new ≡ with_stored (stored_after ends clock self.old.session) self.old }
+    {
+        if ends {
+            self.session = None;
+            return;
+        }
+        if let Some(session) = &mut self.session {
+            session.heard = clock;
+        }
+    }
+}
+
+/// The first slot with an open session of this caller (address and socket ID). Linear in the seats, at most 17.
+pub fn slot_of(seats: &[Seat], peer: Peer, caller: u32) -> Option<usize>
+    ensures { result ≡ position (holds peer caller) seats.now }
+{
+    seats.iter().position(|seat| seat.holds(peer, caller))
+}
+
+/// The number of open publishers.
+pub fn count_publishers(seats: &[Seat]) -> usize
+    ensures { result ≡ count_by has_publisher seats.now }
+{
+    let mut count = 0;
+    for at in 0..seats.len() {
+        count += seats[at].publishers();
+    }
+    count
+}
+
+/// Whether a publisher's session with these buffers is open in any seat: with the second ones if `second`, else with
+/// the first.
+pub fn have_publisher(seats: &[Seat], second: bool) -> bool
+    ensures { result ≡ list_any (publishes_from second) seats.now }
+{
+    seats.iter().any(|seat| seat.publishes_from(second))
+}
+
+/// The first slot without a session.
+pub fn free_slot(seats: &[Seat]) -> Option<usize>
+    ensures { result ≡ position is_vacant seats.now }
+{
+    seats.iter().position(|seat| seat.is_vacant())
+}
+
+/// The socket ID of a session (this profile): index + 1 at bit 20, the generation modulo 4096 at bit 8, and the slot in
+/// the low 8 bits.
+pub fn id_at(index: u32, generation: u16, at: usize) -> u32
+    requires index { index < 511 }
+    requires slot { at < 17 }
+    ensures { (count : ℕ) → generation ≡ count % 65536 → result ≡ id_of index count at }
+{
+    (index + 1) * (1 << 20) + u32::from(generation % 4096) * 256 + at as u32
+}

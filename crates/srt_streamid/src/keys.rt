@@ -1,0 +1,169 @@
+//! The keys of a list, read from left to right: the parts between its commas, the name that `r` gives and the role that
+//! `m` gives, and the fault of a repeated key (draft-sharabayko-srt-01, appendix B.2; the order of faults is this
+//! profile's).
+
+ghost use Rattle.std.specs.Prelude.{◌≡◌, ℕ, ◌+◌, ◌<◌, ◌≤◌, ◌^◌, ◌==◌, ◌∷◌, List, length, position, IfSome, MatchOption};
+ghost use Rattle.std.specs.Option.{option_copied};
+ghost use Rattle.srt_streamid.specs.Parts.{parts_from, parts_behind};
+ghost use Rattle.srt_streamid.specs.Reading.{role_in, list_in};
+
+use crate::reading::{Ask, AskFault, named};
+use srt_seq::Role;
+
+/// The place of a name in the bytes of a Stream ID.
+#[derive(Clone, Copy)]
+pub struct Span {
+    /// The offset of its first byte.
+    pub start: usize,
+    /// Its length in bytes.
+    pub len: usize,
+}
+
+/// The name and the role that were found so far.
+#[derive(Clone, Copy)]
+pub struct Found {
+    /// The route's name, if a part gave it. It may be empty.
+    pub name: Option<Span>,
+    /// The role, if a part gave it.
+    pub role: Option<Role>,
+}
+
+/// The key of a route's name (appendix B.2).
+const RESOURCE: &[u8] = b"r";
+
+/// The key of a mode (appendix B.2).
+const MODE: &[u8] = b"m";
+
+/// The mode of a caller that sends the stream (appendix B.2).
+const PUBLISH: &[u8] = b"publish";
+
+/// The mode of a caller that receives the stream (appendix B.2).
+const REQUEST: &[u8] = b"request";
+
+/// The offset of the first byte of the text with this value. None if there is none. Linear in the length.
+fn place_of(byte: u8, text: &[u8]) -> Option<usize>
+    ensures value { result ≡ position (λ b. b == byte) text.now }
+    ensures inside { IfSome result (λ at. at < length text.now) }
+{
+    text.iter().position(|b| *b == byte)
+}
+
+/// The role of a mode. `BadMode` if it is neither `publish` nor `request`.
+fn role_of(mode: &[u8]) -> Result<Role, AskFault>
+    ensures { result ≡ role_in mode.now }
+{
+    if mode == PUBLISH {
+        Ok(Role::Publish)
+    } else if mode == REQUEST {
+        Ok(Role::Request)
+    } else {
+        Err(AskFault::BadMode)
+    }
+}
+
+impl Found {
+    ghost use Rattle.srt_streamid.specs.Reading.{nothing, with_name, with_mode, with_part, asked};
+    ghost use Rattle.srt_streamid.specs.Parts.{Piece};
+
+    /// Before any part: neither a name nor a role.
+    pub fn nothing() -> Found
+        ensures { result ≡ nothing }
+    {
+        Found {
+            name: None,
+            role: None,
+        }
+    }
+
+    fn with_name(self, name: Span) -> Result<Found, AskFault>
+        ensures { (text : List ℕ) → length text ≡ name.len → result ≡ with_name self (record { start = name.start; text = text }) }
+    {
+        if self.name.is_some() {
+            return Err(AskFault::RepeatedKey);
+        }
+        Ok(Found {
+            name: Some(name),
+            role: self.role,
+        })
+    }
+
+    fn with_mode(self, mode: &[u8]) -> Result<Found, AskFault>
+        ensures { (start : ℕ) → result ≡ with_mode self (record { start = start; text = mode.now }) }
+    {
+        let role = role_of(mode)?;
+        if self.role.is_some() {
+            return Err(AskFault::RepeatedKey);
+        }
+        Ok(Found {
+            name: self.name,
+            role: Some(role),
+        })
+    }
+
+    /// What was found so far with one more part, which starts at this offset. A part without `=`, or with a key other
+    /// than `r` and `m`, changes nothing. `BadMode` for another mode, else `RepeatedKey` for a second `r` or `m`.
+    #[tactic(auto, unfolding(crate::specs::Reading::with_part))]
+    pub fn with_part(self, start: usize, part: &[u8]) -> Result<Found, AskFault>
+        requires { start + length part.now < 2 ^ 64 }
+        ensures { result ≡ with_part self (record { start = start; text = part.now }) }
+    {
+        let Some(equals) = place_of(b'=', part) else {
+            return Ok(self);
+        };
+        let key = &part[..equals];
+        let value = &part[equals + 1..];
+        if key == RESOURCE {
+            self.with_name(Span {
+                start: start + equals + 1,
+                len: value.len(),
+            })
+        } else if key == MODE {
+            self.with_mode(value)
+        } else {
+            Ok(self)
+        }
+    }
+
+    /// What the whole list asks for; without a mode the role is request. `NoRoute` if no name was found, or an empty
+    /// one.
+    pub fn asked(self) -> Result<Ask, AskFault>
+        ensures { result ≡ asked self }
+    {
+        match self.name {
+            Some(name) => named(name.start, name.len, self.role.unwrap_or(Role::Request)),
+            None => Err(AskFault::NoRoute),
+        }
+    }
+}
+
+/// The first part of a list, and what follows its comma; None if there is no comma.
+fn first_part(list: &[u8]) -> (&[u8], Option<&[u8]>)
+    ensures parts { (start : ℕ) → parts_from start list.now ≡ record { start = start; text = result.0.now }
+        ∷ parts_behind (start + (length result.0.now + 1)) (option_copied result.1) }
+    ensures len { MatchOption result.1 (length result.0.now ≡ length list.now)
+        (λ more. length result.0.now + (length more.now + 1) ≡ length list.now) }
+{
+    match place_of(b',', list) {
+        Some(len) => (&list[..len], Some(&list[len + 1..])),
+        None => (list, None),
+    }
+}
+
+/// What a list asks for. `bytes` begins with the four bytes `#!::`.
+pub fn read_list(bytes: &[u8]) -> Result<Ask, AskFault>
+    requires { 4 ≤ length bytes.now }
+    ensures { result ≡ list_in bytes.now }
+{
+    let mut found = Found::nothing();
+    let mut start = 4;
+    let mut list = &bytes[4..];
+    loop {
+        let (part, more) = first_part(list);
+        found = found.with_part(start, part)?;
+        let Some(more) = more else {
+            return found.asked();
+        };
+        start += part.len() + 1;
+        list = more;
+    }
+}
