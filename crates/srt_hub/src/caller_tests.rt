@@ -209,11 +209,23 @@ fn a_caller_comes_and_comes_again(rt: HostRuntime) -> Result<(), Fail> {
     };
     assert_eq!(rt; gateway.routes(), 2);
     for _ in 0..2 {
-        assert_concludes(&rt, &mut gateway, &FIRST, STUDIO, &opening(&FIRST, "00100000"))?;
+        assert_concludes(
+            &rt,
+            &mut gateway,
+            &FIRST,
+            STUDIO,
+            &opening(&FIRST, "00100000"),
+        )?;
     }
     assert_arrives(&rt, &mut gateway, &shutdown, Arrived::Accepted(0))?;
     assert_turns(&rt, &mut gateway, 0, &[Turned::Applied, Turned::Idle]);
-    assert_concludes(&rt, &mut gateway, &FIRST, STUDIO, &opening(&FIRST, "00100100"))
+    assert_concludes(
+        &rt,
+        &mut gateway,
+        &FIRST,
+        STUDIO,
+        &opening(&FIRST, "00100100"),
+    )
 }
 
 /// The first and the second caller publish.
