@@ -18,7 +18,7 @@ use Rattle.srt_route.specs.declared.table.Table.{Table}
 use Rattle.srt_route.specs.Sessions.{Session, open_publishers, answer_of, free_slot}
 use Rattle.srt_route.specs.Admission.{agreement_of, admitted, admitted_by}
 use Rattle.srt_route.specs.declared.admission.Admission.{Admission}
-use Rattle.srt_route.specs.declared.admission.Agreement.{Agreement}
+use Rattle.srt_route.specs.declared.agreement.Agreement.{Agreement}
 use Rattle.srt_route.specs.Route.{Answers, Taken, answered, sent, is_of, refused, refusal, considered, opens, concluded, heard_if}
 use Rattle.srt_route.specs.Tables.{IsSession, IsTable, IsTaken, holds, has_publisher, buffers_of, again_of, heard_at, with_stored}
 use Rattle.srt_route.proofs.Found.{of_parts}

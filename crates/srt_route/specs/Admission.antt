@@ -5,7 +5,7 @@ use Rattle.srt_seq.specs.declared.shared.Role.TheVariants.{Publish, Request}
 use Rattle.srt_seq.specs.Terms.{Terms}
 use Rattle.srt_hs.specs.declared.refusals.RefusalCode.{RefusalCode}
 use Rattle.srt_hs.specs.declared.refusals.RefusalCode.TheVariants as codes
-use Rattle.srt_route.specs.declared.admission.Agreement.{Agreement}
+use Rattle.srt_route.specs.declared.agreement.Agreement.{Agreement}
 use Rattle.srt_route.specs.declared.admission.Admission.{Admission}
 use Rattle.srt_route.specs.declared.conclusion.Conclusion.{Conclusion}
 use Rattle.srt_route.specs.Sessions.{Session, receiver_ms, sender_ms, agreed_mtu, open_publishers, free_slot}

@@ -1,38 +1,28 @@
-//! Step 3 of an event, a conclusion at its route (sections 3.2.1, 4.3.1.2 and 4.4): every refusal in its order, and
-//! what both sides agree on.
+//! Step 3 of an event, a conclusion at its route (sections 3.2.1 and 4.3.1.2): every refusal in its order, and how a
+//! session opens.
 
 ghost use Rattle.std.specs.Prelude.{◌≡◌, ℕ, ◌<◌, ◌≤◌, ◌^◌, ◌∷◌, [], true, None, Some, List, length, find, IfOk};
 ghost use Rattle.srt_seq.specs.Given.{given};
 ghost use Rattle.srt_seq.specs.Terms.{Terms};
-ghost use Rattle.srt_route.specs.Sessions.{Session as TheSession, agreed_ms, is_open_in, open_publishers, publishes};
+ghost use Rattle.srt_route.specs.Sessions.{Session as TheSession, is_open_in, open_publishers, publishes};
 ghost use Rattle.srt_route.specs.Route.{is_buffer, differ, is_of, refused, concluded, considered, opens};
 ghost use Rattle.srt_route.specs.Written.{written};
 ghost use Rattle.srt_route.specs.Tables.{IsTable, IsTaken, written_of};
 ghost use Rattle.srt_route.specs.Admission.{agreement_of, admitted, older_after};
 
+use crate::agreement::{Agreement, agree};
 use crate::answer::{accepted, answer_to, refusal};
 use crate::arrival::Arrival;
 use crate::conclusion::Conclusion;
 use crate::places::place_of;
 use crate::replies::Reply;
-use crate::seat::{Session, count_publishers, free_slot, have_publisher, id_at, slot_of};
+use crate::seat::{Session, count_publishers, free_slot, have_publisher, slot_of};
+use crate::socket_ids::id_at;
 use crate::start::start_buffers;
 use crate::table::Table;
 use srt_hs::RefusalCode;
+use srt_seq::limits::{MAX_MTU, MIN_MTU};
 use srt_seq::{Mode, Role};
-
-/// What both sides of a session agree on.
-#[derive(Clone, Copy)]
-pub struct Agreement {
-    /// The route's mode.
-    pub mode: Mode,
-    /// The TSBPD delay of data from the caller to the gateway, in milliseconds; 0 in buffer mode.
-    pub receiver_ms: u16,
-    /// The TSBPD delay of data from the gateway to the caller, in milliseconds; 0 in buffer mode.
-    pub sender_ms: u16,
-    /// The MTU: the size of the largest packet in bytes, with the headers of IP and UDP, at most 1500.
-    pub mtu: u32,
-}
 
 /// The slot in which a session opens, and what was agreed.
 #[derive(Clone, Copy)]
@@ -49,30 +39,6 @@ fn is_buffer(mode: Mode) -> bool
     matches!(mode, Mode::Buffer)
 }
 
-/// A session's delay in milliseconds, from what both sides ask for: the greater one in live mode, 0 in buffer mode
-/// (section 4.4).
-fn agreed_ms(mode: Mode, ours: u16, theirs: u16) -> u16
-    ensures { result ≡ agreed_ms mode ours theirs }
-{
-    match mode {
-        Mode::Live => ours.max(theirs),
-        Mode::Buffer => 0,
-    }
-}
-
-/// What a route and a conclusion agree on: in live mode the greater of both delays in each direction, in buffer mode
-/// none; and the lesser MTU, at most 1500.
-fn agree(mode: Mode, latency_ms: u16, c: &Conclusion) -> Agreement
-    ensures { (e : Terms) → mode ≡ e.mode → latency_ms ≡ e.latency_ms → result ≡ agreement_of e c.now }
-{
-    Agreement {
-        mode,
-        receiver_ms: agreed_ms(mode, latency_ms, c.sender_ms),
-        sender_ms: agreed_ms(mode, latency_ms, c.receiver_ms),
-        mtu: c.mtu.min(1500),
-    }
-}
-
 /// The first reason to refuse a conclusion, free slots aside. In order: 1012 (SRT_REJ_MESSAGEAPI) if the flag STREAM
 /// and the route's mode differ; 1004 (SRT_REJ_ROGUE) if the MTU is below 76, the flow window is 0, or a subscriber of
 /// buffer mode has an MTU below 1500; 1002 (SRT_REJ_PEER) if the caller wants to publish while two publishers are open.
@@ -83,7 +49,7 @@ fn refused(mode: Mode, publishers: usize, c: &Conclusion) -> Option<RefusalCode>
         return Some(RefusalCode::MessageApi);
     }
     let publishes = matches!(c.role, Role::Publish);
-    if c.mtu < 76 || c.window == 0 || (!publishes && is_buffer(mode) && c.mtu < 1500) {
+    if c.mtu < MIN_MTU || c.window == 0 || (!publishes && is_buffer(mode) && c.mtu < MAX_MTU) {
         return Some(RefusalCode::Rogue);
     }
     if publishes && publishers >= 2 {

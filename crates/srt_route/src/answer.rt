@@ -8,7 +8,7 @@ ghost use Rattle.srt_route.specs.Route.{Answers, refusal, sent};
 ghost use Rattle.srt_route.specs.Admission.{agreement_of};
 ghost use Rattle.srt_route.specs.declared.conclusion.Conclusion.{Conclusion as TheConclusion};
 
-use crate::admission::Agreement;
+use crate::agreement::Agreement;
 use crate::conclusion::Conclusion;
 use crate::replies::Reply;
 use arrayvec::ArrayVec;

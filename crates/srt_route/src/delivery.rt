@@ -17,10 +17,8 @@ use crate::places::place_of;
 use crate::seat::{Seat, have_publisher};
 use crate::table::Table;
 use srt_pub::Publisher;
+use srt_seq::limits::PAYLOADS_MAX;
 use srt_seq::{Mode, Payload};
-
-/// The most payloads that each publisher delivers in an event (this profile).
-const PAYLOADS_MAX: u32 = 64;
 
 /// The number of payloads that fit into the subscriber's send buffer; None if no subscriber's session is open in the
 /// seat.

@@ -19,6 +19,7 @@ use crate::conclusion::conclusion_in;
 use crate::places::place_of;
 use crate::replies::Reply;
 use crate::seat::Seat;
+use crate::socket_ids::slot_in;
 use crate::table::Table;
 use srt_packet::{Kind, PacketRef, decode_parts};
 use srt_pub::Publisher;
@@ -87,8 +88,7 @@ fn to_session(
     requires { arrival.clock < 2 ^ 62 }
     ensures { (e : Terms) (index : ℕ) (sessions : List TheSession) → IsTable e index arrival.clock table.old sessions → IsTaken e index arrival.clock table.new (written_of (given result reply.new)) (arrived e index arrival.clock arrival.peer (packet_of packet.now) sessions) }
 {
-    // The least byte of a session's ID is its slot.
-    let at = (packet.dest % 256) as usize;
+    let at = slot_in(packet.dest);
     if at >= table.seats.len() {
         return false;
     }

@@ -11,13 +11,14 @@
 //! Calls: `Route::open`; then `step` for each item, and `next_reply` until it returns false, before the next `step`.
 //!
 //! An event's six steps, as `step` in `route.rt` calls them: the clock; `idle.rt`, idle peers and what is too late;
-//! `dispatch.rt`, a packet for a session or a conclusion (`conclusion.rt` reads it, `admission.rt` has each refusal and
-//! the agreement, `answer.rt` its answer); `delivery.rt`; `transmit.rt`, the publishers' packets and then the
-//! subscribers'. Socket IDs are in `seat.rt`, waiting replies in `reply_queue.rt`, the definition of all of it in
-//! `specs/Route.antt`.
+//! `dispatch.rt`, a packet for a session or a conclusion (`conclusion.rt` reads it, `admission.rt` has each refusal,
+//! `agreement.rt` what both sides agree on, `answer.rt` the answer); `delivery.rt`; `transmit.rt`, the publishers'
+//! packets and then the subscribers'. Socket IDs are in `socket_ids.rt`, waiting replies in `reply_queue.rt`, the
+//! definition of all of it in `specs/Route.antt`.
 #![tactic(auto)]
 
 mod admission;
+mod agreement;
 mod answer;
 mod arrival;
 mod conclusion;
@@ -31,6 +32,7 @@ mod replies;
 mod reply_queue;
 mod route;
 mod seat;
+mod socket_ids;
 mod start;
 mod state;
 mod table;

@@ -1,9 +1,9 @@
-//! Seats: what a route keeps for each slot, a session and its buffers; and the sessions' socket IDs.
+//! Seats: what a route keeps for each slot, a session and its buffers.
 
 ghost use Rattle.std.specs.Prelude.{◌≡◌, ℕ, ◌+◌, ◌*◌, ◌%◌, ◌^◌, ◌<◌, ◌≤◌, true, false, None, Some, position, length, option_map, count_by, if◌then◌else◌};
 ghost use Rattle.std.specs.List.{list_any};
 ghost use Rattle.srt_seq.specs.Given.{given};
-ghost use Rattle.srt_route.specs.Sessions.{is_same_peer, id_of, publishes};
+ghost use Rattle.srt_route.specs.Sessions.{is_same_peer, publishes};
 ghost use Rattle.srt_route.specs.Tables.{is_session_of, session_passes, holds, has_publisher, has_subscriber, uses_second, publishes_from, is_vacant, heard_at, again_of, is_stored_for, stored_after, with_stored, written_of};
 
 use crate::answer::answer_to;
@@ -19,7 +19,7 @@ pub struct Session {
     pub peer: Peer,
     /// The caller's SRT socket ID, to which replies are addressed.
     pub caller: u32,
-    /// The session's own SRT socket ID, the destination of the caller's packets; see `id_at`.
+    /// The session's own SRT socket ID, the destination of the caller's packets; see `socket_ids.rt`.
     pub id: u32,
     /// Whether the caller publishes or subscribes.
     pub role: Role,
@@ -212,14 +212,4 @@ pub fn free_slot(seats: &[Seat]) -> Option<usize>
     ensures { result ≡ position is_vacant seats.now }
 {
     seats.iter().position(|seat| seat.is_vacant())
-}
-
-/// The socket ID of a session (this profile): index + 1 at bit 20, the generation modulo 4096 at bit 8, and the slot in
-/// the low 8 bits.
-pub fn id_at(index: u32, generation: u16, at: usize) -> u32
-    requires index { index < 511 }
-    requires slot { at < 17 }
-    ensures { (count : ℕ) → generation ≡ count % 65536 → result ≡ id_of index count at }
-{
-    (index + 1) * (1 << 20) + u32::from(generation % 4096) * 256 + at as u32
 }

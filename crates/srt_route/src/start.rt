@@ -11,7 +11,7 @@ ghost use Rattle.srt_route.specs.Sessions.{agreed_terms};
 ghost use Rattle.srt_route.specs.Admission.{agreement_of};
 ghost use Rattle.srt_route.specs.OneSession.{Begins};
 
-use crate::admission::Agreement;
+use crate::agreement::Agreement;
 use crate::arrival::Arrival;
 use crate::conclusion::Conclusion;
 use crate::seat::Seat;
