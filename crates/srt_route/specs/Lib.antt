@@ -18,3 +18,4 @@ pub mod Stands
 pub mod Delivery
 pub mod Reports
 pub mod OneSession
+pub mod Calls

@@ -1,5 +1,5 @@
 -- The effect of a call on the buffers and the seat of one session, whatever they stood for.
-use Rattle.std.specs.Prelude.{◌≡◌, ℕ, ◌+◌, ◌-◌, ◌<◌, ◌≤◌, None, List, length, map}
+use Rattle.std.specs.Prelude.{◌≡◌, ℕ, ◌+◌, ◌-◌, ◌<◌, ◌≤◌, true, Option, None, Some, List, length, map}
 use Rattle.std.specs.Option.{is_some}
 use Rattle.srt_seq.specs.declared.shared.Peer.{Peer}
 use Rattle.srt_seq.specs.declared.shared.Mode.TheVariants.{Buffer}
@@ -21,12 +21,16 @@ use Rattle.srt_sub.specs.Says as subscriber_text
 use Rattle.srt_sub.specs.Stands as subscriber
 use Rattle.srt_sub.specs.Subscribing as subscribing
 use Rattle.srt_sub.specs.declared.session.Subscriber.{Subscriber}
+use Rattle.srt_route.specs.declared.agreement.Agreement.{Agreement}
+use Rattle.srt_route.specs.declared.arrival.Arrival.{Arrival}
 use Rattle.srt_route.specs.declared.reply_queue.ReplyQueue.{ReplyQueue}
 use Rattle.srt_route.specs.declared.conclusion.Conclusion.{Conclusion}
 use Rattle.srt_route.specs.declared.seat.Seat.{Seat}
+use Rattle.srt_route.specs.declared.seat.Session.{Session as StoredSession}
 use Rattle.srt_route.specs.Sessions.{agreed_terms}
+use Rattle.srt_route.specs.Admission.{agreement_of}
 use Rattle.srt_route.specs.Buffers.{datagrams_to}
-use Rattle.srt_route.specs.Tables.{stored_after, with_stored}
+use Rattle.srt_route.specs.Tables.{has_subscriber, stored_after, with_stored}
 use Rattle.srt_route.specs.Reports.{Queues}
 
 -- a session begins with this conclusion: the publisher's buffers or those of the seat stand for its beginning, and all
@@ -40,6 +44,24 @@ BeginsAs Request e clock stamp c p q seat new =
 
 abbrev pub Begins : Terms → (clock stamp : ℕ) → Conclusion → (p q : Publisher) → (seat new : Seat) → Type 0
 Begins e clock stamp c p q seat new = BeginsAs c.role e clock stamp c p q seat new
+
+-- the same for any terms under which this was agreed
+abbrev pub BeginsUnder : Agreement → Arrival → Conclusion → (p q : Publisher) → (seat new : Seat) → Type 0
+BeginsUnder agreement arrival c p q seat new =
+    (e : Terms) → agreement ≡ agreement_of e c → e.buffer ≤ 8192
+    → publisher.width_of p ≡ e.buffer → subscriber.IsWide e.buffer seat.subscriber
+    → Begins e arrival.clock arrival.stamp c p q seat new
+
+-- the publisher's buffers alone, and the subscriber's
+abbrev pub PublisherBegins : Agreement → Arrival → (initial caller : ℕ) → (old new : Publisher) → Type 0
+PublisherBegins agreement arrival initial caller old new =
+    (e : Terms) (c : Conclusion) → agreement ≡ agreement_of e c → caller ≡ c.caller → publisher.width_of old ≡ e.buffer → e.buffer ≤ 8192
+    → publisher.StandsFor (agreed_terms e c).publisher initial arrival.clock arrival.stamp c.caller new publishing.opened
+
+abbrev pub SubscriberBegins : Agreement → (clock : ℕ) → Conclusion → (initial : ℕ) → (old new : Subscriber) → Type 0
+SubscriberBegins agreement clock c initial old new =
+    (e : Terms) → agreement ≡ agreement_of e c → subscriber.IsWide e.buffer old
+    → subscriber.StandsFor (agreed_terms e c).subscriber initial clock c.caller clock new subscribing.opened
 
 -- a publisher's buffers after a packet
 abbrev pub PublisherTook : (clock : ℕ) → Packet → (old new : Publisher) → Type 0
@@ -68,6 +90,12 @@ SubscriberAnswers clock peer packet old replies =
     (terms : subscribing.Terms) (initial opening caller last : ℕ) (m : subscribing.Subscribing)
     → subscriber.StandsFor terms initial opening caller last old m → last ≤ clock
     → replies ≡ datagrams_to peer (map (subscriber_text.says caller initial (clock - opening)) (subscribing.answers (to_subscriber.heard_from initial packet.body)))
+
+-- the room in a subscriber's send buffer, in payloads
+abbrev pub IsRoomOf : Subscriber → Option ℕ → Type 0
+IsRoomOf x places =
+    (terms : subscribing.Terms) (initial opening caller last : ℕ) (m : subscribing.Subscribing)
+    → subscriber.StandsFor terms initial opening caller last x m → places ≡ Some (room terms.width m.sending)
 
 -- a subscriber was fed a payload; in buffer mode only if it has room
 abbrev pub SubscriberFed : (clock : ℕ) → List ℕ → (old new : Subscriber) → Type 0
@@ -109,3 +137,9 @@ SubscriberSaid clock peer old before after =
     (terms : subscribing.Terms) (initial opening caller : ℕ) (m : subscribing.Subscribing)
     → subscriber.StandsFor terms initial opening caller clock old m → subscribing.expired terms (clock - opening) m ≡ m
     → Queues before after (datagrams_to peer (map (subscriber_text.says caller initial (clock - opening)) (subscribing.reports terms (clock - opening) m)))
+
+-- the same of the subscriber in this seat, if one is open
+abbrev pub SeatSaid : (clock : ℕ) → Seat → (before after : ReplyQueue) → Type 0
+SeatSaid clock seat before after =
+    has_subscriber seat ≡ true → (t : StoredSession) → seat.session ≡ Some t
+    → SubscriberSaid clock t.peer seat.subscriber before after

@@ -1,14 +1,13 @@
 //! Step 3 of an event, a conclusion at its route (sections 3.2.1 and 4.3.1.2): every refusal in its order, and how a
 //! session opens.
 
-ghost use Rattle.std.specs.Prelude.{◌≡◌, ℕ, ◌<◌, ◌≤◌, ◌^◌, ◌∷◌, [], true, None, Some, List, length, find, IfOk};
+ghost use Rattle.std.specs.Prelude.{◌≡◌, ◌<◌, ◌^◌, ◌∷◌, [], length, IfOk};
 ghost use Rattle.srt_seq.specs.Given.{given};
-ghost use Rattle.srt_seq.specs.Terms.{Terms};
-ghost use Rattle.srt_route.specs.Sessions.{Session as TheSession, is_open_in, open_publishers, publishes};
-ghost use Rattle.srt_route.specs.Route.{is_buffer, differ, is_of, refused, concluded, considered, opens};
+ghost use Rattle.srt_route.specs.Route.{is_buffer, refused};
 ghost use Rattle.srt_route.specs.Written.{written};
-ghost use Rattle.srt_route.specs.Tables.{IsTable, IsTaken, written_of};
-ghost use Rattle.srt_route.specs.Admission.{agreement_of, admitted, older_after};
+ghost use Rattle.srt_route.specs.Tables.{written_of};
+ghost use Rattle.srt_route.specs.Admission.{older_after};
+ghost use Rattle.srt_route.specs.Calls.{Admits, OpensSession, TakesConclusion, TakesFirst};
 
 use crate::agreement::{Agreement, agree};
 use crate::answer::{accepted, answer_to, refusal};
@@ -62,7 +61,7 @@ fn refused(mode: Mode, publishers: usize, c: &Conclusion) -> Option<RefusalCode>
 /// (SRT_REJ_RESOURCE) if no slot is free.
 fn admit(table: &Table, c: &Conclusion) -> Result<Admission, RefusalCode>
     ensures inside { IfOk result (λ a. a.at < length table.now.seats.items) }
-    ensures value { (e : Terms) (index clock : ℕ) (sessions : List TheSession) → IsTable e index clock table.now sessions → result ≡ admitted e sessions c.now }
+    ensures value { Admits table.now c.now result }
 {
     if let Some(reason) = refused(table.mode, count_publishers(&table.seats), c) {
         return Err(reason);
@@ -98,7 +97,7 @@ fn open_session(
 )
     requires initial { c.initial < 2 ^ 31 }
     requires inside { admission.at < length table.old.seats.items }
-    ensures { (e : Terms) (index : ℕ) (sessions : List TheSession) → IsTable e index arrival.clock table.old sessions → admission.agreement ≡ agreement_of e c → find (is_of arrival.peer c.caller) sessions ≡ None → find (is_open_in admission.at) sessions ≡ None → (publishes c.role ≡ true → open_publishers sessions ≤ 1) → IsTaken e index arrival.clock table.new (written reply.new ∷ []) (opens e index arrival.clock arrival.peer arrival.stamp c sessions (Some admission.at)) }
+    ensures { OpensSession arrival c admission table.old table.new (written reply.new ∷ []) }
 {
     let caller = c.caller;
     let role = c.role;
@@ -129,7 +128,7 @@ fn open_session(
 /// Admits or refuses a conclusion of a caller without a session, and writes the answer into `reply`.
 fn consider(table: &mut Table, arrival: Arrival, c: Conclusion, reply: &mut Reply)
     requires { c.initial < 2 ^ 31 }
-    ensures { (e : Terms) (index : ℕ) (sessions : List TheSession) → IsTable e index arrival.clock table.old sessions → find (is_of arrival.peer c.caller) sessions ≡ None → IsTaken e index arrival.clock table.new (written reply.new ∷ []) (considered e index arrival.clock arrival.peer arrival.stamp c sessions (refused e.mode (open_publishers sessions) c)) }
+    ensures { TakesFirst arrival c table.old table.new (written reply.new ∷ []) }
 {
     match admit(table, &c) {
         Ok(admission) => open_session(table, admission, arrival, c, reply),
@@ -143,7 +142,7 @@ fn consider(table: &mut Table, arrival: Arrival, c: Conclusion, reply: &mut Repl
 /// Returns true if `reply` has an answer.
 pub fn conclude(table: &mut Table, arrival: Arrival, c: Conclusion, reply: &mut Reply) -> bool
     requires { c.initial < 2 ^ 31 }
-    ensures { (e : Terms) (index : ℕ) (sessions : List TheSession) → IsTable e index arrival.clock table.old sessions → IsTaken e index arrival.clock table.new (written_of (given result reply.new)) (concluded e index arrival.clock arrival.peer arrival.stamp c sessions (find (is_of arrival.peer c.caller) sessions)) }
+    ensures { TakesConclusion arrival c table.old table.new (written_of (given result reply.new)) }
 {
     if let Some(at) = slot_of(&table.seats, arrival.peer, c.caller) {
         return table.seats[at].again(arrival.clock, arrival.peer, reply);

@@ -1,17 +1,15 @@
 //! Step 4 of an event, delivery (sections 4.2, 4.5 and 4.6): the active publisher's payloads go to every open subscriber,
 //! and those of a publisher that stands by go to nobody.
 
-ghost use Rattle.std.specs.Prelude.{◌≡◌, ℕ, ◌<◌, ◌^◌, Bool, true, false, Some, None, List, map, length};
+ghost use Rattle.std.specs.Prelude.{◌≡◌, ℕ, ◌<◌, ◌^◌, Bool, true, false, Some, None, List};
 ghost use Rattle.srt_seq.specs.Terms.{Terms};
-ghost use Rattle.srt_sendbuf.specs.Sending.{room};
 ghost use Rattle.srt_pub.specs.Calls.{room_after};
-ghost use Rattle.srt_sub.specs.Subscribing as subscribing;
-ghost use Rattle.srt_sub.specs.Stands as subscribers;
 ghost use Rattle.srt_route.specs.Sessions.{Session};
 ghost use Rattle.srt_route.specs.Route.{least_room, delivered};
 ghost use Rattle.srt_route.specs.Tables.{IsTable, UseTheSame, has_subscriber};
-ghost use Rattle.srt_route.specs.OneSession.{SubscriberFed, PublisherStoodBy};
-ghost use Rattle.srt_route.specs.Delivery.{lesser, changed, fed, HaveRoom, GivesNext, TurnsTo, PassesOn, StandsBy, HasNone, IsActiveOf};
+ghost use Rattle.srt_route.specs.OneSession.{IsRoomOf, SubscriberFed, PublisherStoodBy};
+ghost use Rattle.srt_route.specs.Delivery.{lesser, GivesNext, TurnsTo, PassesOn, StandsBy, HasNone, IsActiveOf};
+ghost use Rattle.srt_route.specs.Calls.{TableBecomes, SubscribersFed};
 
 use crate::places::place_of;
 use crate::seat::{Seat, have_publisher};
@@ -24,7 +22,7 @@ use srt_seq::{Mode, Payload};
 /// seat.
 fn room_of(seat: &Seat) -> Option<u32>
     ensures none { has_subscriber seat.now ≡ false → result ≡ None }
-    ensures some { has_subscriber seat.now ≡ true → (terms : subscribing.Terms) (initial opening caller last : ℕ) (m : subscribing.Subscribing) → subscribers.StandsFor terms initial opening caller last seat.now.subscriber m → result ≡ Some (room terms.width m.sending) }
+    ensures some { has_subscriber seat.now ≡ true → IsRoomOf seat.now.subscriber result }
 {
     if seat.has_subscriber() {
         Some(seat.subscriber.room())
@@ -73,7 +71,7 @@ fn feed_seat(seat: &mut Seat, clock: u64, payload: &Payload)
 /// Queues a payload for each open subscriber.
 fn feed(table: &mut Table, clock: u64, payload: &Payload)
     requires { clock < 2 ^ 62 }
-    ensures table { (e : Terms) (index : ℕ) (sessions : List Session) → IsTable e index clock table.old sessions → 0 < length payload.now.items → HaveRoom e 1 sessions → IsTable e index clock table.new (map (changed (fed e clock payload.now.items)) sessions) }
+    ensures table { SubscribersFed clock payload.now.items table.old table.new }
     ensures stays { UseTheSame table.old table.new }
 {
     for at in 0..table.seats.len() {
@@ -172,7 +170,7 @@ fn active_buffers(table: &Table) -> Option<bool>
 /// is delivered only if every open subscriber has room for it and at least one is open.
 pub fn deliver(table: &mut Table, clock: u64, payload: &mut Payload)
     requires early { clock < 2 ^ 62 }
-    ensures { (e : Terms) (index : ℕ) (sessions : List Session) → IsTable e index clock table.old sessions → IsTable e index clock table.new (delivered e clock sessions) }
+    ensures { TableBecomes clock table.old table.new (λ e. delivered e clock) }
 {
     let Some(active) = active_buffers(table) else {
         return;

@@ -1,17 +1,15 @@
 //! Step 3 of an event: a datagram is for an open session, or is a conclusion. What is neither changes nothing.
 
-ghost use Rattle.std.specs.Prelude.{◌≡◌, ℕ, ◌<◌, ◌^◌, List, map};
+ghost use Rattle.std.specs.Prelude.{◌≡◌, ◌<◌, ◌^◌};
 ghost use Rattle.srt_seq.specs.Given.{given};
 ghost use Rattle.srt_seq.specs.Items.{told};
-ghost use Rattle.srt_seq.specs.Terms.{Terms};
 ghost use Rattle.srt_packet.specs.View.{body_of, packet_of};
 ghost use Rattle.srt_sub.specs.Endings.{is_ended, is_shutdown};
 ghost use Rattle.srt_sub.specs.Stands.{texts_of};
-ghost use Rattle.srt_route.specs.Sessions.{Session as TheSession};
-ghost use Rattle.srt_route.specs.Route.{arrived, packet_taken, sent, taken};
 ghost use Rattle.srt_route.specs.Buffers.{datagrams_to};
-ghost use Rattle.srt_route.specs.Tables.{IsTable, IsTaken, stored_after, written_of};
+ghost use Rattle.srt_route.specs.Tables.{stored_after, written_of};
 ghost use Rattle.srt_route.specs.OneSession.{PublisherTook, PublisherEnds, SubscriberTook, SubscriberAnswers};
+ghost use Rattle.srt_route.specs.Calls.{AnswersPacket, TakenBySession, TakesItem, TakesPacket};
 
 use crate::admission::conclude;
 use crate::arrival::Arrival;
@@ -86,7 +84,7 @@ fn to_session(
     reply: &mut Reply,
 ) -> bool
     requires { arrival.clock < 2 ^ 62 }
-    ensures { (e : Terms) (index : ℕ) (sessions : List TheSession) → IsTable e index arrival.clock table.old sessions → IsTaken e index arrival.clock table.new (written_of (given result reply.new)) (arrived e index arrival.clock arrival.peer (packet_of packet.now) sessions) }
+    ensures { TakenBySession arrival (packet_of packet.now) table.old table.new (written_of (given result reply.new)) }
 {
     let at = slot_in(packet.dest);
     if at >= table.seats.len() {
@@ -118,8 +116,8 @@ fn to_destination(
 ) -> bool
     requires stamp { arrival.stamp ≡ packet.now.stamp }
     requires early { arrival.clock < 2 ^ 62 }
-    ensures table { (e : Terms) (index : ℕ) (sessions : List TheSession) → IsTable e index arrival.clock table.old sessions → IsTable e index arrival.clock table.new (packet_taken e index arrival.clock arrival.peer (packet_of packet.now) sessions).sessions }
-    ensures answer { (e : Terms) (index : ℕ) (sessions : List TheSession) → IsTable e index arrival.clock table.old sessions → written_of (given result reply.new) ≡ map sent (packet_taken e index arrival.clock arrival.peer (packet_of packet.now) sessions).answers }
+    ensures table { TakesPacket arrival (packet_of packet.now) table.old table.new }
+    ensures answer { AnswersPacket arrival (packet_of packet.now) table.old (written_of (given result reply.new)) }
 {
     if packet.dest != 0 {
         return to_session(table, arrival, packet, reply);
@@ -137,7 +135,7 @@ fn to_destination(
 /// an answer. A datagram that isn't a packet changes nothing.
 pub fn dispatch(table: &mut Table, clock: u64, item: &Item, reply: &mut Reply) -> bool
     requires { clock < 2 ^ 62 }
-    ensures { (e : Terms) (index : ℕ) (sessions : List TheSession) → IsTable e index clock table.old sessions → IsTaken e index clock table.new (written_of (given result reply.new)) (taken e index clock (told item.now) sessions) }
+    ensures { TakesItem clock (told item.now) table.old table.new (written_of (given result reply.new)) }
 {
     match item {
         Item::Tick { moment: _ } => false,

@@ -1,11 +1,10 @@
 //! Step 2 of an event: sessions whose peer is idle end, and subscribers drop what is too late to send (sections 4.5 and
 //! 4.6).
 
-ghost use Rattle.std.specs.Prelude.{◌≡◌, ℕ, ◌<◌, ◌≤◌, ◌^◌, true, false, List, map};
-ghost use Rattle.srt_seq.specs.Terms.{Terms};
-ghost use Rattle.srt_route.specs.Sessions.{Session as TheSession, aged};
+ghost use Rattle.std.specs.Prelude.{◌≡◌, ◌<◌, ◌^◌, true, false};
 ghost use Rattle.srt_route.specs.Buffers.{ExpiresTo};
-ghost use Rattle.srt_route.specs.Tables.{IsTable, session_passes, peer_idle, is_kept_subscriber, stored_aged, with_stored};
+ghost use Rattle.srt_route.specs.Tables.{session_passes, peer_idle, is_kept_subscriber, stored_aged, with_stored};
+ghost use Rattle.srt_route.specs.Calls.{AgesTo};
 
 use crate::seat::Seat;
 use crate::table::Table;
@@ -65,7 +64,7 @@ fn pass_time(seat: &mut Seat, clock: u64)
 /// the other subscribers drop what is too late.
 pub fn end_idle(table: &mut Table, clock: u64)
     requires early { clock < 2 ^ 62 }
-    ensures { (e : Terms) (index before : ℕ) (sessions : List TheSession) → IsTable e index before table.old sessions → before ≤ clock → clock < 2 ^ 62 → IsTable e index clock table.new (map (aged e clock) sessions) }
+    ensures { AgesTo clock table.old table.new }
 {
     let places = table.seats.len();
     let mut at = 0;

@@ -1,15 +1,8 @@
 //! How the buffers of a session begin.
 
-ghost use Rattle.std.specs.Prelude.{◌≡◌, ◌<◌, ◌≤◌, ◌^◌};
-ghost use Rattle.srt_seq.specs.Terms.{Terms};
+ghost use Rattle.std.specs.Prelude.{◌<◌, ◌^◌};
 ghost use Rattle.srt_seq.specs.Window.{word_of};
-ghost use Rattle.srt_pub.specs.Publishing.{opened as publisher_opened};
-ghost use Rattle.srt_pub.specs.Stands.{StandsFor as PublisherStandsFor, width_of};
-ghost use Rattle.srt_sub.specs.Subscribing.{opened as subscriber_opened};
-ghost use Rattle.srt_sub.specs.Stands.{StandsFor as SubscriberStandsFor, IsWide};
-ghost use Rattle.srt_route.specs.Sessions.{agreed_terms};
-ghost use Rattle.srt_route.specs.Admission.{agreement_of};
-ghost use Rattle.srt_route.specs.OneSession.{Begins};
+ghost use Rattle.srt_route.specs.OneSession.{BeginsUnder, PublisherBegins, SubscriberBegins};
 
 use crate::agreement::Agreement;
 use crate::arrival::Arrival;
@@ -27,7 +20,7 @@ fn start_publisher(
     agreement: Agreement,
     caller: u32,
 )
-    ensures { (e : Terms) (c : Conclusion) → agreement ≡ agreement_of e c → caller ≡ c.caller → width_of publisher.old ≡ e.buffer → e.buffer ≤ 8192 → PublisherStandsFor (agreed_terms e c).publisher (word_of initial) arrival.clock arrival.stamp c.caller publisher.new publisher_opened }
+    ensures { PublisherBegins agreement arrival (word_of initial) caller publisher.old publisher.new }
 {
     let delay = u32::from(agreement.receiver_ms) * 1000;
     publisher.start(
@@ -48,7 +41,7 @@ fn start_subscriber(
     agreement: Agreement,
     c: &Conclusion,
 )
-    ensures { (e : Terms) → agreement ≡ agreement_of e c.now → IsWide e.buffer subscriber.old → SubscriberStandsFor (agreed_terms e c.now).subscriber (word_of initial) clock c.now.caller clock subscriber.new subscriber_opened }
+    ensures { SubscriberBegins agreement clock c.now (word_of initial) subscriber.old subscriber.new }
 {
     let delay = u32::from(agreement.sender_ms) * 1000;
     subscriber.start(
@@ -71,7 +64,7 @@ pub fn start_buffers(
     c: &Conclusion,
 )
     requires { c.now.initial < 2 ^ 31 }
-    ensures { (e : Terms) → agreement ≡ agreement_of e c.now → e.buffer ≤ 8192 → width_of publisher.old ≡ e.buffer → IsWide e.buffer seat.old.subscriber → Begins e arrival.clock arrival.stamp c.now publisher.old publisher.new seat.old seat.new }
+    ensures { BeginsUnder agreement arrival c.now publisher.old publisher.new seat.old seat.new }
 {
     let Some(initial) = Seq31::new(c.initial) else {
         return;

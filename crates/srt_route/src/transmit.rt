@@ -1,15 +1,14 @@
 //! Steps 5 and 6 of an event, what sessions send at its end: each publisher's packets, then each subscriber's, slots
 //! upwards.
 
-ghost use Rattle.std.specs.Prelude.{◌≡◌, ℕ, ◌+◌, ◌-◌, ◌<◌, ◌≤◌, ◌^◌, [], true, false, Some, List, map, length};
-ghost use Rattle.srt_seq.specs.Terms.{Terms};
-ghost use Rattle.srt_route.specs.Sessions.{Session as TheSession, is_publisher, is_subscriber};
-ghost use Rattle.srt_route.specs.Route.{packets_where, sent};
-ghost use Rattle.srt_route.specs.Tables.{IsTable, has_subscriber};
+ghost use Rattle.std.specs.Prelude.{◌≡◌, ◌<◌, ◌^◌, [], true, false, map, length};
+ghost use Rattle.srt_route.specs.Sessions.{is_publisher, is_subscriber};
+ghost use Rattle.srt_route.specs.Route.{packets_where};
+ghost use Rattle.srt_route.specs.Tables.{has_subscriber};
 ghost use Rattle.srt_route.specs.Delivery.{changed, after_publisher, after_publisher_in, after_subscriber, packets_in};
 ghost use Rattle.srt_route.specs.Reports.{Queues};
-ghost use Rattle.srt_route.specs.OneSession.{PublisherReported, PublisherSaid, SubscriberReported, SubscriberSaid};
-ghost use Rattle.srt_route.specs.declared.seat.Session.{Session as StoredSession};
+ghost use Rattle.srt_route.specs.OneSession.{PublisherReported, PublisherSaid, SeatSaid, SubscriberReported, SubscriberSaid};
+ghost use Rattle.srt_route.specs.Calls.{TableBecomes, Transmits};
 
 use crate::places::place_of;
 use crate::replies::Reply;
@@ -57,8 +56,8 @@ fn transmit_publisher(
     requires early { clock < 2 ^ 62 }
     requires inside { at < length table.old.seats.items }
     ensures seats { length table.new.seats.items ≡ length table.old.seats.items }
-    ensures table { (e : Terms) (index : ℕ) (sessions : List TheSession) → IsTable e index clock table.old sessions → IsTable e index clock table.new (map (changed (after_publisher_in e clock at)) sessions) }
-    ensures said { (e : Terms) (index : ℕ) (sessions : List TheSession) → IsTable e index clock table.old sessions → Queues waiting.old waiting.new (map sent (packets_in e clock is_publisher at sessions)) }
+    ensures table { TableBecomes clock table.old table.new (λ e. map (changed (after_publisher_in e clock at))) }
+    ensures said { Transmits clock table.old waiting.old waiting.new (λ e. packets_in e clock is_publisher at) }
 {
     if !table.seats[at].has_publisher() {
         return;
@@ -83,8 +82,8 @@ pub fn transmit_publishers(
     waiting: &mut ReplyQueue,
 )
     requires { clock < 2 ^ 62 }
-    ensures table { (e : Terms) (index : ℕ) (sessions : List TheSession) → IsTable e index clock table.old sessions → IsTable e index clock table.new (map (changed (after_publisher e clock)) sessions) }
-    ensures said { (e : Terms) (index : ℕ) (sessions : List TheSession) → IsTable e index clock table.old sessions → Queues waiting.old waiting.new (map sent (packets_where e clock is_publisher sessions)) }
+    ensures table { TableBecomes clock table.old table.new (λ e. map (changed (after_publisher e clock))) }
+    ensures said { Transmits clock table.old waiting.old waiting.new (λ e. packets_where e clock is_publisher) }
 {
     for at in 0..table.seats.len() {
         transmit_publisher(table, at, clock, scratch, waiting);
@@ -119,7 +118,7 @@ fn transmit_seat(seat: &mut Seat, clock: u64, hand: &mut Box<Reply>, waiting: &m
     ensures none { has_subscriber seat.old ≡ false → seat.new.subscriber ≡ seat.old.subscriber }
     ensures silent { has_subscriber seat.old ≡ false → Queues waiting.old waiting.new [] }
     ensures stands { has_subscriber seat.old ≡ true → SubscriberReported clock seat.old.subscriber seat.new.subscriber }
-    ensures said { has_subscriber seat.old ≡ true → (t : StoredSession) → seat.old.session ≡ Some t → SubscriberSaid clock t.peer seat.old.subscriber waiting.old waiting.new }
+    ensures said { SeatSaid clock seat.old waiting.old waiting.new }
 {
     if !seat.has_subscriber() {
         return;
@@ -137,8 +136,8 @@ pub fn transmit_subscribers(
     waiting: &mut ReplyQueue,
 )
     requires { clock < 2 ^ 62 }
-    ensures table { (e : Terms) (index : ℕ) (sessions : List TheSession) → IsTable e index clock table.old sessions → IsTable e index clock table.new (map (changed (after_subscriber e clock)) sessions) }
-    ensures said { (e : Terms) (index : ℕ) (sessions : List TheSession) → IsTable e index clock table.old sessions → Queues waiting.old waiting.new (map sent (packets_where e clock is_subscriber sessions)) }
+    ensures table { TableBecomes clock table.old table.new (λ e. map (changed (after_subscriber e clock))) }
+    ensures said { Transmits clock table.old waiting.old waiting.new (λ e. packets_where e clock is_subscriber) }
 {
     for at in 0..table.seats.len() {
         transmit_seat(&mut table.seats[at], clock, hand, waiting);
