@@ -251,9 +251,9 @@ nothing_delivered e index clock table ss body none =
         ∙ (ap (passed_past (terms_of e t) (time_in t clock) (room_if (is_active ss t) (least_room e ss)) []) past ∙ sym past)
 
 -- the active publisher, by the buffers that publishers use
-pub older_active : (e : Terms) (index clock : ℕ) (table : Table) (ss : List Session) → IsTable e index clock table ss → list_any (publishes_from table.second_is_older) table.seats.items ≡ true → HasActive ss table table.second_is_older
-older_active e index clock table ss body some =
-    let it = found_from e index clock table ss table.second_is_older body some in
+active_from : (e : Terms) (index clock : ℕ) (table : Table) (ss : List Session) (second : Bool) → IsTable e index clock table ss → list_any (publishes_from second) table.seats.items ≡ true → ((k : ℕ) (d : Seat) (t : Session) → IsPublishing ss k t → uses_second (get_or table.seats.items k d) ≡ second → active ss ≡ Some t) → HasActive ss table second
+active_from e index clock table ss second body some is_active =
+    let it = found_from e index clock table ss second body some in
     let past = has_past e index clock table ss it.at it.session body it.here in
     let d = a_seat e index clock table ss it.at it.session body it.here.found in
     record {
@@ -261,23 +261,17 @@ older_active e index clock table ss body some =
       session = it.session;
       past = past.0;
       here = past.1;
-      active_is = body.publishers_are.older_is_active it.at d it.session it.here (sym (it.uses d));
+      active_is = is_active it.at d it.session it.here (sym (it.uses d));
       uses = it.uses;
     }
 
+pub older_active : (e : Terms) (index clock : ℕ) (table : Table) (ss : List Session) → IsTable e index clock table ss → list_any (publishes_from table.second_is_older) table.seats.items ≡ true → HasActive ss table table.second_is_older
+older_active e index clock table ss body some = active_from e index clock table ss table.second_is_older body some body.publishers_are.older_is_active
+
 pub other_active : (e : Terms) (index clock : ℕ) (table : Table) (ss : List Session) → IsTable e index clock table ss → list_any (publishes_from table.second_is_older) table.seats.items ≡ false → list_any (publishes_from (not table.second_is_older)) table.seats.items ≡ true → HasActive ss table (not table.second_is_older)
 other_active e index clock table ss body none some =
-    let it = found_from e index clock table ss (not table.second_is_older) body some in
-    let past = has_past e index clock table ss it.at it.session body it.here in
-    let d = a_seat e index clock table ss it.at it.session body it.here.found in
-    record {
-      at = it.at;
-      session = it.session;
-      past = past.0;
-      here = past.1;
-      active_is = alone_is_active e index clock table ss it.at d it.session body it.here (λ k t other. sym (it.uses d) ∙ sym (uses_others e index clock table ss table.second_is_older k d t body none other));
-      uses = it.uses;
-    }
+    active_from e index clock table ss (not table.second_is_older) body some
+    (λ at d s here uses. alone_is_active e index clock table ss at d s body here (λ k t other. uses ∙ sym (uses_others e index clock table ss table.second_is_older k d t body none other)))
 
 pub none_publishes : (e : Terms) (index clock : ℕ) (table : Table) (ss : List Session) → IsTable e index clock table ss → list_any (publishes_from table.second_is_older) table.seats.items ≡ false → list_any (publishes_from (not table.second_is_older)) table.seats.items ≡ false → NonePublishes ss
 none_publishes e index clock table ss body none neither at s is = elim (cases_Bool (is_publisher s)) [

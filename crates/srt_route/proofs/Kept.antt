@@ -12,7 +12,7 @@ use Rattle.srt_route.specs.declared.table.Table.{Table}
 use Rattle.srt_route.specs.Sessions.{Session, is_open_in, is_publisher, publishes}
 use Rattle.srt_route.specs.Buffers.{IsSeated}
 use Rattle.srt_route.specs.Places.{place_of}
-use Rattle.srt_route.specs.Tables.{IsStored, IsSeat, AreSeats, IsTable, IsPublishing, ArePublishers, AreWide, UseTheSame, session_passes, uses_second, buffers_of}
+use Rattle.srt_route.specs.Tables.{IsStored, IsSeat, AreSeats, AreAlone, IsTable, IsPublishing, ArePublishers, AreWide, UseTheSame, session_passes, uses_second, buffers_of}
 use Rattle.srt_route.proofs.Found.{found_passes, found_in_place, open_parts, Keeps, alone_kept, counted_kept, place_kept, changed, changed_from}
 use Rattle.srt_route.proofs.TakeOver.{OpensNone, stays_active}
 
@@ -85,8 +85,12 @@ uses_kept e index o None s keeps is = absurd is
 uses_kept e index None (Some t) s keeps is = absurd keeps
 uses_kept e index (Some u) (Some t) s keeps is = keeps
 
-pub table_kept : (f : Session → Session) → Keeps f → (e : Terms) (index before clock : ℕ) (old new : Table) (ss : List Session) → IsTable e index before old ss → clock < 2 ^ 62 → Alike old new → AreWide e.buffer new.publishers.items → length new.seats.items ≡ length old.seats.items → ((at : ℕ) (d : Seat) (p : Publisher) → at < length old.seats.items → Becomes f e index clock at (buffers_of new.publishers.items (get_or old.seats.items at d) p) (get_or old.seats.items at d) (get_or new.seats.items at d) ss) → IsTable e index clock new (map f ss)
-table_kept f keeps e index before clock old new ss is early alike wide same_length becomes =
+-- a table with the same entry stands for these sessions if its buffers and its seats do
+abbrev pub SameEntry : (old new : Table) → Type 0
+SameEntry old new = (new.index ≡ old.index) × (new.mode ≡ old.mode) × (new.latency_ms ≡ old.latency_ms) × (new.buffer ≡ old.buffer)
+
+pub table_stands : (e : Terms) (index before clock : ℕ) (old new : Table) (ss ts : List Session) → IsTable e index before old ss → clock < 2 ^ 62 → SameEntry old new → AreWide e.buffer new.publishers.items → length new.seats.items ≡ length old.seats.items → AreSeats e index clock new.publishers.items new.seats.items ts → AreAlone e.sessions ts → ArePublishers new.second_is_older new.seats.items ts → IsTable e index clock new ts
+table_stands e index before clock old new ss ts is early alike wide same_length seats alone publishers =
     record {
       limits = is.limits;
       early = early;
@@ -96,10 +100,17 @@ table_kept f keeps e index before clock old new ss is early alike wide same_leng
       buffer_is = alike.3 ∙ is.buffer_is;
       publishers_wide = wide;
       places_are = same_length ∙ is.places_are;
-      seats_are = λ at d p below. one at d p (omega (arith, below, same_length));
-      alone = alone_kept f keeps e.sessions ss is.alone;
-      publishers_are = publishers_kept f keeps e index before old new.second_is_older new.seats.items ss is alike.4 (λ at d s here stays. uses at d s (below_seats e index before old ss at s is here) here stays);
+      seats_are = seats;
+      alone = alone;
+      publishers_are = publishers;
     }
+
+pub table_kept : (f : Session → Session) → Keeps f → (e : Terms) (index before clock : ℕ) (old new : Table) (ss : List Session) → IsTable e index before old ss → clock < 2 ^ 62 → Alike old new → AreWide e.buffer new.publishers.items → length new.seats.items ≡ length old.seats.items → ((at : ℕ) (d : Seat) (p : Publisher) → at < length old.seats.items → Becomes f e index clock at (buffers_of new.publishers.items (get_or old.seats.items at d) p) (get_or old.seats.items at d) (get_or new.seats.items at d) ss) → IsTable e index clock new (map f ss)
+table_kept f keeps e index before clock old new ss is early alike wide same_length becomes =
+    table_stands e index before clock old new ss (map f ss) is early (alike.0, alike.1, alike.2, alike.3) wide same_length
+    (λ at d p below. one at d p (omega (arith, below, same_length)))
+    (alone_kept f keeps e.sessions ss is.alone)
+    (publishers_kept f keeps e index before old new.second_is_older new.seats.items ss is alike.4 (λ at d s here stays. uses at d s (below_seats e index before old ss at s is here) here stays))
   where
     stored : (at : ℕ) (d : Seat) (s : Session) → at < length old.seats.items → find (is_open_in at) ss ≡ Some s → (f s).is_open ≡ true → IsStored e index (get_or new.seats.items at d).session (Some (f s))
     stored at d s below here stays =
@@ -130,19 +141,12 @@ seat_at e index clock table ss at x p is inside there = subst (λ (z : Seat). Is
 -- the same fields are the same table
 pub table_same : (e : Terms) (index clock : ℕ) (old new : Table) (ss : List Session) → IsTable e index clock old ss → Alike old new → new.publishers ≡ old.publishers → new.seats ≡ old.seats → IsTable e index clock new ss
 table_same e index clock old new ss is alike publishers seats =
-    record {
-      limits = is.limits;
-      early = is.early;
-      index_is = alike.0 ∙ is.index_is;
-      mode_is = alike.1 ∙ is.mode_is;
-      latency_is = alike.2 ∙ is.latency_is;
-      buffer_is = alike.3 ∙ is.buffer_is;
-      publishers_wide = subst (λ (v : _). AreWide e.buffer v.items) (sym publishers) is.publishers_wide;
-      places_are = ap (λ (v : _). length v.items) seats ∙ is.places_are;
-      seats_are = subst (λ (v : _). AreSeats e index clock new.publishers.items v.items ss) (sym seats) (subst (λ (v : _). AreSeats e index clock v.items old.seats.items ss) (sym publishers) is.seats_are);
-      alone = is.alone;
-      publishers_are = subst (λ (v : _). ArePublishers new.second_is_older v.items ss) (sym seats) (subst (λ (b : Bool). ArePublishers b old.seats.items ss) (sym alike.4) is.publishers_are);
-    }
+    table_stands e index clock clock old new ss ss is is.early (alike.0, alike.1, alike.2, alike.3)
+    (subst (λ (v : _). AreWide e.buffer v.items) (sym publishers) is.publishers_wide)
+    (ap (λ (v : _). length v.items) seats)
+    (subst (λ (v : _). AreSeats e index clock new.publishers.items v.items ss) (sym seats) (subst (λ (v : _). AreSeats e index clock v.items old.seats.items ss) (sym publishers) is.seats_are))
+    is.alone
+    (subst (λ (v : _). ArePublishers new.second_is_older v.items ss) (sym seats) (subst (λ (b : Bool). ArePublishers b old.seats.items ss) (sym alike.4) is.publishers_are))
 
 -- a session that doesn't change keeps its seat
 pub seat_stays : (f : Session → Session) (e : Terms) (index clock at : ℕ) (p q : Publisher) (x : Seat) (ss : List Session) → IsSeat e index clock at p x ss → ((s : Session) → find (is_open_in at) ss ≡ Some s → f s ≡ s) → ((s : Session) → find (is_open_in at) ss ≡ Some s → IsSeated e clock p x.subscriber s → IsSeated e clock q x.subscriber s) → Becomes f e index clock at q x x ss

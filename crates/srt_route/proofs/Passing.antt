@@ -1,5 +1,5 @@
 -- The publisher's payloads, one by one.
-use Rattle.std.proofs.Common.{◌≡◌, ◌≢◌, ℕ, zero, suc, ◌<◌, ◌≤◌, ◌==◌, Bool, true, false, cond, Option, None, Some, List, [], ◌∷◌, ◌++◌, length, map, find, get_or, set, inl, inr, refl, sym, ap, subst, ◌∙◌, arith}
+use Rattle.std.proofs.Common.{◌≡◌, ◌≢◌, ℕ, ◌+◌, zero, suc, ◌<◌, ◌≤◌, ◌==◌, Bool, true, false, cond, Option, None, Some, List, [], ◌∷◌, ◌++◌, length, map, find, get_or, set, inl, inr, refl, sym, ap, subst, ◌∙◌, arith}
 use Rattle.std.specs.Option.{option_map}
 use Rattle.std.proofs.lemmas.Bool.{cases_eq, and_parts, eq-eqb, eqb-true, false_from_ne_true}
 use Rattle.srt_seq.specs.declared.shared.Mode.{Mode}
@@ -65,6 +65,7 @@ seat_of e index clock table ss body at s is =
 pub record Publishing_is (e : Terms) (clock : ℕ) (p : Publisher) (s : Session) (q : Publishing) : Type 0 where
   pub stands : publishers.StandsFor (terms_of e s).publisher s.conclusion.initial s.opening s.stamp s.conclusion.caller p q
   pub opened : s.opening ≤ clock
+  pub moment : clock ≡ s.opening + time_in s clock
 
 pub publisher_is : (e : Terms) (index clock : ℕ) (table : Table) (ss : List Session) (at : ℕ) (s : Session) (q : Publishing) (second : Bool) (p : Publisher) → IsTable e index clock table ss → IsPublisherAt ss at s q → Uses table at second → p ≡ get_or table.publishers.items (place_of second) p → Publishing_is e clock p s q
 publisher_is e index clock table ss at s q second p body here uses there =
@@ -73,7 +74,12 @@ publisher_is e index clock table ss at s q second p body here uses there =
     let same : buffers_of table.publishers.items (get_or table.seats.items at d) p ≡ p = ap (λ (b : Bool). get_or table.publishers.items (place_of b) p) (sym (uses d)) ∙ sym there in
     let seat = subst (λ (z : Publisher). IsSeated e clock z (get_or table.seats.items at d).subscriber s) same ((body.seats_are at d p below).seated s here.found) in
     let past : IsPast e clock p (get_or table.seats.items at d).subscriber s (Publishes q) = subst (λ (o : Past). IsPast e clock p (get_or table.seats.items at d).subscriber s o) here.past_is seat.past_is in
-    record { stands = past.1; opened = seat.opened }
+    record { stands = past.1; opened = seat.opened; moment = omega (arith, seat.opened) }
+
+-- the same of the place of its buffers
+pub publisher_at : (e : Terms) (index clock : ℕ) (table : Table) (ss : List Session) (at : ℕ) (s : Session) (q : Publishing) (second : Bool) (place : ℕ) (p : Publisher) → IsTable e index clock table ss → IsPublisherAt ss at s q → Uses table at second → place ≡ place_of second → p ≡ get_or table.publishers.items place p → Publishing_is e clock p s q
+publisher_at e index clock table ss at s q second place p body here uses place_is there =
+    publisher_is e index clock table ss at s q second p body here uses (subst (λ (n : ℕ). p ≡ get_or table.publishers.items n p) place_is there)
 
 pub publishing_at : (ss : List Session) (at : ℕ) (s : Session) (q : Publishing) → IsPublisherAt ss at s q → IsPublishing ss at s
 publishing_at ss at s q here = record { found = here.found; publishes = here.publishes }

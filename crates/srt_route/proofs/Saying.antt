@@ -38,12 +38,14 @@ use Rattle.srt_route.specs.Buffers.{IsPast, IsSeated, datagrams_to}
 use Rattle.srt_route.specs.Tables.{IsStored, IsSeat, IsTable, IsPublishing, Uses, session_passes, uses_second, has_publisher}
 use Rattle.srt_route.specs.Delivery.{changed, amid, IsPublisherAt, after_publisher, publisher_reported, reported_in, after_publisher_in, packets_of, packets_in, after_subscriber, subscriber_reported}
 use Rattle.srt_route.specs.Reports.{AreSaid}
+use Rattle.srt_route.specs.Places.{place_of}
 use Rattle.srt_route.proofs.Counts.{subscriber_few}
 use Rattle.srt_route.proofs.Changes.{is_there, find_changed}
 use Rattle.srt_route.proofs.Kept.{Becomes, some_buffers, seat_at}
 use Rattle.srt_route.proofs.Feeding.{IsFed, Changes, seat_becomes, seated_with, changed_is, wide_by, publisher_subscribes, subscriber_subscribes, vacant_subscribes, subscribes, Stays}
-use Rattle.srt_route.proofs.Passing.{IsTurned, same_everywhere, unchanged, the_one, slot_is, slot_is_not, amid_here, amid_elsewhere, gone_on, compose_all, inside, seat_of}
-use Rattle.srt_route.proofs.Delivered.{from_places, past_publishes}
+use Rattle.srt_route.proofs.Stored.{same_read}
+use Rattle.srt_route.proofs.Passing.{IsTurned, Publishing_is, publisher_at, same_everywhere, unchanged, the_one, slot_is, slot_is_not, amid_here, amid_elsewhere, gone_on, compose_all, inside, seat_of}
+use Rattle.srt_route.proofs.Delivered.{from_places, has_past, past_publishes}
 
 pub nothing_said : (waiting : List Reply) (places : ℕ) → AreSaid waiting waiting places places []
 nothing_said waiting places = record { kept = omega arith; waiting = λ room. sym (append-nil (map written waiting)) }
@@ -184,6 +186,29 @@ seat_with e index clock table ss at x t body below there some stored =
           ap (λ (v : TheSession). v.peer) (sym one) ∙ is.peer_is,
           λ d. sym (ap (session_passes (λ (v : TheSession). v.second)) stored) ∙ ap uses_second (there ∙ get_or_default table.seats.items at x d below),
         )
+
+-- the publisher whose session is stored in a seat, with its buffers
+pub record IsReporting (e : Terms) (clock : ℕ) (table : Table) (ss : List Session) (at : ℕ) (t : TheSession) (p : Publisher) : Type 0 where
+  pub session : Session
+  pub past : Publishing
+  pub here : IsPublisherAt ss at session past
+  pub peer_is : t.peer ≡ session.peer
+  pub uses : Uses table at t.second
+  pub buffers : Publishing_is e clock p session past
+
+pub reporting_at : (e : Terms) (index clock : ℕ) (table : Table) (ss : List Session) (at place : ℕ) (x y : Seat) (t : TheSession) (p : Publisher) → IsTable e index clock table ss → at < length table.seats.items → x ≡ get_or table.seats.items at x → y ≡ get_or table.seats.items at y → has_publisher x ≡ true → y.session ≡ Some t → place ≡ place_of t.second → p ≡ get_or table.publishers.items place p → IsReporting e clock table ss at t p
+reporting_at e index clock table ss at place x y t p body below first again some stored place_is there =
+    let same = same_read table.seats.items at y x below again first in
+    let it = seat_with e index clock table ss at y t body below again (ap has_publisher same ∙ some) stored in
+    let past = has_past e index clock table ss at it.0 body it.1 in
+    record {
+      session = it.0;
+      past = past.0;
+      here = past.1;
+      peer_is = it.2;
+      uses = it.3;
+      buffers = publisher_at e index clock table ss at it.0 past.0 t.second place p body past.1 it.3 place_is there;
+    }
 
 pub has_none : (x y : Seat) → y ≡ x → y.session ≡ None → has_publisher x ≡ true → ⊥
 has_none x y same none some =

@@ -31,7 +31,7 @@ use Rattle.srt_route.specs.Places.{place_of}
 use Rattle.srt_route.specs.Tables.{IsSession, IsStored, IsSeat, IsTable, IsPublishing, AreWide, uses_second, buffers_of}
 use Rattle.srt_route.specs.OneSession.{Begins, BeginsAs}
 use Rattle.srt_route.proofs.Found.{found_passes, open_parts, open_from}
-use Rattle.srt_route.proofs.Kept.{some_buffers, seat_at}
+use Rattle.srt_route.proofs.Kept.{SameEntry, some_buffers, seat_at, table_stands}
 use Rattle.srt_route.proofs.Publishers.{below_two, set_elsewhere, set_here, set_again, wide_set, alone_is_active}
 use Rattle.srt_route.proofs.TakeOver.{opens_behind}
 use Rattle.srt_route.proofs.Seats.{opened_kept, other_publisher}
@@ -59,9 +59,6 @@ IsNew s k u = (s.slot ≡ k) × (s ≡ u) × (is_publisher s ≡ true)
 abbrev WasOpen : Session → List Session → ℕ → Session → Type 0
 WasOpen s ss k u = (k ≢ s.slot) × IsPublishing ss k u
 
-abbrev pub SameEntry : (old new : Table) → Type 0
-SameEntry old new = (new.index ≡ old.index) × (new.mode ≡ old.mode) × (new.latency_ms ≡ old.latency_ms) × (new.buffer ≡ old.buffer)
-
 older_is_not : (older : Bool) (role : Role) (second : Bool) → publishes role ≡ true → older_after older role second ≡ not second
 older_is_not older Publish second h = refl
 older_is_not older Request second h = absurd (let bad : false ≡ true = h in cc)
@@ -76,22 +73,13 @@ not_not false h = let bad : false ≡ true = h in cc
 
 pub table_opened : (e : Terms) (index clock : ℕ) (old new : Table) (s : Session) (ss : List Session) (y : Seat) → IsTable e index clock old ss → SameEntry old new → length new.seats.items ≡ length old.seats.items → ((d : Seat) → get_or new.seats.items s.slot d ≡ y) → ((k : ℕ) (d : Seat) → k ≢ s.slot → get_or new.seats.items k d ≡ get_or old.seats.items k d) → s.is_open ≡ true → s.slot < e.sessions → find (is_open_in s.slot) ss ≡ None → find (is_of s.peer s.conclusion.caller) ss ≡ None → IsStored e index y.session (Some s) → y.generation ≡ (generation_of ss s.slot + 1) % 65536 → subscriber.IsWide e.buffer y.subscriber → IsOpening e clock old new s ss y → IsTable e index clock new (s ∷ ss)
 table_opened e index clock old new s ss y is alike same_length here beside o inside free first stored count wide opening =
-    record {
-      limits = is.limits;
-      early = is.early;
-      index_is = alike.0 ∙ is.index_is;
-      mode_is = alike.1 ∙ is.mode_is;
-      latency_is = alike.2 ∙ is.latency_is;
-      buffer_is = alike.3 ∙ is.buffer_is;
-      publishers_wide = opening.publishers_wide;
-      places_are = same_length ∙ is.places_are;
-      seats_are = λ k d p below. one k d p (omega (arith, below, same_length));
-      alone = (λ h. record { inside = inside; slot_alone = free; caller_alone = first }, is.alone);
-      publishers_are = record {
-        apart = λ at k d u v one_is other both. apart at k d u v (who at u one_is) (who k v other) both;
-        older_is_active = λ at d u one_is first_is. active_one at d u (who at u one_is) first_is;
-      };
-    }
+    table_stands e index clock clock old new ss (s ∷ ss) is is.early alike opening.publishers_wide same_length
+    (λ k d p below. one k d p (omega (arith, below, same_length)))
+    (λ h. record { inside = inside; slot_alone = free; caller_alone = first }, is.alone)
+    (record {
+      apart = λ at k d u v one_is other both. apart at k d u v (who at u one_is) (who k v other) both;
+      older_is_active = λ at d u one_is first_is. active_one at d u (who at u one_is) first_is;
+    })
   where
     newest : (p : Publisher) → IsSeat e index clock s.slot (buffers_of new.publishers.items y p) y (s ∷ ss)
     newest p =

@@ -1,23 +1,50 @@
 -- An item more.
-use Rattle.std.proofs.Common.{◌≡◌, ℕ, ◌≤◌, List, [], ◌∷◌, ◌++◌, length, map, max, sym, ap, subst, ◌∙◌, append_assoc, arith}
+use Rattle.std.proofs.Common.{◌≡◌, ℕ, ◌<◌, ◌≤◌, ◌^◌, List, [], ◌∷◌, ◌++◌, length, map, max, sym, ap, subst, ◌∙◌, append_assoc, arith}
 use Rattle.std.proofs.lemmas.List.{length-map, map-append}
 use Rattle.srt_seq.specs.Terms.{Terms}
 use Rattle.srt_seq.specs.Items.{Item, Datagram, moment_of}
 use Rattle.srt_route.specs.declared.state.Route.{Route as TheRoute}
 use Rattle.srt_route.specs.declared.reply_queue.ReplyQueue.{ReplyQueue}
+use Rattle.srt_route.specs.declared.table.Table.{Table}
 use Rattle.srt_route.specs.Written.{written}
 use Rattle.srt_route.specs.Sessions.{Session, is_publisher, is_subscriber, aged, reported}
 use Rattle.srt_route.specs.Route.{Reply, sent, after, clock_after, taken, taken_by, passed_by, delivered, packets_where, reply}
 use Rattle.srt_route.specs.Tables.{IsTable}
-use Rattle.srt_route.specs.Reports.{AreSaid}
+use Rattle.srt_route.specs.Reports.{AreSaid, Queues}
+use Rattle.srt_route.specs.Delivery.{changed, after_publisher, after_subscriber}
+use Rattle.srt_route.specs.Calls.{AgesTo, TakesItem, TableBecomes, Transmits}
 use Rattle.srt_route.specs.Stands.{IsRoute, waiting, places}
 use Rattle.srt_route.specs.Waits.{replies_of, places_of}
 use Rattle.srt_route.proofs.Counts.{replies_have_places}
-use Rattle.srt_route.proofs.Saying.{same_said}
+use Rattle.srt_route.proofs.Saying.{all_reported, said_then, same_packets, same_said}
 
 -- what an event's end sends at a clock
 abbrev pub said_at : Terms → (clock : ℕ) → List Session → List Datagram
 said_at e clock ss = map sent (packets_where e clock is_publisher (delivered e clock ss) ++ packets_where e clock is_subscriber (delivered e clock ss))
+
+-- sessions that have aged are taken through an event: these replies answer its item, the last table is that of the
+-- sessions after it, and what its end sends is queued
+pub record IsStepped (e : Terms) (index clock : ℕ) (item : Item) (sessions : List Session) (replies : List Datagram) (last : Table) (before after : ReplyQueue) : Type 0 where
+  pub replies_are : replies ≡ map sent (taken e index clock item sessions).answers
+  pub last_is : IsTable e index clock last (map (reported e clock) (delivered e clock (taken e index clock item sessions).sessions))
+  pub said : Queues before after (said_at e clock (taken e index clock item sessions).sessions)
+
+-- the steps, by the tables and queues between them
+pub stepped : (e : Terms) (index before clock : ℕ) (item : Item) (sessions : List Session) (replies : List Datagram) (first aged_to second third fourth last : Table) (queue middle end : ReplyQueue) → IsTable e index before first sessions → before ≤ clock → clock < 2 ^ 62 → AgesTo clock first aged_to → TakesItem clock item aged_to second replies → TableBecomes clock second third (λ d. delivered d clock) → TableBecomes clock third fourth (λ d. map (changed (after_publisher d clock))) → Transmits clock third queue middle (λ d. packets_where d clock is_publisher) → TableBecomes clock fourth last (λ d. map (changed (after_subscriber d clock))) → Transmits clock fourth middle end (λ d. packets_where d clock is_subscriber) → IsStepped e index clock item (map (aged e clock) sessions) replies last queue end
+stepped e index before clock item sessions replies first aged_to second third fourth last queue middle end body later early ages takes delivers publishers published subscribers subscribed =
+    let took = takes e index (map (aged e clock) sessions) (ages e index before sessions body later early) in
+    let ss = delivered e clock (taken e index clock item (map (aged e clock) sessions)).sessions in
+    let third_is = delivers e index (taken e index clock item (map (aged e clock) sessions)).sessions took.table_is in
+    let fourth_is = publishers e index ss third_is in
+    let from_publishers = packets_where e clock is_publisher ss in
+    let from_subscribers = packets_where e clock is_subscriber ss in
+    let rest = same_said (ap (λ (rs : List Reply). map sent rs) (same_packets e index clock third ss third_is)) (subscribed e index (map (changed (after_publisher e clock)) ss) fourth_is) in
+    record {
+      replies_are = took.replies_are;
+      last_is = subst (λ (ts : List Session). IsTable e index clock last ts) (all_reported e clock ss) (subscribers e index (map (changed (after_publisher e clock)) ss) fourth_is);
+      said = same_said (sym (map-append sent from_publishers from_subscribers))
+          (said_then (replies_of queue) (replies_of middle) (replies_of end) _ _ _ (map sent from_publishers) (map sent from_subscribers) (published e index ss third_is) rest);
+    }
 
 -- after the six steps the route stands for one item more
 pub stands_more : (e : Terms) (index : ℕ) (items : List Item) (item : Item) (old new : TheRoute) → IsRoute e index old (after e index items) → new.clock ≡ max old.clock (moment_of item) → IsTable e index new.clock new.table (map (reported e new.clock) (delivered e new.clock (taken e index new.clock item (map (aged e new.clock) (after e index items).sessions)).sessions)) → places old ≤ places new → IsRoute e index new (after e index (item ∷ items))

@@ -1,9 +1,9 @@
-use Rattle.std.proofs.Common.{◌≡◌, ℕ, List, not, ◌+◌, ◌∙◌, get_or, set, refl, sym, ap, subst, arith}
+use Rattle.std.proofs.Common.{ℕ, List, not, ◌∙◌, set, refl, sym, ap, subst}
 use Rattle.std.specs.List.{list_any}
 use Rattle.srt_route.specs.Sessions.{Session, terms_of, time_in}
 use Rattle.srt_route.specs.Tables.{IsTable, publishes_from}
 use Rattle.srt_route.proofs.Publishers.{found_from}
-use Rattle.srt_route.proofs.Passing.{publisher_is}
+use Rattle.srt_route.proofs.Passing.{publisher_at}
 use Rattle.srt_route.proofs.Delivered.{has_past, standby_gone, none_stands_by}
 use Rattle.srt_route.proofs.delivery.deliver_standby.Goals as goal
 
@@ -19,10 +19,8 @@ returns c e index ss at s q body here uses =
     let other = found_from e index c.args.clock table ss (not c.args.active) body some in
     let past = has_past e index c.args.clock table ss other.at other.session body other.here in
     let p = c.index_mut.result.now in
-    let there = subst (λ (n : ℕ). p ≡ get_or table.publishers.items n p) c.place_of.ensures.value c.index_mut.ensures.value in
-    let is = publisher_is e index c.args.clock table ss other.at other.session past.0 (not c.args.active) p body past.1 other.uses there in
+    let is = publisher_at e index c.args.clock table ss other.at other.session past.0 (not c.args.active) _ p body past.1 other.uses c.place_of.ensures.value c.index_mut.ensures.value in
     let t = other.session in
-    let moment : c.args.clock ≡ t.opening + time_in t c.args.clock = omega (arith, is.opened) in
     standby_gone e index c.args.clock table _ ss at other.at s t q past.0 c.args.active (not c.args.active) c.stand_by.new.publisher refl body here uses past.1 other.uses
     (record { alike = (refl, refl, refl, refl, refl); seats_are = refl; publishers_are = ap (λ (n : ℕ). set table.publishers.items n c.stand_by.new.publisher) c.place_of.ensures.value })
-    (c.stand_by.ensures (terms_of e t).publisher t.conclusion.initial t.opening t.stamp t.conclusion.caller (time_in t c.args.clock) past.0 moment is.stands)
+    (c.stand_by.ensures (terms_of e t).publisher t.conclusion.initial t.opening t.stamp t.conclusion.caller (time_in t c.args.clock) past.0 is.moment is.stands)

@@ -1,12 +1,10 @@
-use Rattle.std.proofs.Common.{◌≡◌, ℕ, ◌+◌, List, ◌∙◌, get_or, set, refl, sym, ap, subst, arith}
+use Rattle.std.proofs.Common.{ℕ, List, ◌∙◌, set, refl, sym, ap, subst}
 use Rattle.srt_route.specs.Sessions.{Session, terms_of, time_in}
-use Rattle.srt_route.specs.Tables.{IsTable, has_publisher}
+use Rattle.srt_route.specs.Tables.{IsTable}
 use Rattle.srt_route.specs.Waits.{replies_of}
 use Rattle.srt_route.proofs.Kept.{table_same}
 use Rattle.srt_route.proofs.Stored.{same_read}
-use Rattle.srt_route.proofs.Passing.{publisher_is}
-use Rattle.srt_route.proofs.Delivered.{has_past}
-use Rattle.srt_route.proofs.Saying.{nothing_said, same_said, publisher_queued, publisher_gone, no_publisher_gone, no_publisher_says, seat_without, seat_with, has_none}
+use Rattle.srt_route.proofs.Saying.{nothing_said, same_said, publisher_queued, publisher_gone, no_publisher_gone, no_publisher_says, seat_without, reporting_at, has_none}
 use Rattle.srt_route.proofs.transmit.transmit_publisher.Goals as goal
 
 pub returns-then-not-has_publisher-clause-table : goal.returns-then-not-has_publisher-clause-table
@@ -33,29 +31,17 @@ pub returns-clause-table : goal.returns-clause-table
 returns-clause-table c e index ss body =
     let table = c.args.table.now in
     let clock = c.args.clock in
-    let same = same_read table.seats.items c.args.at c.index-2.result.now c.index.result.now c.requires.inside c.index-2.ensures c.index.ensures in
-    let it = seat_with e index clock table ss c.args.at c.index-2.result.now c.in-Some.session body c.requires.inside c.index-2.ensures (ap has_publisher same ∙ (sym c.has_publisher.ensures ∙ c.if-not-has_publisher.false)) c.in-Some.is in
-    let s = it.0 in
-    let past = has_past e index clock table ss c.args.at s body it.1 in
-    let p = c.index_mut.result.now in
-    let there = subst (λ (n : ℕ). p ≡ get_or table.publishers.items n p) c.place_of.ensures.value c.index_mut.ensures.value in
-    let q = publisher_is e index clock table ss c.args.at s past.0 c.in-Some.session.second p body past.1 it.3 there in
-    let moment : clock ≡ s.opening + time_in s clock = omega (arith, q.opened) in
-    publisher_gone e index clock table _ ss c.args.at s past.0 c.in-Some.session.second c.transmit_reports.new.publisher body past.1 it.3
+    let it = reporting_at e index clock table ss c.args.at _ c.index.result.now c.index-2.result.now c.in-Some.session c.index_mut.result.now body c.requires.inside c.index.ensures c.index-2.ensures (sym c.has_publisher.ensures ∙ c.if-not-has_publisher.false) c.in-Some.is c.place_of.ensures.value c.index_mut.ensures.value in
+    let s = it.session in
+    publisher_gone e index clock table _ ss c.args.at s it.past c.in-Some.session.second c.transmit_reports.new.publisher body it.here it.uses
     (record { alike = (refl, refl, refl, refl, refl); seats_are = refl; publishers_are = ap (λ (n : ℕ). set table.publishers.items n c.transmit_reports.new.publisher) c.place_of.ensures.value })
-    (c.transmit_reports.ensures.stands (terms_of e s).publisher s.conclusion.initial s.opening s.stamp s.conclusion.caller (time_in s clock) past.0 moment q.stands)
+    (c.transmit_reports.ensures.stands (terms_of e s).publisher s.conclusion.initial s.opening s.stamp s.conclusion.caller (time_in s clock) it.past it.buffers.moment it.buffers.stands)
 
 pub returns-clause-said : goal.returns-clause-said
 returns-clause-said c e index ss body =
     let table = c.args.table.now in
     let clock = c.args.clock in
-    let same = same_read table.seats.items c.args.at c.index-2.result.now c.index.result.now c.requires.inside c.index-2.ensures c.index.ensures in
-    let it = seat_with e index clock table ss c.args.at c.index-2.result.now c.in-Some.session body c.requires.inside c.index-2.ensures (ap has_publisher same ∙ (sym c.has_publisher.ensures ∙ c.if-not-has_publisher.false)) c.in-Some.is in
-    let s = it.0 in
-    let past = has_past e index clock table ss c.args.at s body it.1 in
-    let p = c.index_mut.result.now in
-    let there = subst (λ (n : ℕ). p ≡ get_or table.publishers.items n p) c.place_of.ensures.value c.index_mut.ensures.value in
-    let q = publisher_is e index clock table ss c.args.at s past.0 c.in-Some.session.second p body past.1 it.3 there in
-    let moment : clock ≡ s.opening + time_in s clock = omega (arith, q.opened) in
-    publisher_queued e clock ss c.args.at s past.0 c.in-Some.session.peer (replies_of c.args.waiting.now) (replies_of c.transmit_reports.new.waiting) _ _ past.1 it.2
-    (c.transmit_reports.ensures.said (terms_of e s).publisher s.conclusion.initial s.opening s.stamp s.conclusion.caller (time_in s clock) past.0 moment q.stands)
+    let it = reporting_at e index clock table ss c.args.at _ c.index.result.now c.index-2.result.now c.in-Some.session c.index_mut.result.now body c.requires.inside c.index.ensures c.index-2.ensures (sym c.has_publisher.ensures ∙ c.if-not-has_publisher.false) c.in-Some.is c.place_of.ensures.value c.index_mut.ensures.value in
+    let s = it.session in
+    publisher_queued e clock ss c.args.at s it.past c.in-Some.session.peer (replies_of c.args.waiting.now) (replies_of c.transmit_reports.new.waiting) _ _ it.here it.peer_is
+    (c.transmit_reports.ensures.said (terms_of e s).publisher s.conclusion.initial s.opening s.stamp s.conclusion.caller (time_in s clock) it.past it.buffers.moment it.buffers.stands)
