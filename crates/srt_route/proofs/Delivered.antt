@@ -40,21 +40,22 @@ abbrev pub from_places : List Session → (from count : ℕ) → List Session
 from_places ss from count = filter_map (λ slot. find (is_open_in slot) ss) (numbers_from from count)
 
 -- the room counts in buffer mode, and without a subscriber nothing is delivered there
-same_deliveries : (mode : Mode) (terms : publishing.Terms) (time : ℕ) (found : Option ℕ) (q : Publishing) → deliveries mode terms time (Some (unwrap_or found 0)) q ≡ deliveries mode terms time found q
+same_deliveries : (mode : Mode) (terms : publishing.Terms) (time places : ℕ) (found : Option ℕ) (q : Publishing) → (mode ≡ Buffer → places ≡ unwrap_or found 0) → deliveries mode terms time (Some places) q ≡ deliveries mode terms time found q
 unfolding deliveries
-same_deliveries Live terms time found q = refl
-same_deliveries Buffer terms time None q = refl
-same_deliveries Buffer terms time (Some room) q = refl
+same_deliveries Live terms time places found q places_are = refl
+same_deliveries Buffer terms time places None q places_are = ap (λ (n : ℕ). deliveries Buffer terms time (Some n) q) (places_are refl)
+same_deliveries Buffer terms time places (Some room) q places_are = ap (λ (n : ℕ). deliveries Buffer terms time (Some n) q) (places_are refl)
 
-pub same_delivered : (terms : publishing.Terms) (time : ℕ) (found : Option ℕ) (q : Publishing) → publishing.delivered terms time (Some (unwrap_or found 0)) q ≡ publishing.delivered terms time found q
-same_delivered terms time found q = ap (λ (arrivals : List Arrival). record q { receiving = passed terms.width arrivals q.receiving }) (same_deliveries terms.mode terms time found q)
+pub same_delivered : (terms : publishing.Terms) (time places : ℕ) (found : Option ℕ) (q : Publishing) → (terms.mode ≡ Buffer → places ≡ unwrap_or found 0) → publishing.delivered terms time (Some places) q ≡ publishing.delivered terms time found q
+same_delivered terms time places found q places_are =
+    ap (λ (arrivals : List Arrival). record q { receiving = passed terms.width arrivals q.receiving }) (same_deliveries terms.mode terms time places found q places_are)
 
 -- the calls of a publisher's buffers deliver what the definition of an event delivers
 pub one_by_one : (terms : publishing.Terms) (initial opening stamp caller : ℕ) (p : Publisher) (q : Publishing) → publishers.StandsFor terms initial opening stamp caller p q → DeliversOneByOne terms q
 one_by_one terms initial opening stamp caller p q h = delivers terms q (record { orderly = h.orderly; beyond = beyond terms.width initial opening p.buffer q.receiving h.buffer })
 
 -- the sessions once all is given
-pub passed_on_is : (e : Terms) (index clock : ℕ) (table : Table) (ss : List Session) (at : ℕ) (s : Session) (q : Publishing) (second : Bool) (places : ℕ) → IsTable e index clock table ss → IsPublisherAt ss at s q → Uses table at second → places ≡ unwrap_or (least_room e ss) 0 → map (changed (amid e clock at (leaves (terms_of e s).publisher (time_in s clock) places 64 q) (map payload_of (gives (terms_of e s).publisher (time_in s clock) places 64 q)))) ss ≡ passed_on e clock at (least_room e ss) s q ss
+pub passed_on_is : (e : Terms) (index clock : ℕ) (table : Table) (ss : List Session) (at : ℕ) (s : Session) (q : Publishing) (second : Bool) (places : ℕ) → IsTable e index clock table ss → IsPublisherAt ss at s q → Uses table at second → (e.mode ≡ Buffer → places ≡ unwrap_or (least_room e ss) 0) → map (changed (amid e clock at (leaves (terms_of e s).publisher (time_in s clock) places 64 q) (map payload_of (gives (terms_of e s).publisher (time_in s clock) places 64 q)))) ss ≡ passed_on e clock at (least_room e ss) s q ss
 passed_on_is e index clock table ss at s q second places body here uses places_is =
     ap (λ (left : Publishing). map (changed (amid e clock at left (map payload_of (gives terms time places 64 q)))) ss) left_is
     ∙ ap (λ (given : List (List ℕ)). map (changed (amid e clock at (publishing.delivered terms time (least_room e ss) q) given)) ss) given_is
@@ -74,16 +75,16 @@ passed_on_is e index clock table ss at s q second places body here uses places_i
         one_by_one terms s.conclusion.initial s.opening s.stamp s.conclusion.caller p q is.stands time places
 
     left_is : leaves terms time places 64 q ≡ publishing.delivered terms time (least_room e ss) q
-    left_is = law.1 ∙ (ap (λ (n : ℕ). publishing.delivered terms time (Some n) q) places_is ∙ same_delivered terms time (least_room e ss) q)
+    left_is = law.1 ∙ same_delivered terms time places (least_room e ss) q places_is
 
     given_is : map payload_of (gives terms time places 64 q) ≡ payloads e clock (least_room e ss) s
     given_is =
-        ap (λ (arrivals : List Arrival). map payload_of arrivals) (law.0 ∙ (ap (λ (n : ℕ). deliveries terms.mode terms time (Some n) q) places_is ∙ same_deliveries terms.mode terms time (least_room e ss) q))
+        ap (λ (arrivals : List Arrival). map payload_of arrivals) (law.0 ∙ same_deliveries terms.mode terms time places (least_room e ss) q places_is)
         ∙ sym (ap (payloads_of (terms_of e s) time (least_room e ss)) here.past_is)
 
 -- a publisher delivers to nobody with no room
 pub stood : (terms : publishing.Terms) (initial opening stamp caller time : ℕ) (p : Publisher) (q : Publishing) → publishers.StandsFor terms initial opening stamp caller p q → leaves terms time 0 64 q ≡ publishing.delivered terms time None q
-stood terms initial opening stamp caller time p q h = (one_by_one terms initial opening stamp caller p q h time 0).1 ∙ same_delivered terms time None q
+stood terms initial opening stamp caller time p q h = (one_by_one terms initial opening stamp caller p q h time 0).1 ∙ same_delivered terms time 0 None q (λ buffer. refl)
 
 -- a seat of the table
 a_seat : (e : Terms) (index clock : ℕ) (table : Table) (ss : List Session) (at : ℕ) (s : Session) → IsTable e index clock table ss → find (is_open_in at) ss ≡ Some s → Seat

@@ -190,7 +190,7 @@ is_under e ss found from (suc count) at s m low high is past = elim (cases_eq fr
     by later None = later found
     by later (Some t) = later (least_with e.buffer found t.past)
 
-pub has_least : (e : Terms) (index clock : ℕ) (table : Table) (ss : List Session) (places : ℕ) → IsTable e index clock table ss → places ≡ unwrap_or (least_room e ss) 0 → HaveRoom e places ss
+pub has_least : (e : Terms) (index clock : ℕ) (table : Table) (ss : List Session) (places : ℕ) → IsTable e index clock table ss → (e.mode ≡ Buffer → places ≡ unwrap_or (least_room e ss) 0) → HaveRoom e places ss
 unfolding Under
 has_least e index clock table ss places body least_is at s is = by s.past refl
   where
@@ -198,5 +198,5 @@ has_least e index clock table ss places body least_is at s is = by s.past refl
     by (Publishes p) e1 = tt
     by (Subscribes m) e1 = λ b.
         let under = is_under e ss None 0 e.sessions at s m (omega arith) (omega (arith, inside e index clock table ss body at s is)) is e1 in
-        let room_is : places ≡ under.0 = least_is ∙ ap (λ (o : Option ℕ). unwrap_or o 0) under.1 in
+        let room_is : places ≡ under.0 = least_is b ∙ ap (λ (o : Option ℕ). unwrap_or o 0) under.1 in
         omega (arith, room_is, under.2)

@@ -139,11 +139,19 @@ TurnsTo second clock room old new =
     → IsTable e index clock old sessions → IsPublisherAt sessions at s q → Uses old at second → HaveRoom e room sessions
     → IsTable e index clock new (turned_by e clock room at s q sessions)
 
+-- in buffer mode this is the room of all open subscribers, 0 without one; in live mode, where the room doesn't count, any
+-- number
+abbrev pub IsRoomOfAll : Table → (room : ℕ) → Type 0
+IsRoomOfAll t room =
+    (e : Terms) (index clock : ℕ) (sessions : List Session)
+    → IsTable e index clock t sessions → e.mode ≡ Buffer → room ≡ unwrap_or (least_room e sessions) 0
+
 -- the table after all its payloads
 abbrev pub PassesOn : (second : Bool) → (clock room : ℕ) → (old new : Table) → Type 0
 PassesOn second clock room old new =
     (e : Terms) (index : ℕ) (sessions : List Session) (at : ℕ) (s : Session) (q : publisher.Publishing)
-    → IsTable e index clock old sessions → IsPublisherAt sessions at s q → Uses old at second → room ≡ unwrap_or (least_room e sessions) 0
+    → IsTable e index clock old sessions → IsPublisherAt sessions at s q → Uses old at second
+    → (e.mode ≡ Buffer → room ≡ unwrap_or (least_room e sessions) 0)
     → IsTable e index clock new (passed_on e clock at (least_room e sessions) s q sessions)
 
 -- the table after the payloads of the publisher with the other buffers, if one is open

@@ -8,7 +8,7 @@ ghost use Rattle.srt_route.specs.Sessions.{Session};
 ghost use Rattle.srt_route.specs.Route.{least_room, delivered};
 ghost use Rattle.srt_route.specs.Tables.{IsTable, UseTheSame, has_subscriber};
 ghost use Rattle.srt_route.specs.OneSession.{IsRoomOf, SubscriberFed, PublisherStoodBy};
-ghost use Rattle.srt_route.specs.Delivery.{lesser, GivesNext, TurnsTo, PassesOn, StandsBy, HasNone, IsActiveOf};
+ghost use Rattle.srt_route.specs.Delivery.{lesser, GivesNext, TurnsTo, IsRoomOfAll, PassesOn, StandsBy, HasNone, IsActiveOf};
 ghost use Rattle.srt_route.specs.Calls.{TableBecomes, SubscribersFed};
 
 use crate::places::place_of;
@@ -166,6 +166,17 @@ fn active_buffers(table: &Table) -> Option<bool>
     None
 }
 
+/// The number of payloads that fit into the send buffer of every open subscriber in buffer mode, 0 if none is open. In
+/// live mode, where the room doesn't count, no seat is looked at.
+fn room_of_all(table: &Table) -> u32
+    ensures { IsRoomOfAll table.now result }
+{
+    match table.mode {
+        Mode::Live => 0,
+        Mode::Buffer => least_room(table).unwrap_or(0),
+    }
+}
+
 /// Delivers the payloads that are due, at most 64 of each publisher, each by way of `payload`. In buffer mode a payload
 /// is delivered only if every open subscriber has room for it and at least one is open.
 pub fn deliver(table: &mut Table, clock: u64, payload: &mut Payload)
@@ -175,7 +186,7 @@ pub fn deliver(table: &mut Table, clock: u64, payload: &mut Payload)
     let Some(active) = active_buffers(table) else {
         return;
     };
-    let room = least_room(table).unwrap_or(0);
+    let room = room_of_all(table);
     deliver_each(table, active, clock, room, payload);
     deliver_standby(table, active, clock, payload);
 }

@@ -1,4 +1,4 @@
-use Rattle.std.proofs.Common.{List, ℕ, Option, ◌∙◌, unwrap_or, sym, ap, subst}
+use Rattle.std.proofs.Common.{List, ◌∙◌, sym, subst}
 use Rattle.srt_route.specs.Sessions.{Session}
 use Rattle.srt_route.specs.Tables.{IsTable, Uses}
 use Rattle.srt_route.specs.Route.{least_room}
@@ -15,7 +15,7 @@ returns-in_default c e index ss body =
 pub returns : goal.returns
 returns c e index ss body =
     let h = c.active_buffers.ensures.some c.in-Some.active c.in-Some.is e index c.args.clock ss body in
-    let room = c.unwrap_or-room.ensures ∙ ap (λ (o : Option ℕ). unwrap_or o 0) (c.least_room.ensures e index c.args.clock ss body) in
+    let room = c.room_of_all-room.ensures e index c.args.clock ss body in
     let fed = c.deliver_each.ensures.table e index ss h.at h.session h.past body h.here h.uses room in
     let still : Uses c.deliver_each.new.table h.at c.in-Some.active = λ d. h.uses d ∙ sym (c.deliver_each.ensures.stays h.at d) in
     let there = publisher_passed e c.args.clock ss h.at h.session h.past (least_room e ss) h.here in

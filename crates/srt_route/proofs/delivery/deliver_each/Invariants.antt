@@ -1,4 +1,5 @@
 use Rattle.std.proofs.Common.{◌≡◌, ℕ, Bool, ◌-◌, List, map, unwrap_or}
+use Rattle.srt_seq.specs.declared.shared.Mode.TheVariants.{Buffer}
 use Rattle.srt_seq.specs.Terms.{Terms}
 use Rattle.srt_pub.specs.Publishing.{Publishing}
 use Rattle.srt_pub.specs.Calls.{gives, leaves}
@@ -13,7 +14,7 @@ use Rattle.srt_route.proofs.delivery.deliver_each.Given as goal
 
 -- what was given and what the calls that are left give is what all give; and the seats use the buffers that they used
 pub record Passes (second : Bool) (clock turn first room : ℕ) (old table : Table) : Type 0 where
-  pub passing : (e : Terms) (index : ℕ) (sessions : List Session) (at : ℕ) (s : Session) (q : Publishing) → IsTable e index clock old sessions → IsPublisherAt sessions at s q → Uses old at second → first ≡ unwrap_or (least_room e sessions) 0
+  pub passing : (e : Terms) (index : ℕ) (sessions : List Session) (at : ℕ) (s : Session) (q : Publishing) → IsTable e index clock old sessions → IsPublisherAt sessions at s q → Uses old at second → (e.mode ≡ Buffer → first ≡ unwrap_or (least_room e sessions) 0)
       → IsPassing e index clock table sessions at s room (64 - turn) (map payload_of (gives (terms_of e s).publisher (time_in s clock) first 64 q)) (leaves (terms_of e s).publisher (time_in s clock) first 64 q)
   pub stays : UseTheSame old table
 
