@@ -5,7 +5,8 @@
 //! written into a place of the caller. The handshake is `srt_hs`; the five seconds after which a silent peer is given
 //! up are in `srt_route`; the queue of packets is `srt_sendbuf`.
 //!
-//! Types: [`Subscriber`], the session; [`Took`], what a packet from the caller leads to.
+//! Types: [`Subscriber`], the session; [`Opening`], what it begins with; [`Took`], what a packet from the caller
+//! leads to.
 //!
 //! Calls: `Subscriber::open` once; `start` for each session; then for each event `expire`, `datagram` if a packet
 //! came, `feed` for each payload of the route, and `emit` until it returns false, which writes one packet each time.
@@ -29,7 +30,7 @@ mod resend_all;
 mod session;
 
 pub use hearing::Took;
-pub use session::Subscriber;
+pub use session::{Opening, Subscriber};
 
 #[cfg(test)]
 mod tests;

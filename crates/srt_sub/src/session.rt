@@ -11,6 +11,25 @@ use srt_sendbuf::SendBuf;
 use srt_seq::{Mode, Seq31};
 use std::alloc::{AllocError, Global};
 
+/// What a session begins with: its moment, and what the caller and the handshake tell of it.
+#[derive(Clone, Copy, Debug)]
+pub struct Opening {
+    /// The moment of the opening, in microseconds of the route's clock.
+    pub now: u64,
+    /// The initial sequence number.
+    pub initial: Seq31,
+    /// The caller's socket ID.
+    pub caller: u32,
+    /// The agreed delay of what the caller is sent, in microseconds (section 4.4).
+    pub delay: u32,
+    /// Live or buffer mode.
+    pub mode: Mode,
+    /// The agreed MTU: the most bytes of a packet with its IP, UDP and SRT headers.
+    pub mtu: u32,
+    /// The caller's flow window, in packets, until an ACK reports another.
+    pub window: u32,
+}
+
 /// A subscriber's session. Moments are microseconds of the route's clock, below 2^62, and don't go back. A *time* of
 /// the session is microseconds since its opening.
 #[derive(Drop)]
@@ -58,30 +77,17 @@ impl Subscriber {
         })
     }
 
-    /// Begins a session and forgets the one before. `now` is the moment of the opening, in microseconds; `initial`
-    /// and `caller` are the initial sequence number and the caller's socket ID; `delay` is the agreed delay of what
-    /// the caller is sent, in microseconds (section 4.4); `mtu` is the most bytes of a packet with its IP, UDP and
-    /// SRT headers; `window` is the caller's flow window, in packets, until an ACK reports another. Linear in the
-    /// packets that were kept.
-    pub fn start(
-        &mut self,
-        now: u64,
-        initial: Seq31,
-        caller: u32,
-        delay: u32,
-        mode: Mode,
-        mtu: u32,
-        window: u32,
-    )
-        ensures { (width : ℕ) → IsWide width self.old → StandsFor (record { mode = mode; width = width; delay = delay; mtu = mtu; window = window }) (word_of initial) now caller now self.new opened }
+    /// Begins a session and forgets the one before. Linear in the packets that were kept.
+    pub fn start(&mut self, opening: Opening)
+        ensures { (width : ℕ) → IsWide width self.old → StandsFor (record { mode = opening.mode; width = width; delay = opening.delay; mtu = opening.mtu; window = opening.window }) (word_of opening.initial) opening.now opening.caller opening.now self.new opened }
     {
-        self.buffer.start(initial);
-        self.history = History::start(window);
-        self.mode = mode;
-        self.delay = delay;
-        self.mtu = mtu;
-        self.opening = now;
-        self.caller = caller;
+        self.buffer.start(opening.initial);
+        self.history = History::start(opening.window);
+        self.mode = opening.mode;
+        self.delay = opening.delay;
+        self.mtu = opening.mtu;
+        self.opening = opening.now;
+        self.caller = opening.caller;
         self.given = 0;
     }
 

@@ -3,7 +3,7 @@
 ghost use Rattle.std.specs.Prelude.{◌^◌, ◌<◌};
 ghost use Rattle.srt_packet.specs.Text.{IsWritable};
 
-use crate::{Subscriber, Took};
+use crate::{Opening, Subscriber, Took};
 use srt_packet::{Body, Packet, decode, encode};
 use srt_seq::{MOMENT_END, Mode, Payload, Seq31};
 use std::alloc::Global;
@@ -73,85 +73,104 @@ fn sends(alloc: Global, packet: &Packet, answer: Answer) -> Result<bool, Fail>
     }
 }
 
-fn hears(
+/// A session, and the packet that its calls write.
+#[derive(Drop)]
+struct Trial {
     alloc: Global,
-    session: &mut Subscriber,
-    place: &mut Packet,
-    text: &str,
-    now: u64,
-    answer: Answer,
-) -> Result<bool, Fail>
+    session: Subscriber,
+    place: Packet,
+}
+
+/// A session with 128 places that wasn't started yet.
+fn unstarted(alloc: Global) -> Result<Trial, Fail> {
+    Ok(Trial {
+        alloc,
+        session: Subscriber::open(alloc, 128)?,
+        place: blank(),
+    })
+}
+
+fn hears(trial: &mut Trial, text: &str, now: u64, answer: Answer) -> Result<bool, Fail>
     requires { now < 2 ^ 62 }
 {
-    let bytes = hex::decode(alloc, text)?;
+    let bytes = hex::decode(trial.alloc, text)?;
     let Ok(packet) = decode(&bytes) else {
         return Err(Fail::from("a packet"));
     };
-    match session.datagram(&packet, now, place) {
+    match trial.session.datagram(&packet, now, &mut trial.place) {
         Took::Nothing => Ok(matches!(answer, Answer::Nothing)),
-        Took::Answer => sends(alloc, place, answer),
+        Took::Answer => sends(trial.alloc, &trial.place, answer),
         Took::Ended => Ok(matches!(answer, Answer::Ends)),
     }
 }
 
-fn drained(session: &mut Subscriber, place: &mut Packet, now: u64) -> u32
+fn drained(trial: &mut Trial, now: u64) -> u32
     requires { now < 2 ^ 62 }
 {
     for count in 0..100 {
-        if !session.emit(now, place) {
+        if !trial.session.emit(now, &mut trial.place) {
             return count;
         }
     }
     100
 }
 
-fn agrees(
-    alloc: Global,
-    session: &mut Subscriber,
-    place: &mut Packet,
-    now: u64,
-    step: Step,
-    answer: Answer,
-) -> Result<bool, Fail>
+fn agrees(trial: &mut Trial, now: u64, step: Step, answer: Answer) -> Result<bool, Fail>
     requires { now < 2 ^ 62 }
 {
     match step {
         Step::Start(now, initial, delay, mtu) => {
-            session.start(now, number(initial)?, 2, delay, Mode::Live, mtu, 8192);
+            trial.session.start(Opening {
+                now,
+                initial: number(initial)?,
+                caller: 2,
+                delay,
+                mode: Mode::Live,
+                mtu,
+                window: 8192,
+            });
             Ok(true)
         }
         Step::StartBuffer(now, initial) => {
-            session.start(now, number(initial)?, 2, 0, Mode::Buffer, 1500, 8192);
+            trial.session.start(Opening {
+                now,
+                initial: number(initial)?,
+                caller: 2,
+                delay: 0,
+                mode: Mode::Buffer,
+                mtu: 1500,
+                window: 8192,
+            });
             Ok(true)
         }
         Step::Feed(bytes) => {
-            let took = session.feed(&payload(bytes), now);
+            let took = trial.session.feed(&payload(bytes), now);
             match answer {
                 Answer::Is(fits) => Ok(took == fits),
                 _ => Ok(false),
             }
         }
-        Step::Hear(text) => hears(alloc, session, place, text, now, answer),
+        Step::Hear(text) => hears(trial, text, now, answer),
         Step::Emit => {
-            if session.emit(now, place) {
-                sends(alloc, place, answer)
+            if trial.session.emit(now, &mut trial.place) {
+                sends(trial.alloc, &trial.place, answer)
             } else {
                 Ok(matches!(answer, Answer::Nothing))
             }
         }
         Step::Expire => {
-            session.expire(now);
+            trial.session.expire(now);
             Ok(true)
         }
         Step::Room => {
-            let room = session.room();
+            let room = trial.session.room();
             match answer {
                 Answer::Count(count) => Ok(room == count),
                 _ => Ok(false),
             }
         }
         Step::Drain => {
-            let given = drained(session, place, now);
+            let given = drained(trial, now);
             match answer {
                 Answer::Count(count) => Ok(given == count),
                 _ => Ok(false),
@@ -163,11 +182,10 @@ fn agrees(
 /// The index of the first row, of a moment, a step and its expected result, for which a session of width 128 gives
 /// another result.
 fn other(alloc: Global, rows: &[(u64, Step, Answer)]) -> Result<Option<usize>, Fail> {
-    let mut session = Subscriber::open(alloc, 128)?;
-    let mut place = blank();
+    let mut trial = unstarted(alloc)?;
     for at in 0..rows.len() {
         let (now, step, answer) = rows[at];
-        if now >= MOMENT_END || !agrees(alloc, &mut session, &mut place, now, step, answer)? {
+        if now >= MOMENT_END || !agrees(&mut trial, now, step, answer)? {
             return Ok(Some(at));
         }
     }
@@ -412,18 +430,25 @@ fn hostile_loss_lists(rt: HostRuntime) -> Result<(), Fail> {
 
 #[test]
 fn many_packets(rt: HostRuntime) -> Result<(), Fail> {
-    let mut session = Subscriber::open(rt.alloc(), 128)?;
-    let mut place = blank();
-    session.start(1_000_000, number(9)?, 2, 120_000, Mode::Live, 76, 100);
+    let mut trial = unstarted(rt.alloc())?;
+    trial.session.start(Opening {
+        now: 1_000_000,
+        initial: number(9)?,
+        caller: 2,
+        delay: 120_000,
+        mode: Mode::Live,
+        mtu: 76,
+        window: 100,
+    });
     // The MTU of 76 bytes counts all headers.
-    assert!(rt; !session.feed(&payload(33), 1_000_000));
+    assert!(rt; !trial.session.feed(&payload(33), 1_000_000));
     for _ in 0..70 {
-        assert!(rt; session.feed(&payload(32), 1_000_000));
+        assert!(rt; trial.session.feed(&payload(32), 1_000_000));
     }
-    assert_eq!(rt; session.room(), 58);
-    assert_eq!(rt; drained(&mut session, &mut place, 1_000_000), 64);
-    assert_eq!(rt; drained(&mut session, &mut place, 1_000_000), 6);
-    assert_eq!(rt; drained(&mut session, &mut place, 1_000_000), 0);
+    assert_eq!(rt; trial.session.room(), 58);
+    assert_eq!(rt; drained(&mut trial, 1_000_000), 64);
+    assert_eq!(rt; drained(&mut trial, 1_000_000), 6);
+    assert_eq!(rt; drained(&mut trial, 1_000_000), 0);
     let rows = [
         (
             Step::Hear("800300000000000000000000001000008000000900000060"),
@@ -437,21 +462,11 @@ fn many_packets(rt: HostRuntime) -> Result<(), Fail> {
     ];
     for at in 0..rows.len() {
         let (step, answer) = rows[at];
-        assert!(rt;
-            agrees(
-                rt.alloc(),
-                &mut session,
-                &mut place,
-                1_000_001,
-                step,
-                answer
-            )?,
-            "{at}"
-        );
+        assert!(rt; agrees(&mut trial, 1_000_001, step, answer)?, "{at}");
     }
     for _ in 0..57 {
-        assert!(rt; session.feed(&payload(32), 1_000_001));
+        assert!(rt; trial.session.feed(&payload(32), 1_000_001));
     }
-    assert!(rt; !session.feed(&payload(32), 1_000_001));
+    assert!(rt; !trial.session.feed(&payload(32), 1_000_001));
     Ok(())
 }
