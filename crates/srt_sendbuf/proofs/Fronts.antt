@@ -7,9 +7,9 @@ use Rattle.std.proofs.lemmas.List.Sums.{count_by-le-length}
 use Rattle.std.proofs.lemmas.List.Elements.{All-head, All-tail}
 use Rattle.std.proofs.lemmas.List.Recursion.{is_count_by}
 use Rattle.srt_seq.specs.Counts.{message_number}
-use Rattle.srt_sendbuf.specs.Sending.{Queued, Sending, front, base, acknowledged, expired_before, queued_before, IsLater}
+use Rattle.srt_sendbuf.specs.Sending.{Queued, Sending, front, base, is_marked, acknowledged, expired_before, queued_before, IsLater}
 use Rattle.srt_sendbuf.specs.Places.{Kept, is_old}
-use Rattle.srt_sendbuf.specs.Stands.{IsInOrder, IsMoved, kept_as}
+use Rattle.srt_sendbuf.specs.Stands.{IsInOrder, IsKept, IsMoved, kept_as}
 
 -- an ACK that leaves the front where it is
 pub acked_below : (behind back steps message : ℕ) (r : Sending) → behind ≡ min (front r - r.acked) 16384 → back ≡ min behind 8192 → steps < back → message ≡ message_number (base r + steps) → IsMoved 0 (back - steps) message r (acknowledged (base r + steps) r)
@@ -109,4 +109,21 @@ expired_moved before behind behind2 back back2 count steps message r b k b2 k2 s
       front_is = f;
       behind_is = omega (arith, b, b2, f);
       message_is = let e : base (expired_before before r) ≡ base r + steps = omega (arith, b, k, b2, k2, s, f) in m ∙ ap message_number (sym e);
+    }
+
+-- an expiry that leaves the front where it is changes no field
+pub expired_none : (before : ℤ) (initial word behind queued flying low high base_message end_message : ℕ) (kept : ℕ → Option Kept) (lost : ℕ → Bool) (r : Sending) → IsKept initial word behind queued flying low high base_message end_message kept lost r → front (expired_before before r) ≡ front r → IsKept initial word behind queued flying low high base_message end_message kept lost (expired_before before r)
+expired_none before initial word behind queued flying low high base_message end_message kept lost r h f =
+    record {
+      word_is = let w = h.word_is in omega (arith, w, f);
+      behind_is = let b = h.behind_is in omega (arith, b, f);
+      queued_is = let q = h.queued_is in omega (arith, q, f);
+      flying_is = let n = h.flying_is in omega (arith, n, f);
+      base_message_is = let e : base r ≡ base (expired_before before r) = omega (arith, f) in h.base_message_is ∙ ap message_number e;
+      end_message_is = h.end_message_is;
+      kept_is = λ d lt. h.kept_is d lt ∙ ap (λ n. kept_as (n + d) (slice_get r.queue (n + d))) (sym f);
+      lost_is = λ d lt. h.lost_is d lt ∙ ap (λ n. is_marked r.marks (n + d)) (sym f);
+      within = h.within;
+      lowest = h.lowest;
+      in_order = h.in_order;
     }

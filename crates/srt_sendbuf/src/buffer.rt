@@ -190,12 +190,15 @@ impl SendBuf {
 
     /// Drops the packets that were queued before a time, in microseconds, sent or not (section 4.6). A time of 0 or
     /// less drops nothing, and times don't go back. Returns the number of packets that it dropped. Linear in that
-    /// number.
+    /// number; if it is 0, looks at the first packet alone.
     pub fn expire(&mut self, before: i64) -> u32
         ensures stands { (width initial : ℕ) (r : Sending) → StandsFor width initial self.old r → IsLater before r → StandsFor width initial self.new (expired_before before r) }
         ensures count { (width initial : ℕ) (r : Sending) → StandsFor width initial self.old r → IsLater before r → front r + result ≡ front (expired_before before r) }
     {
         let count = self.ring.count_before(before);
+        if count == 0 {
+            return 0;
+        }
         let behind = (self.behind + count).min(BEHIND_END);
         let steps = count + self.back() - behind.min(ACK_REACH);
         let message = message_after(self.message, steps);
