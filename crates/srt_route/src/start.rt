@@ -44,15 +44,15 @@ fn start_subscriber(
     ensures { SubscriberBegins agreement clock c.now (word_of initial) subscriber.old subscriber.new }
 {
     let delay = u32::from(agreement.sender_ms) * 1000;
-    subscriber.start(
-        clock,
+    subscriber.start(srt_sub::Opening {
+        now: clock,
         initial,
-        c.caller,
+        caller: c.caller,
         delay,
-        agreement.mode,
-        agreement.mtu,
-        c.window,
-    );
+        mode: agreement.mode,
+        mtu: agreement.mtu,
+        window: c.window,
+    });
 }
 
 /// The buffers of a session that opens in this seat begin: the publisher's, or those of the seat.
