@@ -80,3 +80,7 @@ buffer_next terms time room m e beyond h lt =
           ∙ sym (due_at_once time a u.1 k.holds) ∙ sym (ap (first_due time) u.2)
           ∙ sym (ap (λ (b : Bool). cond b None (first_due time (waiting r))) (ne_eqb room 0 s))
     ]
+
+-- a publisher that stands by delivers nothing in buffer mode
+pub buffer_stands_by : (terms : Terms) (time : ℕ) (m : Publishing) → terms.mode ≡ Buffer → next_delivery terms time 0 m ≡ None
+buffer_stands_by terms time m e = buffer_is terms time 0 m e ∙ take_none (min most 0) (unbroken terms.width m.receiving) (omega arith)

@@ -8,3 +8,4 @@ pub mod Sendings
 pub mod Deliveries
 pub mod Calling
 pub mod Rows
+pub mod Advancing

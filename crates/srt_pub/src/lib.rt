@@ -5,14 +5,14 @@
 //! sent are written into places of the caller. The handshake is `srt_hs`; the five seconds after which a silent peer
 //! is given up are in `srt_route`; the window of packets is `srt_recvbuf`.
 //!
-//! Types: [`Publisher`], the session; [`Reports`], which packets an event sends; [`PubEnd`], why a packet ends the
-//! session.
+//! Types: [`Publisher`], the session; [`Opening`], what it begins with; [`Reports`], which packets an event sends;
+//! [`PubEnd`], why a packet ends the session.
 //!
 //! Calls: `Publisher::open` once; `start` for each session; then for each event `datagram` if a packet came,
-//! `deliver` until it returns false (64 times at most), and `transmit`, which writes the ACK, NAK and KEEPALIVE that are
-//! due.
+//! `deliver` until it returns false (64 times at most), or `pass_over` if the publisher stands by, and `transmit`, which
+//! writes the ACK, NAK and KEEPALIVE that are due.
 //!
-//! Files: `session.rt` has the rules of data, drop requests and delivery; `due_times.rt` of due times; `window_lost.rt`
+//! Files: `session.rt` has the rules of data, drop requests and delivery, on `opening.rt`'s terms; `due_times.rt` of due times; `window_lost.rt`
 //! of the lost window that ends a live session; `transmit.rt` of what is sent at the end of an event;
 //! `acknowledgements.rt` of Full and Light ACKs and ACKACKs; `nak.rt` of NAKs and their interval; `keep_alive.rt` of
 //! KEEPALIVEs; `log.rt` keeps the times of the last packets. `specs/Publishing.antt` defines what a session sends,
@@ -26,12 +26,14 @@ mod keep_alive;
 pub mod laws;
 mod log;
 mod nak;
+mod opening;
 mod reports;
 mod session;
 mod transmit;
 mod window_lost;
 
 pub use ends::PubEnd;
+pub use opening::Opening;
 pub use reports::Reports;
 pub use session::Publisher;
 

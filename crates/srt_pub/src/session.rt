@@ -1,7 +1,7 @@
 //! A publisher's session: its beginning, data, ACKACKs, drop requests and delivery (draft-sharabayko-srt-01, sections
 //! 3.1, 3.2.8, 3.2.9, 4.5 and 4.6).
 
-ghost use Rattle.std.specs.Prelude.{◌≡◌, ℕ, ◌+◌, ◌-◌, ◌%◌, ◌^◌, ◌<◌, ◌≤◌, length, true, false, option_map, IfOk};
+ghost use Rattle.std.specs.Prelude.{◌≡◌, ℕ, ◌+◌, ◌-◌, ◌%◌, ◌^◌, ◌<◌, ◌≤◌, length, true, false, option_map, is_some, IfOk};
 ghost use Rattle.srt_seq.specs.Given.{given};
 ghost use Rattle.srt_seq.specs.Window.{word_of, counted_from, number_word};
 ghost use Rattle.srt_seq.specs.Lift.{stamped_from};
@@ -16,6 +16,7 @@ ghost use Rattle.srt_pub.specs.Calls.{ended, lost_if, next_delivery, after_deliv
 use crate::due_times::Agreed;
 use crate::ends::PubEnd;
 use crate::log::Log;
+use crate::opening::Opening;
 use srt_packet::{Kind, PacketRef};
 use srt_recvbuf::RecvBuf;
 use srt_seq::{Mode, Payload, PayloadRef, Seq31, Stamp32};
@@ -55,30 +56,19 @@ impl Publisher {
         })
     }
 
-    /// Begins a session and forgets the one before. `now` is the moment of the opening, in microseconds; `stamp`,
-    /// `initial` and `caller` are the timestamp, the initial sequence number and the socket ID of the caller's
-    /// conclusion; `delay` is the agreed receiver's delay, in microseconds (section 4.4), and counts in live mode
-    /// only. O(width).
-    pub fn start(
-        &mut self,
-        now: u64,
-        stamp: Stamp32,
-        initial: Seq31,
-        caller: u32,
-        mode: Mode,
-        delay: u32,
-    )
-        ensures stands { StandsFor (record { mode = mode; width = width_of self.old; delay = delay }) (word_of initial) now stamp.word caller self.new opened }
-        ensures opening { opening_of self.new ≡ now }
+    /// Begins a session and forgets the one before. O(width).
+    pub fn start(&mut self, opening: Opening)
+        ensures stands { StandsFor (record { mode = opening.mode; width = width_of self.old; delay = opening.delay }) (word_of opening.initial) opening.now opening.stamp.word opening.caller self.new opened }
+        ensures opening { opening_of self.new ≡ opening.now }
     {
         self.agreed = Agreed {
-            mode,
-            delay,
-            opening: now,
-            first: stamp,
-            caller,
+            mode: opening.mode,
+            delay: opening.delay,
+            opening: opening.now,
+            first: opening.stamp,
+            caller: opening.caller,
         };
-        self.buffer.start(initial);
+        self.buffer.start(opening.initial);
         self.log.clear();
     }
 
@@ -252,6 +242,35 @@ impl Publisher {
             Mode::Live => self.advance(now, 1, payload),
             Mode::Buffer => self.deliver_in_order(now, room, payload),
         }
+    }
+
+    /// What `deliver` does if `room` is 0, without a copy of the payload: for a publisher that stands by. In live mode
+    /// it passes over the next payload, if one is due at `now`; in buffer mode it does nothing. Returns whether one
+    /// was passed over.
+    pub fn pass_over(&mut self, now: u64) -> bool
+        requires early { now < 2 ^ 62 }
+        ensures stands { (terms : Terms) (initial opening stamp caller time : ℕ) (m : Publishing) → now ≡ opening + time → StandsFor terms initial opening stamp caller self.old m → StandsFor terms initial opening stamp caller self.new (after_delivery terms (next_delivery terms time 0 m) m) }
+        ensures opening { opening_of self.new ≡ opening_of self.old }
+        ensures answer { (terms : Terms) (initial opening stamp caller time : ℕ) (m : Publishing) → now ≡ opening + time → StandsFor terms initial opening stamp caller self.old m → result ≡ is_some (next_delivery terms time 0 m) }
+    {
+        match self.agreed.mode {
+            Mode::Live => self.pass_over_due(now),
+            Mode::Buffer => false,
+        }
+    }
+
+    /// Passes over the payload of the first packet, if it is due.
+    fn pass_over_due(&mut self, now: u64) -> bool
+        requires early { now < 2 ^ 62 }
+        ensures stands { (terms : Terms) (initial opening stamp caller time : ℕ) (m : Publishing) → now ≡ opening + time → StandsFor terms initial opening stamp caller self.old m → StandsFor terms initial opening stamp caller self.new (after_delivery terms (next_due time 1 m.receiving) m) }
+        ensures opening { opening_of self.new ≡ opening_of self.old }
+        ensures answer { (terms : Terms) (initial opening stamp caller time : ℕ) (m : Publishing) → now ≡ opening + time → StandsFor terms initial opening stamp caller self.old m → result ≡ is_some (next_due time 1 m.receiving) }
+    {
+        let front = self.buffer.front();
+        let point = self.buffer.ack_point();
+        let is_due = self.buffer.pass_over(now, 1);
+        self.follow(front, point);
+        is_due
     }
 }
 

@@ -3,7 +3,7 @@
 ghost use Rattle.std.specs.Prelude.{◌≡◌, ◌≤◌, true};
 ghost use Rattle.srt_packet.specs.Text.{IsWritable};
 
-use crate::{PubEnd, Publisher};
+use crate::{Opening, PubEnd, Publisher};
 use srt_packet::{Body, Packet, decode, encode};
 use srt_seq::{Mode, Payload, Seq31, Stamp32};
 use std::alloc::Global;
@@ -27,7 +27,14 @@ fn session(
         return Err(Fail::from("a word with its top bit set"));
     };
     let mut publisher = Publisher::open(alloc, width)?;
-    publisher.start(OPENING, Stamp32::new(0), initial, 1, mode, delay);
+    publisher.start(Opening {
+        now: OPENING,
+        stamp: Stamp32::new(0),
+        initial,
+        caller: 1,
+        mode,
+        delay,
+    });
     Ok(publisher)
 }
 
@@ -40,6 +47,8 @@ enum Event {
     Ends(u32, &'static str, PubEnd),
     /// With this room, this payload is delivered; no digits if none is.
     Delivers(u32, u32, &'static str),
+    /// Whether a payload is passed over.
+    PassesOver(u32, bool),
     /// An ACK, a NAK and a KEEPALIVE are sent; no digits for one that isn't.
     Sends(u32, &'static str, &'static str, &'static str),
     /// Nothing is sent.
@@ -139,6 +148,10 @@ fn assert_event(
         Event::Ends(time, digits, end) => { assert_heard(rt, publisher, time, digits, Some(end)) }
         Event::Delivers(time, room, digits) => {
             assert_delivered(rt, publisher, time, room, digits)
+        }
+        Event::PassesOver(time, wanted) => {
+            assert_eq!(rt; publisher.pass_over(OPENING + u64::from(time)), wanted);
+            Ok(())
         }
         Event::Sends(time, ack, nak, keep_alive) => {
             assert_sent(rt, publisher, time, [ack, nak, keep_alive])
@@ -345,6 +358,41 @@ fn a_packet_behind_a_gap_is_delivered_at_its_moment(rt: HostRuntime) -> Result<(
                 "",
                 "",
             ),
+        ],
+    )
+}
+
+/// As in the test before, but for a publisher that stands by.
+#[test]
+fn payloads_are_passed_over_as_they_are_delivered(rt: HostRuntime) -> Result<(), Fail> {
+    let mut publisher = session(rt.alloc(), 1024, 7, Mode::Live, 100_000)?;
+    assert_events(
+        &rt,
+        &mut publisher,
+        &[
+            Event::Comes(1_000, "00000009e0000003000003e80010000062"),
+            Event::Comes(1_000, "00000007e0000001000001f40010000061"),
+            Event::PassesOver(100_499, false),
+            Event::PassesOver(100_500, true),
+            Event::PassesOver(100_999, false),
+            Event::PassesOver(101_000, true),
+            Event::PassesOver(101_000, false),
+            Event::Sends(
+                101_000,
+                "800200000000000100018a88000000010000000a000186a00000c35000000400000000000000000000000000",
+                "",
+                "",
+            ),
+        ],
+    )?;
+    let mut in_order = session(rt.alloc(), 32, 100, Mode::Buffer, 0)?;
+    hear_number(rt.alloc(), &mut in_order, 100)?;
+    assert_events(
+        &rt,
+        &mut in_order,
+        &[
+            Event::PassesOver(10_000, false),
+            Event::Delivers(10_000, 1, "61"),
         ],
     )
 }

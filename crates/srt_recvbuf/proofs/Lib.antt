@@ -5,3 +5,4 @@ pub mod Buffers
 pub mod Runs
 pub mod Rows
 pub mod Unbroken
+pub mod Passing

@@ -5,7 +5,7 @@ use Rattle.std.specs.Prelude.{◌≡◌, ℕ, ◌+◌, ◌-◌, ◌%◌, ◌^◌
 use Rattle.srt_seq.specs.Window.{word_of, counted_from, in_window, number_word}
 use Rattle.srt_seq.specs.Runs.{Range, Run, range_from}
 use Rattle.srt_seq.specs.declared.numbers.Seq31.{Seq31}
-use Rattle.srt_recvbuf.specs.Receiving.{Arrival, Receiving, arrival_of, is_requested, end_of, waiting, first_due, runs_from}
+use Rattle.srt_recvbuf.specs.Receiving.{Arrival, Receiving, arrival_of, is_requested, end_of, next_due, runs_from}
 use Rattle.srt_recvbuf.specs.Cells.{Cell, Missing, Dropped, Received, cell_is_missing, cell_at, width_of}
 use Rattle.srt_recvbuf.specs.declared.buffer.RecvBuf.{RecvBuf}
 
@@ -36,10 +36,10 @@ StandsFor width initial origin b r = (places_of b ≡ width) × IsWindowOf width
 abbrev pub own_range : (initial : ℕ) → (first last : Seq31) → Range
 own_range initial first last = range_from initial (record { first = word_of first; last = word_of last })
 
--- the place of the first waiting packet, if that is due; None if it isn't
-abbrev pub IsFirstDue : (origin time : ℕ) → (cells : ℕ → Cell) → Receiving → Option ℕ → Type 0
-IsFirstDue origin time cells r None = first_due time (waiting r) ≡ None
-IsFirstDue origin time cells r (Some d) = (a : Arrival) × (first_due time (waiting r) ≡ Some a) × (a.number ≡ r.front + d) × (cells d ≡ Received (pos origin +ℤ a.due) a.payload)
+-- the place of the next packet to be delivered; None if there is none
+abbrev pub IsNextDue : (origin time room : ℕ) → (cells : ℕ → Cell) → Receiving → Option ℕ → Type 0
+IsNextDue origin time room cells r None = next_due time room r ≡ None
+IsNextDue origin time room cells r (Some d) = (a : Arrival) × (next_due time room r ≡ Some a) × (a.number ≡ r.front + d) × (cells d ≡ Received (pos origin +ℤ a.due) a.payload)
 
 -- the sequence numbers of runs, as pairs of a first and a last
 abbrev pub words_of : List (Seq31 × Seq31) → List (ℕ × ℕ)

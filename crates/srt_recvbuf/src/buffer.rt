@@ -1,7 +1,7 @@
 //! The receiver buffer: what is received, delivered and dropped, and the acknowledgement point. What is missing is in
 //! `gaps.rt`.
 
-ghost use Rattle.std.specs.Prelude.{◌≡◌, ℕ, ◌+◌, ◌-◌, ◌^◌, ◌<◌, ◌≤◌, ℤ, pos, ◌+ℤ◌, Option, None, Some, option_map, IfOk, IfSome, true, false, nat_le, nat_lt, ◌&&◌};
+ghost use Rattle.std.specs.Prelude.{◌≡◌, ℕ, ◌+◌, ◌-◌, ◌^◌, ◌<◌, ◌≤◌, ℤ, pos, ◌+ℤ◌, Option, None, Some, option_map, IfOk, IfSome, is_some, true, false, nat_le, nat_lt, ◌&&◌};
 ghost use Rattle.srt_seq.specs.Given.{given};
 ghost use Rattle.srt_seq.specs.Window.{word_of, counted_from, in_window, offset_of, number_word};
 ghost use Rattle.srt_recvbuf.specs.Cells.{width_of, cell_at, cell_is_missing, cell_is_received};
@@ -46,7 +46,7 @@ pub struct RecvBuf {
 }
 
 impl RecvBuf {
-    ghost use Rattle.srt_recvbuf.specs.Stands.{IsFirstDue, StandsFor, places_of, own_range};
+    ghost use Rattle.srt_recvbuf.specs.Stands.{IsNextDue, StandsFor, places_of, own_range};
     ghost use Rattle.srt_recvbuf.specs.Receiving.{Receiving, Arrival, nothing_yet, received, put_of, requested, settled, moved_to, top, ack_point, available, is_waiting, next_due, after_next};
 
     /// An empty buffer of `width` packets, 32 to 8192, for a stream with the initial number 0; `start` begins any
@@ -174,32 +174,56 @@ impl RecvBuf {
         ensures answer { (width initial origin time : ℕ) (r : Receiving) → now ≡ origin + time → StandsFor width initial origin self.old r → given result payload.new.items ≡ option_map (λ (a : Arrival). a.payload) (next_due time room r) }
         ensures kept { result ≡ false → payload.new ≡ payload.old }
     {
-        if room == 0 {
-            return false;
-        }
-        let Some(at) = self.first_due(now) else {
+        let Some(at) = self.first_due(now, room) else {
             return false;
         };
         self.window.copy_to(at, payload);
-        self.shift(at + 1);
-        self.settle();
+        self.pass(at);
         true
     }
 
-    /// The place of the first packet, if it is due at `now`. None if there is no packet, or it isn't due yet: a
-    /// packet that isn't due holds back those behind it.
-    fn first_due(&mut self, now: u64) -> Option<usize>
+    /// Passes over the next payload: what `advance` does, without a copy of the payload. Returns whether there was
+    /// one.
+    pub fn pass_over(&mut self, now: u64, room: u32) -> bool
+        requires { now < 2 ^ 62 }
+        ensures stands { (width initial origin time : ℕ) (r : Receiving) → now ≡ origin + time → StandsFor width initial origin self.old r → StandsFor width initial origin self.new (after_next width (next_due time room r) r) }
+        ensures answer { (width initial origin time : ℕ) (r : Receiving) → now ≡ origin + time → StandsFor width initial origin self.old r → result ≡ is_some (next_due time room r) }
+    {
+        match self.first_due(now, room) {
+            Some(at) => {
+                self.pass(at);
+                true
+            }
+            None => false,
+        }
+    }
+
+    /// The place of the first packet, if it is due at `now` and `room` isn't 0. None if there is no packet, or it
+    /// isn't due yet: a packet that isn't due holds back those behind it.
+    fn first_due(&mut self, now: u64, room: u32) -> Option<usize>
         requires { now < 2 ^ 62 }
         ensures stands { (width initial origin : ℕ) (r : Receiving) → StandsFor width initial origin self.old r → StandsFor width initial origin self.new r }
-        ensures first { (width initial origin time : ℕ) (r : Receiving) → now ≡ origin + time → StandsFor width initial origin self.old r → IsFirstDue origin time (cell_at self.new.window) r result }
+        ensures first { (width initial origin time : ℕ) (r : Receiving) → now ≡ origin + time → StandsFor width initial origin self.old r → IsNextDue origin time room (cell_at self.new.window) r result }
         ensures below { IfSome result (λ d. d < places_of self.new) }
     {
+        if room == 0 {
+            return None;
+        }
         let at = self.find_first();
         if at == self.end {
             return None;
         }
         let due = self.window.due(at)?;
         if due <= now as i64 { Some(at) } else { None }
+    }
+
+    /// Moves the front past the packet of a place, and past dropped numbers after it.
+    fn pass(&mut self, at: usize)
+        requires { at < places_of self.old }
+        ensures { (width initial origin : ℕ) (r : Receiving) → StandsFor width initial origin self.old r → StandsFor width initial origin self.new (settled width (moved_to (r.front + (at + 1)) r)) }
+    {
+        self.shift(at + 1);
+        self.settle();
     }
 
     /// The place of the first packet, or `end` if there is none. The search resumes at `next`, before which there is

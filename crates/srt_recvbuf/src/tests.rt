@@ -150,6 +150,28 @@ fn a_place_is_written_where_something_is_due(rt: HostRuntime) -> Result<(), Fail
 }
 
 #[test]
+fn a_payload_passed_over_is_gone(rt: HostRuntime) -> Result<(), Fail> {
+    let mut buffer = buffer(&rt, 7)?;
+    assert_eq!(rt;
+        buffer.put(number(8)?, 20, PayloadRef { bytes: &[8] }),
+        Put::New
+    );
+    assert_eq!(rt;
+        buffer.put(number(10)?, 30, PayloadRef { bytes: &[10] }),
+        Put::New
+    );
+    assert!(rt; !buffer.pass_over(19, 64));
+    assert!(rt; !buffer.pass_over(20, 0));
+    assert_eq!(rt; buffer.front().get(), 7);
+    assert!(rt; buffer.pass_over(20, 1));
+    assert_eq!(rt; buffer.front().get(), 9);
+    assert!(rt; !buffer.pass_over(29, 1));
+    assert!(rt; is_given(&mut buffer, 30, &[10]));
+    assert!(rt; !buffer.pass_over(30, 1));
+    Ok(())
+}
+
+#[test]
 fn what_is_dropped_may_still_come(rt: HostRuntime) -> Result<(), Fail> {
     let mut buffer = buffer(&rt, 7)?;
     assert_eq!(rt;

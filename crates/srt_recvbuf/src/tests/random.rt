@@ -123,6 +123,10 @@ impl Both {
             return true;
         }
         let room = self.dice.below(4);
+        if self.dice.below(4) == 0 {
+            let passed = self.ours.pass_over(u64::from(self.now), room);
+            return passed == self.plain.advance(i64::from(self.now), room).is_some();
+        }
         let mut payload = Payload::new();
         let byte = if self.ours.advance(u64::from(self.now), room, &mut payload) {
             payload.first().copied()

@@ -9,9 +9,9 @@ returns-clause-stands c =
     let width = width_of c.args.self.now in
     record {
       agreed = record { mode_is = refl; delay_is = refl; opening_is = refl; stamp_is = refl; caller_is = refl };
-      buffer = c.start.ensures.stands c.args.now;
+      buffer = c.start.ensures.stands c.args.opening.now;
       log = subst (λ (x : ℕ). LogStandsFor width 0 x c.clear.new.self [] 0) (sym (first_point width)) (c.clear.ensures width);
-      orderly = orderly_first c.args.mode width;
+      orderly = orderly_first c.args.opening.mode width;
       seen = omega arith;
       narrow = c.start.ensures.narrow;
     }
