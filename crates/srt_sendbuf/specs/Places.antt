@@ -1,8 +1,9 @@
 -- The places of a ring and the packet of each.
-use Rattle.std.specs.Prelude.{ℕ, ℤ, pos, int_lt, Bool, false, Option, None, Some, List, length, slice_get}
+use Rattle.std.specs.Prelude.{◌≡◌, ℕ, ◌/◌, ◌<◌, ◌==◌, if◌then◌else◌, ℤ, pos, int_lt, Bool, false, Option, None, Some, List, length, slice_get}
 use Rattle.srt_seq.specs.Counts.{message_of}
 use Rattle.srt_ring.specs.declared.ring.PayloadRing.{PayloadRing}
-use Rattle.srt_ring.specs.Ring.{payload_at}
+use Rattle.srt_ring.specs.Buffers.{slot_of}
+use Rattle.srt_ring.specs.Ring.{payload_at, first_of}
 use Rattle.srt_sendbuf.specs.declared.ring.Place.{Place}
 use Rattle.srt_sendbuf.specs.Marks.{is_lost}
 use Rattle.srt_sendbuf.specs.declared.ring.Ring.{Ring}
@@ -35,6 +36,22 @@ length_of r = length r.places.items
 -- the number of places
 abbrev pub width_of : Ring → ℕ
 width_of r = r.places.capacity
+
+-- a packet was put behind the last one
+abbrev pub IsPut : Kept → (before after : Ring) → Type 0
+IsPut k before after =
+    (d : ℕ) → kept_at after d ≡ (if d == length_of before then Some k else kept_at before d)
+
+-- no place whose slot is in this block of 64 is lost
+abbrev pub IsFree : (block : ℕ) → Ring → Type 0
+IsFree block r =
+    (d : ℕ) → d < width_of r → slot_of (width_of r) (first_of r.payloads) d / 64 ≡ block → lost_at r d ≡ false
+
+-- two rings hold the same packets, but for which of them are lost
+pub record HasSame (before after : Ring) : Type 0 where
+  pub width : width_of after ≡ width_of before
+  pub length : length_of after ≡ length_of before
+  pub kept : (d : ℕ) → kept_at after d ≡ kept_at before d
 
 -- whether a packet was queued before a time
 abbrev pub is_old : ℤ → Option Kept → Bool

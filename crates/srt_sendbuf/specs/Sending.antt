@@ -2,8 +2,8 @@
 -- a wrap.
 use Rattle.std.specs.Prelude.{ℕ, ◌+◌, ◌-◌, ℤ, pos, int_lt, Bool, true, false, Option, None, Some, List, [], ◌∷◌, ◌++◌, All, filter, length, count_by, slice_get, max, nat_lt, nat_le, ◌==◌, ◌&&◌, ◌||◌, if◌then◌else◌, ◌≤◌}
 use Rattle.std.specs.List.{list_any}
-use Rattle.srt_seq.specs.Window.{in_window}
-use Rattle.srt_seq.specs.Runs.{Range, is_asked, numbers_from}
+use Rattle.srt_seq.specs.Window.{in_window, counted_from}
+use Rattle.srt_seq.specs.Runs.{Range, is_in, is_asked, numbers_from}
 
 -- a payload and the time when it was queued
 pub record Queued : Type 0 where
@@ -82,6 +82,10 @@ queued origin payload s = record s { queue = s.queue ++ record { origin = origin
 abbrev pub acknowledged_by : (word : ℕ) → Sending → Option ℕ
 acknowledged_by word s = in_window word (base s) (next s - base s + 1)
 
+-- the same of a sequence number of a stream with this initial number
+abbrev pub acknowledged_at : (initial word : ℕ) → Sending → Option ℕ
+acknowledged_at initial word s = acknowledged_by (counted_from initial word) s
+
 -- after all numbers below n were acknowledged
 abbrev pub acknowledged : ℕ → Sending → Sending
 acknowledged n s = record s { acked = max s.acked n }
@@ -107,6 +111,10 @@ expired_before before s = record s { expired = queued_before before s.queue }
 -- after a loss list: the numbers in flight that it names are marked (section 3.2.5)
 abbrev pub asked : List Range → Sending → Sending
 asked ranges s = record s { marks = Asked (front s) (next s) ranges ∷ s.marks }
+
+-- whether a range names a number from the base up to the front
+abbrev pub range_asks_for_gone : Range → Sending → Bool
+range_asks_for_gone range s = list_any (is_in range) (numbers_from (base s) (front s - base s))
 
 -- whether a loss list names a number from the base up to the front
 abbrev pub asks_for_gone : List Range → Sending → Bool
@@ -144,6 +152,10 @@ due_at queue (Some p) = due_of p.0 p.1 (slice_get queue p.0)
 -- the next packet to be sent
 abbrev pub due : (window : ℕ) → Sending → Option Due
 due window s = due_at s.queue (due_number window (lost s) s)
+
+-- the packet that is this many numbers behind the front, as one to be sent
+abbrev pub due_past : (at : ℕ) → (again : Bool) → Sending → Option Due
+due_past at again s = due_of (front s + at) again (slice_get s.queue (front s + at))
 
 abbrev pub sent_number : Option (ℕ × Bool) → Sending → Sending
 sent_number None s = s

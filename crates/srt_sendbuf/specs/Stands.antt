@@ -1,8 +1,9 @@
 -- What a buffer's fields represent.
-use Rattle.std.specs.Prelude.{◌≡◌, ℕ, ◌+◌, ◌-◌, ◌%◌, ◌^◌, ◌<◌, ◌≤◌, ⊤, Bool, true, Option, None, Some, List, [], ◌∷◌, All, length, slice_get, min}
+use Rattle.std.specs.Prelude.{◌≡◌, ℕ, ◌+◌, ◌-◌, ◌%◌, ◌^◌, ◌<◌, ◌≤◌, ⊤, Bool, true, ◌||◌, Option, None, Some, List, [], ◌∷◌, ◌++◌, All, length, slice_get, min}
 use Rattle.srt_seq.specs.Window.{word_of}
 use Rattle.srt_seq.specs.Counts.{message_number, message_of}
-use Rattle.srt_sendbuf.specs.Sending.{Queued, Sending, front, base, next, is_marked}
+use Rattle.srt_seq.specs.Runs.{Range, is_asked, ranges_from}
+use Rattle.srt_sendbuf.specs.Sending.{Queued, Sending, front, base, next, is_marked, asked}
 use Rattle.srt_sendbuf.specs.Places.{Kept, kept_at, lost_at, length_of, width_of}
 use Rattle.srt_sendbuf.specs.declared.buffer.SendBuf.{SendBuf}
 
@@ -43,3 +44,33 @@ pub record IsMoved (count behind message : ℕ) (r moved : Sending) : Type 0 whe
   pub front_is : front moved ≡ front r + count
   pub behind_is : behind ≡ min (front moved - moved.acked) 16384
   pub message_is : message ≡ message_number (base moved)
+
+-- this holds of all that a buffer represents: of its width, the stream's initial number and its record
+abbrev pub ForWhatever : SendBuf → (P : (width initial : ℕ) → Sending → Type 0) → Type 0
+ForWhatever b P = (width initial : ℕ) (r : Sending) → StandsFor width initial b r → P width initial r
+
+-- whatever the buffer represented before a call, it represents this function of it after the call
+abbrev pub Becomes : (before after : SendBuf) → (f : (initial : ℕ) → Sending → Sending) → Type 0
+Becomes before after f = (width initial : ℕ) (r : Sending) → StandsFor width initial before r → StandsFor width initial after (f initial r)
+
+-- the same for those records alone that meet a condition
+abbrev pub BecomesIf : (P : Sending → Type 0) → (before after : SendBuf) → (f : Sending → Sending) → Type 0
+BecomesIf P before after f =
+    (width initial : ℕ) (r : Sending) → StandsFor width initial before r → P r → StandsFor width initial after (f r)
+
+-- a call moved the front on by `count`
+abbrev pub MovesFront : (count behind message : ℕ) → (before after : SendBuf) → Type 0
+MovesFront count behind message before after =
+    (width initial : ℕ) (r moved : Sending) → StandsFor width initial before r → IsMoved count behind message r moved → StandsFor width initial after moved
+
+-- a call took more ranges of a loss list, of which `taken` were taken before it
+abbrev pub TakesRanges : (before after : SendBuf) → (more : (initial : ℕ) → List Range) → Type 0
+TakesRanges before after more =
+    (width initial : ℕ) (r : Sending) (taken : List Range) → StandsFor width initial before (asked taken r) → StandsFor width initial after (asked (more initial ++ taken) r)
+
+-- a call took some ranges of a loss list, in any order: those taken and those left name the same numbers as before it
+abbrev pub TakesSome : (before after : SendBuf) → (left left_after : List Range) → Type 0
+TakesSome before after left left_after =
+    (width initial : ℕ) (r : Sending) (taken : List Range) → StandsFor width initial before (asked taken r)
+    → (more : List Range) × StandsFor width initial after (asked more r)
+    × ((n : ℕ) → (is_asked taken n || is_asked (ranges_from initial left) n) ≡ (is_asked more n || is_asked (ranges_from initial left_after) n))

@@ -1,5 +1,5 @@
 -- Results of the code in the numbers of the packets (sections 3.1 and 3.2.9).
-use Rattle.std.specs.Prelude.{ℕ, ◌-◌, Bool, Option, None, Some, List, if◌then◌else◌}
+use Rattle.std.specs.Prelude.{ℕ, ◌-◌, Bool, Option, None, Some, List, option_map, if◌then◌else◌}
 use Rattle.srt_seq.specs.Window.{word_of, number_word}
 use Rattle.srt_seq.specs.Counts.{message_number, message_of}
 use Rattle.srt_seq.specs.Runs.{Range}
@@ -22,6 +22,10 @@ told initial d = record { number = number_word initial d.number; message = messa
 -- a result of `next_due` with the payload that it wrote
 abbrev pub told_by : Out → (payload : List ℕ) → Told
 told_by o payload = record { number = word_of o.number; message = message_of o.message; again = o.again; origin = o.origin; payload = payload }
+
+-- a result of `next_due`, if it returned a packet
+abbrev pub told_if : Option Out → (payload : List ℕ) → Option Told
+told_if out payload = option_map (λ o. told_by o payload) out
 
 -- the contents of a drop request: the first sequence number, the last, and the message number of the first
 pub record Gone : Type 0 where

@@ -2,15 +2,15 @@
 //! name the numbers from the base up to next; the base is at most 8192 before the front.
 
 ghost use Rattle.std.specs.Prelude.{◌≡◌, ℕ, ◌+◌, ◌%◌, ◌^◌, ◌≤◌, false, option_map, is_some, min, IfSome};
-ghost use Rattle.srt_seq.specs.Window.{word_of, counted_from};
+ghost use Rattle.srt_seq.specs.Window.{word_of};
 
 use crate::buffer::{SendBuf, message_after};
 use srt_seq::Seq31;
 use srt_seq::limits::ACK_REACH;
 
 impl SendBuf {
-    ghost use Rattle.srt_sendbuf.specs.Sending.{Sending, base, acknowledged_by, after_ack, is_growth};
-    ghost use Rattle.srt_sendbuf.specs.Stands.{StandsFor};
+    ghost use Rattle.srt_sendbuf.specs.Sending.{base, acknowledged_at, after_ack, is_growth};
+    ghost use Rattle.srt_sendbuf.specs.Stands.{ForWhatever, Becomes};
 
     /// The distance from the base to the front.
     pub(crate) fn back(&self) -> usize
@@ -29,7 +29,7 @@ impl SendBuf {
 
     /// The offset of an ACK's number from the base. None if it is outside base..=next.
     fn steps_of(&self, number: Seq31) -> Option<usize>
-        ensures value { (width initial : ℕ) (r : Sending) → StandsFor width initial self.now r → option_map (λ d. base r + d) result ≡ acknowledged_by (counted_from initial (word_of number)) r }
+        ensures value { ForWhatever self.now (λ width initial r. option_map (λ d. base r + d) result ≡ acknowledged_at initial (word_of number) r) }
         ensures below { IfSome result (λ d. d ≤ min self.now.behind 8192 + self.now.sent) }
     {
         let back = self.back();
@@ -42,8 +42,8 @@ impl SendBuf {
     /// An ACK of all numbers below this one (section 3.2.4). False if the number is outside base..=next; then nothing
     /// changes. Linear in the packets that it acknowledges.
     pub fn ack(&mut self, number: Seq31) -> bool
-        ensures stands { (width initial : ℕ) (r : Sending) → StandsFor width initial self.old r → StandsFor width initial self.new (after_ack (acknowledged_by (counted_from initial (word_of number)) r) r) }
-        ensures answer { (width initial : ℕ) (r : Sending) → StandsFor width initial self.old r → result ≡ is_some (acknowledged_by (counted_from initial (word_of number)) r) }
+        ensures stands { Becomes self.old self.new (λ initial r. after_ack (acknowledged_at initial (word_of number) r) r) }
+        ensures answer { ForWhatever self.old (λ width initial r. result ≡ is_some (acknowledged_at initial (word_of number) r)) }
         ensures same { result ≡ false → self.new ≡ self.old }
     {
         let Some(steps) = self.steps_of(number) else {
@@ -62,7 +62,7 @@ impl SendBuf {
     /// Whether an ACK with this number acknowledges more than all before it. False if the number is outside
     /// base..=next. O(1).
     pub fn grows(&self, number: Seq31) -> bool
-        ensures { (width initial : ℕ) (r : Sending) → StandsFor width initial self.now r → result ≡ is_growth (acknowledged_by (counted_from initial (word_of number)) r) r }
+        ensures { ForWhatever self.now (λ width initial r. result ≡ is_growth (acknowledged_at initial (word_of number) r) r) }
     {
         match self.steps_of(number) {
             Some(steps) => steps > 0 || self.behind > ACK_REACH,

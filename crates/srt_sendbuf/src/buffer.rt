@@ -1,10 +1,10 @@
 //! The sender buffer: what is queued and neither acknowledged nor expired, and which packets of it are lost
 //! (draft-sharabayko-srt-01, sections 4.6 and 4.8.2).
 
-ghost use Rattle.std.specs.Prelude.{◌≡◌, ℕ, ◌+◌, ◌-◌, ◌^◌, ◌<◌, ◌≤◌, ◌↔◌, ◌||◌, ◌++◌, true, false, List, [], ◌∷◌, All, length, map, option_map, nat_lt, IsErr, IfOk, OnErr};
+ghost use Rattle.std.specs.Prelude.{◌≡◌, ℕ, ◌+◌, ◌-◌, ◌^◌, ◌<◌, ◌≤◌, ◌↔◌, true, false, [], ◌∷◌, All, length, map, option_map, nat_lt, IsErr, IfOk, OnErr};
 ghost use Rattle.srt_seq.specs.Window.{word_of};
 ghost use Rattle.srt_seq.specs.Counts.{message_of, message_number};
-ghost use Rattle.srt_seq.specs.Runs.{Range, is_asked, span, ranges_from, range_from};
+ghost use Rattle.srt_seq.specs.Runs.{span, ranges_from, range_from};
 ghost use Rattle.srt_loss.specs.Text.{range_of};
 ghost use Rattle.srt_sendbuf.specs.Places.{length_of, lost_at};
 
@@ -92,7 +92,7 @@ pub struct SendBuf {
 impl SendBuf {
     ghost use Rattle.srt_sendbuf.specs.Sending.{Sending, nothing_yet, front, room, in_flight, lost, queued, expired_before, asked, all_lost, IsTimely, IsLater};
     ghost use Rattle.srt_sendbuf.specs.Told.{gone_for, gone_by};
-    ghost use Rattle.srt_sendbuf.specs.Stands.{StandsFor, IsMoved};
+    ghost use Rattle.srt_sendbuf.specs.Stands.{StandsFor, ForWhatever, Becomes, BecomesIf, MovesFront, TakesRanges, TakesSome};
 
     /// An empty buffer of `width` packets, 32 to 8192, for a stream with the initial number 0; `start` begins any
     /// other. The only call that takes memory; the error is a refused allocation. O(width).
@@ -132,7 +132,7 @@ impl SendBuf {
 
     /// The number of payloads that can still be queued. O(1).
     pub fn room(&self) -> u32
-        ensures { (width initial : ℕ) (r : Sending) → StandsFor width initial self.now r → result ≡ room width r }
+        ensures { ForWhatever self.now (λ width initial r. result ≡ room width r) }
     {
         (self.ring.width() - self.ring.len()) as u32
     }
@@ -141,8 +141,8 @@ impl SendBuf {
     /// not before that of any earlier call; it comes back as `Out::origin`. `Full` if no place is free; then nothing
     /// changes. O(1), one copy.
     pub fn queue(&mut self, payload: &Payload, now: u64) -> Result<(), Full>
-        ensures stands { IfOk result (λ done. (width initial : ℕ) (r : Sending) → StandsFor width initial self.old r → IsTimely now r → StandsFor width initial self.new (queued now payload.now.items r)) }
-        ensures full { (width initial : ℕ) (r : Sending) → StandsFor width initial self.old r → IsErr result ↔ (room width r ≡ 0) }
+        ensures stands { IfOk result (λ done. BecomesIf (IsTimely now) self.old self.new (queued now payload.now.items)) }
+        ensures full { ForWhatever self.old (λ width initial r. IsErr result ↔ (room width r ≡ 0)) }
         ensures same { OnErr result (self.new ≡ self.old) }
     {
         if self.ring.len() == self.ring.width() {
@@ -156,7 +156,7 @@ impl SendBuf {
 
     /// The number of packets in flight: sent, and neither acknowledged nor expired. O(1).
     pub fn in_flight(&self) -> u32
-        ensures { (width initial : ℕ) (r : Sending) → StandsFor width initial self.now r → result ≡ in_flight r }
+        ensures { ForWhatever self.now (λ width initial r. result ≡ in_flight r) }
     {
         let flying = self.sent;
         flying as u32
@@ -164,7 +164,7 @@ impl SendBuf {
 
     /// Whether any packet in flight counts as lost. O(1).
     pub fn any_lost(&self) -> bool
-        ensures { (width initial : ℕ) (r : Sending) → StandsFor width initial self.now r → result ≡ nat_lt 0 (length (lost r)) }
+        ensures { ForWhatever self.now (λ width initial r. result ≡ nat_lt 0 (length (lost r))) }
     {
         let span = self.high - self.low;
         span > 0
@@ -175,7 +175,7 @@ impl SendBuf {
     pub(crate) fn move_front(&mut self, count: usize, behind: usize, message: Msg26)
         requires inside { count ≤ length_of self.old.ring }
         requires behind_in { behind ≤ 16384 }
-        ensures { (width initial : ℕ) (r moved : Sending) → StandsFor width initial self.old r → IsMoved count behind (message_of message) r moved → StandsFor width initial self.new moved }
+        ensures { MovesFront count behind (message_of message) self.old self.new }
     {
         let low = self.low.saturating_sub(count);
         let high = self.high.saturating_sub(count);
@@ -192,8 +192,8 @@ impl SendBuf {
     /// less drops nothing, and times don't go back. Returns the number of packets that it dropped. Linear in that
     /// number; if it is 0, looks at the first packet alone.
     pub fn expire(&mut self, before: i64) -> u32
-        ensures stands { (width initial : ℕ) (r : Sending) → StandsFor width initial self.old r → IsLater before r → StandsFor width initial self.new (expired_before before r) }
-        ensures count { (width initial : ℕ) (r : Sending) → StandsFor width initial self.old r → IsLater before r → front r + result ≡ front (expired_before before r) }
+        ensures stands { BecomesIf (IsLater before) self.old self.new (expired_before before) }
+        ensures count { ForWhatever self.old (λ width initial r. IsLater before r → front r + result ≡ front (expired_before before r)) }
     {
         let count = self.ring.count_before(before);
         if count == 0 {
@@ -210,7 +210,7 @@ impl SendBuf {
     fn lose_range(&mut self, run: &mut Marked, range: (Seq31, Seq31))
         requires short { span (range_of range) < 2 ^ 30 }
         requires marked { (d : ℕ) → run.old.from ≤ d → d < run.old.end → lost_at self.old.ring d ≡ true }
-        ensures stands { (width initial : ℕ) (r : Sending) (taken : List Range) → StandsFor width initial self.old (asked taken r) → StandsFor width initial self.new (asked (range_from initial (range_of range) ∷ taken) r) }
+        ensures stands { TakesRanges self.old self.new (λ initial. range_from initial (range_of range) ∷ []) }
         ensures marked { (d : ℕ) → run.new.from ≤ d → d < run.new.end → lost_at self.new.ring d ≡ true }
     {
         if let Some((first, last)) = part_in(range, self.front, self.sent as u32) {
@@ -231,7 +231,7 @@ impl SendBuf {
     /// is marked once, however much they overlap.
     fn lose_part(&mut self, part: &[(Seq31, Seq31)])
         requires { All (λ r. span (range_of r) < 2 ^ 30) part.now }
-        ensures { (width initial : ℕ) (r : Sending) (taken : List Range) → StandsFor width initial self.old (asked taken r) → StandsFor width initial self.new (asked (ranges_from initial (map range_of part.now) ++ taken) r) }
+        ensures { TakesRanges self.old self.new (λ initial. ranges_from initial (map range_of part.now)) }
     {
         let mut run = Marked { from: 0, end: 0 };
         let mut rest = part;
@@ -243,7 +243,7 @@ impl SendBuf {
 
     /// Marks the numbers of a list's next ranges that are in flight as lost. Returns false if no range is left.
     fn lose_next(&mut self, ranges: &mut Ranges<'_>) -> bool
-        ensures stands { (width initial : ℕ) (r : Sending) (taken : List Range) → StandsFor width initial self.old (asked taken r) → (more : List Range) × StandsFor width initial self.new (asked more r) × ((n : ℕ) → (is_asked taken n || is_asked (ranges_from initial ranges.old) n) ≡ (is_asked more n || is_asked (ranges_from initial ranges.new) n)) }
+        ensures stands { TakesSome self.old self.new ranges.old ranges.new }
         ensures shorter { result ≡ true → length ranges.new < length ranges.old }
         ensures none { result ≡ false → ranges.new ≡ [] }
     {
@@ -258,8 +258,8 @@ impl SendBuf {
     /// name. If the ranges name more than 8192 numbers in all, they are sorted first, so that each number is marked
     /// once. Takes no memory.
     pub fn lose(&mut self, losses: &LossRef<'_>) -> Option<DropRun>
-        ensures stands { (width initial : ℕ) (r : Sending) → StandsFor width initial self.old r → StandsFor width initial self.new (asked (ranges_from initial losses.now) r) }
-        ensures answer { (width initial : ℕ) (r : Sending) → StandsFor width initial self.old r → option_map gone_by result ≡ gone_for initial (ranges_from initial losses.now) r }
+        ensures stands { Becomes self.old self.new (λ initial r. asked (ranges_from initial losses.now) r) }
+        ensures answer { ForWhatever self.old (λ width initial r. option_map gone_by result ≡ gone_for initial (ranges_from initial losses.now) r) }
     {
         let gone = self.asks_any_gone(losses);
         let mut ranges = losses.ranges();
@@ -269,7 +269,7 @@ impl SendBuf {
 
     /// Marks all numbers in flight as lost. Linear in their number.
     pub fn lose_all(&mut self)
-        ensures { (width initial : ℕ) (r : Sending) → StandsFor width initial self.old r → StandsFor width initial self.new (all_lost r) }
+        ensures { Becomes self.old self.new (λ initial r. all_lost r) }
     {
         self.ring.mark_all(0, self.sent);
         self.low = 0;

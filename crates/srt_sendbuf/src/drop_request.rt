@@ -1,9 +1,8 @@
 //! Drop requests: whether a NAK names numbers that are gone, which are expired and not acknowledged, and the run of
 //! them for a drop request (draft-sharabayko-srt-01, sections 3.2.5 and 3.2.9; which run is this profile's).
 
-ghost use Rattle.std.specs.Prelude.{◌≡◌, ℕ, ◌-◌, ◌^◌, ◌<◌};
-ghost use Rattle.std.specs.List.{list_any};
-ghost use Rattle.srt_seq.specs.Runs.{is_in, span, numbers_from, ranges_from, range_from};
+ghost use Rattle.std.specs.Prelude.{◌≡◌, ◌^◌, ◌<◌};
+ghost use Rattle.srt_seq.specs.Runs.{span, ranges_from, range_from};
 ghost use Rattle.srt_loss.specs.Text.{range_of};
 
 use crate::buffer::{DropRun, SendBuf};
@@ -11,14 +10,14 @@ use srt_loss::{LossRef, part_in};
 use srt_seq::Seq31;
 
 impl SendBuf {
-    ghost use Rattle.srt_sendbuf.specs.Sending.{Sending, front, base, asks_for_gone};
+    ghost use Rattle.srt_sendbuf.specs.Sending.{front, base, asks_for_gone, range_asks_for_gone};
     ghost use Rattle.srt_sendbuf.specs.Told.{gone, gone_by};
-    ghost use Rattle.srt_sendbuf.specs.Stands.{StandsFor};
+    ghost use Rattle.srt_sendbuf.specs.Stands.{ForWhatever};
 
     /// Whether a range names a number from the base up to the front: one that is expired and not acknowledged.
     fn asks_gone(&self, range: (Seq31, Seq31)) -> bool
         requires short { span (range_of range) < 2 ^ 30 }
-        ensures { (width initial : ℕ) (r : Sending) → StandsFor width initial self.now r → result ≡ list_any (is_in (range_from initial (range_of range))) (numbers_from (base r) (front r - base r)) }
+        ensures { ForWhatever self.now (λ width initial r. result ≡ range_asks_for_gone (range_from initial (range_of range)) r) }
     {
         let back = self.back();
         match part_in(range, self.number_back(back), back as u32) {
@@ -29,7 +28,7 @@ impl SendBuf {
 
     /// Whether any range of a list does. Linear in its ranges.
     pub(crate) fn asks_any_gone(&self, losses: &LossRef<'_>) -> bool
-        ensures { (width initial : ℕ) (r : Sending) → StandsFor width initial self.now r → result ≡ asks_for_gone (ranges_from initial losses.now) r }
+        ensures { ForWhatever self.now (λ width initial r. result ≡ asks_for_gone (ranges_from initial losses.now) r) }
     {
         let mut ranges = losses.ranges();
         while let Some(range) = ranges.next_range() {
@@ -42,7 +41,7 @@ impl SendBuf {
 
     /// The numbers from the base up to the front. Only for a base below the front.
     pub(crate) fn gone(&self) -> DropRun
-        ensures { (width initial : ℕ) (r : Sending) → StandsFor width initial self.now r → base r < front r → gone_by result ≡ gone initial r }
+        ensures { ForWhatever self.now (λ width initial r. base r < front r → gone_by result ≡ gone initial r) }
     {
         DropRun {
             first: self.number_back(self.back()),

@@ -49,7 +49,7 @@ pub struct Ring {
 
 impl Ring {
     ghost use Rattle.srt_ring.specs.Ring.{payload_at};
-    ghost use Rattle.srt_sendbuf.specs.Places.{kept_at, kept_of, lost_at, length_of, width_of, is_old};
+    ghost use Rattle.srt_sendbuf.specs.Places.{kept_at, kept_of, lost_at, length_of, width_of, is_old, IsPut, IsFree};
 
     /// An empty ring of `width` places. The only call that takes memory; the error is a refused allocation. O(width).
     pub fn open(alloc: Global, width: usize) -> Result<Ring, AllocError>
@@ -95,7 +95,7 @@ impl Ring {
         requires room { length_of self.old < width_of self.old }
         ensures width { width_of self.new ≡ width_of self.old }
         ensures length { length_of self.new ≡ length_of self.old + 1 }
-        ensures kept { (d : ℕ) → kept_at self.new d ≡ (if d == length_of self.old then Some (record { origin = origin; message = message_of message; payload = payload.now.items }) else kept_at self.old d) }
+        ensures kept { IsPut (record { origin = origin; message = message_of message; payload = payload.now.items }) self.old self.new }
         ensures lost { (d : ℕ) → lost_at self.new d ≡ lost_at self.old d }
     {
         self.warm_up();
@@ -123,7 +123,7 @@ impl Ring {
         requires room { warm_of self.old.payloads + length_of self.old < width_of self.old }
         ensures width { width_of self.new ≡ width_of self.old }
         ensures length { length_of self.new ≡ length_of self.old + 1 }
-        ensures kept { (d : ℕ) → kept_at self.new d ≡ (if d == length_of self.old then Some (record { origin = origin; message = message_of message; payload = payload.now.items }) else kept_at self.old d) }
+        ensures kept { IsPut (record { origin = origin; message = message_of message; payload = payload.now.items }) self.old self.new }
         ensures lost { (d : ℕ) → lost_at self.new d ≡ lost_at self.old d }
     {
         self.payloads.set(self.places.len(), payload.as_slice());
@@ -214,7 +214,7 @@ impl Ring {
     /// Whether no place of a slot's block is lost. Looks at each of its 64 slots.
     fn is_free(&self, slot: usize) -> bool
         requires { slot < width_of self.now }
-        ensures { result ≡ true → (d : ℕ) → d < width_of self.now → slot_of (width_of self.now) (first_of self.now.payloads) d / 64 ≡ slot / 64 → lost_at self.now d ≡ false }
+        ensures { result ≡ true → IsFree (slot / 64) self.now }
     {
         let start = slot / BLOCK * BLOCK;
         let end = (start + BLOCK).min(self.places.capacity());

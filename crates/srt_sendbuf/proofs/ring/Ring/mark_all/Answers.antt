@@ -19,8 +19,10 @@ pub loop-at-preserved : goal.loop-at-preserved
 loop-at-preserved c =
     let i = c.loop-at.invariant in
     record {
-      width = c.mark.ensures.width ∙ i.width;
-      length = c.mark.ensures.length ∙ i.length;
-      kept = λ d. c.mark.ensures.kept d ∙ i.kept d;
+      same = record {
+        width = c.mark.ensures.width ∙ i.same.width;
+        length = c.mark.ensures.length ∙ i.same.length;
+        kept = λ d. c.mark.ensures.kept d ∙ i.same.kept d;
+      };
       lost = λ d. one_more c.args.from c.loop-at.at d _ _ _ c.loop-at.auto.at (c.mark.ensures.lost d) (i.lost d);
     }
