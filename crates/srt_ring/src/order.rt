@@ -1,6 +1,6 @@
 //! The map from slots of a ring to payload buffers, one to one.
 
-ghost use Rattle.std.specs.Prelude.{◌≡◌, ℕ, ◌<◌, IfOk, vec_len, slice_index_or};
+ghost use Rattle.std.specs.Prelude.{◌≡◌, ◌≢◌, ℕ, ◌<◌, IfOk, vec_len, slice_index_or};
 
 use std::alloc::{AllocError, Global};
 
@@ -44,7 +44,7 @@ impl BufferOrder {
         ensures slots { slots_of self.new ≡ slots_of self.old }
         ensures one { buffer_of_slot self.new one ≡ buffer_of_slot self.old other }
         ensures other { buffer_of_slot self.new other ≡ buffer_of_slot self.old one }
-        ensures others { (slot : ℕ) → (slot ≡ one → ⊥) → (slot ≡ other → ⊥) → buffer_of_slot self.new slot ≡ buffer_of_slot self.old slot }
+        ensures others { (slot : ℕ) → slot ≢ one → slot ≢ other → buffer_of_slot self.new slot ≡ buffer_of_slot self.old slot }
     {
         self.buffers.swap(one, other);
     }

@@ -1,6 +1,6 @@
 //! A ring of payloads, addressed by their distance from its front.
 
-ghost use Rattle.std.specs.Prelude.{◌≡◌, ℕ, ◌+◌, ◌<◌, ◌≤◌, ◌==◌, [], length, None, IfOk, IfSome, vec_len, if◌then◌else◌};
+ghost use Rattle.std.specs.Prelude.{◌≡◌, ◌≢◌, ℕ, ◌+◌, ◌<◌, ◌≤◌, ◌==◌, [], length, None, IfOk, IfSome, vec_len, if◌then◌else◌};
 ghost use Rattle.srt_ring.specs.Slots.{slots_of};
 
 use crate::buffers::PayloadBuffer;
@@ -135,7 +135,7 @@ impl PayloadRing {
         ensures warm { warm_of self.new ≡ warm_of self.old }
         ensures one { payload_at self.new one ≡ payload_at self.old other }
         ensures other { payload_at self.new other ≡ payload_at self.old one }
-        ensures others { (d : ℕ) → d < width_of self.old → (d ≡ one → ⊥) → (d ≡ other → ⊥) → payload_at self.new d ≡ payload_at self.old d }
+        ensures others { (d : ℕ) → d < width_of self.old → d ≢ one → d ≢ other → payload_at self.new d ≡ payload_at self.old d }
     {
         let one = self.slot(one);
         let other = self.slot(other);

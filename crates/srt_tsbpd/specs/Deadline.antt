@@ -1,5 +1,5 @@
 -- When a packet is due, and when it is too late. All times are whole microseconds.
-use Rattle.std.specs.Prelude.{◌≡◌, ℕ, ◌+◌, ◌*◌, ◌/◌, max, ℤ, pos, ◌+ℤ◌, ◌-ℤ◌, ◌*ℤ◌, ◌<ℤ◌}
+use Rattle.std.specs.Prelude.{◌≡◌, ℕ, ◌+◌, ◌-◌, ◌*◌, ◌/◌, max, ℤ, pos, ◌+ℤ◌, ◌-ℤ◌, ◌*ℤ◌, ◌<ℤ◌}
 use Rattle.srt_seq.specs.Limits.{tlpktdrop_min_us}
 use Rattle.srt_seq.specs.Lift.{IsLift, lift, stamped_from}
 use Rattle.srt_tsbpd.specs.declared.deadlines.Base.{Base}
@@ -28,6 +28,10 @@ deadline_at opening first word now delay = pos opening -ℤ pos first +ℤ lift 
 -- the same in a session that counts from its own beginning: time 0 is its opening, and 0 its conclusion's timestamp
 abbrev pub due_time : (delay time stamp : ℕ) → ℤ
 due_time delay time stamp = lift stamp (pos time) +ℤ pos delay
+
+-- a deadline of such a session, as a moment
+abbrev pub deadline_from_opening : (opening first word now delay : ℕ) → ℤ
+deadline_from_opening opening first word now delay = pos opening +ℤ due_time delay (now - opening) (stamped_from first word)
 
 -- there is exactly one deadline, and the function gives it
 abbrev pub DeadlineIsTheMoment : Type 0

@@ -1,6 +1,6 @@
 //! When packets are due (draft-sharabayko-srt-01, section 4.5.1).
 
-ghost use Rattle.std.specs.Prelude.{◌≡◌, ◌-◌, ◌^◌, ◌<◌, ◌≤◌, pos, ◌+ℤ◌};
+ghost use Rattle.std.specs.Prelude.{◌≡◌, ◌^◌, ◌<◌, ◌≤◌};
 
 use srt_seq::Stamp32;
 
@@ -14,8 +14,7 @@ pub struct Base {
 }
 
 impl Base {
-    ghost use Rattle.srt_seq.specs.Lift.{stamped_from};
-    ghost use Rattle.srt_tsbpd.specs.Deadline.{opening_of, first_of, IsDeadline, deadline_at, due_time};
+    ghost use Rattle.srt_tsbpd.specs.Deadline.{opening_of, first_of, IsDeadline, deadline_at, deadline_from_opening};
 
     /// The base of a session that is opened at `moment`, in microseconds, by a conclusion with this timestamp.
     pub fn new(moment: u64, conclusion: Stamp32) -> Base
@@ -37,7 +36,7 @@ impl Base {
         ensures moment { IsDeadline (opening_of self) (first_of self) stamp.word now delay result }
         ensures value { result ≡ deadline_at (opening_of self) (first_of self) stamp.word now delay }
         // The same, counted from the session's opening and its first timestamp.
-        ensures own { opening_of self ≤ now → result ≡ pos (opening_of self) +ℤ due_time delay (now - opening_of self) (stamped_from (first_of self) stamp.word) }
+        ensures own { opening_of self ≤ now → result ≡ deadline_from_opening (opening_of self) (first_of self) stamp.word now delay }
     {
         let since_first = Stamp32::new(stamp.word.wrapping_sub(self.first.word));
         let since_opening = since_first.lift(now as i64 - self.opening as i64);
