@@ -17,5 +17,6 @@ pub mod Known
 pub mod Counted
 pub mod Tries
 pub mod Step
+pub mod Replayed
 pub mod Sent
 pub mod KeyFaults

@@ -3,6 +3,8 @@ use Rattle.std.specs.Prelude.{◌≡◌, ℕ, ◌+◌, List, [], ◌∷◌, ◌+
 use Rattle.srt_hub.specs.declared.answers.OutOfMemory.{OutOfMemory as NoMemory}
 use Rattle.srt_seq.specs.Terms.{Terms}
 use Rattle.srt_hub.specs.World.{Event, Sorting, Meaning}
+use Rattle.srt_hub.specs.Hubs.{names}
+use Rattle.srt_hub.specs.Calls.{Past, SortingFor}
 use Rattle.srt_gateway.specs.declared.replaying.ReplayFault.{ReplayFault}
 use Rattle.srt_gateway.specs.declared.replaying.ReplayFault.TheVariants.{Tape, OutOfMemory, Read, Write}
 use Rattle.srt_gateway.specs.Tape.{lines_of}
@@ -49,6 +51,30 @@ Answered class reply entries past After old new held holds number (Err (Tape lin
 Answered class reply entries past After old new held holds number (Err OutOfMemory) = (event : Event) × (holds ≡ held) × TookEvent old new (length entries) number event × WantsCopy class event
 Answered class reply entries past After old new held holds number (Err Read) = holds ≡ held
 Answered class reply entries past After old new held holds number (Err Write) = (event : Event) × TookEvent old new (length entries) number event × ((n : ℕ) × Wrote held holds (take n (event_text class reply entries past event)))
+
+-- the same four over a gateway, whatever it has behind it: an event's answer,
+abbrev pub AnswersEvent : {X : Type 0} → (Stands : X → Past) → (old new : X) → SortingFor → Meaning → Event → (text : List ℕ) → Type 0
+AnswersEvent Stands old new class reply event text =
+    (secret : List ℕ) (entries : List Terms) (past : List Event) → Stands old secret entries past →
+    WasAnswered (class secret (names entries)) reply entries past event text (Stands new secret entries)
+
+-- an event's answer, or none for want of memory,
+abbrev pub TriesEvent : {X : Type 0} → (Stands : X → Past) → (old new : X) → SortingFor → Meaning → Event → (buffer : List ℕ) → Result ℕ NoMemory → Type 0
+TriesEvent Stands old new class reply event buffer result =
+    (secret : List ℕ) (entries : List Terms) (past : List Event) → Stands old secret entries past →
+    EventAnswered (class secret (names entries)) reply entries past event buffer (Stands new secret entries) result
+
+-- a line's answer,
+abbrev pub TriesLine : {X : Type 0} → (Stands : X → Past) → (old new : X) → SortingFor → Meaning → (line buffer : List ℕ) → Result (Option ℕ) NoMemory → Type 0
+TriesLine Stands old new class reply line buffer result =
+    (secret : List ℕ) (entries : List Terms) (past : List Event) → Stands old secret entries past →
+    LineAnswered (class secret (names entries)) reply entries past line buffer (Stands new secret entries) result
+
+-- and the result of one line, from what is left in a reader to what a writer holds
+abbrev pub TriesNext : {X : Type 0} → (Stands : X → Past) → (old new : X) → SortingFor → Meaning → (left left' held holds : Option (List ℕ)) → (number : ℕ) → Result Bool ReplayFault → Type 0
+TriesNext Stands old new class reply left left' held holds number result =
+    (secret : List ℕ) (entries : List Terms) (past : List Event) → Stands old secret entries past →
+    Answered (class secret (names entries)) reply entries past (Stands new secret entries) left left' held holds number result
 
 -- past events, the newest first, with those that came since, the oldest first
 abbrev pub with_past : (past came : List Event) → List Event

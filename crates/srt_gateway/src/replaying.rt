@@ -1,17 +1,14 @@
 //! Tapes replayed over a hub: the event of each line is run, and its answer is written as a line.
 
-ghost use Rattle.std.specs.Prelude.{◌≡◌, ◌≤◌, ◌<◌, ◌^◌, ◌⊎◌, ℕ, List, [], IfOk, IfSome, take, length, map, false};
-ghost use Rattle.srt_seq.specs.Terms.{Terms, terms_of};
-ghost use Rattle.srt_cookie.specs.Cookie.{secret_bytes};
-ghost use Rattle.srt_lobby.specs.Lobby.{class_of};
-ghost use Rattle.srt_route.specs.Route.{reply};
-ghost use Rattle.srt_hub.specs.World.{Event, Arrives, Ticks, Turns, Sends};
-ghost use Rattle.srt_hub.specs.Hubs.{names};
+ghost use Rattle.std.specs.Prelude.{◌≡◌, ◌≤◌, ◌<◌, ◌^◌, ◌⊎◌, IfOk, IfSome, take, false};
+ghost use Rattle.srt_hub.specs.World.{Arrives, Ticks, Turns, Sends};
+ghost use Rattle.srt_hub.specs.Calls.{datagram};
 ghost use Rattle.srt_gateway.specs.Said.{event_said, IsSound};
-ghost use Rattle.srt_gateway.specs.Replay.{Replays, WasRefused};
+ghost use Rattle.srt_gateway.specs.Replay.{WasRefused};
 ghost use Rattle.srt_gateway.specs.Counted.{source, reads_left, last_brought, TurnRead, ReplayRead};
 ghost use Rattle.srt_gateway.specs.Tries.{sink, HasWriteCause, ReplayWritten};
-ghost use Rattle.srt_gateway.specs.Step.{WasAnswered, EventAnswered, LineAnswered, Answered, IsReplaying};
+ghost use Rattle.srt_gateway.specs.Step.{AnswersEvent, TriesEvent, TriesLine, TriesNext};
+ghost use Rattle.srt_gateway.specs.Replayed.{ReplaysOver, ReplaysOf};
 
 use crate::config::Config;
 use crate::events::{Said, read_event};
@@ -54,7 +51,7 @@ fn answer_arrival<R: RouteStep, L: Lobby>(
 ) -> Result<usize, OutOfMemory>
     requires { moment < 2 ^ 62 }
     ensures within { IfOk result (λ n. n ≤ 4096) }
-    ensures answered { (secret : List ℕ) (entries : List Terms) (past : List Event) → ⟦<Hub<R, L> as Gateway>⟧.stands hub.old secret entries past → EventAnswered (L.class secret (names entries)) R.reply entries past (Arrives (record { peer = peer; bytes = bytes.now }) moment false) out.new (⟦<Hub<R, L> as Gateway>⟧.stands hub.new secret entries) result }
+    ensures answered { TriesEvent ⟦<Hub<R, L> as Gateway>⟧.stands hub.old hub.new L.class R.reply (Arrives (datagram peer bytes.now) moment false) out.new result }
 {
     match hub.arrive(alloc, peer, bytes, moment) {
         Ok(answer) => Ok(write_arrived(&answer, out)),
@@ -73,7 +70,7 @@ fn answer_tick<R: RouteStep, L: Lobby>(
     requires route { route < ⟦<Hub<R, L> as Gateway>⟧.routes hub.old }
     requires moment { moment < 2 ^ 62 }
     ensures within { result ≤ 4096 }
-    ensures answered { (secret : List ℕ) (entries : List Terms) (past : List Event) → ⟦<Hub<R, L> as Gateway>⟧.stands hub.old secret entries past → WasAnswered (L.class secret (names entries)) R.reply entries past (Ticks route moment) (take result out.new) (⟦<Hub<R, L> as Gateway>⟧.stands hub.new secret entries) }
+    ensures answered { AnswersEvent ⟦<Hub<R, L> as Gateway>⟧.stands hub.old hub.new L.class R.reply (Ticks route moment) (take result out.new) }
 {
     let answer = hub.tick(route, moment);
     write_ticked(route, answer, out)
@@ -88,7 +85,7 @@ fn answer_turn<R: RouteStep, L: Lobby>(
 ) -> usize
     requires { route < ⟦<Hub<R, L> as Gateway>⟧.routes hub.old }
     ensures within { result ≤ 4096 }
-    ensures answered { (secret : List ℕ) (entries : List Terms) (past : List Event) → ⟦<Hub<R, L> as Gateway>⟧.stands hub.old secret entries past → WasAnswered (L.class secret (names entries)) R.reply entries past (Turns route) (take result out.new) (⟦<Hub<R, L> as Gateway>⟧.stands hub.new secret entries) }
+    ensures answered { AnswersEvent ⟦<Hub<R, L> as Gateway>⟧.stands hub.old hub.new L.class R.reply (Turns route) (take result out.new) }
 {
     let answer = hub.turn(route);
     write_turned(answer, out)
@@ -105,7 +102,7 @@ fn answer_send<R: RouteStep, L: Lobby>(
 ) -> usize
     requires { route < ⟦<Hub<R, L> as Gateway>⟧.routes hub.old }
     ensures within { result ≤ 4096 }
-    ensures answered { (secret : List ℕ) (entries : List Terms) (past : List Event) → ⟦<Hub<R, L> as Gateway>⟧.stands hub.old secret entries past → WasAnswered (L.class secret (names entries)) R.reply entries past (Sends route) (take result out.new) (⟦<Hub<R, L> as Gateway>⟧.stands hub.new secret entries) }
+    ensures answered { AnswersEvent ⟦<Hub<R, L> as Gateway>⟧.stands hub.old hub.new L.class R.reply (Sends route) (take result out.new) }
 {
     match hub.send(route, packet) {
         Some((peer, len)) => write_sent(peer, &packet[..len], out),
@@ -113,55 +110,64 @@ fn answer_send<R: RouteStep, L: Lobby>(
     }
 }
 
-/// The buffers of a replay, made once: for a line, its datagram, a packet to send, and an answer.
+/// What a line's answer is made with: the memory for a datagram's copy, and buffers for the line's datagram, a packet to
+/// send, and the answer.
 #[derive(Drop)]
-struct Buffers {
-    line: [u8; LINE_MAX],
+struct Desk {
+    alloc: Global,
     datagram: [u8; 2048],
     packet: [u8; 1472],
     text: [u8; TEXT_MAX],
 }
 
-/// Runs an event, and writes its answer as a line to the front of `out`. Returns the line's length.
+/// What a replay works with, made once: a buffer for a line, and what its answer is made with.
+#[derive(Drop)]
+struct Workspace {
+    line: [u8; LINE_MAX],
+    desk: Desk,
+}
+
+/// Runs an event, and writes its answer as a line to the front of the desk's text. Returns the line's length.
 fn answer_event<R: RouteStep, L: Lobby>(
-    alloc: Global,
     hub: &mut Hub<R, L>,
     event: Said,
-    datagram: &[u8; 2048],
-    packet: &mut [u8; 1472],
-    out: &mut [u8; TEXT_MAX],
+    desk: &mut Desk,
 ) -> Result<usize, OutOfMemory>
     requires { IsSound (⟦<Hub<R, L> as Gateway>⟧.routes hub.old) event }
     ensures within { IfOk result (λ n. n ≤ 4096) }
-    ensures answered { (secret : List ℕ) (entries : List Terms) (past : List Event) → ⟦<Hub<R, L> as Gateway>⟧.stands hub.old secret entries past → EventAnswered (L.class secret (names entries)) R.reply entries past (event_said datagram.now event) out.new (⟦<Hub<R, L> as Gateway>⟧.stands hub.new secret entries) result }
+    ensures answered { TriesEvent ⟦<Hub<R, L> as Gateway>⟧.stands hub.old hub.new L.class R.reply (event_said desk.old.datagram event) desk.new.text result }
 {
     match event {
         Said::Arrival { peer, moment, len } => {
-            answer_arrival(alloc, hub, peer, moment, &datagram[..len], out)
+            answer_arrival(
+                desk.alloc,
+                hub,
+                peer,
+                moment,
+                &desk.datagram[..len],
+                &mut desk.text,
+            )
         }
-        Said::Tick { route, moment } => Ok(answer_tick(hub, route, moment, out)),
-        Said::Turn { route } => Ok(answer_turn(hub, route, out)),
-        Said::Send { route } => Ok(answer_send(hub, route, packet, out)),
+        Said::Tick { route, moment } => Ok(answer_tick(hub, route, moment, &mut desk.text)),
+        Said::Turn { route } => Ok(answer_turn(hub, route, &mut desk.text)),
+        Said::Send { route } => Ok(answer_send(hub, route, &mut desk.packet, &mut desk.text)),
     }
 }
 
-/// Runs the event of a line, and writes its answer as a line to the front of `out`. Returns the line's length; None if
-/// the line isn't an event.
+/// Runs the event of a line, and writes its answer as a line to the front of the desk's text. Returns the line's length;
+/// None if the line isn't an event.
 fn answer_line<R: RouteStep, L: Lobby>(
-    alloc: Global,
     hub: &mut Hub<R, L>,
     line: &[u8],
-    datagram: &mut [u8; 2048],
-    packet: &mut [u8; 1472],
-    out: &mut [u8; TEXT_MAX],
+    desk: &mut Desk,
 ) -> Result<Option<usize>, OutOfMemory>
     ensures within { IfOk result (λ answer. IfSome answer (λ n. n ≤ 4096)) }
-    ensures answered { (secret : List ℕ) (entries : List Terms) (past : List Event) → ⟦<Hub<R, L> as Gateway>⟧.stands hub.old secret entries past → LineAnswered (L.class secret (names entries)) R.reply entries past line.now out.new (⟦<Hub<R, L> as Gateway>⟧.stands hub.new secret entries) result }
+    ensures answered { TriesLine ⟦<Hub<R, L> as Gateway>⟧.stands hub.old hub.new L.class R.reply line.now desk.new.text result }
 {
-    let Some(event) = read_event(line, hub.routes(), datagram) else {
+    let Some(event) = read_event(line, hub.routes(), &mut desk.datagram) else {
         return Ok(None);
     };
-    match answer_event(alloc, hub, event, datagram, packet, out) {
+    match answer_event(hub, event, desk) {
         Ok(end) => Ok(Some(end)),
         Err(fault) => Err(fault),
     }
@@ -170,19 +176,19 @@ fn answer_line<R: RouteStep, L: Lobby>(
 /// Takes the next line, which has this number, and writes its answer. Returns false if there is no further line.
 #[tactic(auto, unfolding(crate::specs::Replay::event_at))]
 fn answer_next<R: RouteStep, L: Lobby, B: BufRead, W: Write>(
-    alloc: Global,
     hub: &mut Hub<R, L>,
     reader: &mut CountedReader<B>,
     writer: &mut CountedWriter<W>,
-    buffers: &mut Buffers,
+    work: &mut Workspace,
     number: u32,
 ) -> Result<bool, ReplayFault>
     ensures fewer { reads_left reader.new ≤ reads_left reader.old }
     ensures reads { TurnRead number (reads_left reader.new) (last_brought reader.new) result }
     ensures writes { HasWriteCause writer.new result }
-    ensures answered { (secret : List ℕ) (entries : List Terms) (past : List Event) → ⟦<Hub<R, L> as Gateway>⟧.stands hub.old secret entries past → Answered (L.class secret (names entries)) R.reply entries past (⟦<Hub<R, L> as Gateway>⟧.stands hub.new secret entries) (B.remaining (source reader.old)) (B.remaining (source reader.new)) (W.contents (sink writer.old)) (W.contents (sink writer.new)) number result }
+    ensures answered { TriesNext ⟦<Hub<R, L> as Gateway>⟧.stands hub.old hub.new L.class R.reply
+        (B.remaining (source reader.old)) (B.remaining (source reader.new)) (W.contents (sink writer.old)) (W.contents (sink writer.new)) number result }
 {
-    let len = match next_line(reader, &mut buffers.line) {
+    let len = match next_line(reader, &mut work.line) {
         Ok(Taken::Line(len)) => len,
         Ok(Taken::Long) => return Err(ReplayFault::Tape(number)),
         Ok(Taken::End) => return Ok(false),
@@ -191,19 +197,12 @@ fn answer_next<R: RouteStep, L: Lobby, B: BufRead, W: Write>(
     if number > LINES_MAX {
         return Err(ReplayFault::Tape(number));
     }
-    let end = match answer_line(
-        alloc,
-        hub,
-        &buffers.line[..len],
-        &mut buffers.datagram,
-        &mut buffers.packet,
-        &mut buffers.text,
-    ) {
+    let end = match answer_line(hub, &work.line[..len], &mut work.desk) {
         Ok(Some(end)) => end,
         Ok(None) => return Err(ReplayFault::Tape(number)),
         Err(_) => return Err(ReplayFault::OutOfMemory),
     };
-    match writer.write_bytes(&buffers.text[..end]) {
+    match writer.write_bytes(&work.desk.text[..end]) {
         Ok(()) => Ok(true),
         Err(_) => Err(ReplayFault::Write),
     }
@@ -219,16 +218,19 @@ fn answer_lines<R: RouteStep, L: Lobby, B: BufRead, W: Write>(
     ensures fewer { reads_left reader.new ≤ reads_left reader.old }
     ensures reads { ReplayRead (reads_left reader.new) (last_brought reader.new) result }
     ensures writes { HasWriteCause writer.new result }
-    ensures replays { (secret : List ℕ) (entries : List Terms) → ⟦<Hub<R, L> as Gateway>⟧.stands hub.old secret entries [] → Replays (L.class secret (names entries)) R.reply entries (B.remaining (source reader.old)) (W.contents (sink writer.old)) (W.contents (sink writer.new)) result }
+    ensures replays { ReplaysOver ⟦<Hub<R, L> as Gateway>⟧.stands hub.old L.class R.reply B.remaining reader.old W.contents writer.old writer.new result }
 {
-    let mut buffers = Buffers {
+    let mut work = Workspace {
         line: [0; LINE_MAX],
-        datagram: [0; 2048],
-        packet: [0; 1472],
-        text: [0; TEXT_MAX],
+        desk: Desk {
+            alloc,
+            datagram: [0; 2048],
+            packet: [0; 1472],
+            text: [0; TEXT_MAX],
+        },
     };
     for before in 0..LINES_MAX + 1 {
-        match answer_next(alloc, hub, reader, writer, &mut buffers, before + 1) {
+        match answer_next(hub, reader, writer, &mut work, before + 1) {
             Ok(true) => {}
             Ok(false) => return Ok(()),
             Err(fault) => return Err(fault),
@@ -251,7 +253,7 @@ pub fn replay_over<R: RouteStep, L: Lobby, B: BufRead, W: Write>(
     ensures fewer { reads_left reader.new ≤ reads_left reader.old }
     ensures reads { ReplayRead (reads_left reader.new) (last_brought reader.new) result }
     ensures writes { ReplayWritten writer.new result }
-    ensures replays { (secret : List ℕ) (entries : List Terms) → ⟦<Hub<R, L> as Gateway>⟧.stands hub.old secret entries [] → Replays (L.class secret (names entries)) R.reply entries (B.remaining (source reader.old)) (W.contents (sink writer.old)) (W.contents (sink writer.new)) result }
+    ensures replays { ReplaysOver ⟦<Hub<R, L> as Gateway>⟧.stands hub.old L.class R.reply B.remaining reader.old W.contents writer.old writer.new result }
 {
     let answered = answer_lines(alloc, hub, reader, writer);
     if answered == Err(ReplayFault::Write) {
@@ -274,7 +276,8 @@ pub fn replay<B: BufRead, W: Write>(
     ensures fewer { reads_left reader.new ≤ reads_left reader.old }
     ensures reads { WasRefused reader.old reader.new writer.old writer.new result ⊎ ReplayRead (reads_left reader.new) (last_brought reader.new) result }
     ensures writes { WasRefused reader.old reader.new writer.old writer.new result ⊎ ReplayWritten writer.new result }
-    ensures replays { WasRefused reader.old reader.new writer.old writer.new result ⊎ Replays (class_of (secret_bytes config.now.secret) (names (map terms_of config.now.entries.items))) reply (map terms_of config.now.entries.items) (B.remaining (source reader.old)) (W.contents (sink writer.old)) (W.contents (sink writer.new)) result }
+    ensures replays { WasRefused reader.old reader.new writer.old writer.new result
+        ⊎ ReplaysOf config.now B.remaining reader.old W.contents writer.old writer.new result }
 {
     match SrtGateway::open(alloc, config.secret, config.entries.as_slice()) {
         Ok(mut hub) => replay_over(alloc, &mut hub, reader, writer),

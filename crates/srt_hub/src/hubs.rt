@@ -1,6 +1,6 @@
 //! All routes of a gateway behind its lobby.
 
-ghost use Rattle.std.specs.Prelude.{◌≡◌, ℕ, ◌<◌, ◌≤◌, ◌^◌, List, [], ◌∷◌, None, Some, Err, IfOk, IfErr, OnErr, IfSome, IfNone, map, take, drop, length, option_map, is_err, if◌then◌else◌};
+ghost use Rattle.std.specs.Prelude.{◌≡◌, ℕ, ◌<◌, ◌≤◌, ◌^◌, List, [], None, Some, Err, IfOk, IfErr, OnErr, IfSome, IfNone, map, drop, length, is_err, if◌then◌else◌};
 ghost use Rattle.srt_hub.specs.World.{offered_to};
 
 use crate::answers::{Arrived, OutOfMemory, Ticked};
@@ -56,13 +56,12 @@ impl<R: RouteStep, L: Lobby> Gateway for Hub<R, L> {
 }
 
 impl<R: RouteStep, L: Lobby> Hub<R, L> {
-    ghost use Rattle.std.specs.Result.{result_ok};
     ghost use Rattle.srt_seq.specs.declared.shared.OpenFault.{OpenFault as TheFault};
     ghost use Rattle.srt_cookie.specs.Cookie.{secret_bytes};
     ghost use Rattle.srt_lobby.specs.Opening.{fault_of};
-    ghost use Rattle.srt_seq.specs.Terms.{Terms, terms_of};
-    ghost use Rattle.srt_hub.specs.World.{Event, Arrives, Ticks, Turns, Sends, arrival_of, tick, turn, first};
-    ghost use Rattle.srt_hub.specs.Hubs.{names, terms_at, lane_at, room_at};
+    ghost use Rattle.srt_seq.specs.Terms.{terms_of};
+    ghost use Rattle.srt_hub.specs.World.{Arrives, Ticks, Turns, Sends, tick, turn};
+    ghost use Rattle.srt_hub.specs.Calls.{HasEntries, Happened, ArrivalAnswers, RouteAnswers, datagram, datagram_at, first_out};
 
     /// Opens the gateway of these entries, 1 to 511. Takes all memory except that for copies of datagrams. Errors:
     /// `Names` if a name has a wrong form or appears twice, else `Limits` if the number of entries or a number of an
@@ -94,7 +93,7 @@ impl<R: RouteStep, L: Lobby> Hub<R, L> {
     /// The number of routes; their indexes are the numbers below it. O(1).
     pub fn routes(&self) -> usize
         ensures routes { result ≡ ⟦<Hub<R, L> as Gateway>⟧.routes self.now }
-        ensures entries { (secret : List ℕ) (entries : List Terms) (events : List Event) → ⟦<Hub<R, L> as Gateway>⟧.stands self.now secret entries events → result ≡ length entries }
+        ensures entries { HasEntries ⟦<Hub<R, L> as Gateway>⟧.stands self.now result }
     {
         self.lanes.len()
     }
@@ -110,8 +109,8 @@ impl<R: RouteStep, L: Lobby> Hub<R, L> {
         moment: u64,
     ) -> Result<Arrived, OutOfMemory>
         requires { moment < 2 ^ 62 }
-        ensures stands { (secret : List ℕ) (entries : List Terms) (events : List Event) → ⟦<Hub<R, L> as Gateway>⟧.stands self.old secret entries events → ⟦<Hub<R, L> as Gateway>⟧.stands self.new secret entries (Arrives (record { peer = peer; bytes = bytes.now }) moment (is_err result) ∷ events) }
-        ensures answer { (secret : List ℕ) (entries : List Terms) (events : List Event) → ⟦<Hub<R, L> as Gateway>⟧.stands self.old secret entries events → result_ok result ≡ arrival_of (is_err result) (room_at (L.class secret (names entries)) R.reply entries events) (L.class secret (names entries) (record { peer = peer; bytes = bytes.now }) moment) }
+        ensures stands { Happened ⟦<Hub<R, L> as Gateway>⟧.stands self.old self.new (Arrives (datagram peer bytes.now) moment (is_err result)) }
+        ensures answer { ArrivalAnswers ⟦<Hub<R, L> as Gateway>⟧.stands self.old L.class R.reply (datagram peer bytes.now) moment result }
         ensures err { OnErr result (self.new ≡ self.old) }
         ensures routes { ⟦<Hub<R, L> as Gateway>⟧.routes self.new ≡ ⟦<Hub<R, L> as Gateway>⟧.routes self.old }
     {
@@ -136,8 +135,8 @@ impl<R: RouteStep, L: Lobby> Hub<R, L> {
     pub fn tick(&mut self, r: usize, moment: u64) -> Ticked
         requires route { r < ⟦<Hub<R, L> as Gateway>⟧.routes self.old }
         requires moment { moment < 2 ^ 62 }
-        ensures stands { (secret : List ℕ) (entries : List Terms) (events : List Event) → ⟦<Hub<R, L> as Gateway>⟧.stands self.old secret entries events → ⟦<Hub<R, L> as Gateway>⟧.stands self.new secret entries (Ticks r moment ∷ events) }
-        ensures answer { (secret : List ℕ) (entries : List Terms) (events : List Event) → ⟦<Hub<R, L> as Gateway>⟧.stands self.old secret entries events → result ≡ tick (terms_at entries r) (lane_at (L.class secret (names entries)) R.reply entries r events) }
+        ensures stands { Happened ⟦<Hub<R, L> as Gateway>⟧.stands self.old self.new (Ticks r moment) }
+        ensures answer { RouteAnswers ⟦<Hub<R, L> as Gateway>⟧.stands self.old L.class R.reply r tick result }
         ensures routes { ⟦<Hub<R, L> as Gateway>⟧.routes self.new ≡ ⟦<Hub<R, L> as Gateway>⟧.routes self.old }
     {
         let item = Timely {
@@ -150,8 +149,8 @@ impl<R: RouteStep, L: Lobby> Hub<R, L> {
     /// item of the inbox. Takes no memory.
     pub fn turn(&mut self, r: usize) -> Turned
         requires { r < ⟦<Hub<R, L> as Gateway>⟧.routes self.old }
-        ensures stands { (secret : List ℕ) (entries : List Terms) (events : List Event) → ⟦<Hub<R, L> as Gateway>⟧.stands self.old secret entries events → ⟦<Hub<R, L> as Gateway>⟧.stands self.new secret entries (Turns r ∷ events) }
-        ensures answer { (secret : List ℕ) (entries : List Terms) (events : List Event) → ⟦<Hub<R, L> as Gateway>⟧.stands self.old secret entries events → result ≡ turn (terms_at entries r) (lane_at (L.class secret (names entries)) R.reply entries r events) }
+        ensures stands { Happened ⟦<Hub<R, L> as Gateway>⟧.stands self.old self.new (Turns r) }
+        ensures answer { RouteAnswers ⟦<Hub<R, L> as Gateway>⟧.stands self.old L.class R.reply r turn result }
         ensures routes { ⟦<Hub<R, L> as Gateway>⟧.routes self.new ≡ ⟦<Hub<R, L> as Gateway>⟧.routes self.old }
     {
         self.lanes[r].turn()
@@ -162,8 +161,8 @@ impl<R: RouteStep, L: Lobby> Hub<R, L> {
     /// memory.
     pub fn send(&mut self, r: usize, out: &mut [u8; 1472]) -> Option<(Peer, usize)>
         requires { r < ⟦<Hub<R, L> as Gateway>⟧.routes self.old }
-        ensures stands { (secret : List ℕ) (entries : List Terms) (events : List Event) → ⟦<Hub<R, L> as Gateway>⟧.stands self.old secret entries events → ⟦<Hub<R, L> as Gateway>⟧.stands self.new secret entries (Sends r ∷ events) }
-        ensures answer { (secret : List ℕ) (entries : List Terms) (events : List Event) → ⟦<Hub<R, L> as Gateway>⟧.stands self.old secret entries events → option_map (λ sent. record { peer = sent.0; bytes = take sent.1 out.new }) result ≡ first (lane_at (L.class secret (names entries)) R.reply entries r events).outbox }
+        ensures stands { Happened ⟦<Hub<R, L> as Gateway>⟧.stands self.old self.new (Sends r) }
+        ensures answer { RouteAnswers ⟦<Hub<R, L> as Gateway>⟧.stands self.old L.class R.reply r first_out (datagram_at out.new result) }
         ensures within { IfSome result (λ sent. sent.1 ≤ 1472) }
         ensures kept { IfSome result (λ sent. drop sent.1 out.new ≡ drop sent.1 out.old) }
         ensures none { IfNone result (out.new ≡ out.old) }

@@ -1,6 +1,6 @@
 //! A route with its queues.
 
-ghost use Rattle.std.specs.Prelude.{◌≡◌, ℕ, ◌+◌, ◌<◌, ◌≤◌, true, IfOk, IfErr, IfSome, IfNone, map, take, drop, length, option_map};
+ghost use Rattle.std.specs.Prelude.{◌≡◌, ℕ, ◌+◌, ◌<◌, ◌≤◌, true, IfOk, IfErr, IfSome, IfNone, map, drop, length};
 ghost use Rattle.std.specs.Vec.{vec_capacity};
 ghost use Rattle.std.specs.VecDeque.{deque_capacity};
 
@@ -48,8 +48,9 @@ impl<R: RouteStep> Standing for Lane<R> {
 impl<R: RouteStep> Lane<R> {
     ghost use Rattle.srt_hub.specs.Queued.{item_in};
     ghost use Rattle.srt_seq.specs.Entries.{is_name, in_limits};
-    ghost use Rattle.srt_seq.specs.Terms.{Terms, terms_of};
-    ghost use Rattle.srt_hub.specs.World.{Lane as TheLane, empty, offered, has_room, turned, turn, sent_from, first};
+    ghost use Rattle.srt_seq.specs.Terms.{terms_of};
+    ghost use Rattle.srt_hub.specs.World.{empty, offered, has_room, turned, turn, sent_from};
+    ghost use Rattle.srt_hub.specs.Calls.{LaneBecomes, LaneAnswers, datagram_at, first_out};
 
     /// A route without items, with empty queues. Takes the memory of the route, of both queues and of `outbox` boxes.
     /// The only error is `OutOfMemory`.
@@ -85,8 +86,8 @@ impl<R: RouteStep> Lane<R> {
     /// Appends an item to the inbox. Returns false, and changes nothing, if the inbox holds its capacity. O(1). Takes
     /// no memory.
     pub fn offer(&mut self, item: Timely) -> bool
-        ensures stands { (e : Terms) (r : ℕ) (m : TheLane) → ⟦<Lane<R> as Standing>⟧.is self.old e r m → ⟦<Lane<R> as Standing>⟧.is self.new e r (offered e (item_in item) m) }
-        ensures answer { (e : Terms) (r : ℕ) (m : TheLane) → ⟦<Lane<R> as Standing>⟧.is self.old e r m → result ≡ has_room e m }
+        ensures stands { LaneBecomes ⟦<Lane<R> as Standing>⟧.is self.old self.new (λ e r m. offered e (item_in item) m) }
+        ensures answer { LaneAnswers ⟦<Lane<R> as Standing>⟧.is self.old has_room result }
     {
         if self.inbox.len() >= self.inbox_room {
             return false;
@@ -97,8 +98,8 @@ impl<R: RouteStep> Lane<R> {
     /// Moves the oldest waiting reply to the outbox, if there is one; else applies the oldest item of the inbox.
     /// `Blocked` if the outbox is full, `Idle` if there is nothing to do. Takes no memory.
     pub fn turn(&mut self) -> Turned
-        ensures stands { (e : Terms) (r : ℕ) (m : TheLane) → ⟦<Lane<R> as Standing>⟧.is self.old e r m → ⟦<Lane<R> as Standing>⟧.is self.new e r (turned R.reply e r m) }
-        ensures answer { (e : Terms) (r : ℕ) (m : TheLane) → ⟦<Lane<R> as Standing>⟧.is self.old e r m → result ≡ turn e m }
+        ensures stands { LaneBecomes ⟦<Lane<R> as Standing>⟧.is self.old self.new (turned R.reply) }
+        ensures answer { LaneAnswers ⟦<Lane<R> as Standing>⟧.is self.old turn result }
     {
         if self.route.waits() {
             let Some(mut place) = self.spare.pop() else {
@@ -118,8 +119,8 @@ impl<R: RouteStep> Lane<R> {
     /// Takes the oldest reply out of the outbox and writes its packet to the front of `out`. Returns its receiver and
     /// its length in bytes; None if the outbox is empty.
     pub fn send(&mut self, out: &mut [u8; 1472]) -> Option<(Peer, usize)>
-        ensures stands { (e : Terms) (r : ℕ) (m : TheLane) → ⟦<Lane<R> as Standing>⟧.is self.old e r m → ⟦<Lane<R> as Standing>⟧.is self.new e r (sent_from m) }
-        ensures answer { (e : Terms) (r : ℕ) (m : TheLane) → ⟦<Lane<R> as Standing>⟧.is self.old e r m → option_map (λ sent. record { peer = sent.0; bytes = take sent.1 out.new }) result ≡ first m.outbox }
+        ensures stands { LaneBecomes ⟦<Lane<R> as Standing>⟧.is self.old self.new (λ e r m. sent_from m) }
+        ensures answer { LaneAnswers ⟦<Lane<R> as Standing>⟧.is self.old first_out (datagram_at out.new result) }
         ensures within { IfSome result (λ sent. sent.1 ≤ 1472) }
         ensures kept { IfSome result (λ sent. drop sent.1 out.new ≡ drop sent.1 out.old) }
         ensures none { IfNone result (out.new ≡ out.old) }

@@ -13,6 +13,7 @@ ghost use Rattle.srt_route.specs.Written.{written};
 ghost use Rattle.srt_seq.specs.Entries.{is_name, in_limits};
 ghost use Rattle.srt_lobby.specs.Opening.{fault_of};
 ghost use Rattle.srt_hub.specs.Hubs.{names};
+ghost use Rattle.srt_hub.specs.Calls.{LobbyAnswers, RouteReplies, datagram};
 
 use srt_cookie::Secret;
 use srt_lobby::Class;
@@ -39,7 +40,7 @@ pub trait Lobby: Drop {
     /// Sorts a datagram that came from `peer` at this moment, in microseconds. Takes no memory.
     fn classify(&self, peer: Peer, bytes: &[u8], moment: u64) -> Class
         requires { moment < 2 ^ 62 }
-        ensures class { (secret : List ℕ) (names : List (List ℕ)) → knows self.now secret names → result ≡ class secret names (record { peer = peer; bytes = bytes.now }) moment }
+        ensures class { LobbyAnswers knows self.now class (datagram peer bytes.now) moment result }
         // A datagram for a route has a whole header.
         ensures header { (r : ℕ) → result ≡ Class.Route r → 16 ≤ length bytes.now };
 
@@ -76,7 +77,7 @@ pub trait RouteStep: Drop {
         requires timely { moment_of (told item) < 2 ^ 62 }
         ensures count { result ≡ length (waiting self.new) }
         ensures stands { (e : Terms) (index : ℕ) (items : List TheItem) → stands self.old e index items → stands self.new e index (told item ∷ items) }
-        ensures replies { (e : Terms) (index : ℕ) (items : List TheItem) → stands self.old e index items → waiting self.new ≡ reply e index (told item ∷ items) };
+        ensures replies { RouteReplies stands self.old reply (told item) (waiting self.new) };
 
     /// Whether a reply waits.
     fn waits(&self) -> bool

@@ -5,6 +5,7 @@ ghost use Rattle.std.specs.Prelude.{◌≡◌, ℕ, ◌+◌, ◌-◌, ◌≤◌,
 ghost use Rattle.srt_packet.specs.declared.writing.Body.TheVariants.{KeepAlive};
 ghost use Rattle.srt_packet.specs.Text.{text};
 ghost use Rattle.srt_route.specs.Written.{written};
+ghost use Rattle.srt_hub.specs.Calls.{datagram};
 
 use crate::{Arrived, Cause, Class, Hub, Lobby, OutOfMemory, Reply, RouteStep, Ticked};
 use srt_cookie::Secret;
@@ -59,7 +60,7 @@ const CALLER: Peer = Peer {
 
 /// A KEEPALIVE with this timestamp.
 fn keep_alive(stamp: u32) -> Reply
-    ensures { written result ≡ record { peer = record { ip = replicate 16 9; port = 7 }; bytes = text (record { stamp = stamp; dest = 5; body = KeepAlive }) } }
+    ensures { written result ≡ datagram (record { ip = replicate 16 9; port = 7 }) (text (record { stamp = stamp; dest = 5; body = KeepAlive })) }
 {
     Reply {
         peer: CALLER,
@@ -79,11 +80,11 @@ struct Twice {
 }
 
 impl RouteStep for Twice {
-    ghost reply = { λ e index items. record { peer = record { ip = replicate 16 9; port = 7 }; bytes = text (record { stamp = 1; dest = 5; body = KeepAlive }) } ∷ record { peer = record { ip = replicate 16 9; port = 7 }; bytes = text (record { stamp = 2; dest = 5; body = KeepAlive }) } ∷ [] };
+    ghost reply = { λ e index items. datagram (record { ip = replicate 16 9; port = 7 }) (text (record { stamp = 1; dest = 5; body = KeepAlive })) ∷ datagram (record { ip = replicate 16 9; port = 7 }) (text (record { stamp = 2; dest = 5; body = KeepAlive })) ∷ [] };
 
     ghost stands = { λ route e index items. Unit {0} };
 
-    ghost waiting = { λ route. drop (2 - route.left) (record { peer = record { ip = replicate 16 9; port = 7 }; bytes = text (record { stamp = 1; dest = 5; body = KeepAlive }) } ∷ record { peer = record { ip = replicate 16 9; port = 7 }; bytes = text (record { stamp = 2; dest = 5; body = KeepAlive }) } ∷ []) };
+    ghost waiting = { λ route. drop (2 - route.left) (datagram (record { ip = replicate 16 9; port = 7 }) (text (record { stamp = 1; dest = 5; body = KeepAlive })) ∷ datagram (record { ip = replicate 16 9; port = 7 }) (text (record { stamp = 2; dest = 5; body = KeepAlive })) ∷ []) };
 
     fn open(_alloc: Global, _entry: &Entry, _index: usize) -> Result<Self, OpenFault> {
         Ok(Twice { left: 0 })

@@ -12,6 +12,7 @@ ghost use Rattle.srt_gateway.specs.RouteParts.{numbers_of, entries_seen};
 use super::faults::{ConfigFault, Key};
 use super::keys::{number_at, only_known, text_at, value_at};
 use srt_lobby::is_taken;
+use srt_seq::limits::MAX_ROUTES;
 use srt_seq::{Entry, Mode, is_between, is_name};
 use std::alloc::Global;
 use toml::{Table, Value};
@@ -148,11 +149,11 @@ fn are_tables(values: &[Value]) -> bool
 fn is_count(values: &[Value]) -> bool
     ensures { result ≡ is_between 1 511 (count (items_view values.now)) }
 {
-    is_between(1, 511, values.len())
+    is_between(1, MAX_ROUTES, values.len())
 }
 
 /// Reads these values as routes; `WrongKind` if one isn't a table, else `OutOfRange` if there are none or more than
-/// 511.
+/// `MAX_ROUTES`.
 #[tactic(auto, unfolding(crate::specs::Routes::routes_in))]
 fn read_routes(alloc: Global, values: &[Value]) -> Result<Vec<Entry>, ConfigFault>
     ensures { Gives entries_seen result (routes_in (items_view values.now)) }
