@@ -11,7 +11,7 @@ use Rattle.srt_gateway.specs.Tape.{lines_of}
 use Rattle.srt_gateway.specs.Texts.{event_text}
 use Rattle.srt_gateway.specs.Known.{NoLine, Wrote}
 use Rattle.srt_gateway.specs.Replay.{event_at, events_on, events_from, fault_on, fault_from, text_after, text_of, tape_text, front_text, Replays}
-use Rattle.srt_gateway.specs.Step.{History, NoEvent, Answered, with_past, IsReplaying}
+use Rattle.srt_gateway.specs.Step.{History, NoEvent, TookEvent, Answered, with_past, Replayed, IsReplaying}
 use Rattle.srt_gateway.proofs.Writing.{wrote_same}
 
 abbrev Known : List ℕ → Option (List ℕ)
@@ -158,24 +158,29 @@ ends_at_memory class reply entries Now Next r0 w0 r w r' w' n h step tape e =
       },
     )
 
+-- the text of a tape is that of the lines that were answered, that of the next line's event, and a rest
+text_on : (class : Sorting) (reply : Meaning) (entries : List Terms) (Now : History) (tape : List ℕ) (held r w r' : Option (List ℕ)) (n : ℕ) (event : Event) → (a : Replayed class reply entries Now tape held r w n) → TookEvent r r' (length entries) n event →
+    (rest : List ℕ) × (tape_text class reply entries tape ≡ text_of class reply entries a.lines ++ (event_text class reply entries (past_of entries a.lines) event ++ rest))
+text_on class reply entries Now tape held r w r' n event a took =
+    let routes = length entries in
+    let past = past_of entries a.lines in
+    let b = took.took a.left a.reader_is in
+    let coming : events_from routes n (lines_of a.left) ≡ event ∷ events_from routes (n + 1) (lines_of b.0) = ap (events_from routes n) b.2 ∙ events_one routes n took.line (lines_of b.0) event took.event_is in (
+      text_after class reply entries (event ∷ past) (events_from routes (n + 1) (lines_of b.0)),
+      tape_text_is class reply entries tape a.lines (lines_of a.left) n a.lines_are a.no_fault a.number_is ∙ ap (λ (es : List Event). text_of class reply entries a.lines ++ text_after class reply entries past es) coming,
+    )
+
 ends_at_write : (class : Sorting) (reply : Meaning) (entries : List Terms) (Now Next : History) (r0 w0 r w r' w' : Option (List ℕ)) (n : ℕ) → IsReplaying class reply entries Now r0 w0 r w n → Step class reply entries Now Next r r' w w' n (Err Write) → Replays class reply entries r0 w0 w' (Err Write)
 ends_at_write class reply entries Now Next r0 w0 r w r' w' n h step tape e =
     let a = h tape e in
-    let routes = length entries in
-    let past = past_of entries a.lines in
-    let s = step past a.stands in
-    let event = s.0 in
-    let took = s.1 in
-    let b = took.took a.left a.reader_is in
-    let k = s.2.0 in
-    let text = event_text class reply entries past event in
-    let rest = text_after class reply entries (event ∷ past) (events_from routes (n + 1) (lines_of b.0)) in
+    let s = step (past_of entries a.lines) a.stands in
+    let text = event_text class reply entries (past_of entries a.lines) s.0 in
     let done = text_of class reply entries a.lines in
-    let more = drop k text ++ rest in
-    let parts : take k text ++ more ≡ text ++ rest = sym (append_assoc (take k text) (drop k text) rest) ∙ ap (λ (xs : List ℕ). xs ++ rest) (take-append-drop k text) in
-    let coming : events_from routes n (lines_of a.left) ≡ event ∷ events_from routes (n + 1) (lines_of b.0) = ap (events_from routes n) b.2 ∙ events_one routes n took.line (lines_of b.0) event took.event_is in
-    let whole : tape_text class reply entries tape ≡ done ++ (text ++ rest) = tape_text_is class reply entries tape a.lines (lines_of a.left) n a.lines_are a.no_fault a.number_is ∙ ap (λ (es : List Event). done ++ text_after class reply entries past es) coming in
-    (done ++ take k text, more, λ ws f. s.2.1 (ws ++ done) (a.wrote ws f) ∙ ap Known (append_assoc ws done (take k text)), append_assoc done (take k text) more ∙ ap (λ (xs : List ℕ). done ++ xs) parts ∙ sym whole)
+    let whole = text_on class reply entries Now tape w0 r w r' n s.0 a s.1 in
+    let k = s.2.0 in
+    let more = drop k text ++ whole.0 in
+    let parts : take k text ++ more ≡ text ++ whole.0 = sym (append_assoc (take k text) (drop k text) whole.0) ∙ ap (λ (xs : List ℕ). xs ++ whole.0) (take-append-drop k text) in
+    (done ++ take k text, more, λ ws f. s.2.1 (ws ++ done) (a.wrote ws f) ∙ ap Known (append_assoc ws done (take k text)), append_assoc done (take k text) more ∙ ap (λ (xs : List ℕ). done ++ xs) parts ∙ sym whole.1)
 
 the_writer : (class : Sorting) (reply : Meaning) (entries : List Terms) (r0 w0 w w' : Option (List ℕ)) (answer : Result (Unit {0}) ReplayFault) → w' ≡ w → Replays class reply entries r0 w0 w answer → Replays class reply entries r0 w0 w' answer
 the_writer class reply entries r0 w0 w w' answer same h = subst (λ (v : Option (List ℕ)). Replays class reply entries r0 w0 v answer) (sym same) h

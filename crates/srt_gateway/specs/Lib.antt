@@ -17,6 +17,6 @@ pub mod Known
 pub mod Counted
 pub mod Tries
 pub mod Step
-pub mod Replayed
+pub mod ReplayOver
 pub mod Sent
 pub mod KeyFaults

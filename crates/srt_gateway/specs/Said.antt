@@ -2,11 +2,17 @@
 use Rattle.std.specs.Prelude.{ℕ, ◌^◌, ◌<◌, ◌≤◌, List, take, false}
 use Rattle.srt_gateway.specs.declared.events.Said.{Said}
 use Rattle.srt_gateway.specs.declared.events.Said.TheVariants as said
+use Rattle.srt_seq.specs.declared.shared.Peer.{Peer}
 use Rattle.srt_hub.specs.World.{Event, Arrives, Ticks, Turns, Sends}
+use Rattle.srt_hub.specs.Calls.{datagram}
+
+-- the arrival of these bytes, with memory for their copy
+abbrev pub arrival : Peer → (bytes : List ℕ) → (moment : ℕ) → Event
+arrival peer bytes moment = Arrives (datagram peer bytes) moment false
 
 -- the event, with its datagram at the front of the buffer
 abbrev pub event_said : (buffer : List ℕ) → Said → Event
-event_said buffer (said.Arrival peer moment len) = Arrives (record { peer = peer; bytes = take len buffer }) moment false
+event_said buffer (said.Arrival peer moment len) = arrival peer (take len buffer) moment
 event_said buffer (said.Tick route moment) = Ticks route moment
 event_said buffer (said.Turn route) = Turns route
 event_said buffer (said.Send route) = Sends route

@@ -53,14 +53,14 @@ Answered class reply entries past After old new held holds number (Err Read) = h
 Answered class reply entries past After old new held holds number (Err Write) = (event : Event) × TookEvent old new (length entries) number event × ((n : ℕ) × Wrote held holds (take n (event_text class reply entries past event)))
 
 -- the same four over a gateway, whatever it has behind it: an event's answer,
-abbrev pub AnswersEvent : {X : Type 0} → (Stands : X → Past) → (old new : X) → SortingFor → Meaning → Event → (text : List ℕ) → Type 0
-AnswersEvent Stands old new class reply event text =
+abbrev pub Answers : {X : Type 0} → (Stands : X → Past) → (old new : X) → SortingFor → Meaning → Event → (text : List ℕ) → Type 0
+Answers Stands old new class reply event text =
     (secret : List ℕ) (entries : List Terms) (past : List Event) → Stands old secret entries past →
     WasAnswered (class secret (names entries)) reply entries past event text (Stands new secret entries)
 
 -- an event's answer, or none for want of memory,
-abbrev pub TriesEvent : {X : Type 0} → (Stands : X → Past) → (old new : X) → SortingFor → Meaning → Event → (buffer : List ℕ) → Result ℕ NoMemory → Type 0
-TriesEvent Stands old new class reply event buffer result =
+abbrev pub Tries : {X : Type 0} → (Stands : X → Past) → (old new : X) → SortingFor → Meaning → Event → (buffer : List ℕ) → Result ℕ NoMemory → Type 0
+Tries Stands old new class reply event buffer result =
     (secret : List ℕ) (entries : List Terms) (past : List Event) → Stands old secret entries past →
     EventAnswered (class secret (names entries)) reply entries past event buffer (Stands new secret entries) result
 

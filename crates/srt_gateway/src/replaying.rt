@@ -1,14 +1,13 @@
 //! Tapes replayed over a hub: the event of each line is run, and its answer is written as a line.
 
-ghost use Rattle.std.specs.Prelude.{◌≡◌, ◌≤◌, ◌<◌, ◌^◌, ◌⊎◌, IfOk, IfSome, take, false};
-ghost use Rattle.srt_hub.specs.World.{Arrives, Ticks, Turns, Sends};
-ghost use Rattle.srt_hub.specs.Calls.{datagram};
-ghost use Rattle.srt_gateway.specs.Said.{event_said, IsSound};
+ghost use Rattle.std.specs.Prelude.{◌≡◌, ◌≤◌, ◌<◌, ◌^◌, ◌⊎◌, IfOk, IfSome, take};
+ghost use Rattle.srt_hub.specs.World.{Ticks, Turns, Sends};
+ghost use Rattle.srt_gateway.specs.Said.{arrival, event_said, IsSound};
 ghost use Rattle.srt_gateway.specs.Replay.{WasRefused};
 ghost use Rattle.srt_gateway.specs.Counted.{source, reads_left, last_brought, TurnRead, ReplayRead};
 ghost use Rattle.srt_gateway.specs.Tries.{sink, HasWriteCause, ReplayWritten};
-ghost use Rattle.srt_gateway.specs.Step.{AnswersEvent, TriesEvent, TriesLine, TriesNext};
-ghost use Rattle.srt_gateway.specs.Replayed.{ReplaysOver, ReplaysOf};
+ghost use Rattle.srt_gateway.specs.Step.{Answers, Tries, TriesLine, TriesNext};
+ghost use Rattle.srt_gateway.specs.ReplayOver.{ReplaysOver, ReplaysOf};
 
 use crate::config::Config;
 use crate::events::{Said, read_event};
@@ -51,7 +50,7 @@ fn answer_arrival<R: RouteStep, L: Lobby>(
 ) -> Result<usize, OutOfMemory>
     requires { moment < 2 ^ 62 }
     ensures within { IfOk result (λ n. n ≤ 4096) }
-    ensures answered { TriesEvent ⟦<Hub<R, L> as Gateway>⟧.stands hub.old hub.new L.class R.reply (Arrives (datagram peer bytes.now) moment false) out.new result }
+    ensures answered { Tries ⟦<Hub<R, L> as Gateway>⟧.stands hub.old hub.new L.class R.reply (arrival peer bytes.now moment) out.new result }
 {
     match hub.arrive(alloc, peer, bytes, moment) {
         Ok(answer) => Ok(write_arrived(&answer, out)),
@@ -70,7 +69,7 @@ fn answer_tick<R: RouteStep, L: Lobby>(
     requires route { route < ⟦<Hub<R, L> as Gateway>⟧.routes hub.old }
     requires moment { moment < 2 ^ 62 }
     ensures within { result ≤ 4096 }
-    ensures answered { AnswersEvent ⟦<Hub<R, L> as Gateway>⟧.stands hub.old hub.new L.class R.reply (Ticks route moment) (take result out.new) }
+    ensures answered { Answers ⟦<Hub<R, L> as Gateway>⟧.stands hub.old hub.new L.class R.reply (Ticks route moment) (take result out.new) }
 {
     let answer = hub.tick(route, moment);
     write_ticked(route, answer, out)
@@ -85,7 +84,7 @@ fn answer_turn<R: RouteStep, L: Lobby>(
 ) -> usize
     requires { route < ⟦<Hub<R, L> as Gateway>⟧.routes hub.old }
     ensures within { result ≤ 4096 }
-    ensures answered { AnswersEvent ⟦<Hub<R, L> as Gateway>⟧.stands hub.old hub.new L.class R.reply (Turns route) (take result out.new) }
+    ensures answered { Answers ⟦<Hub<R, L> as Gateway>⟧.stands hub.old hub.new L.class R.reply (Turns route) (take result out.new) }
 {
     let answer = hub.turn(route);
     write_turned(answer, out)
@@ -102,7 +101,7 @@ fn answer_send<R: RouteStep, L: Lobby>(
 ) -> usize
     requires { route < ⟦<Hub<R, L> as Gateway>⟧.routes hub.old }
     ensures within { result ≤ 4096 }
-    ensures answered { AnswersEvent ⟦<Hub<R, L> as Gateway>⟧.stands hub.old hub.new L.class R.reply (Sends route) (take result out.new) }
+    ensures answered { Answers ⟦<Hub<R, L> as Gateway>⟧.stands hub.old hub.new L.class R.reply (Sends route) (take result out.new) }
 {
     match hub.send(route, packet) {
         Some((peer, len)) => write_sent(peer, &packet[..len], out),
@@ -135,7 +134,7 @@ fn answer_event<R: RouteStep, L: Lobby>(
 ) -> Result<usize, OutOfMemory>
     requires { IsSound (⟦<Hub<R, L> as Gateway>⟧.routes hub.old) event }
     ensures within { IfOk result (λ n. n ≤ 4096) }
-    ensures answered { TriesEvent ⟦<Hub<R, L> as Gateway>⟧.stands hub.old hub.new L.class R.reply (event_said desk.old.datagram event) desk.new.text result }
+    ensures answered { Tries ⟦<Hub<R, L> as Gateway>⟧.stands hub.old hub.new L.class R.reply (event_said desk.old.datagram event) desk.new.text result }
 {
     match event {
         Said::Arrival { peer, moment, len } => {
@@ -210,27 +209,18 @@ fn answer_next<R: RouteStep, L: Lobby, B: BufRead, W: Write>(
 
 /// Runs the lines of a tape one after the other.
 fn answer_lines<R: RouteStep, L: Lobby, B: BufRead, W: Write>(
-    alloc: Global,
     hub: &mut Hub<R, L>,
     reader: &mut CountedReader<B>,
     writer: &mut CountedWriter<W>,
+    work: &mut Workspace,
 ) -> Result<(), ReplayFault>
     ensures fewer { reads_left reader.new ≤ reads_left reader.old }
     ensures reads { ReplayRead (reads_left reader.new) (last_brought reader.new) result }
     ensures writes { HasWriteCause writer.new result }
     ensures replays { ReplaysOver ⟦<Hub<R, L> as Gateway>⟧.stands hub.old L.class R.reply B.remaining reader.old W.contents writer.old writer.new result }
 {
-    let mut work = Workspace {
-        line: [0; LINE_MAX],
-        desk: Desk {
-            alloc,
-            datagram: [0; 2048],
-            packet: [0; 1472],
-            text: [0; TEXT_MAX],
-        },
-    };
     for before in 0..LINES_MAX + 1 {
-        match answer_next(hub, reader, writer, &mut work, before + 1) {
+        match answer_next(hub, reader, writer, work, before + 1) {
             Ok(true) => {}
             Ok(false) => return Ok(()),
             Err(fault) => return Err(fault),
@@ -255,7 +245,16 @@ pub fn replay_over<R: RouteStep, L: Lobby, B: BufRead, W: Write>(
     ensures writes { ReplayWritten writer.new result }
     ensures replays { ReplaysOver ⟦<Hub<R, L> as Gateway>⟧.stands hub.old L.class R.reply B.remaining reader.old W.contents writer.old writer.new result }
 {
-    let answered = answer_lines(alloc, hub, reader, writer);
+    let mut work = Workspace {
+        line: [0; LINE_MAX],
+        desk: Desk {
+            alloc,
+            datagram: [0; 2048],
+            packet: [0; 1472],
+            text: [0; TEXT_MAX],
+        },
+    };
+    let answered = answer_lines(hub, reader, writer, &mut work);
     if answered == Err(ReplayFault::Write) {
         return answered;
     }

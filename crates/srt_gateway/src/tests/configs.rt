@@ -146,6 +146,26 @@ fn assert_entry(
     }
 }
 
+/// Asserts the two entries of the right configuration, the first with this name.
+fn assert_entries(rt: &(impl AllocGlobal + Abort), config: &Config, name: &str) {
+    let entries = config.entries.as_slice();
+    assert_eq!(rt; entries.len(), 2);
+    assert_entry(
+        rt,
+        entries.first(),
+        name,
+        Mode::Live,
+        [120, 1024, 5, 16, 16],
+    );
+    assert_entry(
+        rt,
+        entries.last(),
+        "files",
+        Mode::Buffer,
+        [120, 32, 3, 16, 16],
+    );
+}
+
 #[test]
 fn a_right_configuration(rt: HostRuntime) -> Result<(), Fail> {
     let config = config_of(&rt, RIGHT)?;
@@ -164,22 +184,7 @@ fn a_right_configuration(rt: HostRuntime) -> Result<(), Fail> {
     assert_eq!(rt; config.bind.ip, [127, 0, 0, 1]);
     assert_eq!(rt; config.bind.port, 0);
     assert_eq!(rt; config.workers, 1);
-    let entries = config.entries.as_slice();
-    assert_eq!(rt; entries.len(), 2);
-    assert_entry(
-        &rt,
-        entries.first(),
-        "studio",
-        Mode::Live,
-        [120, 1024, 5, 16, 16],
-    );
-    assert_entry(
-        &rt,
-        entries.last(),
-        "files",
-        Mode::Buffer,
-        [120, 32, 3, 16, 16],
-    );
+    assert_entries(&rt, &config, "studio");
     Ok(())
 }
 
@@ -260,22 +265,7 @@ fn numbers_at_their_limits_are_read(rt: HostRuntime) -> Result<(), Fail> {
 fn assert_name(rt: &(impl AllocGlobal + Abort), name: &str) -> Result<(), Fail> {
     let text = changed(rt, RIGHT, "studio", name)?;
     let config = config_of(rt, text.as_str())?;
-    let entries = config.entries.as_slice();
-    assert_eq!(rt; entries.len(), 2);
-    assert_entry(
-        rt,
-        entries.first(),
-        name,
-        Mode::Live,
-        [120, 1024, 5, 16, 16],
-    );
-    assert_entry(
-        rt,
-        entries.last(),
-        "files",
-        Mode::Buffer,
-        [120, 32, 3, 16, 16],
-    );
+    assert_entries(rt, &config, name);
     Ok(())
 }
 
