@@ -3,7 +3,7 @@ use Rattle.std.specs.Prelude.{ℕ, ◌-◌, Bool, Option, None, Some, List, opti
 use Rattle.srt_seq.specs.Window.{word_of, number_word}
 use Rattle.srt_seq.specs.Counts.{message_number, message_of}
 use Rattle.srt_seq.specs.Runs.{Range}
-use Rattle.srt_sendbuf.specs.Sending.{Sending, Due, base, front, asks_for_gone}
+use Rattle.srt_sendbuf.specs.Sending.{Sending, Due, due, base, front, asks_for_gone}
 use Rattle.srt_sendbuf.specs.declared.buffer.Out.{Out}
 use Rattle.srt_sendbuf.specs.declared.buffer.DropRun.{DropRun}
 
@@ -18,6 +18,10 @@ pub record Told : Type 0 where
 -- the same of a packet whose number counts from the initial one
 abbrev pub told : (initial : ℕ) → Due → Told
 told initial d = record { number = number_word initial d.number; message = message_number d.number; again = d.again; origin = d.origin; payload = d.payload }
+
+-- the next packet to be sent
+abbrev pub told_due : (initial window : ℕ) → Sending → Option Told
+told_due initial window s = option_map (told initial) (due window s)
 
 -- a result of `next_due` with the payload that it wrote
 abbrev pub told_by : Out → (payload : List ℕ) → Told

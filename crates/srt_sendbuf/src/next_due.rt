@@ -8,8 +8,8 @@ use crate::buffer::{Out, SendBuf};
 use srt_seq::Payload;
 
 impl SendBuf {
-    ghost use Rattle.srt_sendbuf.specs.Sending.{front, lost, sent, due, due_number, due_past, after_due};
-    ghost use Rattle.srt_sendbuf.specs.Told.{told, told_if};
+    ghost use Rattle.srt_sendbuf.specs.Sending.{front, lost, sent, due_number, due_past, after_due};
+    ghost use Rattle.srt_sendbuf.specs.Told.{told, told_due, told_if};
     ghost use Rattle.srt_sendbuf.specs.Stands.{ForWhatever, Becomes};
 
     /// The packet of a place; its bytes replace those of `payload`.
@@ -66,7 +66,7 @@ impl SendBuf {
     /// cost is that of the search for the next lost packet, see `Ring::find_lost`.
     pub fn next_due(&mut self, window: u32, payload: &mut Payload) -> Option<Out>
         ensures stands { Becomes self.old self.new (λ initial r. after_due window r) }
-        ensures answer { ForWhatever self.old (λ width initial r. told_if result payload.new.items ≡ option_map (told initial) (due window r)) }
+        ensures answer { ForWhatever self.old (λ width initial r. told_if result payload.new.items ≡ told_due initial window r) }
         ensures kept { IfNone result (payload.new ≡ payload.old) }
     {
         if self.low < self.high {

@@ -42,6 +42,42 @@ pub record IsOverAt (terms : Terms) (initial opening caller time : ℕ) (s : Sub
   pub left_is : left ≡ []
   pub stands : StandsIn terms initial opening caller time 0 s (reported terms time (expired terms time m))
 
+-- a call wrote the first of the packets that are left, after what is too late at this time was dropped
+abbrev pub WritesNextAt : (time : ℕ) → (before after : Subscriber) → Packet → Type 0
+WritesNextAt time before after p =
+    (terms : Terms) (initial opening caller given : ℕ) (middle m : Subscribing) (left : List Report)
+    → StandsIn terms initial opening caller time given before (expired terms time middle)
+    → IsLeft terms time given (expired terms time middle) m left
+    → IsNextAt terms initial opening caller time p after m left
+
+-- a call found none left, and ended the event
+abbrev pub EndsAt : (time : ℕ) → (before after : Subscriber) → Type 0
+EndsAt time before after =
+    (terms : Terms) (initial opening caller given : ℕ) (middle m : Subscribing) (left : List Report)
+    → StandsIn terms initial opening caller time given before (expired terms time middle)
+    → IsLeft terms time given (expired terms time middle) m left
+    → IsOverAt terms initial opening caller time after m left
+
+-- this holds if a session writes the packets of an event's end, at a moment
+abbrev pub IfEmitting : (now : ℕ) → Subscriber → (P : Type 0) → Type 0
+IfEmitting now s P =
+    (terms : Terms) (initial opening caller : ℕ) (m : Subscribing) (left : List Report)
+    → Emitting terms initial opening caller now s m left → P
+
+-- a call at a moment wrote the first of the packets that are left
+abbrev pub WritesNext : (now : ℕ) → (before after : Subscriber) → Packet → Type 0
+WritesNext now before after p =
+    (terms : Terms) (initial opening caller : ℕ) (m : Subscribing) (left : List Report)
+    → Emitting terms initial opening caller now before m left
+    → IsNext terms initial opening caller now p after m left
+
+-- a call at a moment found none left, and all of them count as sent
+abbrev pub Ends : (now : ℕ) → (before after : Subscriber) → Type 0
+Ends now before after =
+    (terms : Terms) (initial opening caller : ℕ) (m : Subscribing) (left : List Report)
+    → Emitting terms initial opening caller now before m left
+    → (left ≡ []) × StandsFor terms initial opening caller now after (reported terms (now - opening) (expired terms (now - opening) m))
+
 -- at the beginning of an event's end, all its packets are left
 abbrev pub EmissionBegins : Type 0
 EmissionBegins =

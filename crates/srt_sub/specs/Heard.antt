@@ -4,6 +4,8 @@ use Rattle.srt_seq.specs.Words.{word_at}
 use Rattle.srt_seq.specs.Window.{counted_from}
 use Rattle.srt_seq.specs.Runs.{Range, ranges_from}
 use Rattle.srt_packet.specs.Grammar as grammar
+use Rattle.srt_packet.specs.View.{body_of}
+use Rattle.srt_packet.specs.declared.reading.Kind.{Kind}
 use Rattle.srt_loss.specs.Reading.{losses_in}
 use Rattle.srt_loss.specs.declared.reading.LossFault.{LossFault}
 
@@ -35,3 +37,7 @@ heard_from initial (grammar.Ack mark info) =
     if nat_le 4 (length info) then Ack mark (counted_from initial (word_at info 0)) (more_of info) else Other
 heard_from initial (grammar.Nak info) = Nak (asked_from initial (losses_in info))
 heard_from initial _ = Other
+
+-- a packet that was read, as a session takes it
+abbrev pub heard_of : (initial : ℕ) → Kind → Heard
+heard_of initial kind = heard_from initial (body_of kind)

@@ -3,6 +3,7 @@ pub mod Subscribing
 pub mod Says
 pub mod Stands
 pub mod Endings
+pub mod Feeding
 pub mod Turns
 pub mod Emission
 pub mod Fresh

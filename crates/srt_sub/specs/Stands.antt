@@ -1,5 +1,5 @@
 -- What the fields of a subscriber's session represent.
-use Rattle.std.specs.Prelude.{◌≡◌, ℕ, ◌-◌, ◌<◌, option_map, List, [], ◌∷◌, All, length}
+use Rattle.std.specs.Prelude.{◌≡◌, ℕ, ◌-◌, ◌<◌, ◌≤◌, Bool, true, false, option_map, List, [], ◌∷◌, All, map, length}
 use Rattle.srt_seq.specs.Counts.{message_number}
 use Rattle.srt_seq.specs.Runs.{Run}
 use Rattle.srt_rtt.specs.RoundTrip.{round_trip_of}
@@ -7,11 +7,13 @@ use Rattle.srt_tsbpd.specs.Deadline.{too_late_at}
 use Rattle.srt_packet.specs.Text.{text}
 use Rattle.srt_packet.specs.declared.writing.Packet.{Packet}
 use Rattle.srt_sendbuf.specs.Sending.{Sending, IsTimely, IsLater}
-use Rattle.srt_seq.specs.Window.{number_word}
+use Rattle.srt_seq.specs.Window.{word_of, number_word}
 use Rattle.srt_sendbuf.specs.Told.{Gone, gone_by}
 use Rattle.srt_sendbuf.specs.Stands as places
-use Rattle.srt_sub.specs.Subscribing.{Terms, Note, Subscribing, last_sent, last_media, last_growth, round_trip, flow_window, untold}
+use Rattle.srt_sub.specs.Subscribing.{Terms, Note, Report, Sent, Missed, Subscribing, opened, is_media, is_drop, last_sent, last_media, last_growth, round_trip, flow_window, untold}
+use Rattle.srt_sub.specs.Says.{says}
 use Rattle.srt_sub.specs.declared.history.History.{History}
+use Rattle.srt_sub.specs.declared.session.Opening.{Opening}
 use Rattle.srt_sub.specs.declared.session.Subscriber.{Subscriber}
 use Rattle.srt_sub.specs.declared.hearing.Took.{Took}
 use Rattle.srt_sub.specs.declared.hearing.Took.TheVariants.{Nothing, Answer, Ended}
@@ -30,12 +32,16 @@ pub record IsHistory (initial agreed : ℕ) (h : History) (notes : List Note) : 
   pub growth_is : h.growth ≡ last_growth notes
   pub missed_is : option_map gone_by h.missed ≡ option_map (run_gone initial) (untold notes)
 
+-- no payload that is queued is empty
+abbrev pub HasBytes : Sending → Type 0
+HasBytes s = All (λ q. 0 < length q.payload) s.queue
+
 -- what always holds of a session: no payload was queued later than this time, all expired payloads are too late at
 -- it, and no payload is empty
 pub record IsSound (terms : Terms) (time : ℕ) (s : Sending) : Type 0 where
   pub timely : IsTimely time s
   pub later : IsLater (too_late_at time terms.delay) s
-  pub some : All (λ q. 0 < length q.payload) s.queue
+  pub some : HasBytes s
 
 -- the fields represent a session of these terms, with this initial number, opened at a moment by a caller with this
 -- socket ID; its last call was at this time since the opening, and `given` data packets were sent in this event
@@ -63,3 +69,94 @@ abbrev pub texts_of : Took → Packet → List (List ℕ)
 texts_of Answer packet = text packet ∷ []
 texts_of Nothing packet = []
 texts_of Ended packet = []
+
+-- the terms of a session that was opened with this, in a subscriber with `width` places
+abbrev pub terms_of : (width : ℕ) → Opening → Terms
+terms_of width o = record { mode = o.mode; width = width; delay = o.delay; mtu = o.mtu; window = o.window }
+
+-- a session begins with this
+abbrev pub HasBegun : (width : ℕ) → Opening → Subscriber → Type 0
+HasBegun width o s = StandsFor (terms_of width o) (word_of o.initial) o.now o.caller o.now s opened
+
+-- this holds of all that a session represents between two events
+abbrev pub ForWhatever : Subscriber → (P : Terms → (initial opening caller last : ℕ) → Subscribing → Type 0) → Type 0
+ForWhatever s P =
+    (terms : Terms) (initial opening caller last : ℕ) (m : Subscribing)
+    → StandsFor terms initial opening caller last s m → P terms initial opening caller last m
+
+-- this holds if a session represents anything at a time since its opening
+abbrev pub IfStandsAt : (time : ℕ) → Subscriber → (P : Type 0) → Type 0
+IfStandsAt time s P =
+    (terms : Terms) (initial opening caller given : ℕ) (m : Subscribing)
+    → StandsIn terms initial opening caller time given s m → P
+
+-- whatever a session represented before a call, it represents this function of it after the call, at the same time;
+-- numbers count from the initial one
+abbrev pub Becomes : (before after : Subscriber) → (f : (initial : ℕ) → Subscribing → Subscribing) → Type 0
+Becomes before after f =
+    (terms : Terms) (initial opening caller time given : ℕ) (m : Subscribing)
+    → StandsIn terms initial opening caller time given before m
+    → StandsIn terms initial opening caller time given after (f initial m)
+
+-- the same at one time since the opening
+abbrev pub BecomesAt : (time : ℕ) → (before after : Subscriber) → (f : (initial : ℕ) → Subscribing → Subscribing) → Type 0
+BecomesAt time before after f =
+    (terms : Terms) (initial opening caller given : ℕ) (m : Subscribing)
+    → StandsIn terms initial opening caller time given before m
+    → StandsIn terms initial opening caller time given after (f initial m)
+
+-- the same of a call between two events, at a moment not before the last call's; f also takes the session's terms, and
+-- the time since its opening
+abbrev pub BecomesBy : (now : ℕ) → (before after : Subscriber) → (f : Terms → (initial time : ℕ) → Subscribing → Subscribing) → Type 0
+BecomesBy now before after f =
+    (terms : Terms) (initial opening caller last : ℕ) (m : Subscribing)
+    → StandsFor terms initial opening caller last before m → last ≤ now
+    → StandsFor terms initial opening caller now after (f terms initial (now - opening) m)
+
+-- a call at a time since the opening wrote the bytes of these reports
+abbrev pub WritesAt : (time : ℕ) → (before : Subscriber) → (written : List (List ℕ)) → (reports : Subscribing → List Report) → Type 0
+WritesAt time before written reports =
+    (terms : Terms) (initial opening caller given : ℕ) (m : Subscribing)
+    → StandsIn terms initial opening caller time given before m
+    → written ≡ map (says caller initial time) (reports m)
+
+-- a call between two events, at a moment not before the last call's, wrote the bytes of these reports
+abbrev pub WritesBy : (now : ℕ) → (before : Subscriber) → (written : List (List ℕ)) → (reports : (initial : ℕ) → List Report) → Type 0
+WritesBy now before written reports =
+    (terms : Terms) (initial opening caller last : ℕ) (m : Subscribing)
+    → StandsFor terms initial opening caller last before m → last ≤ now
+    → written ≡ map (says caller initial (now - opening)) (reports initial)
+
+-- this holds of all notes that the fields of a history represent
+abbrev pub ForWhateverNotes : History → (P : (initial agreed : ℕ) → List Note → Type 0) → Type 0
+ForWhateverNotes h P = (initial agreed : ℕ) (notes : List Note) → IsHistory initial agreed h notes → P initial agreed notes
+
+-- whatever notes the fields of a history represented before a call, they represent this function of them after it
+abbrev pub NotesBecome : (before after : History) → (f : List Note → List Note) → Type 0
+NotesBecome before after f =
+    (initial agreed : ℕ) (notes : List Note) → IsHistory initial agreed before notes → IsHistory initial agreed after (f notes)
+
+-- a call noted that a packet was sent at this time, whichever it is of those that are a data packet or not, and a drop
+-- request or not
+abbrev pub NotesSent : (media drop : Bool) (time : ℕ) → (before after : History) → Type 0
+NotesSent media drop time before after =
+    (initial agreed : ℕ) (notes : List Note) (r : Report) → is_media r ≡ media → is_drop r ≡ drop
+    → IsHistory initial agreed before notes → IsHistory initial agreed after (Sent time r ∷ notes)
+
+-- of a data packet
+abbrev pub NotesMedia : (time : ℕ) → (before after : History) → Type 0
+NotesMedia time before after = NotesSent true false time before after
+
+-- of a drop request
+abbrev pub NotesDrop : (time : ℕ) → (before after : History) → Type 0
+NotesDrop time before after = NotesSent false true time before after
+
+-- of any other packet
+abbrev pub NotesOther : (time : ℕ) → (before after : History) → Type 0
+NotesOther time before after = NotesSent false false time before after
+
+-- a call noted that a NAK asked for these numbers, which are expired
+abbrev pub NotesMissed : Gone → (before after : History) → Type 0
+NotesMissed gone before after =
+    (initial agreed : ℕ) (notes : List Note) (r : Run) → gone ≡ run_gone initial r
+    → IsHistory initial agreed before notes → IsHistory initial agreed after (Missed r ∷ notes)

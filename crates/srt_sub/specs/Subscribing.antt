@@ -194,12 +194,16 @@ drops_of (Some run) = Dropped run ∷ []
 abbrev pub drops : List Note → List Report
 drops notes = drops_of (untold notes)
 
+-- whether both the last data packet and the last growth are long ago (this profile)
+abbrev pub has_waited : (time : ℕ) → List Note → Bool
+has_waited time notes = nat_le (resend_after (round_trip notes)) (time - max (last_media notes) (last_growth notes))
+
 -- whether it is time to resend all: packets are in flight, none of them is lost, and both the last data packet and
 -- the last growth are long ago (this profile)
 abbrev pub resend_due : (time : ℕ) → Subscribing → Bool
 resend_due time s =
     nat_lt (front s.sending) (next s.sending) && (length (lost s.sending) == 0)
-    && nat_le (resend_after (round_trip s.notes)) (time - max (last_media s.notes) (last_growth s.notes))
+    && has_waited time s.notes
 
 -- all in flight count as lost then
 abbrev pub presumed : (time : ℕ) → Subscribing → Subscribing

@@ -1,5 +1,6 @@
 -- One packet of an event's end.
-use Rattle.std.specs.Prelude.{ℕ, ◌+◌, Bool, true, false, Option, None, Some, List, [], ◌∷◌, ◌==◌, if◌then◌else◌}
+use Rattle.std.specs.Prelude.{◌≡◌, ℕ, ◌+◌, ◌-◌, ◌≤◌, Bool, true, false, Option, None, Some, List, [], ◌∷◌, map, ◌==◌, if◌then◌else◌}
+use Rattle.std.specs.Option.{option_to_list}
 use Rattle.srt_packet.specs.Text.{text}
 use Rattle.srt_packet.specs.declared.writing.Packet.{Packet}
 use Rattle.srt_packet.specs.declared.writing.Body.{Body}
@@ -7,8 +8,13 @@ use Rattle.srt_packet.specs.declared.writing.Body.TheVariants as bodies
 use Rattle.srt_seq.specs.Window.{word_of}
 use Rattle.srt_seq.specs.Counts.{message_of}
 use Rattle.srt_sendbuf.specs.Told.{Told}
-use Rattle.srt_sendbuf.specs.Sending.{Due, due, sent}
+use Rattle.srt_sendbuf.specs.Sending.{Sending, Due, due, sent}
+use Rattle.srt_sendbuf.specs.declared.buffer.SendBuf.{SendBuf}
+use Rattle.srt_sendbuf.specs.Stands as places
 use Rattle.srt_sub.specs.Subscribing.{Terms, Subscribing, Media, Sent, flow_window}
+use Rattle.srt_sub.specs.Says.{says}
+use Rattle.srt_sub.specs.Stands.{StandsIn, HasBytes}
+use Rattle.srt_sub.specs.declared.session.Subscriber.{Subscriber}
 
 -- the next data packet, if at most `places` more may be sent
 abbrev pub due_in : (places : ℕ) → Terms → Subscribing → Option Due
@@ -38,3 +44,27 @@ told_in _ origin = record { number = 0; message = 0; again = false; origin = ori
 abbrev pub texts : Option Packet → List (List ℕ)
 texts None = []
 texts (Some p) = text p ∷ []
+
+-- the bytes of a data packet that is due, if there is one
+abbrev pub due_texts : (caller initial time : ℕ) → Option Due → List (List ℕ)
+due_texts caller initial time due = map (λ d. says caller initial time (Media d.number d.again d.origin d.payload)) (option_to_list due)
+
+-- a call wrote the data packet that is due in a buffer, for this flow window
+abbrev pub WritesDue : (window caller : ℕ) → (before : SendBuf) → (written : List (List ℕ)) → Type 0
+WritesDue window caller before written =
+    (width initial time : ℕ) (r : Sending) → places.StandsFor width initial before r → HasBytes r
+    → written ≡ due_texts caller initial time (due window r)
+
+-- a call wrote the data packet that is due in a session, at a time since its opening
+abbrev pub WritesMedia : (time : ℕ) → (before : Subscriber) → (written : List (List ℕ)) → Type 0
+WritesMedia time before written =
+    (terms : Terms) (initial opening caller given : ℕ) (m : Subscribing)
+    → StandsIn terms initial opening caller time given before m → given ≤ 64
+    → written ≡ due_texts caller initial time (due_in (64 - given) terms m)
+
+-- after a call the data packet that was due counts as sent, at a time since the opening
+abbrev pub SendsMedia : (time : ℕ) → (before after : Subscriber) → Type 0
+SendsMedia time before after =
+    (terms : Terms) (initial opening caller given : ℕ) (m : Subscribing)
+    → StandsIn terms initial opening caller time given before m → given ≤ 64
+    → StandsIn terms initial opening caller time (given_with (due_in (64 - given) terms m) given) after (with_due time (due_in (64 - given) terms m) m)

@@ -1,13 +1,11 @@
 //! Drop requests: a NAK asked for expired numbers, and the event's packets begin with a DROPREQ for them
 //! (draft-sharabayko-srt-01, section 3.2.9).
 
-ghost use Rattle.std.specs.Prelude.{◌≡◌, ℕ, List, ◌∷◌, map, true, false, option_map, IfSome, IfNone};
+ghost use Rattle.std.specs.Prelude.{◌≡◌, true, false, option_map, IfSome, IfNone};
 ghost use Rattle.srt_seq.specs.Given.{given as written};
 ghost use Rattle.srt_packet.specs.Text.{IsWritable};
-ghost use Rattle.srt_sub.specs.Subscribing.{Terms, Subscribing, Report, drops, noted, Note, Sent, Missed, is_media, is_drop, untold};
-ghost use Rattle.srt_sub.specs.Says.{says};
+ghost use Rattle.srt_sub.specs.Subscribing.{drops, noted, untold};
 ghost use Rattle.srt_sendbuf.specs.Told.{gone_by};
-ghost use Rattle.srt_seq.specs.Runs.{Run};
 
 use crate::history::History;
 use crate::packets::dropped;
@@ -16,13 +14,13 @@ use srt_packet::Packet;
 use srt_sendbuf::DropRun;
 
 impl Subscriber {
-    ghost use Rattle.srt_sub.specs.Stands.{StandsIn};
+    ghost use Rattle.srt_sub.specs.Stands.{BecomesAt, WritesAt};
     ghost use Rattle.srt_sub.specs.Turns.{texts};
 
     /// Writes the drop request that is to be sent. Returns whether there is one; if not, `packet` is unchanged.
     pub(crate) fn next_drop(&mut self, time: u64, packet: &mut Packet) -> bool
-        ensures stands { (terms : Terms) (initial opening caller given : ℕ) (m : Subscribing) → StandsIn terms initial opening caller time given self.old m → StandsIn terms initial opening caller time given self.new (record m { notes = noted time (drops m.notes) m.notes }) }
-        ensures answer { (terms : Terms) (initial opening caller given : ℕ) (m : Subscribing) → StandsIn terms initial opening caller time given self.old m → texts (written result packet.new) ≡ map (says caller initial time) (drops m.notes) }
+        ensures stands { BecomesAt time self.old self.new (λ initial m. record m { notes = noted time (drops m.notes) m.notes }) }
+        ensures answer { WritesAt time self.old (texts (written result packet.new)) (λ m. drops m.notes) }
         ensures writable { result ≡ true → IsWritable packet.new.body }
         ensures kept { result ≡ false → packet.new ≡ packet.old }
     {
@@ -35,12 +33,12 @@ impl Subscriber {
 }
 
 impl History {
-    ghost use Rattle.srt_sub.specs.Stands.{IsHistory, run_gone};
+    ghost use Rattle.srt_sub.specs.Stands.{run_gone, ForWhateverNotes, NotesDrop, NotesMissed};
 
     /// Notes that a NAK asked for expired numbers; `run` is the drop request for them. It replaces one that wasn't
     /// sent yet.
-    pub fn miss(&mut self, run: DropRun)
-        ensures { (initial agreed : ℕ) (notes : List Note) (r : Run) → gone_by run ≡ run_gone initial r → IsHistory initial agreed self.old notes → IsHistory initial agreed self.new (Missed r ∷ notes) }
+    pub fn note_drop_request(&mut self, run: DropRun)
+        ensures { NotesMissed (gone_by run) self.old self.new }
     {
         self.missed = Some(run);
     }
@@ -48,8 +46,8 @@ impl History {
     /// Takes the drop request that is to be sent, and notes that it is sent. None if there is none; then nothing
     /// changes.
     pub fn take_missed(&mut self, time: u64) -> Option<DropRun>
-        ensures answer { (initial agreed : ℕ) (notes : List Note) → IsHistory initial agreed self.old notes → option_map gone_by result ≡ option_map (run_gone initial) (untold notes) }
-        ensures some { IfSome result (λ run. (initial agreed : ℕ) (notes : List Note) (r : Report) → is_media r ≡ false → is_drop r ≡ true → IsHistory initial agreed self.old notes → IsHistory initial agreed self.new (Sent time r ∷ notes)) }
+        ensures answer { ForWhateverNotes self.old (λ initial agreed notes. option_map gone_by result ≡ option_map (run_gone initial) (untold notes)) }
+        ensures some { IfSome result (λ run. NotesDrop time self.old self.new) }
         ensures none { IfNone result (self.new ≡ self.old) }
     {
         let run = self.missed?;

@@ -1,11 +1,8 @@
 //! The packets that a session sends at the end of an event, one by one: their order, and data packets.
 
-ghost use Rattle.std.specs.Prelude.{◌≡◌, ℕ, ◌-◌, ◌^◌, ◌<◌, ◌≤◌, List, [], map, true, false};
-ghost use Rattle.std.specs.Option.{option_to_list};
+ghost use Rattle.std.specs.Prelude.{◌≡◌, ◌^◌, ◌<◌, true, false};
 ghost use Rattle.srt_seq.specs.Given.{given as written};
 ghost use Rattle.srt_packet.specs.Text.{IsWritable};
-ghost use Rattle.srt_sub.specs.Subscribing.{Terms, Subscribing, Report, Media, expired, reported};
-ghost use Rattle.srt_sub.specs.Says.{says};
 
 use crate::packets::media;
 use crate::session::Subscriber;
@@ -13,17 +10,17 @@ use srt_packet::Packet;
 use srt_seq::limits::EVENT_PACKETS_MAX;
 
 impl Subscriber {
-    ghost use Rattle.srt_sub.specs.Stands.{StandsIn, StandsFor};
-    ghost use Rattle.srt_sub.specs.Emission.{Emitting, IsNext, IsLeft, IsNextAt, IsOverAt};
-    ghost use Rattle.srt_sub.specs.Turns.{due_in, with_due, given_with, texts};
+    ghost use Rattle.srt_sub.specs.Stands.{IfStandsAt};
+    ghost use Rattle.srt_sub.specs.Emission.{WritesNextAt, EndsAt, IfEmitting, WritesNext, Ends};
+    ghost use Rattle.srt_sub.specs.Turns.{texts, WritesMedia, SendsMedia};
 
     /// Writes the data packet that is due, as long as the event has sent fewer than 64. Returns whether there is one.
     fn next_media(&mut self, time: u64, packet: &mut Packet) -> bool
-        ensures stands { (terms : Terms) (initial opening caller given : ℕ) (m : Subscribing) → StandsIn terms initial opening caller time given self.old m → given ≤ 64 → StandsIn terms initial opening caller time (given_with (due_in (64 - given) terms m) given) self.new (with_due time (due_in (64 - given) terms m) m) }
-        ensures answer { (terms : Terms) (initial opening caller given : ℕ) (m : Subscribing) → StandsIn terms initial opening caller time given self.old m → given ≤ 64 → texts (written result packet.new) ≡ map (λ d. says caller initial time (Media d.number d.again d.origin d.payload)) (option_to_list (due_in (64 - given) terms m)) }
+        ensures stands { SendsMedia time self.old self.new }
+        ensures answer { WritesMedia time self.old (texts (written result packet.new)) }
         ensures writable { result ≡ true → IsWritable packet.new.body }
         ensures kept { result ≡ false → IsWritable packet.old.body → IsWritable packet.new.body }
-        ensures same { result ≡ false → (terms : Terms) (initial opening caller given : ℕ) (m : Subscribing) → StandsIn terms initial opening caller time given self.old m → packet.new ≡ packet.old }
+        ensures same { result ≡ false → IfStandsAt time self.old (packet.new ≡ packet.old) }
     {
         if self.given >= EVENT_PACKETS_MAX {
             return false;
@@ -39,11 +36,11 @@ impl Subscriber {
     /// Writes the next packet of the event's end, after what is too late was dropped. `time` is in microseconds since
     /// the opening.
     fn next_packet(&mut self, time: u64, packet: &mut Packet) -> bool
-        ensures some { result ≡ true → (terms : Terms) (initial opening caller given : ℕ) (middle m : Subscribing) (left : List Report) → StandsIn terms initial opening caller time given self.old (expired terms time middle) → IsLeft terms time given (expired terms time middle) m left → IsNextAt terms initial opening caller time packet.new self.new m left }
-        ensures none { result ≡ false → (terms : Terms) (initial opening caller given : ℕ) (middle m : Subscribing) (left : List Report) → StandsIn terms initial opening caller time given self.old (expired terms time middle) → IsLeft terms time given (expired terms time middle) m left → IsOverAt terms initial opening caller time self.new m left }
+        ensures some { result ≡ true → WritesNextAt time self.old self.new packet.new }
+        ensures none { result ≡ false → EndsAt time self.old self.new }
         ensures writable { result ≡ true → IsWritable packet.new.body }
         ensures kept { result ≡ false → IsWritable packet.old.body → IsWritable packet.new.body }
-        ensures same { result ≡ false → (terms : Terms) (initial opening caller given : ℕ) (m : Subscribing) → StandsIn terms initial opening caller time given self.old m → packet.new ≡ packet.old }
+        ensures same { result ≡ false → IfStandsAt time self.old (packet.new ≡ packet.old) }
     {
         self.presume(time);
         if self.next_drop(time, packet) {
@@ -71,11 +68,11 @@ impl Subscriber {
     /// copied once.
     pub fn emit(&mut self, now: u64, packet: &mut Packet) -> bool
         requires { now < 2 ^ 62 }
-        ensures some { result ≡ true → (terms : Terms) (initial opening caller : ℕ) (m : Subscribing) (left : List Report) → Emitting terms initial opening caller now self.old m left → IsNext terms initial opening caller now packet.new self.new m left }
-        ensures none { result ≡ false → (terms : Terms) (initial opening caller : ℕ) (m : Subscribing) (left : List Report) → Emitting terms initial opening caller now self.old m left → (left ≡ []) × StandsFor terms initial opening caller now self.new (reported terms (now - opening) (expired terms (now - opening) m)) }
+        ensures some { result ≡ true → WritesNext now self.old self.new packet.new }
+        ensures none { result ≡ false → Ends now self.old self.new }
         ensures writable { result ≡ true → IsWritable packet.new.body }
         ensures kept { result ≡ false → IsWritable packet.old.body → IsWritable packet.new.body }
-        ensures same { result ≡ false → (terms : Terms) (initial opening caller : ℕ) (m : Subscribing) (left : List Report) → Emitting terms initial opening caller now self.old m left → packet.new ≡ packet.old }
+        ensures same { result ≡ false → IfEmitting now self.old (packet.new ≡ packet.old) }
     {
         self.drop_old(now);
         let time = self.time(now);

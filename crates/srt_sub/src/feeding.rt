@@ -1,10 +1,8 @@
 //! Which payloads a subscriber is sent: those that fit in the agreed MTU less 44; and which packets are dropped since
 //! they are too late (draft-sharabayko-srt-01, section 4.6).
 
-ghost use Rattle.std.specs.Prelude.{◌≡◌, ℕ, ◌-◌, ◌^◌, ◌<◌, ◌≤◌, length, false};
-ghost use Rattle.srt_seq.specs.declared.shared.Mode.TheVariants.{Buffer};
-ghost use Rattle.srt_sendbuf.specs.Sending.{room};
-ghost use Rattle.srt_sub.specs.Subscribing.{Terms, Subscribing, expired, fed, fits};
+ghost use Rattle.std.specs.Prelude.{◌≡◌, ◌^◌, ◌<◌};
+ghost use Rattle.srt_sub.specs.Subscribing.{expired};
 
 use crate::session::Subscriber;
 use srt_seq::limits::HEADERS;
@@ -12,7 +10,8 @@ use srt_seq::{Mode, Payload};
 use srt_tsbpd::too_late_before;
 
 impl Subscriber {
-    ghost use Rattle.srt_sub.specs.Stands.{StandsIn, StandsFor};
+    ghost use Rattle.srt_sub.specs.Stands.{BecomesBy};
+    ghost use Rattle.srt_sub.specs.Feeding.{IsFed, IsRefused, TellsWhetherFed, DropsTooLate};
     ghost use Rattle.srt_sub.specs.Endings.{is_short};
 
     /// Queues a payload, 1 to 1456 bytes, after dropping what is too late. Returns false if this subscriber doesn't
@@ -21,9 +20,9 @@ impl Subscriber {
     /// `expire`. One copy.
     pub fn feed(&mut self, payload: &Payload, now: u64) -> bool
         requires { now < 2 ^ 62 }
-        ensures stands { (terms : Terms) (initial opening caller last : ℕ) (m : Subscribing) → StandsFor terms initial opening caller last self.old m → last ≤ now → 0 < length payload.now.items → (terms.mode ≡ Buffer → 0 < room terms.width m.sending) → StandsFor terms initial opening caller now self.new (fed terms (now - opening) payload.now.items (expired terms (now - opening) m)) }
-        ensures full { (terms : Terms) (initial opening caller last : ℕ) (m : Subscribing) → StandsFor terms initial opening caller last self.old m → last ≤ now → terms.mode ≡ Buffer → room terms.width m.sending ≡ 0 → (result ≡ false) × StandsFor terms initial opening caller now self.new (expired terms (now - opening) m) }
-        ensures answer { (terms : Terms) (initial opening caller last : ℕ) (m : Subscribing) → StandsFor terms initial opening caller last self.old m → last ≤ now → (terms.mode ≡ Buffer → 0 < room terms.width m.sending) → result ≡ fits terms.mode terms payload.now.items (expired terms (now - opening) m).sending }
+        ensures stands { IsFed now payload.now.items self.old self.new }
+        ensures full { IsRefused now result self.old self.new }
+        ensures answer { TellsWhetherFed now payload.now.items result self.old }
     {
         self.expire(now);
         if !self.is_short(payload) {
@@ -52,7 +51,7 @@ impl Subscriber {
     /// changes nothing. Linear in the packets that it drops.
     pub fn expire(&mut self, now: u64)
         requires { now < 2 ^ 62 }
-        ensures { (terms : Terms) (initial opening caller last : ℕ) (m : Subscribing) → StandsFor terms initial opening caller last self.old m → last ≤ now → StandsFor terms initial opening caller now self.new (expired terms (now - opening) m) }
+        ensures { BecomesBy now self.old self.new (λ terms initial time m. expired terms time m) }
     {
         self.drop_old(now);
     }
@@ -60,7 +59,7 @@ impl Subscriber {
     /// Drops the packets that are too late at a moment; in buffer mode none are.
     pub(crate) fn drop_old(&mut self, now: u64)
         requires { now < 2 ^ 62 }
-        ensures { (terms : Terms) (initial opening caller time given : ℕ) (m : Subscribing) → StandsIn terms initial opening caller time given self.old m → time ≤ now - opening → StandsIn terms initial opening caller (now - opening) given self.new (expired terms (now - opening) m) }
+        ensures { DropsTooLate now self.old self.new }
     {
         let time = self.time(now);
         match self.mode {

@@ -1,15 +1,13 @@
 //! What a session takes from its caller: ACK, NAK and SHUTDOWN.
 
-ghost use Rattle.std.specs.Prelude.{◌≡◌, ℕ, ◌-◌, ◌^◌, ◌<◌, ◌≤◌, List, map, length, false};
-ghost use Rattle.srt_seq.specs.Window.{counted_from};
+ghost use Rattle.std.specs.Prelude.{◌≡◌, ◌^◌, ◌<◌, ◌≤◌, length, false};
 ghost use Rattle.srt_seq.specs.Words.{word_at};
 ghost use Rattle.srt_loss.specs.Reading.{losses_in};
-ghost use Rattle.srt_sendbuf.specs.Sending.{acknowledged_by};
+ghost use Rattle.srt_sendbuf.specs.Sending.{acknowledged_at};
 ghost use Rattle.srt_packet.specs.Text.{IsWritable};
 ghost use Rattle.srt_packet.specs.View.{body_of};
-ghost use Rattle.srt_sub.specs.Heard.{heard_from, more_of, asked_from};
-ghost use Rattle.srt_sub.specs.Subscribing.{Terms, Subscribing, expired, took, answers, with_ack, with_nak, ack_reports, noted};
-ghost use Rattle.srt_sub.specs.Says.{says};
+ghost use Rattle.srt_sub.specs.Heard.{heard_of, more_of, asked_from};
+ghost use Rattle.srt_sub.specs.Subscribing.{expired, took, answers, with_ack, with_nak, ack_reports, noted};
 
 use crate::packets::acked;
 use crate::session::Subscriber;
@@ -28,7 +26,7 @@ pub enum Took {
 }
 
 impl Subscriber {
-    ghost use Rattle.srt_sub.specs.Stands.{StandsIn, StandsFor, texts_of};
+    ghost use Rattle.srt_sub.specs.Stands.{texts_of, Becomes, BecomesAt, BecomesBy, WritesAt, WritesBy};
     ghost use Rattle.srt_sub.specs.declared.hearing.Took.TheVariants.{Answer};
     ghost use Rattle.srt_sub.specs.Endings.{is_ended, is_shutdown};
 
@@ -36,7 +34,7 @@ impl Subscriber {
     /// outside the range that an ACK may name, nothing changes.
     fn acknowledge(&mut self, info: &[u8], time: u64)
         requires { 4 ≤ length info.now }
-        ensures { (terms : Terms) (initial opening caller given : ℕ) (m : Subscribing) → StandsIn terms initial opening caller time given self.old m → StandsIn terms initial opening caller time given self.new (with_ack time (more_of info.now) (acknowledged_by (counted_from initial (word_at info.now 0)) m.sending) m) }
+        ensures { BecomesAt time self.old self.new (λ initial m. with_ack time (more_of info.now) (acknowledged_at initial (word_at info.now 0) m.sending) m) }
     {
         let Some(number) = Seq31::new(read_word(info, 0)) else {
             return;
@@ -51,8 +49,8 @@ impl Subscriber {
     /// Answers an ACK by an ACKACK with its number, `mark`, at a time in microseconds since the opening (section
     /// 3.2.8). One with the number 0, a Light or Small ACK, isn't answered.
     fn answer(&mut self, mark: u32, time: u64, answer: &mut Packet) -> Took
-        ensures stands { (terms : Terms) (initial opening caller given : ℕ) (m : Subscribing) → StandsIn terms initial opening caller time given self.old m → StandsIn terms initial opening caller time given self.new (record m { notes = noted time (ack_reports mark) m.notes }) }
-        ensures answer { (terms : Terms) (initial opening caller given : ℕ) (m : Subscribing) → StandsIn terms initial opening caller time given self.old m → texts_of result answer.new ≡ map (says caller initial time) (ack_reports mark) }
+        ensures stands { BecomesAt time self.old self.new (λ initial m. record m { notes = noted time (ack_reports mark) m.notes }) }
+        ensures answer { WritesAt time self.old (texts_of result answer.new) (λ m. ack_reports mark) }
         ensures writable { result ≡ Answer → IsWritable answer.new.body }
         ensures kept { (result ≡ Answer → ⊥) → answer.new ≡ answer.old }
         ensures goes_on { is_ended result ≡ false }
@@ -66,14 +64,14 @@ impl Subscriber {
     }
 
     /// Takes the body of a NAK, a loss list (section 3.2.5). One that has a fault changes nothing.
-    fn miss(&mut self, info: &[u8])
-        ensures { (terms : Terms) (initial opening caller time given : ℕ) (m : Subscribing) → StandsIn terms initial opening caller time given self.old m → StandsIn terms initial opening caller time given self.new (with_nak (asked_from initial (losses_in info.now)) m) }
+    fn take_losses(&mut self, info: &[u8])
+        ensures { Becomes self.old self.new (λ initial m. with_nak (asked_from initial (losses_in info.now)) m) }
     {
         let Ok(losses) = srt_loss::read(info) else {
             return;
         };
         if let Some(run) = self.buffer.lose(&losses) {
-            self.history.miss(run);
+            self.history.note_drop_request(run);
         }
     }
 
@@ -84,8 +82,8 @@ impl Subscriber {
     /// flight that it names; takes no memory.
     pub fn datagram(&mut self, packet: &PacketRef<'_>, now: u64, answer: &mut Packet) -> Took
         requires { now < 2 ^ 62 }
-        ensures stands { (terms : Terms) (initial opening caller last : ℕ) (m : Subscribing) → StandsFor terms initial opening caller last self.old m → last ≤ now → StandsFor terms initial opening caller now self.new (took (now - opening) (heard_from initial (body_of packet.now.kind)) (expired terms (now - opening) m)) }
-        ensures answer { (terms : Terms) (initial opening caller last : ℕ) (m : Subscribing) → StandsFor terms initial opening caller last self.old m → last ≤ now → texts_of result answer.new ≡ map (says caller initial (now - opening)) (answers (heard_from initial (body_of packet.now.kind))) }
+        ensures stands { BecomesBy now self.old self.new (λ terms initial time m. took time (heard_of initial packet.now.kind) (expired terms time m)) }
+        ensures answer { WritesBy now self.old (texts_of result answer.new) (λ initial. answers (heard_of initial packet.now.kind)) }
         ensures writable { result ≡ Answer → IsWritable answer.new.body }
         ensures kept { (result ≡ Answer → ⊥) → answer.new ≡ answer.old }
         ensures ended { is_ended result ≡ is_shutdown (body_of packet.now.kind) }
@@ -101,7 +99,7 @@ impl Subscriber {
                 self.answer(number, time, answer)
             }
             Kind::Nak { info } => {
-                self.miss(info);
+                self.take_losses(info);
                 Took::Nothing
             }
             Kind::Shutdown => Took::Ended,

@@ -1,9 +1,9 @@
 //! What a session remembers of its events, with what an ACK reports (draft-sharabayko-srt-01, section 3.2.4). Times are
 //! microseconds since the opening.
 
-ghost use Rattle.std.specs.Prelude.{◌≡◌, ℕ, List, [], ◌∷◌, ◌++◌, true, false};
+ghost use Rattle.std.specs.Prelude.{ℕ, [], ◌++◌};
 ghost use Rattle.srt_sub.specs.Heard.{more_of};
-ghost use Rattle.srt_sub.specs.Subscribing.{Note, Report, Sent, grown, is_media, is_drop, told};
+ghost use Rattle.srt_sub.specs.Subscribing.{grown, told};
 
 use srt_rtt::Rtt;
 use srt_sendbuf::DropRun;
@@ -30,7 +30,7 @@ pub struct History {
 }
 
 impl History {
-    ghost use Rattle.srt_sub.specs.Stands.{IsHistory};
+    ghost use Rattle.srt_sub.specs.Stands.{IsHistory, NotesBecome, NotesMedia, NotesOther};
 
     /// A session in which nothing has happened yet, with the agreed flow window in packets.
     pub fn start(window: u32) -> History
@@ -48,14 +48,14 @@ impl History {
 
     /// Notes that a packet was sent that is neither a data packet nor a drop request.
     pub fn say(&mut self, time: u64)
-        ensures { (initial agreed : ℕ) (notes : List Note) (r : Report) → is_media r ≡ false → is_drop r ≡ false → IsHistory initial agreed self.old notes → IsHistory initial agreed self.new (Sent time r ∷ notes) }
+        ensures { NotesOther time self.old self.new }
     {
         self.sent = time;
     }
 
     /// Notes that a data packet was sent.
     pub fn give(&mut self, time: u64)
-        ensures { (initial agreed : ℕ) (notes : List Note) (r : Report) → is_media r ≡ true → is_drop r ≡ false → IsHistory initial agreed self.old notes → IsHistory initial agreed self.new (Sent time r ∷ notes) }
+        ensures { NotesMedia time self.old self.new }
     {
         self.sent = time;
         self.media = time;
@@ -63,7 +63,7 @@ impl History {
 
     /// Notes whether an ACK acknowledged more than those before.
     fn grow(&mut self, grows: bool, time: u64)
-        ensures { (initial agreed : ℕ) (notes : List Note) → IsHistory initial agreed self.old notes → IsHistory initial agreed self.new (grown time grows ++ notes) }
+        ensures { NotesBecome self.old self.new (λ notes. grown time grows ++ notes) }
     {
         if grows {
             self.growth = time;
@@ -74,7 +74,7 @@ impl History {
     /// and its variance, from 16 on an available buffer size, which becomes the flow window (section 3.2.4). The
     /// bytes after these aren't read.
     fn hear(&mut self, info: &[u8])
-        ensures { (initial agreed : ℕ) (notes : List Note) → IsHistory initial agreed self.old notes → IsHistory initial agreed self.new (told (more_of info.now) ++ notes) }
+        ensures { NotesBecome self.old self.new (λ notes. told (more_of info.now) ++ notes) }
     {
         if info.len() >= 16 {
             self.round_trip.set(read_word(info, 4), read_word(info, 8));
@@ -87,7 +87,7 @@ impl History {
     /// Notes an ACK whose number is in the window; `grows` if it acknowledged more than those before. `info` is its
     /// body, `time` is in microseconds since the opening.
     pub fn acknowledge(&mut self, grows: bool, info: &[u8], time: u64)
-        ensures { (initial agreed : ℕ) (notes : List Note) → IsHistory initial agreed self.old notes → IsHistory initial agreed self.new (told (more_of info.now) ++ (grown time grows ++ notes)) }
+        ensures { NotesBecome self.old self.new (λ notes. told (more_of info.now) ++ (grown time grows ++ notes)) }
     {
         self.grow(grows, time);
         self.hear(info);

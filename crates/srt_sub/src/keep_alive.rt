@@ -1,10 +1,9 @@
 //! A subscriber's KEEPALIVE: after a second in which nothing was sent (draft-sharabayko-srt-01, section 3.2.3).
 
-ghost use Rattle.std.specs.Prelude.{◌≡◌, ℕ, ◌-◌, List, [], map, true, false, nat_le};
+ghost use Rattle.std.specs.Prelude.{◌≡◌, ◌-◌, [], true, false, nat_le};
 ghost use Rattle.srt_seq.specs.Given.{given as written};
 ghost use Rattle.srt_packet.specs.Text.{IsWritable};
-ghost use Rattle.srt_sub.specs.Subscribing.{Terms, Subscribing, noted, keep_alives, Note, last_sent};
-ghost use Rattle.srt_sub.specs.Says.{says};
+ghost use Rattle.srt_sub.specs.Subscribing.{noted, keep_alives, last_sent};
 ghost use Rattle.srt_seq.specs.Limits.{keep_alive_after_us};
 
 use crate::history::History;
@@ -14,13 +13,13 @@ use srt_packet::Packet;
 use srt_seq::limits::KEEP_ALIVE_AFTER_US;
 
 impl Subscriber {
-    ghost use Rattle.srt_sub.specs.Stands.{StandsIn};
+    ghost use Rattle.srt_sub.specs.Stands.{BecomesAt, WritesAt};
     ghost use Rattle.srt_sub.specs.Turns.{texts};
 
     /// Writes a KEEPALIVE if nothing was sent for a second. Returns whether it does; if not, `packet` is unchanged.
     pub(crate) fn next_keep_alive(&mut self, time: u64, packet: &mut Packet) -> bool
-        ensures stands { (terms : Terms) (initial opening caller given : ℕ) (m : Subscribing) → StandsIn terms initial opening caller time given self.old m → StandsIn terms initial opening caller time given self.new (record m { notes = noted time (keep_alives time [] m.notes) m.notes }) }
-        ensures answer { (terms : Terms) (initial opening caller given : ℕ) (m : Subscribing) → StandsIn terms initial opening caller time given self.old m → texts (written result packet.new) ≡ map (says caller initial time) (keep_alives time [] m.notes) }
+        ensures stands { BecomesAt time self.old self.new (λ initial m. record m { notes = noted time (keep_alives time [] m.notes) m.notes }) }
+        ensures answer { WritesAt time self.old (texts (written result packet.new)) (λ m. keep_alives time [] m.notes) }
         ensures writable { result ≡ true → IsWritable packet.new.body }
         ensures kept { result ≡ false → packet.new ≡ packet.old }
     {
@@ -34,11 +33,11 @@ impl Subscriber {
 }
 
 impl History {
-    ghost use Rattle.srt_sub.specs.Stands.{IsHistory};
+    ghost use Rattle.srt_sub.specs.Stands.{ForWhateverNotes};
 
     /// Whether nothing was sent for a second, so that a KEEPALIVE is due.
     pub fn keep_alive_due(&self, time: u64) -> bool
-        ensures { (initial agreed : ℕ) (notes : List Note) → IsHistory initial agreed self.now notes → result ≡ nat_le keep_alive_after_us (time - last_sent notes) }
+        ensures { ForWhateverNotes self.now (λ initial agreed notes. result ≡ nat_le keep_alive_after_us (time - last_sent notes)) }
     {
         time.saturating_sub(self.sent) >= KEEP_ALIVE_AFTER_US
     }

@@ -1,18 +1,16 @@
 //! Writing the packets that a session sends. Times are microseconds since the opening.
 
-ghost use Rattle.std.specs.Prelude.{◌≡◌, ℕ, ◌%◌, ◌^◌, ◌<◌, All, IfSome, map, option_map, length, true, false};
-ghost use Rattle.std.specs.Option.{option_to_list};
+ghost use Rattle.std.specs.Prelude.{◌≡◌, ℕ, ◌%◌, ◌^◌, IfSome, option_map, true, false};
 ghost use Rattle.srt_seq.specs.Given.{given};
-ghost use Rattle.srt_seq.specs.Counts.{message_of, message_number};
 ghost use Rattle.srt_seq.specs.Runs.{Run};
-ghost use Rattle.srt_sendbuf.specs.Sending.{Sending, Due, due, after_due};
-ghost use Rattle.srt_sendbuf.specs.Stands.{StandsFor};
-ghost use Rattle.srt_sendbuf.specs.Told.{told, gone_by};
+ghost use Rattle.srt_sendbuf.specs.Sending.{after_due};
+ghost use Rattle.srt_sendbuf.specs.Stands.{ForWhatever, Becomes};
+ghost use Rattle.srt_sendbuf.specs.Told.{told_due, gone_by};
 ghost use Rattle.srt_packet.specs.Text.{text, IsWritable};
-ghost use Rattle.srt_sub.specs.Subscribing.{Acked, Dropped, Media, KeepAlive};
+ghost use Rattle.srt_sub.specs.Subscribing.{Acked, Dropped, KeepAlive};
 ghost use Rattle.srt_sub.specs.Says.{says};
-ghost use Rattle.srt_sub.specs.Stands.{run_gone};
-ghost use Rattle.srt_sub.specs.Turns.{is_media_body, told_in, texts};
+ghost use Rattle.srt_sub.specs.Stands.{run_gone, HasBytes};
+ghost use Rattle.srt_sub.specs.Turns.{is_media_body, told_in, texts, WritesDue};
 
 use srt_packet::{Body, Packet};
 use srt_sendbuf::{DropRun, SendBuf};
@@ -81,8 +79,8 @@ fn become_media(body: &mut Body)
 /// payload was queued. None if no packet is due.
 fn fill(body: &mut Body, buffer: &mut SendBuf, window: u32) -> Option<u64>
     requires { is_media_body body.old ≡ true }
-    ensures stands { (width initial : ℕ) (r : Sending) → StandsFor width initial buffer.old r → StandsFor width initial buffer.new (after_due window r) }
-    ensures answer { (width initial : ℕ) (r : Sending) → StandsFor width initial buffer.old r → All (λ q. 0 < length q.payload) r.queue → option_map (told_in body.new) result ≡ option_map (told initial) (due window r) }
+    ensures stands { Becomes buffer.old buffer.new (λ initial r. after_due window r) }
+    ensures answer { ForWhatever buffer.old (λ width initial r. HasBytes r → option_map (told_in body.new) result ≡ told_due initial window r) }
     ensures media { is_media_body body.new ≡ true }
     ensures writable { IfSome result (λ origin. IsWritable body.new) }
 {
@@ -110,11 +108,11 @@ fn fill(body: &mut Body, buffer: &mut SendBuf, window: u32) -> Option<u64>
 /// timestamp is the time when its payload was queued. Returns false, with `packet` unchanged, if none is due. One
 /// copy of the payload, and the fastest if `packet` was a data packet of the same length before.
 pub fn media(packet: &mut Packet, buffer: &mut SendBuf, window: u32, caller: u32) -> bool
-    ensures stands { (width initial : ℕ) (r : Sending) → StandsFor width initial buffer.old r → StandsFor width initial buffer.new (after_due window r) }
-    ensures answer { (width initial time : ℕ) (r : Sending) → StandsFor width initial buffer.old r → All (λ q. 0 < length q.payload) r.queue → texts (given result packet.new) ≡ map (λ d. says caller initial time (Media d.number d.again d.origin d.payload)) (option_to_list (due window r)) }
+    ensures stands { Becomes buffer.old buffer.new (λ initial r. after_due window r) }
+    ensures answer { WritesDue window caller buffer.old (texts (given result packet.new)) }
     ensures writable { result ≡ true → IsWritable packet.new.body }
     ensures kept { result ≡ false → IsWritable packet.old.body → IsWritable packet.new.body }
-    ensures same { result ≡ false → (width initial : ℕ) (r : Sending) → StandsFor width initial buffer.old r → All (λ q. 0 < length q.payload) r.queue → packet.new ≡ packet.old }
+    ensures same { result ≡ false → ForWhatever buffer.old (λ width initial r. HasBytes r → packet.new ≡ packet.old) }
 {
     if !buffer.is_due(window) {
         return false;

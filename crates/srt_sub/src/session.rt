@@ -1,10 +1,9 @@
 //! A subscriber's session: its beginning, what is agreed, its room and its time.
 
 ghost use Rattle.std.specs.Prelude.{◌≡◌, ℕ, ◌-◌, ◌≤◌, IfOk};
-ghost use Rattle.srt_seq.specs.Window.{word_of};
 ghost use Rattle.srt_seq.specs.declared.shared.Mode.TheVariants.{Live};
 ghost use Rattle.srt_sendbuf.specs.Sending.{room};
-ghost use Rattle.srt_sub.specs.Subscribing.{Terms, Subscribing, opened};
+ghost use Rattle.srt_sub.specs.Subscribing.{opened};
 
 use crate::history::History;
 use srt_sendbuf::SendBuf;
@@ -54,7 +53,7 @@ pub struct Subscriber {
 }
 
 impl Subscriber {
-    ghost use Rattle.srt_sub.specs.Stands.{StandsFor, IsWide};
+    ghost use Rattle.srt_sub.specs.Stands.{StandsFor, IsWide, HasBegun, ForWhatever};
 
     /// A session with places for `width` packets, 32 to 8192; `start` begins it. The only call that takes memory; the
     /// error is a refused allocation. O(width).
@@ -79,7 +78,7 @@ impl Subscriber {
 
     /// Begins a session and forgets the one before. Linear in the packets that were kept.
     pub fn start(&mut self, opening: Opening)
-        ensures { (width : ℕ) → IsWide width self.old → StandsFor (record { mode = opening.mode; width = width; delay = opening.delay; mtu = opening.mtu; window = opening.window }) (word_of opening.initial) opening.now opening.caller opening.now self.new opened }
+        ensures { (width : ℕ) → IsWide width self.old → HasBegun width opening self.new }
     {
         self.buffer.start(opening.initial);
         self.history = History::start(opening.window);
@@ -93,7 +92,7 @@ impl Subscriber {
 
     /// The number of payloads that can still be queued. O(1).
     pub fn room(&self) -> u32
-        ensures { (terms : Terms) (initial opening caller last : ℕ) (m : Subscribing) → StandsFor terms initial opening caller last self.now m → result ≡ room terms.width m.sending }
+        ensures { ForWhatever self.now (λ terms initial opening caller last m. result ≡ room terms.width m.sending) }
     {
         self.buffer.room()
     }

@@ -48,7 +48,7 @@ returns-in-Nak-clause-stands c terms initial opening caller last m h le =
     let now = c.args.now - opening in
     let x = expired terms now m in
     let stands = c.drop_old.ensures terms initial opening caller (last - opening) 0 m h (omega (arith, le)) in
-    subst (λ (k : Kind). StandsIn terms initial opening caller now 0 c.miss.new.self (took now (heard_from initial (body_of k)) x)) (sym c.in-Nak.is) (c.miss.ensures terms initial opening caller now 0 x stands)
+    subst (λ (k : Kind). StandsIn terms initial opening caller now 0 c.take_losses.new.self (took now (heard_from initial (body_of k)) x)) (sym c.in-Nak.is) (c.take_losses.ensures terms initial opening caller now 0 x stands)
 
 pub returns-in-Shutdown-clause-stands : goal.returns-in-Shutdown-clause-stands
 returns-in-Shutdown-clause-stands c terms initial opening caller last m h le =

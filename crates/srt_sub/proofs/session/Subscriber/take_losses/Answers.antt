@@ -9,15 +9,15 @@ use Rattle.srt_sub.specs.Subscribing.{with_nak, gone}
 use Rattle.srt_sub.specs.Subscribing.{Missed}
 use Rattle.srt_sub.specs.Stands.{StandsIn}
 use Rattle.srt_sub.proofs.Sound.{changed, sound_marked, is_gone, isnt_gone}
-use Rattle.srt_sub.proofs.session.Subscriber.miss.Goals as goal
+use Rattle.srt_sub.proofs.session.Subscriber.take_losses.Goals as goal
 
 pub returns-in-Some : goal.returns-in-Some
 returns-in-Some c terms initial opening caller time given m h =
     let ranges = ranges_from initial c.in-Ok.losses in
     let told = is_gone (asks_for_gone ranges m.sending) (gone_by c.in-Some.run') (gone_words initial m.sending) (c.in-Some.ensures.answer terms.width initial m.sending h.buffer_is) in
     let b = told.0 in
-    subst (λ (r : Result (List Range) LossFault). StandsIn terms initial opening caller time given (record c.args.self.now { buffer = c.lose.new.self; history = c.miss.new.self }) (with_nak (asked_from initial r) m)) c.in-Ok.ensures.value
-    (rw b (changed terms initial opening caller time given c.args.self.now m h time given c.args.self.now.given c.lose.new.self c.miss.new.self (record { sending = asked ranges m.sending; notes = Missed (gone m.sending) ∷ m.notes }) h.given_is (c.lose.ensures.stands terms.width initial m.sending h.buffer_is) (c.miss.ensures initial terms.window m.notes (gone m.sending) told.1 h.history_is) (sound_marked terms time m.sending (asked ranges m.sending) refl refl h.sound)))
+    subst (λ (r : Result (List Range) LossFault). StandsIn terms initial opening caller time given (record c.args.self.now { buffer = c.lose.new.self; history = c.note_drop_request.new.self }) (with_nak (asked_from initial r) m)) c.in-Ok.ensures.value
+    (rw b (changed terms initial opening caller time given c.args.self.now m h time given c.args.self.now.given c.lose.new.self c.note_drop_request.new.self (record { sending = asked ranges m.sending; notes = Missed (gone m.sending) ∷ m.notes }) h.given_is (c.lose.ensures.stands terms.width initial m.sending h.buffer_is) (c.note_drop_request.ensures initial terms.window m.notes (gone m.sending) told.1 h.history_is) (sound_marked terms time m.sending (asked ranges m.sending) refl refl h.sound)))
 
 pub returns-in_default-lose : goal.returns-in_default-lose
 returns-in_default-lose c terms initial opening caller time given m h =
