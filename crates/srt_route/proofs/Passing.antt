@@ -1,6 +1,6 @@
 -- The publisher's payloads, one by one.
 use Rattle.std.proofs.Common.{◌≡◌, ◌≢◌, ℕ, ◌+◌, zero, suc, ◌<◌, ◌≤◌, ◌==◌, Bool, true, false, cond, Option, None, Some, List, [], ◌∷◌, ◌++◌, length, map, find, get_or, set, inl, inr, refl, sym, ap, subst, ◌∙◌, arith}
-use Rattle.std.specs.Option.{option_map}
+use Rattle.std.specs.Option.{is_some, option_map}
 use Rattle.std.proofs.lemmas.Bool.{cases_eq, and_parts, eq-eqb, eqb-true, false_from_ne_true}
 use Rattle.srt_seq.specs.declared.shared.Mode.{Mode}
 use Rattle.srt_seq.specs.declared.shared.Mode.TheVariants.{Live, Buffer}
@@ -253,6 +253,15 @@ given_one b x (Some a) same is = (a, refl, let e : Some x ≡ Some a.payload = s
 pub none_given : (b : Bool) (x : List ℕ) (n : Option Arrival) → given b x ≡ option_map (λ (a : Arrival). a.payload) n → b ≡ false → n ≡ None
 none_given b x None same is = refl
 none_given b x (Some a) same is = absurd (let bad : None ≡ Some a.payload = sym (ap (λ (c : Bool). given c x) is) ∙ same in cc)
+
+-- what was passed over, and what wasn't
+pub passed_one : (b : Bool) (n : Option Arrival) → b ≡ is_some n → b ≡ true → (a : Arrival) × (n ≡ Some a)
+passed_one b None same is = absurd (let bad : false ≡ true = sym same ∙ is in cc)
+passed_one b (Some a) same is = (a, refl)
+
+pub none_passed : (b : Bool) (n : Option Arrival) → b ≡ is_some n → b ≡ false → n ≡ None
+none_passed b None same is = refl
+none_passed b (Some a) same is = absurd (let bad : true ≡ false = sym same ∙ is in cc)
 
 -- a turn that gives a payload
 pub turn_given : (e : Terms) (index clock : ℕ) (table first later : Table) (ss : List Session) (at : ℕ) (s : Session) (q : Publishing) (second : Bool) (p : Publisher) (places : ℕ) (next : Option Arrival) (payload : List ℕ) (a : Arrival) → next ≡ next_delivery (terms_of e s).publisher (time_in s clock) places q → next ≡ Some a → payload ≡ a.payload → IsTable e index clock table ss → IsPublisherAt ss at s q → HaveRoom e places ss → Uses table at second → IsTurned table first second p → publishers.StandsFor (terms_of e s).publisher s.conclusion.initial s.opening s.stamp s.conclusion.caller p (after_delivery (terms_of e s).publisher next q) → 0 < length payload → ((ts : List Session) → IsTable e index clock first ts → 0 < length payload → HaveRoom e 1 ts → IsTable e index clock later (map (changed (fed e clock payload)) ts)) → IsTable e index clock later (turned e clock at next (after_delivery (terms_of e s).publisher next q) ss)

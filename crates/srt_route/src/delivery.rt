@@ -127,19 +127,19 @@ fn deliver_each(table: &mut Table, second: bool, clock: u64, room: u32, payload:
 
 /// Passes over the due payloads of a publisher that stands by, at most 64. It has no subscribers, so its room is 0: in
 /// buffer mode nothing is delivered, and in live mode, where the room doesn't count, what is due.
-fn stand_by(publisher: &mut Publisher, clock: u64, payload: &mut Payload)
+fn stand_by(publisher: &mut Publisher, clock: u64)
     requires { clock < 2 ^ 62 }
     ensures { PublisherStoodBy clock publisher.old publisher.new }
 {
     for turn in 0..PAYLOADS_MAX {
-        if !publisher.deliver(clock, 0, payload) {
+        if !publisher.pass_over(clock) {
             return;
         }
     }
 }
 
 /// Passes over the due payloads of the publisher that stands by while the one with these buffers is active.
-fn deliver_standby(table: &mut Table, active: bool, clock: u64, payload: &mut Payload)
+fn deliver_standby(table: &mut Table, active: bool, clock: u64)
     requires { clock < 2 ^ 62 }
     ensures { StandsBy active clock table.old table.new }
 {
@@ -147,7 +147,7 @@ fn deliver_standby(table: &mut Table, active: bool, clock: u64, payload: &mut Pa
     if !have_publisher(&table.seats, second) {
         return;
     }
-    stand_by(&mut table.publishers[place_of(second)], clock, payload);
+    stand_by(&mut table.publishers[place_of(second)], clock);
 }
 
 /// Whether the active publisher uses the second buffers; None if no publisher is open. Of two open ones the one that
@@ -188,5 +188,5 @@ pub fn deliver(table: &mut Table, clock: u64, payload: &mut Payload)
     };
     let room = room_of_all(table);
     deliver_each(table, active, clock, room, payload);
-    deliver_standby(table, active, clock, payload);
+    deliver_standby(table, active, clock);
 }

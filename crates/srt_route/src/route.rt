@@ -88,7 +88,8 @@ impl Route {
         requires timely { moment_of (told item) < 2 ^ 62 }
         ensures count { result ≡ length (waiting self.new) }
         ensures stands { (e : Terms) (index : ℕ) (items : List TheItem) → stands self.old e index items → stands self.new e index (told item ∷ items) }
-        ensures replies { (e : Terms) (index : ℕ) (items : List TheItem) → stands self.old e index items → waiting self.new ≡ reply e index (told item ∷ items) }
+        ensures replies { (e : Terms) (index : ℕ) (items : List TheItem) →
+            stands self.old e index items → waiting self.new ≡ reply e index (told item ∷ items) }
     {
         // 1: the clock never goes back.
         self.clock = later(self.clock, moment(&item));

@@ -23,14 +23,14 @@ fn start_publisher(
     ensures { PublisherBegins agreement arrival (word_of initial) caller publisher.old publisher.new }
 {
     let delay = u32::from(agreement.receiver_ms) * 1000;
-    publisher.start(
-        arrival.clock,
-        Stamp32::new(arrival.stamp),
+    publisher.start(srt_pub::Opening {
+        now: arrival.clock,
+        stamp: Stamp32::new(arrival.stamp),
         initial,
         caller,
-        agreement.mode,
+        mode: agreement.mode,
         delay,
-    );
+    });
 }
 
 /// A subscriber's session opens, with what was agreed.

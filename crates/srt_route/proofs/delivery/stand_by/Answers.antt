@@ -2,7 +2,7 @@ use Rattle.std.proofs.Common.{◌≡◌, ℕ, suc, ◌+◌, ◌-◌, None, refl,
 use Rattle.srt_pub.specs.Publishing as publishing
 use Rattle.srt_pub.specs.Calls.{leaves, next_delivery, after_delivery}
 use Rattle.srt_pub.specs.Stands as publishers
-use Rattle.srt_route.proofs.Passing.{given_one, none_given}
+use Rattle.srt_route.proofs.Passing.{passed_one, none_passed}
 use Rattle.srt_route.proofs.Turns.{leaves_next, leaves_none}
 use Rattle.srt_route.proofs.Delivered.{stood}
 use Rattle.srt_route.proofs.delivery.stand_by.Goals as goal
@@ -13,25 +13,25 @@ loop-turn-init c terms initial opening stamp caller time m moment stands = recor
 pub loop-turn-preserved : goal.loop-turn-preserved
 loop-turn-preserved c terms initial opening stamp caller time m moment stands =
     let h = c.loop-turn.invariant terms initial opening stamp caller time m moment stands in
-    let same = c.deliver.ensures.payload terms initial opening stamp caller time h.done moment h.stands in
-    let given = given_one c.deliver.result c.deliver.new.payload.items (next_delivery terms time 0 h.done) same c.if-not-deliver.false in
+    let same = c.pass_over.ensures.answer terms initial opening stamp caller time h.done moment h.stands in
+    let given = passed_one c.pass_over.result (next_delivery terms time 0 h.done) same c.if-not-pass_over.false in
     let one : 64 - c.loop-turn.turn ≡ suc (64 - (c.loop-turn.turn + 1)) = omega (arith, c.loop-turn-test.true) in
     record {
       done = after_delivery terms (next_delivery terms time 0 h.done) h.done;
-      stands = c.deliver.ensures.stands terms initial opening stamp caller time h.done moment h.stands;
+      stands = c.pass_over.ensures.stands terms initial opening stamp caller time h.done moment h.stands;
       left_is = sym (leaves_next terms time (64 - (c.loop-turn.turn + 1)) h.done given.0 given.1) ∙ (ap (λ (n : ℕ). leaves terms time 0 n h.done) (sym one) ∙ h.left_is);
     }
 
-pub returns-then-not-deliver : goal.returns-then-not-deliver
-returns-then-not-deliver c terms initial opening stamp caller time m moment stands =
+pub returns-then-not-pass_over : goal.returns-then-not-pass_over
+returns-then-not-pass_over c terms initial opening stamp caller time m moment stands =
     let h = c.loop-turn.invariant terms initial opening stamp caller time m moment stands in
-    let same = c.deliver.ensures.payload terms initial opening stamp caller time h.done moment h.stands in
-    let none = none_given c.deliver.result c.deliver.new.payload.items (next_delivery terms time 0 h.done) same c.if-not-deliver.true in
+    let same = c.pass_over.ensures.answer terms initial opening stamp caller time h.done moment h.stands in
+    let none = none_passed c.pass_over.result (next_delivery terms time 0 h.done) same c.if-not-pass_over.true in
     let one : 64 - c.loop-turn.turn ≡ suc (63 - c.loop-turn.turn) = omega (arith, c.loop-turn-test.true) in
     let last : h.done ≡ publishing.delivered terms time None m =
     sym (leaves_none terms time 0 (63 - c.loop-turn.turn) h.done none) ∙ (ap (λ (n : ℕ). leaves terms time 0 n h.done) (sym one) ∙ (h.left_is ∙ stood terms initial opening stamp caller time c.args.publisher.now m stands)) in
-    subst (λ (q : publishing.Publishing). publishers.StandsFor terms initial opening stamp caller c.deliver.new.self q) (ap (λ (o : _). after_delivery terms o h.done) none ∙ last)
-    (c.deliver.ensures.stands terms initial opening stamp caller time h.done moment h.stands)
+    subst (λ (q : publishing.Publishing). publishers.StandsFor terms initial opening stamp caller c.pass_over.new.self q) (ap (λ (o : _). after_delivery terms o h.done) none ∙ last)
+    (c.pass_over.ensures.stands terms initial opening stamp caller time h.done moment h.stands)
 
 pub returns : goal.returns
 returns c terms initial opening stamp caller time m moment stands =
