@@ -1,11 +1,12 @@
 //! The gateway with its lobby and its routes, from bytes to bytes. The cookies were computed by Python's hashlib.
 //! Refused memory is shown by `rt try --test --fail-alloc N`: each test then ends in its own error, or as it should.
 
-use crate::tests::{assert_floods, assert_sends, assert_sends_nothing, assert_turns};
+use crate::tests::{assert_floods, assert_sends, assert_sends_nothing, assert_turns, live_entry};
 use crate::{Arrived, Cause, Hub, SrtGateway, Ticked};
 use srt_cookie::Secret;
 use srt_seq::{Entry, Mode, OpenFault, Peer, Turned};
 use std::alloc::Global;
+use std::array;
 use std::process::Abort;
 use std::test::Fail;
 
@@ -90,35 +91,22 @@ fn near(port: u16) -> Peer {
     }
 }
 
+/// The bytes of these words.
 fn bytes_of(alloc: Global, parts: &[&'static str]) -> Result<Vec<u8>, Fail> {
-    let mut bytes = Vec::new(alloc);
-    for part in parts {
-        for word in part.split(' ') {
-            bytes.extend_from_slice(&hex::decode(alloc, word)?)?;
-        }
-    }
-    Ok(bytes)
+    let digits = parts.concat(alloc)?.replace(alloc, ' ', "")?;
+    Ok(hex::decode(alloc, digits.as_str())?)
 }
 
 fn entry(alloc: Global, name: &str, mode: Mode, buffer: u32) -> Result<Entry, Fail> {
-    Ok(Entry {
-        name: String::from_str(alloc, name)?,
-        mode,
-        latency_ms: 120,
-        buffer,
-        sessions: 5,
-        inbox: 16,
-        outbox: 16,
-    })
+    let mut entry = live_entry(alloc, name)?;
+    entry.mode = mode;
+    entry.buffer = buffer;
+    Ok(entry)
 }
 
 /// The bytes 0 to 31.
 fn secret() -> Secret {
-    let mut bytes = [0u8; 32];
-    for i in 0..32 {
-        bytes[i] = i as u8;
-    }
-    Secret::new(bytes)
+    Secret::new(array::from_fn(|i| i as u8))
 }
 
 /// The routes `studio` and `files`.
@@ -321,23 +309,41 @@ fn a_flood_changes_no_other_route(rt: HostRuntime) -> Result<(), Fail> {
     assert_answers(&rt, &mut gateway, FIRST.port, &opening(&FIRST, "00100000"))
 }
 
+/// Asserts the result of a conclusion with the cookie of minute 3, from this port at this time in microseconds.
+fn assert_cookie_3(
+    rt: &(impl AllocGlobal + Abort),
+    gateway: &mut SrtGateway,
+    port: u16,
+    micros: u32,
+    becomes: Arrived,
+) -> Result<(), Fail> {
+    let conclusion = Words {
+        port,
+        micros,
+        parts: &[FIRST.conclusion, COOKIE_3, REST, STUDIO],
+    };
+    assert_arrives(rt, gateway, &conclusion, becomes)
+}
+
 /// A cookie is valid in its minute and in the next, from the port that it was made for.
 #[test]
 fn a_cookie_ends(rt: HostRuntime) -> Result<(), Fail> {
     let mut gateway = opened(rt.alloc())?;
-    for (port, micros, becomes) in [
-        (5000, 240_000_000, Arrived::Accepted(0)),
-        (5000, 300_000_000, Arrived::Dropped(Cause::WrongCookie)),
-        (5001, 240_000_000, Arrived::Dropped(Cause::WrongCookie)),
-    ] {
-        let conclusion = Words {
-            port,
-            micros,
-            parts: &[FIRST.conclusion, COOKIE_3, REST, STUDIO],
-        };
-        assert_arrives(&rt, &mut gateway, &conclusion, becomes)?;
-    }
-    Ok(())
+    assert_cookie_3(&rt, &mut gateway, 5000, 240_000_000, Arrived::Accepted(0))?;
+    assert_cookie_3(
+        &rt,
+        &mut gateway,
+        5000,
+        300_000_000,
+        Arrived::Dropped(Cause::WrongCookie),
+    )?;
+    assert_cookie_3(
+        &rt,
+        &mut gateway,
+        5001,
+        240_000_000,
+        Arrived::Dropped(Cause::WrongCookie),
+    )
 }
 
 /// Entries with a fault open no gateway.

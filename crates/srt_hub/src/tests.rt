@@ -114,23 +114,21 @@ impl RouteStep for Twice {
     }
 }
 
-fn entry(alloc: Global, name: &str, inbox: u32, outbox: u32) -> Result<Entry, Fail> {
+/// A live route with the least queues.
+pub(crate) fn live_entry(alloc: Global, name: &str) -> Result<Entry, Fail> {
     Ok(Entry {
         name: String::from_str(alloc, name)?,
         mode: Mode::Live,
         latency_ms: 120,
         buffer: 1024,
         sessions: 5,
-        inbox,
-        outbox,
+        inbox: 16,
+        outbox: 16,
     })
 }
 
 fn two_routes(alloc: Global) -> Result<Hub<Twice, FirstByte>, Fail> {
-    let entries = vec![in alloc;
-        entry(alloc, "studio", 16, 16)?,
-        entry(alloc, "files", 16, 16)?,
-    ]?;
+    let entries = vec![in alloc; live_entry(alloc, "studio")?, live_entry(alloc, "files")?]?;
     let hub = Hub::open(alloc, Secret::new([7; 32]), &entries);
     Ok(hub.ok().ok_or("a hub")?)
 }
