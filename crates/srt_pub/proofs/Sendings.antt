@@ -1,13 +1,16 @@
 -- The packets that an event sends.
-use Rattle.std.proofs.Common.{◌≡◌, ◌≢◌, ℕ, ◌-◌, ◌<◌, Bool, true, false, cond, Option, List, [], ◌∷◌, ◌++◌, length, map, refl, sym, ap, ◌∙◌, arith}
-use Rattle.std.specs.Prelude.{nat_le, ◌==◌}
+use Rattle.std.proofs.Common.{◌≡◌, ◌≢◌, ℕ, ◌-◌, ◌<◌, ◌≤◌, max, Bool, true, false, cond, Option, List, [], ◌∷◌, ◌++◌, length, map, refl, sym, ap, ◌∙◌, arith}
+use Rattle.std.specs.Prelude.{nat_le, nat_lt, ◌==◌}
 use Rattle.std.proofs.lemmas.Bool.{eqb-true}
+use Rattle.std.proofs.lemmas.Bool.Decides.{nat_tests}
 use Rattle.std.proofs.lemmas.List.{map-append}
 use Rattle.srt_seq.specs.Given.{given}
 use Rattle.srt_seq.specs.declared.numbers.Seq31.{Seq31}
 use Rattle.srt_loss.specs.Text.{range_of, loss_words}
 use Rattle.srt_packet.specs.declared.writing.Packet.{Packet}
 use Rattle.srt_packet.specs.Text.{text}
+use Rattle.srt_recvbuf.specs.Receiving.{end_of, ack_point}
+use Rattle.srt_recvbuf.proofs.Points.{no_gaps}
 use Rattle.srt_rtt.specs.RoundTrip.{after_samples, nak_interval}
 use Rattle.srt_pub.specs.Publishing.{Note, Sent, Report, KeepAlive, Terms, Publishing, samples, last_nak_of_all, last_sent, noted, nak_with, naks, naks_of, gaps_told, runs_said, is_nak_due, keep_alives, keep_alive_if, acks, reports}
 use Rattle.srt_pub.specs.Says.{says}
@@ -22,6 +25,18 @@ alive_is false false time notes a n e = ap keep_alive_if e
 pub naks_by : (terms : Terms) (time : ℕ) (m : Publishing) (all : Bool) → all ≡ is_nak_due time m.notes → naks terms time m ≡ nak_with all (runs_said (gaps_told all terms.width m.seen m.receiving))
 unfolding naks
 naks_by terms time m all e = ap (λ (b : Bool). naks_of b terms.width m.seen m.receiving) (sym e)
+
+-- if nothing is missing, no NAK is due
+pub none_missing : (terms : Terms) (time : ℕ) (m : Publishing) (has_gaps : Bool) → has_gaps ≡ nat_lt (ack_point terms.width m.receiving) (end_of m.receiving.arrivals) → has_gaps ≡ false → naks terms time m ≡ []
+unfolding naks
+none_missing terms time m has_gaps tells none = by (is_nak_due time m.notes)
+  where
+    full : end_of m.receiving.arrivals ≤ ack_point terms.width m.receiving
+    full = let below = sym tells ∙ none in grind (arith, nat_tests)
+
+    by : (all : Bool) → naks_of all terms.width m.seen m.receiving ≡ []
+    by true = ap (λ (ns : List ℕ). nak_with true (runs_said ns)) (no_gaps terms.width m.receiving.front m.receiving (omega arith) full)
+    by false = ap (λ (ns : List ℕ). nak_with false (runs_said ns)) (no_gaps terms.width (max m.seen m.receiving.front) m.receiving (omega arith) full)
 
 two_words : (b : Bool) (x y z : ℕ) (more : List ℕ) → 0 < length (cond b (x ∷ []) (y ∷ z ∷ []) ++ more)
 two_words true x y z more = omega arith

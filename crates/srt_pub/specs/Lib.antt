@@ -6,3 +6,5 @@ pub mod Kept
 pub mod Stands
 pub mod Laws
 pub mod Sent
+pub mod Changes
+pub mod Noting

@@ -38,6 +38,7 @@ pub struct Acks {
 
 impl Acks {
     ghost use Rattle.srt_pub.specs.Kept.{AcksStandFor};
+    ghost use Rattle.srt_pub.specs.Noting.{AcksBecome, AcksHoldOf, AcksMove, CountsAcks, NotesAck, NotesFullAck, WritesAck, WritesFullAck};
 
     /// No ACK was sent yet. The only call that takes memory; the error is a refused allocation.
     pub fn open(alloc: Global) -> Result<Acks, AllocError>
@@ -65,7 +66,7 @@ impl Acks {
 
     /// Counts an unencrypted data packet, whatever its number.
     pub fn came(&mut self)
-        ensures { (width front point : ℕ) (notes : List Note) → AcksStandFor width front point self.old notes → AcksStandFor width front point self.new (Came ∷ notes) }
+        ensures { AcksBecome self.old self.new (λ point notes. Came ∷ notes) }
     {
         self.came = self.came.saturating_add(1).min(LIGHT_ACK_PACKETS);
     }
@@ -73,7 +74,7 @@ impl Acks {
     /// Notes that the front and the acknowledgement point moved on by these numbers of packets. If either moved, the
     /// pair is a new one.
     pub fn moves(&mut self, front_steps: u32, point_steps: u32)
-        ensures { (width front a : ℕ) (notes : List Note) → a + point_steps ≤ front + front_steps + width → AcksStandFor width front a self.old notes → AcksStandFor width (front + front_steps) (a + point_steps) self.new notes }
+        ensures { AcksMove front_steps point_steps self.old self.new }
     {
         if front_steps.saturating_add(point_steps) == 0 {
             return;
@@ -86,8 +87,8 @@ impl Acks {
     /// sample of the round-trip time, in microseconds, at most 10 seconds. None if it confirms none of the last 64
     /// Full ACKs, or one that was confirmed before.
     pub fn confirm(&mut self, number: u32, time: u64) -> Option<u64>
-        ensures sample { (width front point : ℕ) (notes : List Note) → AcksStandFor width front point self.old notes → result ≡ option_map (sample_of time) (confirmed_by number notes) }
-        ensures stands { (width front point : ℕ) (notes : List Note) → AcksStandFor width front point self.old notes → AcksStandFor width front point self.new (confirmed_notes time (confirmed_by number notes) notes) }
+        ensures sample { AcksHoldOf self.old (λ width front point notes. result ≡ option_map (sample_of time) (confirmed_by number notes)) }
+        ensures stands { AcksBecome self.old self.new (λ point notes. confirmed_notes time (confirmed_by number notes) notes) }
         ensures capped { IfSome result (λ s. s ≤ 10_000_000) }
     {
         let place = self.book.place_of(number)?;
@@ -97,7 +98,7 @@ impl Acks {
 
     /// Whether a Full ACK is due: the current pair isn't confirmed, and the last Full ACK is at least 10 ms ago.
     fn is_full_due(&self, time: u64) -> bool
-        ensures { (width front point : ℕ) (notes : List Note) → AcksStandFor width front point self.now notes → result ≡ is_full_due width point (front + width - point) time notes }
+        ensures { AcksHoldOf self.now (λ width front point notes. result ≡ is_full_due width point (front + width - point) time notes) }
     {
         if self.known {
             return false;
@@ -107,15 +108,15 @@ impl Acks {
 
     /// Whether a Light ACK is due if no Full ACK is: 64 data packets came since the last ACK.
     fn is_light_due(&self) -> bool
-        ensures { (width front point : ℕ) (notes : List Note) → AcksStandFor width front point self.now notes → result ≡ is_light_due notes }
+        ensures { AcksHoldOf self.now (λ width front point notes. result ≡ is_light_due notes) }
     {
         self.came >= LIGHT_ACK_PACKETS
     }
 
     /// Writes a Full ACK and notes that it is sent.
     fn full(&mut self, time: u64, point: Seq31, available: u32, rtt: Rtt, body: &mut Body)
-        ensures stands { (width front a : ℕ) (notes : List Note) → times.StandsFor rtt (samples notes) → available ≡ front + width - a → AcksStandFor width front a self.old notes → AcksStandFor width front a self.new (noted time (full_ack a available notes ∷ []) notes) }
-        ensures bytes { (width front a initial caller : ℕ) (notes : List Note) → times.StandsFor rtt (samples notes) → word_of point ≡ number_word initial a → AcksStandFor width front a self.old notes → body_bytes caller time body.new ≡ says caller initial time (full_ack a available notes) }
+        ensures stands { NotesFullAck time available rtt self.old self.new }
+        ensures bytes { WritesFullAck time point available rtt self.old body.new }
         ensures writable { IsWritable body.new }
     {
         self.same = self.same.saturating_add(1).min(FULL_ACKS_KEPT);
@@ -132,7 +133,7 @@ impl Acks {
 
     /// Writes a Light ACK and notes that it is sent.
     fn light(&mut self, time: u64, point: Seq31, body: &mut Body)
-        ensures stands { (width front a : ℕ) (notes : List Note) → AcksStandFor width front a self.old notes → AcksStandFor width front a self.new (noted time (TheLightAck a ∷ []) notes) }
+        ensures stands { AcksBecome self.old self.new (λ a notes. noted time (TheLightAck a ∷ []) notes) }
         ensures bytes { (a initial caller : ℕ) → word_of point ≡ number_word initial a → body_bytes caller time body.new ≡ says caller initial time (TheLightAck a) }
         ensures writable { IsWritable body.new }
     {
@@ -151,9 +152,9 @@ impl Acks {
         rtt: Rtt,
         body: &mut Body,
     ) -> bool
-        ensures stands { (width front a : ℕ) (notes : List Note) → times.StandsFor rtt (samples notes) → available ≡ front + width - a → AcksStandFor width front a self.old notes → AcksStandFor width front a self.new (noted time (acks_at width a available time notes) notes) }
-        ensures bytes { (width front a initial caller : ℕ) (notes : List Note) → times.StandsFor rtt (samples notes) → available ≡ front + width - a → word_of point ≡ number_word initial a → AcksStandFor width front a self.old notes → map (body_bytes caller time) (listed (given result body.new)) ≡ map (says caller initial time) (acks_at width a available time notes) }
-        ensures count { (width front a : ℕ) (notes : List Note) → available ≡ front + width - a → AcksStandFor width front a self.old notes → length (listed (given result body.new)) ≡ length (acks_at width a available time notes) }
+        ensures stands { NotesAck time available rtt self.old self.new }
+        ensures bytes { WritesAck time point available rtt self.old (listed (given result body.new)) }
+        ensures count { CountsAcks time available self.old (listed (given result body.new)) }
         ensures writable { result ≡ true → IsWritable body.new }
         ensures kept { result ≡ false → body.new ≡ body.old }
     {

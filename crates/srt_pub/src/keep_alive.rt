@@ -17,6 +17,7 @@ use srt_seq::limits::KEEP_ALIVE_AFTER_US;
 
 impl Publisher {
     ghost use Rattle.srt_pub.specs.Stands.{StandsFor, opening_of};
+    ghost use Rattle.srt_pub.specs.Changes.{Becomes, Writes};
 
     /// Writes a KEEPALIVE, if one is due and neither an ACK nor a NAK is sent. Returns whether there is one; if not,
     /// `packet` is unchanged.
@@ -27,9 +28,9 @@ impl Publisher {
         nak: bool,
         packet: &mut Packet,
     ) -> bool
-        ensures stands { (terms : Terms) (initial opening stamp caller : ℕ) (m : Publishing) → StandsFor terms initial opening stamp caller self.old m → StandsFor terms initial opening stamp caller self.new (record m { notes = noted time (keep_alive_after ack nak time m.notes) m.notes }) }
+        ensures stands { Becomes self.old self.new (λ terms initial m. record m { notes = noted time (keep_alive_after ack nak time m.notes) m.notes }) }
         ensures opening { opening_of self.new ≡ opening_of self.old }
-        ensures bytes { (terms : Terms) (initial opening stamp caller : ℕ) (m : Publishing) → StandsFor terms initial opening stamp caller self.old m → texts (listed (given result packet.new)) ≡ map (says caller initial time) (keep_alive_after ack nak time m.notes) }
+        ensures bytes { Writes time self.old (listed (given result packet.new)) (λ terms time m. keep_alive_after ack nak time m.notes) }
         ensures writable { result ≡ true → IsWritable packet.new.body }
         ensures kept { result ≡ false → packet.new ≡ packet.old }
     {
@@ -51,17 +52,18 @@ impl Publisher {
 
 impl Log {
     ghost use Rattle.srt_pub.specs.Kept.{LogStandsFor};
+    ghost use Rattle.srt_pub.specs.Noting.{LogBecomes, LogHoldsOf};
 
     /// Whether nothing was sent for a second, so that a KEEPALIVE is due.
     pub fn keep_alive_due(&self, time: u64) -> bool
-        ensures { (width front point seen : ℕ) (notes : List Note) → LogStandsFor width front point self.now notes seen → result ≡ nat_le keep_alive_after_us (time - last_sent notes) }
+        ensures { LogHoldsOf self.now (λ notes. result ≡ nat_le keep_alive_after_us (time - last_sent notes)) }
     {
         time.saturating_sub(self.sent) >= KEEP_ALIVE_AFTER_US
     }
 
     /// Notes that a KEEPALIVE is sent.
     pub fn keep_alive(&mut self, time: u64)
-        ensures { (width front point seen : ℕ) (notes : List Note) → LogStandsFor width front point self.old notes seen → LogStandsFor width front point self.new (Sent time TheKeepAlive ∷ notes) seen }
+        ensures { LogBecomes self.old self.new (λ notes. Sent time TheKeepAlive ∷ notes) }
     {
         self.sent = time;
     }

@@ -3,17 +3,17 @@
 ghost use Rattle.std.specs.Prelude.{ℕ};
 ghost use Rattle.srt_pub.specs.Publishing.{Terms, Publishing};
 ghost use Rattle.srt_pub.specs.Laws.{DeliversOneByOne, IsSettled};
-ghost use Rattle.srt_pub.specs.Stands.{StandsFor};
+ghost use Rattle.srt_pub.specs.Changes.{HoldsOf};
 
 use crate::Publisher;
 
 /// Payloads can be delivered one by one: 64 calls of `deliver`, up to the first that returns false, deliver what the
 /// definition of an event delivers together.
 pub fn deliveries(publisher: &Publisher)
-    ensures { (terms : Terms) (initial opening stamp caller : ℕ) (m : Publishing) → StandsFor terms initial opening stamp caller publisher.now m → DeliversOneByOne terms m }
+    ensures { HoldsOf publisher.now (λ terms initial m. DeliversOneByOne terms m) }
 {}
 
 /// After each call the front isn't a dropped number, and no number past the window is received or dropped.
 pub fn fronts(publisher: &Publisher)
-    ensures { (terms : Terms) (initial opening stamp caller : ℕ) (m : Publishing) → StandsFor terms initial opening stamp caller publisher.now m → IsSettled terms m }
+    ensures { HoldsOf publisher.now (λ terms initial m. IsSettled terms m) }
 {}

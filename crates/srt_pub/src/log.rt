@@ -34,6 +34,7 @@ pub struct Log {
 
 impl Log {
     ghost use Rattle.srt_pub.specs.Kept.{LogStandsFor};
+    ghost use Rattle.srt_pub.specs.Noting.{LogBecomes, LogMoves, LogNotesAck, LogSees, LogWritesAck};
 
     /// A session in which nothing has happened yet. The only call that takes memory; the error is a refused
     /// allocation.
@@ -62,14 +63,14 @@ impl Log {
 
     /// Counts an unencrypted data packet, whatever its number.
     pub fn came(&mut self)
-        ensures { (width front point seen : ℕ) (notes : List Note) → LogStandsFor width front point self.old notes seen → LogStandsFor width front point self.new (Came ∷ notes) seen }
+        ensures { LogBecomes self.old self.new (λ notes. Came ∷ notes) }
     {
         self.acks.came();
     }
 
     /// Notes that the front and the acknowledgement point moved on by these numbers of packets.
     pub fn moves(&mut self, front_steps: u32, point_steps: u32)
-        ensures { (width front a seen : ℕ) (notes : List Note) → a + point_steps ≤ front + front_steps + width → LogStandsFor width front a self.old notes seen → LogStandsFor width (front + front_steps) (a + point_steps) self.new notes seen }
+        ensures { LogMoves front_steps point_steps self.old self.new }
     {
         self.acks.moves(front_steps, point_steps);
         self.seen = self.seen.saturating_sub(front_steps);
@@ -78,7 +79,7 @@ impl Log {
     /// Notes an ACKACK with this number. If it confirms one of the last 64 Full ACKs for the first time, that gives a
     /// sample of the round-trip time (section 3.2.8).
     pub fn confirm(&mut self, number: u32, time: u64)
-        ensures { (width front point seen : ℕ) (notes : List Note) → LogStandsFor width front point self.old notes seen → LogStandsFor width front point self.new (confirmed_notes time (confirmed_by number notes) notes) seen }
+        ensures { LogBecomes self.old self.new (λ notes. confirmed_notes time (confirmed_by number notes) notes) }
     {
         if let Some(sample) = self.acks.confirm(number, time) {
             self.rtt.sample(sample);
@@ -88,8 +89,8 @@ impl Log {
     /// Writes the body of the ACK that is due, Full or Light. Returns whether one is due; if not, `body` is
     /// unchanged.
     pub fn ack(&mut self, time: u64, point: Seq31, available: u32, body: &mut Body) -> bool
-        ensures stands { (width front a seen : ℕ) (notes : List Note) → available ≡ front + width - a → LogStandsFor width front a self.old notes seen → LogStandsFor width front a self.new (noted time (acks_at width a available time notes) notes) seen }
-        ensures bytes { (width front a seen initial caller : ℕ) (notes : List Note) → available ≡ front + width - a → word_of point ≡ number_word initial a → LogStandsFor width front a self.old notes seen → map (body_bytes caller time) (listed (given result body.new)) ≡ map (says caller initial time) (acks_at width a available time notes) }
+        ensures stands { LogNotesAck time available self.old self.new }
+        ensures bytes { LogWritesAck time point available self.old (listed (given result body.new)) }
         ensures writable { result ≡ true → IsWritable body.new }
         ensures kept { result ≡ false → body.new ≡ body.old }
     {
@@ -102,7 +103,7 @@ impl Log {
 
     /// Notes the end of an event, at which the received numbers end `seen` packets past the front.
     pub fn see(&mut self, seen: u32)
-        ensures { (width front point before end : ℕ) (notes : List Note) → seen ≡ end - front → LogStandsFor width front point self.old notes before → LogStandsFor width front point self.new notes end }
+        ensures { LogSees seen self.old self.new }
     {
         self.seen = seen;
     }

@@ -21,16 +21,20 @@ use srt_seq::Seq31;
 
 impl Publisher {
     ghost use Rattle.srt_pub.specs.Stands.{StandsFor, opening_of};
+    ghost use Rattle.srt_pub.specs.Changes.{Becomes, HoldsOf, Writes};
 
     /// Writes the NAK that is due: of all gaps at each NAK interval, else of the new gaps (section 4.8.2). Returns
     /// whether one is; if not, `packet` is unchanged.
     pub(crate) fn nak(&mut self, time: u64, packet: &mut Packet) -> bool
-        ensures stands { (terms : Terms) (initial opening stamp caller : ℕ) (m : Publishing) → StandsFor terms initial opening stamp caller self.old m → StandsFor terms initial opening stamp caller self.new (record m { notes = noted time (naks terms time m) m.notes }) }
+        ensures stands { Becomes self.old self.new (λ terms initial m. record m { notes = noted time (naks terms time m) m.notes }) }
         ensures opening { opening_of self.new ≡ opening_of self.old }
-        ensures bytes { (terms : Terms) (initial opening stamp caller : ℕ) (m : Publishing) → StandsFor terms initial opening stamp caller self.old m → texts (listed (given result packet.new)) ≡ map (says caller initial time) (naks terms time m) }
+        ensures bytes { Writes time self.old (listed (given result packet.new)) naks }
         ensures writable { result ≡ true → IsWritable packet.new.body }
         ensures kept { result ≡ false → packet.new ≡ packet.old }
     {
+        if !self.buffer.has_gaps() {
+            return false;
+        }
         let all = self.log.is_nak_due(time);
         let runs = self.runs(all);
         if runs.is_empty() {
@@ -46,7 +50,7 @@ impl Publisher {
 
     /// The runs that a NAK reports: of all gaps, or of those above the numbers received before this event.
     fn runs(&self, all: bool) -> ArrayVec<(Seq31, Seq31), 32>
-        ensures { (terms : Terms) (initial opening stamp caller : ℕ) (m : Publishing) → StandsFor terms initial opening stamp caller self.now m → words_of result.items ≡ map (run_words initial) (runs_said (gaps_told all terms.width m.seen m.receiving)) }
+        ensures { HoldsOf self.now (λ terms initial m. words_of result.items ≡ map (run_words initial) (runs_said (gaps_told all terms.width m.seen m.receiving))) }
     {
         let front = self.buffer.front();
         if all {
@@ -58,7 +62,7 @@ impl Publisher {
 
     /// Ends the event: the received numbers of now count as known for the next NAK of new gaps.
     pub(crate) fn see(&mut self)
-        ensures stands { (terms : Terms) (initial opening stamp caller : ℕ) (m : Publishing) → StandsFor terms initial opening stamp caller self.old m → StandsFor terms initial opening stamp caller self.new (record m { seen = end_of m.receiving.arrivals }) }
+        ensures stands { Becomes self.old self.new (λ terms initial m. record m { seen = end_of m.receiving.arrivals }) }
         ensures opening { opening_of self.new ≡ opening_of self.old }
     {
         let seen = steps(self.buffer.front(), self.buffer.top());
@@ -68,17 +72,18 @@ impl Publisher {
 
 impl Log {
     ghost use Rattle.srt_pub.specs.Kept.{LogStandsFor};
+    ghost use Rattle.srt_pub.specs.Noting.{LogBecomes, LogHoldsOf};
 
     /// Whether a NAK of all gaps is due: the last one is at least the NAK interval ago (section 4.8.2).
     pub fn is_nak_due(&self, time: u64) -> bool
-        ensures { (width front point seen : ℕ) (notes : List Note) → LogStandsFor width front point self.now notes seen → result ≡ is_nak_due time notes }
+        ensures { LogHoldsOf self.now (λ notes. result ≡ is_nak_due time notes) }
     {
         time.saturating_sub(self.nak) >= self.rtt.nak_interval()
     }
 
     /// Notes that a NAK is sent, of all gaps or of new ones only.
     pub fn nak(&mut self, time: u64, all: bool)
-        ensures { (width front point seen : ℕ) (notes : List Note) (rs : List Run) → LogStandsFor width front point self.old notes seen → LogStandsFor width front point self.new (Sent time (nak_report all rs) ∷ notes) seen }
+        ensures { (rs : List Run) → LogBecomes self.old self.new (λ notes. Sent time (nak_report all rs) ∷ notes) }
     {
         self.nak = later_if(all, time, self.nak);
         self.sent = time;

@@ -35,6 +35,8 @@ pub struct Publisher {
 
 impl Publisher {
     ghost use Rattle.srt_pub.specs.Stands.{StandsFor, IsAhead, opening_of, width_of};
+    ghost use Rattle.srt_pub.specs.Changes.{Becomes, BecomesAt, CatchesUp, DeliversInOrder, DropsInLiveMode, GivesInOrder, GivesNoneEmpty, HasBegun, HoldsOf, HoldsOfAt, TakesAt};
+    ghost use Rattle.srt_recvbuf.specs.Changes.{payload_in};
 
     /// A session with a window of `width` packets, 32 to 8192; `start` begins it. The only call that takes memory;
     /// the error is a refused allocation. O(width).
@@ -58,7 +60,7 @@ impl Publisher {
 
     /// Begins a session and forgets the one before. O(width).
     pub fn start(&mut self, opening: Opening)
-        ensures stands { StandsFor (record { mode = opening.mode; width = width_of self.old; delay = opening.delay }) (word_of opening.initial) opening.now opening.stamp.word opening.caller self.new opened }
+        ensures stands { HasBegun opening (width_of self.old) self.new }
         ensures opening { opening_of self.new ≡ opening.now }
     {
         self.agreed = Agreed {
@@ -78,9 +80,9 @@ impl Publisher {
     /// kinds are O(1) on average.
     pub fn datagram(&mut self, packet: &PacketRef<'_>, now: u64) -> Option<PubEnd>
         requires { now < 2 ^ 62 }
-        ensures stands { (terms : Terms) (initial opening stamp caller time : ℕ) (m : Publishing) → now ≡ opening + time → StandsFor terms initial opening stamp caller self.old m → StandsFor terms initial opening stamp caller self.new (took terms time (stamped_from stamp packet.now.stamp) (heard_from initial (body_of packet.now.kind)) m) }
+        ensures stands { TakesAt now self.old self.new (λ terms initial begun time m. took terms time (stamped_from begun packet.now.stamp) (heard_from initial (body_of packet.now.kind)) m) }
         ensures opening { opening_of self.new ≡ opening_of self.old }
-        ensures end { (terms : Terms) (initial opening stamp caller : ℕ) (m : Publishing) → StandsFor terms initial opening stamp caller self.old m → result ≡ ended terms initial (body_of packet.now.kind) m }
+        ensures end { HoldsOf self.old (λ terms initial m. result ≡ ended terms initial (body_of packet.now.kind) m) }
     {
         match packet.kind {
             Kind::Data {
@@ -115,9 +117,9 @@ impl Publisher {
         now: u64,
     ) -> Option<PubEnd>
         requires { now < 2 ^ 62 }
-        ensures stands { (terms : Terms) (initial opening first caller time : ℕ) (m : Publishing) → now ≡ opening + time → StandsFor terms initial opening first caller self.old m → StandsFor terms initial opening first caller self.new (took terms time (stamped_from first stamp) (Data (counted_from initial word) encryption payload.entry.bytes.now) m) }
+        ensures stands { TakesAt now self.old self.new (λ terms initial begun time m. took terms time (stamped_from begun stamp) (Data (counted_from initial word) encryption payload.entry.bytes.now) m) }
         ensures opening { opening_of self.new ≡ opening_of self.old }
-        ensures end { (terms : Terms) (initial opening first caller : ℕ) (m : Publishing) → StandsFor terms initial opening first caller self.old m → result ≡ lost_if (loses_window terms.mode terms (Data (counted_from initial word) encryption payload.entry.bytes.now) m) }
+        ensures end { HoldsOf self.old (λ terms initial m. result ≡ lost_if (loses_window terms.mode terms (Data (counted_from initial word) encryption payload.entry.bytes.now) m)) }
     {
         if encryption != 0 {
             return None;
@@ -130,7 +132,7 @@ impl Publisher {
     /// Takes an unencrypted data packet. One whose number has its top bit set is counted and not stored.
     fn receive(&mut self, word: u32, payload: PayloadRef<'_>, stamp: u32, now: u64)
         requires { now < 2 ^ 62 }
-        ensures stands { (terms : Terms) (initial opening first caller time : ℕ) (m : Publishing) → now ≡ opening + time → StandsFor terms initial opening first caller self.old m → StandsFor terms initial opening first caller self.new (with_data terms time (stamped_from first stamp) (counted_from initial word) payload.entry.bytes.now m) }
+        ensures stands { TakesAt now self.old self.new (λ terms initial begun time m. with_data terms time (stamped_from begun stamp) (counted_from initial word) payload.entry.bytes.now m) }
         ensures opening { opening_of self.new ≡ opening_of self.old }
     {
         self.log.came();
@@ -146,7 +148,7 @@ impl Publisher {
 
     /// Notes how far the front and the acknowledgement point moved from these to the buffer's current ones.
     fn follow(&mut self, front: Seq31, point: Seq31)
-        ensures stands { (terms : Terms) (initial opening first caller : ℕ) (m : Publishing) (r : Receiving) → word_of front ≡ number_word initial m.receiving.front → word_of point ≡ number_word initial (ack_point terms.width m.receiving) → IsAhead terms initial opening first caller self.old m r → StandsFor terms initial opening first caller self.new (record m { receiving = r }) }
+        ensures stands { CatchesUp front point self.old self.new }
         ensures opening { opening_of self.new ≡ opening_of self.old }
     {
         let front_steps = steps(front, self.buffer.front());
@@ -156,7 +158,7 @@ impl Publisher {
 
     /// Takes an ACKACK (section 3.2.8).
     fn ack_ack(&mut self, number: u32, now: u64)
-        ensures stands { (terms : Terms) (initial opening first caller time : ℕ) (m : Publishing) → now ≡ opening + time → StandsFor terms initial opening first caller self.old m → StandsFor terms initial opening first caller self.new (confirmed_at time (confirmed_by number m.notes) m) }
+        ensures stands { BecomesAt now self.old self.new (λ terms time m. confirmed_at time (confirmed_by number m.notes) m) }
         ensures opening { opening_of self.new ≡ opening_of self.old }
     {
         self.log
@@ -165,7 +167,7 @@ impl Publisher {
 
     /// Takes a drop request (section 3.2.9). In buffer mode it changes nothing (this profile).
     fn drop_request(&mut self, first: u32, last: u32)
-        ensures stands { (terms : Terms) (initial opening stamp caller : ℕ) (m : Publishing) → StandsFor terms initial opening stamp caller self.old m → StandsFor terms initial opening stamp caller self.new (with_request terms.mode terms (range_from initial (record { first = first; last = last })) m) }
+        ensures stands { Becomes self.old self.new (λ terms initial m. with_request terms.mode terms (range_from initial (record { first = first; last = last })) m) }
         ensures opening { opening_of self.new ≡ opening_of self.old }
     {
         match self.agreed.mode {
@@ -176,7 +178,7 @@ impl Publisher {
 
     /// Drops the numbers from `first` to `last`, both in. Nothing changes if one of them has its top bit set.
     fn drop_range(&mut self, first: u32, last: u32)
-        ensures stands { (terms : Terms) (initial opening stamp caller : ℕ) (m : Publishing) → terms.mode ≡ Mode.Live → StandsFor terms initial opening stamp caller self.old m → StandsFor terms initial opening stamp caller self.new (record m { receiving = requested terms.width (range_from initial (record { first = first; last = last })) m.receiving }) }
+        ensures stands { DropsInLiveMode first last self.old self.new }
         ensures opening { opening_of self.new ≡ opening_of self.old }
     {
         let Some(first) = Seq31::new(first) else {
@@ -194,10 +196,10 @@ impl Publisher {
     /// Delivers the payload of the first packet, if it is due and `room` isn't 0.
     fn advance(&mut self, now: u64, room: u32, payload: &mut Payload) -> bool
         requires early { now < 2 ^ 62 }
-        ensures stands { (terms : Terms) (initial opening stamp caller time : ℕ) (m : Publishing) → now ≡ opening + time → StandsFor terms initial opening stamp caller self.old m → StandsFor terms initial opening stamp caller self.new (after_delivery terms (next_due time room m.receiving) m) }
+        ensures stands { BecomesAt now self.old self.new (λ terms time m. after_delivery terms (next_due time room m.receiving) m) }
         ensures opening { opening_of self.new ≡ opening_of self.old }
-        ensures payload { (terms : Terms) (initial opening stamp caller time : ℕ) (m : Publishing) → now ≡ opening + time → StandsFor terms initial opening stamp caller self.old m → given result payload.new.items ≡ option_map (λ (a : Arrival). a.payload) (next_due time room m.receiving) }
-        ensures some { (terms : Terms) (initial opening stamp caller : ℕ) (m : Publishing) → opening ≤ now → StandsFor terms initial opening stamp caller self.old m → result ≡ true → 0 < length payload.new.items }
+        ensures payload { HoldsOfAt now self.old (λ terms time m. given result payload.new.items ≡ payload_in (next_due time room m.receiving)) }
+        ensures some { GivesNoneEmpty now self.old result payload.new.items }
         ensures kept { result ≡ false → payload.new ≡ payload.old }
     {
         let front = self.buffer.front();
@@ -210,10 +212,10 @@ impl Publisher {
     /// Delivers the payload of the front's number, if it is received and `room` isn't 0.
     fn deliver_in_order(&mut self, now: u64, room: u32, payload: &mut Payload) -> bool
         requires early { now < 2 ^ 62 }
-        ensures stands { (terms : Terms) (initial opening stamp caller time : ℕ) (m : Publishing) → terms.mode ≡ Mode.Buffer → now ≡ opening + time → StandsFor terms initial opening stamp caller self.old m → StandsFor terms initial opening stamp caller self.new (after_delivery terms (next_delivery terms time room m) m) }
+        ensures stands { DeliversInOrder now room self.old self.new }
         ensures opening { opening_of self.new ≡ opening_of self.old }
-        ensures payload { (terms : Terms) (initial opening stamp caller time : ℕ) (m : Publishing) → terms.mode ≡ Mode.Buffer → now ≡ opening + time → StandsFor terms initial opening stamp caller self.old m → given result payload.new.items ≡ option_map (λ (a : Arrival). a.payload) (next_delivery terms time room m) }
-        ensures some { (terms : Terms) (initial opening stamp caller : ℕ) (m : Publishing) → opening ≤ now → StandsFor terms initial opening stamp caller self.old m → result ≡ true → 0 < length payload.new.items }
+        ensures payload { GivesInOrder now room self.old result payload.new.items }
+        ensures some { GivesNoneEmpty now self.old result payload.new.items }
         ensures kept { result ≡ false → payload.new ≡ payload.old }
     {
         if steps(self.buffer.front(), self.buffer.ack_point()) == 0 {
@@ -232,10 +234,10 @@ impl Publisher {
     /// false or 64 are delivered.
     pub fn deliver(&mut self, now: u64, room: u32, payload: &mut Payload) -> bool
         requires early { now < 2 ^ 62 }
-        ensures stands { (terms : Terms) (initial opening stamp caller time : ℕ) (m : Publishing) → now ≡ opening + time → StandsFor terms initial opening stamp caller self.old m → StandsFor terms initial opening stamp caller self.new (after_delivery terms (next_delivery terms time room m) m) }
+        ensures stands { BecomesAt now self.old self.new (λ terms time m. after_delivery terms (next_delivery terms time room m) m) }
         ensures opening { opening_of self.new ≡ opening_of self.old }
-        ensures payload { (terms : Terms) (initial opening stamp caller time : ℕ) (m : Publishing) → now ≡ opening + time → StandsFor terms initial opening stamp caller self.old m → given result payload.new.items ≡ option_map (λ (a : Arrival). a.payload) (next_delivery terms time room m) }
-        ensures some { (terms : Terms) (initial opening stamp caller : ℕ) (m : Publishing) → opening ≤ now → StandsFor terms initial opening stamp caller self.old m → result ≡ true → 0 < length payload.new.items }
+        ensures payload { HoldsOfAt now self.old (λ terms time m. given result payload.new.items ≡ payload_in (next_delivery terms time room m)) }
+        ensures some { GivesNoneEmpty now self.old result payload.new.items }
         ensures kept { result ≡ false → payload.new ≡ payload.old }
     {
         match self.agreed.mode {
@@ -249,9 +251,9 @@ impl Publisher {
     /// was passed over.
     pub fn pass_over(&mut self, now: u64) -> bool
         requires early { now < 2 ^ 62 }
-        ensures stands { (terms : Terms) (initial opening stamp caller time : ℕ) (m : Publishing) → now ≡ opening + time → StandsFor terms initial opening stamp caller self.old m → StandsFor terms initial opening stamp caller self.new (after_delivery terms (next_delivery terms time 0 m) m) }
+        ensures stands { BecomesAt now self.old self.new (λ terms time m. after_delivery terms (next_delivery terms time 0 m) m) }
         ensures opening { opening_of self.new ≡ opening_of self.old }
-        ensures answer { (terms : Terms) (initial opening stamp caller time : ℕ) (m : Publishing) → now ≡ opening + time → StandsFor terms initial opening stamp caller self.old m → result ≡ is_some (next_delivery terms time 0 m) }
+        ensures answer { HoldsOfAt now self.old (λ terms time m. result ≡ is_some (next_delivery terms time 0 m)) }
     {
         match self.agreed.mode {
             Mode::Live => self.pass_over_due(now),
@@ -262,9 +264,9 @@ impl Publisher {
     /// Passes over the payload of the first packet, if it is due.
     fn pass_over_due(&mut self, now: u64) -> bool
         requires early { now < 2 ^ 62 }
-        ensures stands { (terms : Terms) (initial opening stamp caller time : ℕ) (m : Publishing) → now ≡ opening + time → StandsFor terms initial opening stamp caller self.old m → StandsFor terms initial opening stamp caller self.new (after_delivery terms (next_due time 1 m.receiving) m) }
+        ensures stands { BecomesAt now self.old self.new (λ terms time m. after_delivery terms (next_due time 1 m.receiving) m) }
         ensures opening { opening_of self.new ≡ opening_of self.old }
-        ensures answer { (terms : Terms) (initial opening stamp caller time : ℕ) (m : Publishing) → now ≡ opening + time → StandsFor terms initial opening stamp caller self.old m → result ≡ is_some (next_due time 1 m.receiving) }
+        ensures answer { HoldsOfAt now self.old (λ terms time m. result ≡ is_some (next_due time 1 m.receiving)) }
     {
         let front = self.buffer.front();
         let point = self.buffer.ack_point();

@@ -16,6 +16,7 @@ use srt_packet::Packet;
 impl Publisher {
     ghost use Rattle.srt_pub.specs.Stands.{StandsFor, opening_of};
     ghost use Rattle.srt_pub.specs.Sent.{packets_of};
+    ghost use Rattle.srt_pub.specs.Changes.{Becomes, BecomesAt, Writes, WritesAt};
 
     /// Ends an event. Writes the ACK, the NAK and the KEEPALIVE that are due at `now`, each into its place, and
     /// returns which were written. They are sent in this order, and the other places are unchanged. Linear in the
@@ -28,9 +29,9 @@ impl Publisher {
         keep_alive: &mut Packet,
     ) -> Reports
         requires early { now < 2 ^ 62 }
-        ensures stands { (terms : Terms) (initial opening stamp caller time : ℕ) (m : Publishing) → now ≡ opening + time → StandsFor terms initial opening stamp caller self.old m → StandsFor terms initial opening stamp caller self.new (reported terms time m) }
+        ensures stands { BecomesAt now self.old self.new reported }
         ensures opening { opening_of self.new ≡ opening_of self.old }
-        ensures bytes { (terms : Terms) (initial opening stamp caller time : ℕ) (m : Publishing) → now ≡ opening + time → StandsFor terms initial opening stamp caller self.old m → texts (packets_of result ack.new nak.new keep_alive.new) ≡ map (says caller initial time) (reports terms time m) }
+        ensures bytes { WritesAt now self.old (packets_of result ack.new nak.new keep_alive.new) reports }
         ensures each { (result.ack ≡ true → IsWritable ack.new.body) × (result.nak ≡ true → IsWritable nak.new.body) × (result.keep_alive ≡ true → IsWritable keep_alive.new.body) }
         ensures kept { (result.ack ≡ false → ack.new ≡ ack.old) × (result.nak ≡ false → nak.new ≡ nak.old) × (result.keep_alive ≡ false → keep_alive.new ≡ keep_alive.old) }
     {
@@ -48,9 +49,9 @@ impl Publisher {
 
     /// Writes the ACK that is due. Returns whether one is; if not, `packet` is unchanged.
     fn ack(&mut self, time: u64, packet: &mut Packet) -> bool
-        ensures stands { (terms : Terms) (initial opening stamp caller : ℕ) (m : Publishing) → StandsFor terms initial opening stamp caller self.old m → StandsFor terms initial opening stamp caller self.new (record m { notes = noted time (acks terms time m) m.notes }) }
+        ensures stands { Becomes self.old self.new (λ terms initial m. record m { notes = noted time (acks terms time m) m.notes }) }
         ensures opening { opening_of self.new ≡ opening_of self.old }
-        ensures bytes { (terms : Terms) (initial opening stamp caller : ℕ) (m : Publishing) → StandsFor terms initial opening stamp caller self.old m → texts (listed (given result packet.new)) ≡ map (says caller initial time) (acks terms time m) }
+        ensures bytes { Writes time self.old (listed (given result packet.new)) acks }
         ensures writable { result ≡ true → IsWritable packet.new.body }
         ensures kept { result ≡ false → packet.new ≡ packet.old }
     {

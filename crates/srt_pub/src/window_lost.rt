@@ -11,10 +11,11 @@ use srt_seq::{Mode, Seq31};
 
 impl Publisher {
     ghost use Rattle.srt_pub.specs.Stands.{StandsFor};
+    ghost use Rattle.srt_pub.specs.Changes.{HoldsOf};
 
     /// Whether an unencrypted data packet with this number ends the session. Never in buffer mode.
     pub(crate) fn loses_window(&self, word: u32) -> bool
-        ensures { (terms : Terms) (initial opening first caller : ℕ) (m : Publishing) (payload : List ℕ) → StandsFor terms initial opening first caller self.now m → result ≡ loses_window terms.mode terms (Data (counted_from initial word) 0 payload) m }
+        ensures { (payload : List ℕ) → HoldsOf self.now (λ terms initial m. result ≡ loses_window terms.mode terms (Data (counted_from initial word) 0 payload) m) }
     {
         match self.agreed.mode {
             Mode::Live => self.is_past(word),
@@ -24,7 +25,7 @@ impl Publisher {
 
     /// Whether no received packet waits for delivery, and a number is past the window by fewer than 2^30.
     fn is_past(&self, word: u32) -> bool
-        ensures { (terms : Terms) (initial opening first caller : ℕ) (m : Publishing) → StandsFor terms initial opening first caller self.now m → result ≡ is_past_window terms.width (counted_from initial word) m.receiving }
+        ensures { HoldsOf self.now (λ terms initial m. result ≡ is_past_window terms.width (counted_from initial word) m.receiving) }
     {
         if self.buffer.waiting() {
             return false;

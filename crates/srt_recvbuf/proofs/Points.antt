@@ -1,10 +1,12 @@
 -- The least number that passes a test.
-use Rattle.std.proofs.Common.{◌≡◌, ◌≢◌, ℕ, zero, suc, ◌+◌, ◌<◌, ◌≤◌, Bool, true, false, not, refl, sym, subst, ◌⊎◌, inl, inr, arith}
+use Rattle.std.proofs.Common.{◌≡◌, ◌≢◌, ℕ, zero, suc, ◌+◌, ◌-◌, ◌<◌, ◌≤◌, Bool, true, false, not, [], refl, sym, ap, subst, ◌∙◌, ◌⊎◌, inl, inr, arith}
 use Rattle.std.proofs.lemmas.Bool.{not-false, not-true, cases_eq, cases_lt}
-use Rattle.srt_seq.specs.Runs.{least_from}
-use Rattle.srt_recvbuf.specs.Receiving.{is_missing, is_dropped}
+use Rattle.std.specs.Prelude.{filter}
+use Rattle.srt_seq.specs.Runs.{least_from, numbers_from}
+use Rattle.srt_recvbuf.specs.Receiving.{Receiving, is_missing, is_dropped, end_of, ack_point, gaps_from}
 use Rattle.srt_recvbuf.specs.Points.{AckPoints, SettlesAtTheLeast}
 use Rattle.srt_recvbuf.proofs.OneByOne.{found}
+use Rattle.srt_recvbuf.proofs.Runs.{passed_over}
 
 record IsLeastOf (test : ℕ → Bool) (from places least : ℕ) : Type 0 where
   low : from ≤ least
@@ -41,3 +43,11 @@ settles width r beyond =
       before = λ n low high. not-false (is_dropped width r n) (h.before n low high);
       here = elim (cases_lt point (r.front + width)) [ inl inside ↦ not-true (is_dropped width r point) (h.here inside) | inr past ↦ beyond point past ];
     }
+
+-- if nothing is missing below the highest received number, there are no gaps
+pub no_gaps : (width from : ℕ) (r : Receiving) → r.front ≤ from → end_of r.arrivals ≤ ack_point width r → gaps_from width from r ≡ []
+no_gaps width from r above full =
+    let count = end_of r.arrivals - from in
+    let all : count ≡ count + 0 = omega arith in
+    ap (λ (k : ℕ). filter (is_missing width r) (numbers_from from k)) all
+    ∙ passed_over (is_missing width r) from count 0 (λ i lt. (ack_points width r).before (from + i) (omega (arith, above)) (omega (arith, full, lt)))

@@ -24,6 +24,10 @@ cell_of (ReceivedPlace due) payload = Received due payload
 abbrev pub cell_in : (places : List Place) (payloads : PayloadRing) (at : ℕ) → Cell
 cell_in places payloads at = cell_of (slice_index_or places at MissingPlace) (payload_at payloads at)
 
+-- the record of the place `at`; Missing past the last place
+abbrev pub place_at : Window → ℕ → Place
+place_at w at = slice_index_or w.places.items at MissingPlace
+
 -- the state of the place `at`; Missing past the last place
 abbrev pub cell_at : Window → ℕ → Cell
 cell_at w at = cell_in w.places.items w.payloads at

@@ -3,3 +3,4 @@ pub mod OneByOne
 pub mod Points
 pub mod Cells
 pub mod Stands
+pub mod Changes

@@ -47,6 +47,7 @@ pub struct RecvBuf {
 
 impl RecvBuf {
     ghost use Rattle.srt_recvbuf.specs.Stands.{IsNextDue, StandsFor, places_of, own_range};
+    ghost use Rattle.srt_recvbuf.specs.Changes.{Becomes, BecomesAt, HoldsOf, HoldsOfAt, Stores, payload_in};
     ghost use Rattle.srt_recvbuf.specs.Receiving.{Receiving, Arrival, nothing_yet, received, put_of, requested, settled, moved_to, top, ack_point, available, is_waiting, next_due, after_next};
 
     /// An empty buffer of `width` packets, 32 to 8192, for a stream with the initial number 0; `start` begins any
@@ -81,8 +82,8 @@ impl RecvBuf {
     /// at most 1456 bytes and is copied once. A number that was dropped and comes later is received all the same.
     /// O(1), but for a packet that fills the first gap: it is linear in the distance to the next missing number.
     pub fn put(&mut self, number: Seq31, due: i64, payload: PayloadRef<'_>) -> Put
-        ensures stands { (width initial origin : ℕ) (r : Receiving) (time : ℤ) → due ≡ pos origin +ℤ time → StandsFor width initial origin self.old r → StandsFor width initial origin self.new (received width (counted_from initial (word_of number)) payload.entry.bytes.now time r) }
-        ensures answer { (width initial origin : ℕ) (r : Receiving) → StandsFor width initial origin self.old r → result ≡ put_of (in_window (counted_from initial (word_of number)) r.front width) r }
+        ensures stands { Stores (word_of number) due payload.entry.bytes.now self.old self.new }
+        ensures answer { HoldsOf self.old (λ width initial r. result ≡ put_of (in_window (counted_from initial (word_of number)) r.front width) r) }
     {
         let Some(offset) = number.offset_in(self.front, self.window.width() as u32) else {
             return Put::Outside;
@@ -116,14 +117,14 @@ impl RecvBuf {
 
     /// The number of sequence numbers in the window, 32 to 8192.
     pub fn width(&self) -> u32
-        ensures { (width initial origin : ℕ) (r : Receiving) → StandsFor width initial origin self.now r → result ≡ width }
+        ensures { HoldsOf self.now (λ width initial r. result ≡ width) }
     {
         self.window.width() as u32
     }
 
     /// The first sequence number of the window: all before it are delivered, dropped or given up.
     pub fn front(&self) -> Seq31
-        ensures { (width initial origin : ℕ) (r : Receiving) → StandsFor width initial origin self.now r → word_of result ≡ number_word initial r.front }
+        ensures { HoldsOf self.now (λ width initial r. word_of result ≡ number_word initial r.front) }
     {
         let front = self.front;
         front
@@ -131,7 +132,7 @@ impl RecvBuf {
 
     /// The number after the highest received one, or the front if nothing received is left in the window.
     pub fn top(&self) -> Seq31
-        ensures { (width initial origin : ℕ) (r : Receiving) → StandsFor width initial origin self.now r → word_of result ≡ number_word initial (top r) }
+        ensures { HoldsOf self.now (λ width initial r. word_of result ≡ number_word initial (top r)) }
     {
         self.front.add(self.end as u32)
     }
@@ -139,7 +140,7 @@ impl RecvBuf {
     /// The acknowledgement point: the least missing number from the front on, or the window's end if none is missing
     /// (section 4.8.1). O(1).
     pub fn ack_point(&self) -> Seq31
-        ensures { (width initial origin : ℕ) (r : Receiving) → StandsFor width initial origin self.now r → word_of result ≡ number_word initial (ack_point width r) }
+        ensures { HoldsOf self.now (λ width initial r. word_of result ≡ number_word initial (ack_point width r)) }
     {
         self.front.add(self.point as u32)
     }
@@ -147,14 +148,14 @@ impl RecvBuf {
     /// The available buffer size in packets: the places of the window from the acknowledgement point on (section
     /// 3.2.4). O(1).
     pub fn available(&self) -> u32
-        ensures { (width initial origin : ℕ) (r : Receiving) → StandsFor width initial origin self.now r → result ≡ available width r }
+        ensures { HoldsOf self.now (λ width initial r. result ≡ available width r) }
     {
         (self.window.width() - self.point) as u32
     }
 
     /// Whether any received packet is not yet delivered. O(1).
     pub fn waiting(&self) -> bool
-        ensures { (width initial origin : ℕ) (r : Receiving) → StandsFor width initial origin self.now r → result ≡ is_waiting r }
+        ensures { HoldsOf self.now (λ width initial r. result ≡ is_waiting r) }
     {
         0 < self.end
     }
@@ -170,8 +171,8 @@ impl RecvBuf {
     /// acknowledgement point pass.
     pub fn advance(&mut self, now: u64, room: u32, payload: &mut Payload) -> bool
         requires { now < 2 ^ 62 }
-        ensures stands { (width initial origin time : ℕ) (r : Receiving) → now ≡ origin + time → StandsFor width initial origin self.old r → StandsFor width initial origin self.new (after_next width (next_due time room r) r) }
-        ensures answer { (width initial origin time : ℕ) (r : Receiving) → now ≡ origin + time → StandsFor width initial origin self.old r → given result payload.new.items ≡ option_map (λ (a : Arrival). a.payload) (next_due time room r) }
+        ensures stands { BecomesAt now self.old self.new (λ width time r. after_next width (next_due time room r) r) }
+        ensures answer { HoldsOfAt now self.old (λ origin time r. given result payload.new.items ≡ payload_in (next_due time room r)) }
         ensures kept { result ≡ false → payload.new ≡ payload.old }
     {
         let Some(at) = self.first_due(now, room) else {
@@ -186,8 +187,8 @@ impl RecvBuf {
     /// one.
     pub fn pass_over(&mut self, now: u64, room: u32) -> bool
         requires { now < 2 ^ 62 }
-        ensures stands { (width initial origin time : ℕ) (r : Receiving) → now ≡ origin + time → StandsFor width initial origin self.old r → StandsFor width initial origin self.new (after_next width (next_due time room r) r) }
-        ensures answer { (width initial origin time : ℕ) (r : Receiving) → now ≡ origin + time → StandsFor width initial origin self.old r → result ≡ is_some (next_due time room r) }
+        ensures stands { BecomesAt now self.old self.new (λ width time r. after_next width (next_due time room r) r) }
+        ensures answer { HoldsOfAt now self.old (λ origin time r. result ≡ is_some (next_due time room r)) }
     {
         match self.first_due(now, room) {
             Some(at) => {
@@ -202,8 +203,8 @@ impl RecvBuf {
     /// isn't due yet: a packet that isn't due holds back those behind it.
     fn first_due(&mut self, now: u64, room: u32) -> Option<usize>
         requires { now < 2 ^ 62 }
-        ensures stands { (width initial origin : ℕ) (r : Receiving) → StandsFor width initial origin self.old r → StandsFor width initial origin self.new r }
-        ensures first { (width initial origin time : ℕ) (r : Receiving) → now ≡ origin + time → StandsFor width initial origin self.old r → IsNextDue origin time room (cell_at self.new.window) r result }
+        ensures stands { Becomes self.old self.new (λ width initial r. r) }
+        ensures first { HoldsOfAt now self.old (λ origin time r. IsNextDue origin time room (cell_at self.new.window) r result) }
         ensures below { IfSome result (λ d. d < places_of self.new) }
     {
         if room == 0 {
@@ -220,7 +221,7 @@ impl RecvBuf {
     /// Moves the front past the packet of a place, and past dropped numbers after it.
     fn pass(&mut self, at: usize)
         requires { at < places_of self.old }
-        ensures { (width initial origin : ℕ) (r : Receiving) → StandsFor width initial origin self.old r → StandsFor width initial origin self.new (settled width (moved_to (r.front + (at + 1)) r)) }
+        ensures { Becomes self.old self.new (λ width initial r. settled width (moved_to (r.front + (at + 1)) r)) }
     {
         self.shift(at + 1);
         self.settle();
@@ -229,7 +230,7 @@ impl RecvBuf {
     /// The place of the first packet, or `end` if there is none. The search resumes at `next`, before which there is
     /// no packet but at the front.
     fn find_first(&mut self) -> usize
-        ensures stands { (width initial origin : ℕ) (r : Receiving) → StandsFor width initial origin self.old r → StandsFor width initial origin self.new r }
+        ensures stands { Becomes self.old self.new (λ width initial r. r) }
         ensures high { result ≤ self.new.end }
         ensures before { (d : ℕ) → d < result → cell_is_received (cell_at self.new.window d) ≡ false }
         ensures here { result < self.new.end → cell_is_received (cell_at self.new.window result) ≡ true }
@@ -247,7 +248,7 @@ impl RecvBuf {
     /// or more past `first`, as it is in a backward range, nothing changes. Linear in the numbers of the window that
     /// it names; takes no memory.
     pub fn dropped(&mut self, first: Seq31, last: Seq31)
-        ensures { (width initial origin : ℕ) (r : Receiving) → StandsFor width initial origin self.old r → StandsFor width initial origin self.new (requested width (own_range initial first last) r) }
+        ensures { Becomes self.old self.new (λ width initial r. requested width (own_range initial first last) r) }
     {
         let Some(span) = last.offset_in(first, RANGE_END) else {
             return;
@@ -261,7 +262,7 @@ impl RecvBuf {
     /// Moves the front on by `count` places.
     fn shift(&mut self, count: usize)
         requires { count ≤ places_of self.old }
-        ensures { (width initial origin : ℕ) (r : Receiving) → StandsFor width initial origin self.old r → StandsFor width initial origin self.new (moved_to (r.front + count) r) }
+        ensures { Becomes self.old self.new (λ width initial r. moved_to (r.front + count) r) }
     {
         self.window.slide_by(count);
         self.front = self.front.add(count as u32);
@@ -273,7 +274,7 @@ impl RecvBuf {
 
     /// Moves the front past dropped numbers.
     fn settle(&mut self)
-        ensures { (width initial origin : ℕ) (r : Receiving) → StandsFor width initial origin self.old r → StandsFor width initial origin self.new (settled width r) }
+        ensures { Becomes self.old self.new (λ width initial r. settled width r) }
     {
         let dropped = self.window.find(Seek::NotDropped, 0, self.window.width());
         self.shift(dropped);

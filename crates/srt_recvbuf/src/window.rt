@@ -1,6 +1,6 @@
 //! The window: a ring of packet states and payloads.
 
-ghost use Rattle.std.specs.Prelude.{◌≡◌, ℕ, ◌+◌, ◌<◌, ◌≤◌, List, length, IfOk, vec_len, slice_index_or, ◌==◌, true, false, nat_le, nat_lt, ◌&&◌, if◌then◌else◌};
+ghost use Rattle.std.specs.Prelude.{◌≡◌, ℕ, ◌+◌, ◌<◌, ◌≤◌, List, length, IfOk, vec_len, ◌==◌, true, false, nat_le, nat_lt, ◌&&◌, if◌then◌else◌};
 ghost use Rattle.srt_ring.specs.Ring.{width_of as width_in};
 
 use circular_buffer::HeapCircularBuffer;
@@ -43,9 +43,8 @@ pub struct Window {
 
 impl Window {
     ghost use Rattle.srt_ring.specs.Ring.{payload_at};
-    ghost use Rattle.srt_recvbuf.specs.Cells.{Cell, cell_at, cell_of, due_of, after_drop, cell_is_missing, cell_is_received, is_sought, payload_of, width_of};
+    ghost use Rattle.srt_recvbuf.specs.Cells.{Cell, place_at, cell_at, cell_of, due_of, after_drop, cell_is_missing, cell_is_received, is_sought, payload_of, width_of};
     ghost use Rattle.srt_recvbuf.specs.Cells.Cell.{Missing, Dropped, Received};
-    ghost use Rattle.srt_recvbuf.specs.declared.window.Place.TheVariants.{Missing as MissingPlace};
 
     /// A window of `width` missing places. The only call that takes memory; the error is a refused allocation.
     /// O(width).
@@ -75,7 +74,7 @@ impl Window {
 
     /// The state of a place; Missing past the last.
     pub fn place(&self, at: usize) -> Place
-        ensures value { result ≡ slice_index_or self.now.places.items at MissingPlace }
+        ensures value { result ≡ place_at self.now at }
     {
         match self.places.get(at) {
             Some(place) => *place,
@@ -131,7 +130,7 @@ impl Window {
     fn mark(&mut self, at: usize, place: Place)
         requires inside { at < width_of self.old }
         ensures width { width_of self.new ≡ width_of self.old }
-        ensures places { (d : ℕ) → slice_index_or self.new.places.items d MissingPlace ≡ (if d == at then place else slice_index_or self.old.places.items d MissingPlace) }
+        ensures places { (d : ℕ) → place_at self.new d ≡ (if d == at then place else place_at self.old d) }
         ensures payloads { self.new.payloads ≡ self.old.payloads }
     {
         if let Some(there) = self.places.get_mut(at) {
@@ -153,7 +152,7 @@ impl Window {
     /// Moves the states by one: removes the first, and appends a missing one.
     fn turn(&mut self)
         ensures width { width_of self.new ≡ width_of self.old }
-        ensures places { (d : ℕ) → slice_index_or self.new.places.items d MissingPlace ≡ slice_index_or self.old.places.items (d + 1) MissingPlace }
+        ensures places { (d : ℕ) → place_at self.new d ≡ place_at self.old (d + 1) }
         ensures payloads { self.new.payloads ≡ self.old.payloads }
     {
         self.places.push_back(Place::Missing);

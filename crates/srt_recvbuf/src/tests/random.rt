@@ -156,6 +156,7 @@ impl Both {
             && self.ours.ack_point() == wire(self.plain.ack_point())
             && u64::from(self.ours.available()) == self.plain.available()
             && self.ours.waiting() == self.plain.is_waiting()
+            && self.ours.has_gaps() != self.ours.runs(self.ours.front()).is_empty()
     }
 
     fn is_same_runs(&self, from: Seq31) -> Result<bool, AllocError> {

@@ -6,7 +6,17 @@ use Rattle.srt_pub.specs.Publishing.{Report, naks, noted, nak_report, nak_with, 
 use Rattle.srt_pub.specs.Says.{says}
 use Rattle.srt_pub.specs.Stands.{StandsFor}
 use Rattle.srt_pub.proofs.Bytes.{none_none, some_some, nak_some, nak_bytes, same_losses}
-use Rattle.srt_pub.proofs.Sendings.{naks_by, no_items, some_items, pairs_have_words}
+use Rattle.srt_pub.proofs.Sendings.{naks_by, none_missing, no_items, some_items, pairs_have_words}
+
+pub returns-then-not-has_gaps-clause-stands : goal.returns-then-not-has_gaps-clause-stands
+returns-then-not-has_gaps-clause-stands c terms initial opening stamp caller m h =
+    let e = none_missing terms c.args.time m c.has_gaps.result (c.has_gaps.ensures terms.width initial opening m.receiving h.buffer) c.if-not-has_gaps.true in
+    subst (λ (ns : List Report). StandsFor terms initial opening stamp caller c.args.self.now (record m { notes = noted c.args.time ns m.notes })) (sym e) h
+
+pub returns-then-not-has_gaps-clause-bytes : goal.returns-then-not-has_gaps-clause-bytes
+returns-then-not-has_gaps-clause-bytes c terms initial opening stamp caller m h =
+    let e = none_missing terms c.args.time m c.has_gaps.result (c.has_gaps.ensures terms.width initial opening m.receiving h.buffer) c.if-not-has_gaps.true in
+    sym (ap (map (says caller initial c.args.time)) e)
 
 pub returns-then-is_empty-clause-stands : goal.returns-then-is_empty-clause-stands
 returns-then-is_empty-clause-stands c terms initial opening stamp caller m h =
@@ -31,7 +41,7 @@ returns-clause-stands c terms initial opening stamp caller m h =
     let some = some_some initial c.runs-runs.result.items rs (c.runs-runs.ensures terms initial opening stamp caller m h) (some_items c.runs-runs.result.items (sym c.is_empty.ensures ∙ c.if-is_empty.false)) in
     let e : naks terms c.args.time m ≡ nak_report all rs ∷ [] = naks_by terms c.args.time m all (c.is_nak_due-all.ensures _ _ _ _ m.notes h.log) ∙ nak_some all rs some in
     subst (λ (ns : List Report). StandsFor terms initial opening stamp caller (record c.args.self.now { log = c.nak.new.self }) (record m { notes = noted c.args.time ns m.notes })) (sym e)
-    (record { agreed = h.agreed; buffer = h.buffer; log = c.nak.ensures _ _ _ _ m.notes rs h.log; orderly = h.orderly; seen = h.seen; narrow = h.narrow })
+    (record { agreed = h.agreed; buffer = h.buffer; log = c.nak.ensures rs _ _ _ _ m.notes h.log; orderly = h.orderly; seen = h.seen; narrow = h.narrow })
 
 pub returns-clause-bytes : goal.returns-clause-bytes
 returns-clause-bytes c terms initial opening stamp caller m h =

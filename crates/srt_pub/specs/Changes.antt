@@ -1,0 +1,93 @@
+-- What clauses say of a publisher, whatever session it represents: how it changes, what holds of it, and which packets
+-- are written.
+use Rattle.std.specs.Prelude.{◌≡◌, ℕ, ◌+◌, ◌<◌, ◌≤◌, Bool, true, List, map, length}
+use Rattle.srt_seq.specs.Given.{given}
+use Rattle.srt_seq.specs.Window.{word_of, number_word}
+use Rattle.srt_seq.specs.declared.shared.Mode.TheVariants.{Live, Buffer}
+use Rattle.srt_seq.specs.declared.numbers.Seq31.{Seq31}
+use Rattle.srt_seq.specs.Runs.{range_from}
+use Rattle.srt_packet.specs.declared.writing.Packet.{Packet}
+use Rattle.srt_recvbuf.specs.Receiving.{Receiving, ack_point, requested}
+use Rattle.srt_recvbuf.specs.Changes.{payload_in}
+use Rattle.srt_pub.specs.Publishing.{Terms, Publishing, Report, opened}
+use Rattle.srt_pub.specs.Says.{says}
+use Rattle.srt_pub.specs.Calls.{texts, next_delivery, after_delivery}
+use Rattle.srt_pub.specs.Stands.{StandsFor, IsAhead}
+use Rattle.srt_pub.specs.declared.opening.Opening.{Opening}
+use Rattle.srt_pub.specs.declared.session.Publisher.{Publisher}
+
+-- the publisher represents a session that has just begun, with this opening and this width of its window
+abbrev pub HasBegun : Opening → (width : ℕ) → Publisher → Type 0
+HasBegun o width p = StandsFor (record { mode = o.mode; width = width; delay = o.delay }) (word_of o.initial) o.now o.stamp.word o.caller p opened
+
+-- if the old publisher represents a session, the new one represents it after the change
+abbrev pub Becomes : (old new : Publisher) → (change : (terms : Terms) (initial : ℕ) → Publishing → Publishing) → Type 0
+Becomes old new change =
+    (terms : Terms) (initial opening stamp caller : ℕ) (m : Publishing) → StandsFor terms initial opening stamp caller old m
+    → StandsFor terms initial opening stamp caller new (change terms initial m)
+
+-- the same at a moment, which is a time after the opening
+abbrev pub BecomesAt : (now : ℕ) → (old new : Publisher) → (change : (terms : Terms) (time : ℕ) → Publishing → Publishing) → Type 0
+BecomesAt now old new change =
+    (terms : Terms) (initial opening stamp caller time : ℕ) (m : Publishing) → now ≡ opening + time → StandsFor terms initial opening stamp caller old m
+    → StandsFor terms initial opening stamp caller new (change terms time m)
+
+-- the same for a packet that comes at a moment: its numbers count from the initial one, and its timestamp from that of
+-- the conclusion
+abbrev pub TakesAt : (now : ℕ) → (old new : Publisher) → (change : (terms : Terms) (initial stamp time : ℕ) → Publishing → Publishing) → Type 0
+TakesAt now old new change =
+    (terms : Terms) (initial opening stamp caller time : ℕ) (m : Publishing) → now ≡ opening + time → StandsFor terms initial opening stamp caller old m
+    → StandsFor terms initial opening stamp caller new (change terms initial stamp time m)
+
+-- if the publisher represents a session, this holds of the session
+abbrev pub HoldsOf : Publisher → (fact : (terms : Terms) (initial : ℕ) → Publishing → Type 0) → Type 0
+HoldsOf p fact = (terms : Terms) (initial opening stamp caller : ℕ) (m : Publishing) → StandsFor terms initial opening stamp caller p m → fact terms initial m
+
+-- the same at a moment, which is a time after the opening
+abbrev pub HoldsOfAt : (now : ℕ) → Publisher → (fact : (terms : Terms) (time : ℕ) → Publishing → Type 0) → Type 0
+HoldsOfAt now p fact =
+    (terms : Terms) (initial opening stamp caller time : ℕ) (m : Publishing) → now ≡ opening + time → StandsFor terms initial opening stamp caller p m
+    → fact terms time m
+
+-- these packets are the session's reports at a time after its opening
+abbrev pub Writes : (time : ℕ) → Publisher → List Packet → (due : (terms : Terms) (time : ℕ) → Publishing → List Report) → Type 0
+Writes time p packets due =
+    (terms : Terms) (initial opening stamp caller : ℕ) (m : Publishing) → StandsFor terms initial opening stamp caller p m
+    → texts packets ≡ map (says caller initial time) (due terms time m)
+
+-- these packets are the session's reports at a moment
+abbrev pub WritesAt : (now : ℕ) → Publisher → List Packet → (due : (terms : Terms) (time : ℕ) → Publishing → List Report) → Type 0
+WritesAt now p packets due =
+    (terms : Terms) (initial opening stamp caller time : ℕ) (m : Publishing) → now ≡ opening + time → StandsFor terms initial opening stamp caller p m
+    → texts packets ≡ map (says caller initial time) (due terms time m)
+
+-- a payload that is given isn't empty
+abbrev pub GivesNoneEmpty : (now : ℕ) → Publisher → (is_given : Bool) → (payload : List ℕ) → Type 0
+GivesNoneEmpty now p is_given payload =
+    (terms : Terms) (initial opening stamp caller : ℕ) (m : Publishing) → opening ≤ now → StandsFor terms initial opening stamp caller p m
+    → is_given ≡ true → 0 < length payload
+
+-- in buffer mode the next payload is delivered, if there is room
+abbrev pub DeliversInOrder : (now room : ℕ) → (old new : Publisher) → Type 0
+DeliversInOrder now room old new =
+    (terms : Terms) (initial opening stamp caller time : ℕ) (m : Publishing) → terms.mode ≡ Buffer → now ≡ opening + time
+    → StandsFor terms initial opening stamp caller old m → StandsFor terms initial opening stamp caller new (after_delivery terms (next_delivery terms time room m) m)
+
+-- and this is that payload
+abbrev pub GivesInOrder : (now room : ℕ) → Publisher → (is_given : Bool) → (payload : List ℕ) → Type 0
+GivesInOrder now room p is_given payload =
+    (terms : Terms) (initial opening stamp caller time : ℕ) (m : Publishing) → terms.mode ≡ Buffer → now ≡ opening + time
+    → StandsFor terms initial opening stamp caller p m → given is_given payload ≡ payload_in (next_delivery terms time room m)
+
+-- in live mode these numbers are dropped
+abbrev pub DropsInLiveMode : (first last : ℕ) → (old new : Publisher) → Type 0
+DropsInLiveMode first last old new =
+    (terms : Terms) (initial opening stamp caller : ℕ) (m : Publishing) → terms.mode ≡ Live → StandsFor terms initial opening stamp caller old m
+    → StandsFor terms initial opening stamp caller new (record m { receiving = requested terms.width (range_from initial (record { first = first; last = last })) m.receiving })
+
+-- the notes follow a buffer that is ahead: its front and its acknowledgement point were these
+abbrev pub CatchesUp : (front point : Seq31) → (old new : Publisher) → Type 0
+CatchesUp front point old new =
+    (terms : Terms) (initial opening stamp caller : ℕ) (m : Publishing) (r : Receiving) → word_of front ≡ number_word initial m.receiving.front
+    → word_of point ≡ number_word initial (ack_point terms.width m.receiving) → IsAhead terms initial opening stamp caller old m r
+    → StandsFor terms initial opening stamp caller new (record m { receiving = r })
