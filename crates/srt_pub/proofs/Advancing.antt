@@ -1,7 +1,6 @@
 -- A session whose buffer has passed over the next packet.
-use Rattle.std.proofs.Common.{◌≡◌, ℕ, ◌+◌, ◌-◌, Option, Some, None, refl, subst}
-use Rattle.srt_seq.specs.Window.{word_of, number_word}
-use Rattle.srt_recvbuf.specs.Receiving.{Arrival, Receiving, next_due, after_next, ack_point}
+use Rattle.std.proofs.Common.{◌≡◌, ℕ, Option, Some, None, refl, subst}
+use Rattle.srt_recvbuf.specs.Receiving.{Arrival, next_due, after_next}
 use Rattle.srt_recvbuf.specs.Stands as buffers
 use Rattle.srt_recvbuf.specs.declared.buffer.RecvBuf.{RecvBuf}
 use Rattle.srt_pub.specs.Publishing.{Terms, Publishing}

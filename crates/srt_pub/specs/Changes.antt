@@ -1,18 +1,25 @@
 -- What clauses say of a publisher, whatever session it represents: how it changes, what holds of it, and which packets
 -- are written.
-use Rattle.std.specs.Prelude.{◌≡◌, ℕ, ◌+◌, ◌<◌, ◌≤◌, Bool, true, List, map, length}
+use Rattle.std.specs.Prelude.{◌≡◌, ℕ, ◌+◌, ◌<◌, ◌≤◌, ℤ, pos, ◌+ℤ◌, Bool, true, false, Option, List, map, length}
 use Rattle.srt_seq.specs.Given.{given}
-use Rattle.srt_seq.specs.Window.{word_of, number_word}
+use Rattle.srt_seq.specs.Window.{word_of, counted_from, number_word}
+use Rattle.srt_seq.specs.Lift.{stamped_from}
 use Rattle.srt_seq.specs.declared.shared.Mode.TheVariants.{Live, Buffer}
 use Rattle.srt_seq.specs.declared.numbers.Seq31.{Seq31}
-use Rattle.srt_seq.specs.Runs.{range_from}
+use Rattle.srt_seq.specs.Runs.{Range, range_from}
 use Rattle.srt_packet.specs.declared.writing.Packet.{Packet}
+use Rattle.srt_packet.specs.Text.{IsWritable}
 use Rattle.srt_recvbuf.specs.Receiving.{Receiving, ack_point, requested}
 use Rattle.srt_recvbuf.specs.Changes.{payload_in}
-use Rattle.srt_pub.specs.Publishing.{Terms, Publishing, Report, opened}
+use Rattle.srt_recvbuf.specs.Stands.{run_words}
+use Rattle.srt_pub.specs.Heard.{Heard}
+use Rattle.srt_pub.specs.Heard.Heard.{Data}
+use Rattle.srt_pub.specs.Publishing.{Terms, Publishing, Report, opened, noted, runs_said, gaps_told, due_in, took, with_data, loses_window}
 use Rattle.srt_pub.specs.Says.{says}
-use Rattle.srt_pub.specs.Calls.{texts, next_delivery, after_delivery}
+use Rattle.srt_pub.specs.Calls.{lost_if, texts, next_delivery, after_delivery}
 use Rattle.srt_pub.specs.Stands.{StandsFor, IsAhead}
+use Rattle.srt_pub.specs.declared.due_times.Agreed.{Agreed}
+use Rattle.srt_pub.specs.declared.ends.PubEnd.{PubEnd}
 use Rattle.srt_pub.specs.declared.opening.Opening.{Opening}
 use Rattle.srt_pub.specs.declared.session.Publisher.{Publisher}
 
@@ -32,12 +39,17 @@ BecomesAt now old new change =
     (terms : Terms) (initial opening stamp caller time : ℕ) (m : Publishing) → now ≡ opening + time → StandsFor terms initial opening stamp caller old m
     → StandsFor terms initial opening stamp caller new (change terms time m)
 
--- the same for a packet that comes at a moment: its numbers count from the initial one, and its timestamp from that of
--- the conclusion
-abbrev pub TakesAt : (now : ℕ) → (old new : Publisher) → (change : (terms : Terms) (initial stamp time : ℕ) → Publishing → Publishing) → Type 0
-TakesAt now old new change =
-    (terms : Terms) (initial opening stamp caller time : ℕ) (m : Publishing) → now ≡ opening + time → StandsFor terms initial opening stamp caller old m
-    → StandsFor terms initial opening stamp caller new (change terms initial stamp time m)
+-- a packet with this timestamp comes at a moment; `heard` is what it says, counted from the initial number
+abbrev pub HearsAt : (now stamp : ℕ) → (old new : Publisher) → (heard : (initial : ℕ) → Heard) → Type 0
+HearsAt now stamp old new heard =
+    (terms : Terms) (initial opening begun caller time : ℕ) (m : Publishing) → now ≡ opening + time → StandsFor terms initial opening begun caller old m
+    → StandsFor terms initial opening begun caller new (took terms time (stamped_from begun stamp) (heard initial) m)
+
+-- an unencrypted data packet comes at a moment
+abbrev pub ReceivesAt : (now stamp word : ℕ) → (payload : List ℕ) → (old new : Publisher) → Type 0
+ReceivesAt now stamp word payload old new =
+    (terms : Terms) (initial opening begun caller time : ℕ) (m : Publishing) → now ≡ opening + time → StandsFor terms initial opening begun caller old m
+    → StandsFor terms initial opening begun caller new (with_data terms time (stamped_from begun stamp) (counted_from initial word) payload m)
 
 -- if the publisher represents a session, this holds of the session
 abbrev pub HoldsOf : Publisher → (fact : (terms : Terms) (initial : ℕ) → Publishing → Type 0) → Type 0
@@ -79,11 +91,49 @@ GivesInOrder now room p is_given payload =
     (terms : Terms) (initial opening stamp caller time : ℕ) (m : Publishing) → terms.mode ≡ Buffer → now ≡ opening + time
     → StandsFor terms initial opening stamp caller p m → given is_given payload ≡ payload_in (next_delivery terms time room m)
 
+-- the range between two numbers of a drop request, counted from the initial number
+abbrev pub range_between : (initial first last : ℕ) → Range
+range_between initial first last = range_from initial (record { first = first; last = last })
+
+-- a data packet, whose number counts from the initial number
+abbrev pub data_from : (initial word encryption : ℕ) → (payload : List ℕ) → Heard
+data_from initial word encryption payload = Data (counted_from initial word) encryption payload
+
+-- whether this ends the session because the window is lost
+abbrev pub loses_window_by : Terms → Heard → Publishing → Bool
+loses_window_by terms heard m = loses_window terms.mode terms heard m
+
+-- why this ends the session, if it loses its window
+abbrev pub lost_by : Terms → Heard → Publishing → Option PubEnd
+lost_by terms heard m = lost_if (loses_window_by terms heard m)
+
+-- the session after these packets were sent
+abbrev pub with_sent : (time : ℕ) → List Report → Publishing → Publishing
+with_sent time reports m = record m { notes = noted time reports m.notes }
+
+-- the runs that a NAK reports, as pairs of sequence numbers: of all gaps or of new ones
+abbrev pub nak_words : (all : Bool) → Terms → (initial : ℕ) → Publishing → List (ℕ × ℕ)
+nak_words all terms initial m = map (run_words initial) (runs_said (gaps_told all terms.width m.seen m.receiving))
+
+-- a packet that was written can be sent
+abbrev pub IsWritableIf : (written : Bool) → Packet → Type 0
+IsWritableIf written packet = written ≡ true → IsWritable packet.body
+
+-- a packet that wasn't written is as it was
+abbrev pub KeptUnless : (written : Bool) → (old new : Packet) → Type 0
+KeptUnless written old new = written ≡ false → new ≡ old
+
+-- the moment at which a packet with this timestamp that comes at a moment is due
+abbrev pub IsDueTime : Agreed → (stamp now : ℕ) → (due : ℤ) → Type 0
+IsDueTime agreed stamp now due =
+    (terms : Terms) (time : ℕ) → agreed.mode ≡ terms.mode → agreed.delay ≡ terms.delay → now ≡ agreed.opening + time
+    → due ≡ pos agreed.opening +ℤ due_in terms.mode terms time (stamped_from agreed.first.word stamp)
+
 -- in live mode these numbers are dropped
 abbrev pub DropsInLiveMode : (first last : ℕ) → (old new : Publisher) → Type 0
 DropsInLiveMode first last old new =
     (terms : Terms) (initial opening stamp caller : ℕ) (m : Publishing) → terms.mode ≡ Live → StandsFor terms initial opening stamp caller old m
-    → StandsFor terms initial opening stamp caller new (record m { receiving = requested terms.width (range_from initial (record { first = first; last = last })) m.receiving })
+    → StandsFor terms initial opening stamp caller new (record m { receiving = requested terms.width (range_between initial first last) m.receiving })
 
 -- the notes follow a buffer that is ahead: its front and its acknowledgement point were these
 abbrev pub CatchesUp : (front point : Seq31) → (old new : Publisher) → Type 0

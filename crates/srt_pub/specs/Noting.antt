@@ -5,7 +5,7 @@ use Rattle.srt_seq.specs.declared.numbers.Seq31.{Seq31}
 use Rattle.srt_rtt.specs.RoundTrip as times
 use Rattle.srt_rtt.specs.declared.round_trip.Rtt.{Rtt}
 use Rattle.srt_packet.specs.declared.writing.Body.{Body}
-use Rattle.srt_pub.specs.Publishing.{Note, Report, acks_at, full_ack, noted, samples}
+use Rattle.srt_pub.specs.Publishing.{Note, LightAck, acks_at, full_ack, noted, samples}
 use Rattle.srt_pub.specs.Says.{says, body_bytes}
 use Rattle.srt_pub.specs.Kept.{AcksStandFor, LogStandsFor}
 use Rattle.srt_pub.specs.declared.acknowledgements.Acks.{Acks}
@@ -70,6 +70,10 @@ abbrev pub WritesFullAck : (time : ℕ) → (point : Seq31) → (available : ℕ
 WritesFullAck time point available rtt acks body =
     (width front a initial caller : ℕ) (notes : List Note) → times.StandsFor rtt (samples notes) → word_of point ≡ number_word initial a
     → AcksStandFor width front a acks notes → body_bytes caller time body ≡ says caller initial time (full_ack a available notes)
+
+-- the body of a Light ACK
+abbrev pub WritesLightAck : (time : ℕ) → (point : Seq31) → Body → Type 0
+WritesLightAck time point body = (a initial caller : ℕ) → word_of point ≡ number_word initial a → body_bytes caller time body ≡ says caller initial time (LightAck a)
 
 -- the ACK that is due is noted
 abbrev pub NotesAck : (time available : ℕ) → Rtt → (old new : Acks) → Type 0

@@ -1,13 +1,10 @@
 //! Full ACKs, Light ACKs and their confirmation (draft-sharabayko-srt-01, sections 3.2.4, 3.2.8 and 4.8.1).
 
-ghost use Rattle.std.specs.Prelude.{◌≡◌, ℕ, ◌+◌, ◌-◌, ◌≤◌, ◌==◌, List, [], ◌∷◌, map, length, nat_le, nat_lt, ◌||◌, ◌&&◌, not, true, false, Option, option_map, IfOk, IfSome};
+ghost use Rattle.std.specs.Prelude.{◌≡◌, ℕ, ◌+◌, ◌-◌, ◌≤◌, ◌==◌, [], ◌∷◌, nat_lt, ◌||◌, ◌&&◌, true, false, Option, option_map, IfOk, IfSome};
 ghost use Rattle.srt_seq.specs.Given.{given};
-ghost use Rattle.srt_seq.specs.Window.{word_of, number_word};
-ghost use Rattle.srt_rtt.specs.RoundTrip as times;
 ghost use Rattle.srt_packet.specs.Text.{IsWritable};
-ghost use Rattle.srt_pub.specs.Publishing.{Note, Came, Full, samples, confirmed_by, confirmed_notes, sample_of, is_full_due, is_light_due, full_ack, acks_at, noted};
+ghost use Rattle.srt_pub.specs.Publishing.{Came, confirmed_by, confirmed_notes, sample_of, is_full_due, is_light_due, noted};
 ghost use Rattle.srt_pub.specs.Publishing.Report.{LightAck as TheLightAck};
-ghost use Rattle.srt_pub.specs.Says.{says, body_bytes};
 ghost use Rattle.srt_pub.specs.Calls.{listed};
 
 use srt_packet::Body;
@@ -38,7 +35,7 @@ pub struct Acks {
 
 impl Acks {
     ghost use Rattle.srt_pub.specs.Kept.{AcksStandFor};
-    ghost use Rattle.srt_pub.specs.Noting.{AcksBecome, AcksHoldOf, AcksMove, CountsAcks, NotesAck, NotesFullAck, WritesAck, WritesFullAck};
+    ghost use Rattle.srt_pub.specs.Noting.{AcksBecome, AcksHoldOf, AcksMove, CountsAcks, NotesAck, NotesFullAck, WritesAck, WritesFullAck, WritesLightAck};
 
     /// No ACK was sent yet. The only call that takes memory; the error is a refused allocation.
     pub fn open(alloc: Global) -> Result<Acks, AllocError>
@@ -134,7 +131,7 @@ impl Acks {
     /// Writes a Light ACK and notes that it is sent.
     fn light(&mut self, time: u64, point: Seq31, body: &mut Body)
         ensures stands { AcksBecome self.old self.new (λ a notes. noted time (TheLightAck a ∷ []) notes) }
-        ensures bytes { (a initial caller : ℕ) → word_of point ≡ number_word initial a → body_bytes caller time body.new ≡ says caller initial time (TheLightAck a) }
+        ensures bytes { WritesLightAck time point body.new }
         ensures writable { IsWritable body.new }
     {
         self.came = 0;

@@ -1,8 +1,6 @@
 //! What a session was opened with, and when its packets are due (draft-sharabayko-srt-01, section 4.5.1).
 
-ghost use Rattle.std.specs.Prelude.{◌≡◌, ℕ, ◌+◌, ◌^◌, ◌<◌, ◌≤◌, ℤ, pos, ◌+ℤ◌};
-ghost use Rattle.srt_seq.specs.Lift.{stamped_from};
-ghost use Rattle.srt_pub.specs.Publishing.{Terms, due_in};
+ghost use Rattle.std.specs.Prelude.{◌≡◌, ◌+◌, ◌^◌, ◌<◌, ◌≤◌, ◌+ℤ◌};
 
 use srt_seq::{Mode, Stamp32};
 use srt_tsbpd::Base;
@@ -23,12 +21,14 @@ pub struct Agreed {
 }
 
 impl Agreed {
+    ghost use Rattle.srt_pub.specs.Changes.{IsDueTime};
+
     /// The moment at which a packet with this timestamp that comes at `now` is due, in microseconds of the route's
     /// clock. Live mode: by its timestamp and the delay (section 4.5.1); it may be in the past. Buffer mode: at once,
     /// given as the moment of the opening. No packet comes before the opening.
     pub fn due(&self, stamp: u32, now: u64) -> i64
         requires early { now < 2 ^ 62 }
-        ensures { (terms : Terms) (time : ℕ) → self.now.mode ≡ terms.mode → self.now.delay ≡ terms.delay → now ≡ self.now.opening + time → result ≡ pos self.now.opening +ℤ due_in terms.mode terms time (stamped_from self.now.first.word stamp) }
+        ensures { IsDueTime self.now stamp now result }
     {
         if now < self.opening {
             return now as i64;

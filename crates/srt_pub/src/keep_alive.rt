@@ -1,11 +1,10 @@
 //! A publisher's KEEPALIVE: after a second in which nothing was sent (draft-sharabayko-srt-01, section 3.2.3).
 
-ghost use Rattle.std.specs.Prelude.{◌≡◌, ℕ, ◌-◌, List, ◌∷◌, map, true, false, nat_le};
+ghost use Rattle.std.specs.Prelude.{◌≡◌, ◌-◌, ◌∷◌, true, false, nat_le};
 ghost use Rattle.srt_seq.specs.Given.{given};
 ghost use Rattle.srt_packet.specs.Text.{IsWritable};
-ghost use Rattle.srt_pub.specs.Publishing.{Terms, Publishing, noted, Note, last_sent};
-ghost use Rattle.srt_pub.specs.Says.{says};
-ghost use Rattle.srt_pub.specs.Calls.{keep_alive_after, texts, listed};
+ghost use Rattle.srt_pub.specs.Publishing.{last_sent};
+ghost use Rattle.srt_pub.specs.Calls.{keep_alive_after, listed};
 ghost use Rattle.srt_seq.specs.Limits.{keep_alive_after_us};
 ghost use Rattle.srt_pub.specs.Publishing.Note.{Sent};
 ghost use Rattle.srt_pub.specs.Publishing.Report.{KeepAlive as TheKeepAlive};
@@ -16,8 +15,8 @@ use srt_packet::{Body, Packet};
 use srt_seq::limits::KEEP_ALIVE_AFTER_US;
 
 impl Publisher {
-    ghost use Rattle.srt_pub.specs.Stands.{StandsFor, opening_of};
-    ghost use Rattle.srt_pub.specs.Changes.{Becomes, Writes};
+    ghost use Rattle.srt_pub.specs.Stands.{opening_of};
+    ghost use Rattle.srt_pub.specs.Changes.{Becomes, Writes, with_sent};
 
     /// Writes a KEEPALIVE, if one is due and neither an ACK nor a NAK is sent. Returns whether there is one; if not,
     /// `packet` is unchanged.
@@ -28,7 +27,7 @@ impl Publisher {
         nak: bool,
         packet: &mut Packet,
     ) -> bool
-        ensures stands { Becomes self.old self.new (λ terms initial m. record m { notes = noted time (keep_alive_after ack nak time m.notes) m.notes }) }
+        ensures stands { Becomes self.old self.new (λ terms initial m. with_sent time (keep_alive_after ack nak time m.notes) m) }
         ensures opening { opening_of self.new ≡ opening_of self.old }
         ensures bytes { Writes time self.old (listed (given result packet.new)) (λ terms time m. keep_alive_after ack nak time m.notes) }
         ensures writable { result ≡ true → IsWritable packet.new.body }
@@ -51,7 +50,6 @@ impl Publisher {
 }
 
 impl Log {
-    ghost use Rattle.srt_pub.specs.Kept.{LogStandsFor};
     ghost use Rattle.srt_pub.specs.Noting.{LogBecomes, LogHoldsOf};
 
     /// Whether nothing was sent for a second, so that a KEEPALIVE is due.

@@ -1,7 +1,5 @@
 //! Facts about the definitions. Each function has an empty body: its contract is the fact.
 
-ghost use Rattle.std.specs.Prelude.{ℕ};
-ghost use Rattle.srt_pub.specs.Publishing.{Terms, Publishing};
 ghost use Rattle.srt_pub.specs.Laws.{DeliversOneByOne, IsSettled};
 ghost use Rattle.srt_pub.specs.Changes.{HoldsOf};
 

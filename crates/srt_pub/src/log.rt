@@ -1,12 +1,10 @@
 //! What a session remembers of its events: acknowledgements, round trips and the times of its last packets. Which NAK
 //! is due is in `nak.rt`, and whether a KEEPALIVE is, in `keep_alive.rt`.
 
-ghost use Rattle.std.specs.Prelude.{◌≡◌, ℕ, ◌+◌, ◌-◌, ◌≤◌, List, [], ◌∷◌, map, IfOk, true, false};
+ghost use Rattle.std.specs.Prelude.{◌≡◌, ℕ, ◌+◌, ◌-◌, ◌≤◌, [], ◌∷◌, IfOk, true, false};
 ghost use Rattle.srt_seq.specs.Given.{given};
-ghost use Rattle.srt_seq.specs.Window.{word_of, number_word};
 ghost use Rattle.srt_packet.specs.Text.{IsWritable};
-ghost use Rattle.srt_pub.specs.Publishing.{Note, Came, confirmed_by, confirmed_notes, acks_at, noted};
-ghost use Rattle.srt_pub.specs.Says.{says, body_bytes};
+ghost use Rattle.srt_pub.specs.Publishing.{Came, confirmed_by, confirmed_notes};
 ghost use Rattle.srt_pub.specs.Calls.{listed};
 
 use crate::acknowledgements::Acks;

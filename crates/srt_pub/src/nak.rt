@@ -1,15 +1,14 @@
 //! NAKs: of all gaps at each NAK interval, else of the gaps that an event brought (draft-sharabayko-srt-01, sections
 //! 3.2.5 and 4.8.2).
 
-ghost use Rattle.std.specs.Prelude.{◌≡◌, ℕ, List, ◌∷◌, map, true, false, if◌then◌else◌};
+ghost use Rattle.std.specs.Prelude.{◌≡◌, List, ◌∷◌, true, false, if◌then◌else◌};
 ghost use Rattle.srt_seq.specs.Given.{given};
 ghost use Rattle.srt_packet.specs.Text.{IsWritable};
 ghost use Rattle.srt_recvbuf.specs.Receiving.{end_of};
-ghost use Rattle.srt_recvbuf.specs.Stands.{words_of, run_words};
+ghost use Rattle.srt_recvbuf.specs.Stands.{words_of};
 ghost use Rattle.srt_seq.specs.Runs.{Run};
-ghost use Rattle.srt_pub.specs.Publishing.{Terms, Publishing, naks, gaps_told, runs_said, noted, Note, is_nak_due, nak_report};
-ghost use Rattle.srt_pub.specs.Says.{says};
-ghost use Rattle.srt_pub.specs.Calls.{texts, listed};
+ghost use Rattle.srt_pub.specs.Publishing.{naks, is_nak_due, nak_report};
+ghost use Rattle.srt_pub.specs.Calls.{listed};
 ghost use Rattle.srt_pub.specs.Publishing.Note.{Sent};
 
 use crate::log::Log;
@@ -20,13 +19,13 @@ use srt_packet::{Body, Packet};
 use srt_seq::Seq31;
 
 impl Publisher {
-    ghost use Rattle.srt_pub.specs.Stands.{StandsFor, opening_of};
-    ghost use Rattle.srt_pub.specs.Changes.{Becomes, HoldsOf, Writes};
+    ghost use Rattle.srt_pub.specs.Stands.{opening_of};
+    ghost use Rattle.srt_pub.specs.Changes.{Becomes, HoldsOf, Writes, nak_words, with_sent};
 
     /// Writes the NAK that is due: of all gaps at each NAK interval, else of the new gaps (section 4.8.2). Returns
     /// whether one is; if not, `packet` is unchanged.
     pub(crate) fn nak(&mut self, time: u64, packet: &mut Packet) -> bool
-        ensures stands { Becomes self.old self.new (λ terms initial m. record m { notes = noted time (naks terms time m) m.notes }) }
+        ensures stands { Becomes self.old self.new (λ terms initial m. with_sent time (naks terms time m) m) }
         ensures opening { opening_of self.new ≡ opening_of self.old }
         ensures bytes { Writes time self.old (listed (given result packet.new)) naks }
         ensures writable { result ≡ true → IsWritable packet.new.body }
@@ -50,7 +49,7 @@ impl Publisher {
 
     /// The runs that a NAK reports: of all gaps, or of those above the numbers received before this event.
     fn runs(&self, all: bool) -> ArrayVec<(Seq31, Seq31), 32>
-        ensures { HoldsOf self.now (λ terms initial m. words_of result.items ≡ map (run_words initial) (runs_said (gaps_told all terms.width m.seen m.receiving))) }
+        ensures { HoldsOf self.now (λ terms initial m. words_of result.items ≡ nak_words all terms initial m) }
     {
         let front = self.buffer.front();
         if all {
@@ -71,7 +70,6 @@ impl Publisher {
 }
 
 impl Log {
-    ghost use Rattle.srt_pub.specs.Kept.{LogStandsFor};
     ghost use Rattle.srt_pub.specs.Noting.{LogBecomes, LogHoldsOf};
 
     /// Whether a NAK of all gaps is due: the last one is at least the NAK interval ago (section 4.8.2).

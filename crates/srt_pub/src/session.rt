@@ -1,17 +1,15 @@
 //! A publisher's session: its beginning, data, ACKACKs, drop requests and delivery (draft-sharabayko-srt-01, sections
 //! 3.1, 3.2.8, 3.2.9, 4.5 and 4.6).
 
-ghost use Rattle.std.specs.Prelude.{◌≡◌, ℕ, ◌+◌, ◌-◌, ◌%◌, ◌^◌, ◌<◌, ◌≤◌, length, true, false, option_map, is_some, IfOk};
+ghost use Rattle.std.specs.Prelude.{◌≡◌, ℕ, ◌+◌, ◌-◌, ◌%◌, ◌^◌, ◌<◌, ◌≤◌, false, is_some, IfOk};
 ghost use Rattle.srt_seq.specs.Given.{given};
-ghost use Rattle.srt_seq.specs.Window.{word_of, counted_from, number_word};
-ghost use Rattle.srt_seq.specs.Lift.{stamped_from};
+ghost use Rattle.srt_seq.specs.Window.{word_of};
 ghost use Rattle.srt_packet.specs.View.{body_of};
-ghost use Rattle.srt_recvbuf.specs.Receiving.{Receiving, Arrival, ack_point, requested, next_due};
-ghost use Rattle.srt_seq.specs.Runs.{range_from};
+ghost use Rattle.srt_recvbuf.specs.Receiving.{next_due};
 ghost use Rattle.srt_pub.specs.Heard.{heard_from};
 ghost use Rattle.srt_pub.specs.Heard.Heard.{Data};
-ghost use Rattle.srt_pub.specs.Publishing.{Terms, Publishing, opened, took, with_data, with_request, confirmed_at, confirmed_by, loses_window};
-ghost use Rattle.srt_pub.specs.Calls.{ended, lost_if, next_delivery, after_delivery};
+ghost use Rattle.srt_pub.specs.Publishing.{opened, with_request, confirmed_at, confirmed_by};
+ghost use Rattle.srt_pub.specs.Calls.{ended, next_delivery, after_delivery};
 
 use crate::due_times::Agreed;
 use crate::ends::PubEnd;
@@ -34,8 +32,8 @@ pub struct Publisher {
 }
 
 impl Publisher {
-    ghost use Rattle.srt_pub.specs.Stands.{StandsFor, IsAhead, opening_of, width_of};
-    ghost use Rattle.srt_pub.specs.Changes.{Becomes, BecomesAt, CatchesUp, DeliversInOrder, DropsInLiveMode, GivesInOrder, GivesNoneEmpty, HasBegun, HoldsOf, HoldsOfAt, TakesAt};
+    ghost use Rattle.srt_pub.specs.Stands.{StandsFor, opening_of, width_of};
+    ghost use Rattle.srt_pub.specs.Changes.{Becomes, BecomesAt, CatchesUp, DeliversInOrder, DropsInLiveMode, GivesInOrder, GivesNoneEmpty, HasBegun, HoldsOf, HoldsOfAt, HearsAt, ReceivesAt, lost_by, data_from, range_between};
     ghost use Rattle.srt_recvbuf.specs.Changes.{payload_in};
 
     /// A session with a window of `width` packets, 32 to 8192; `start` begins it. The only call that takes memory;
@@ -80,7 +78,7 @@ impl Publisher {
     /// kinds are O(1) on average.
     pub fn datagram(&mut self, packet: &PacketRef<'_>, now: u64) -> Option<PubEnd>
         requires { now < 2 ^ 62 }
-        ensures stands { TakesAt now self.old self.new (λ terms initial begun time m. took terms time (stamped_from begun packet.now.stamp) (heard_from initial (body_of packet.now.kind)) m) }
+        ensures stands { HearsAt now packet.now.stamp self.old self.new (λ initial. heard_from initial (body_of packet.now.kind)) }
         ensures opening { opening_of self.new ≡ opening_of self.old }
         ensures end { HoldsOf self.old (λ terms initial m. result ≡ ended terms initial (body_of packet.now.kind) m) }
     {
@@ -117,9 +115,9 @@ impl Publisher {
         now: u64,
     ) -> Option<PubEnd>
         requires { now < 2 ^ 62 }
-        ensures stands { TakesAt now self.old self.new (λ terms initial begun time m. took terms time (stamped_from begun stamp) (Data (counted_from initial word) encryption payload.entry.bytes.now) m) }
+        ensures stands { HearsAt now stamp self.old self.new (λ initial. data_from initial word encryption payload.entry.bytes.now) }
         ensures opening { opening_of self.new ≡ opening_of self.old }
-        ensures end { HoldsOf self.old (λ terms initial m. result ≡ lost_if (loses_window terms.mode terms (Data (counted_from initial word) encryption payload.entry.bytes.now) m)) }
+        ensures end { HoldsOf self.old (λ terms initial m. result ≡ lost_by terms (data_from initial word encryption payload.entry.bytes.now) m) }
     {
         if encryption != 0 {
             return None;
@@ -132,7 +130,7 @@ impl Publisher {
     /// Takes an unencrypted data packet. One whose number has its top bit set is counted and not stored.
     fn receive(&mut self, word: u32, payload: PayloadRef<'_>, stamp: u32, now: u64)
         requires { now < 2 ^ 62 }
-        ensures stands { TakesAt now self.old self.new (λ terms initial begun time m. with_data terms time (stamped_from begun stamp) (counted_from initial word) payload.entry.bytes.now m) }
+        ensures stands { ReceivesAt now stamp word payload.entry.bytes.now self.old self.new }
         ensures opening { opening_of self.new ≡ opening_of self.old }
     {
         self.log.came();
@@ -167,7 +165,7 @@ impl Publisher {
 
     /// Takes a drop request (section 3.2.9). In buffer mode it changes nothing (this profile).
     fn drop_request(&mut self, first: u32, last: u32)
-        ensures stands { Becomes self.old self.new (λ terms initial m. with_request terms.mode terms (range_from initial (record { first = first; last = last })) m) }
+        ensures stands { Becomes self.old self.new (λ terms initial m. with_request terms.mode terms (range_between initial first last) m) }
         ensures opening { opening_of self.new ≡ opening_of self.old }
     {
         match self.agreed.mode {

@@ -2,21 +2,21 @@
 //! sections 3.2.3 to 3.2.5). Each packet has the session's time as its timestamp, and the caller's socket ID as its
 //! destination (section 3).
 
-ghost use Rattle.std.specs.Prelude.{◌≡◌, ℕ, ◌+◌, ◌^◌, ◌<◌, map, true, false};
+ghost use Rattle.std.specs.Prelude.{◌≡◌, ℕ, ◌+◌, ◌^◌, ◌<◌, true, false};
 ghost use Rattle.srt_seq.specs.Given.{given};
 ghost use Rattle.srt_packet.specs.Text.{text, IsWritable};
-ghost use Rattle.srt_pub.specs.Publishing.{Terms, Publishing, acks, noted, reports, reported};
-ghost use Rattle.srt_pub.specs.Says.{says, body_bytes};
-ghost use Rattle.srt_pub.specs.Calls.{texts, listed};
+ghost use Rattle.srt_pub.specs.Publishing.{acks, reports, reported};
+ghost use Rattle.srt_pub.specs.Says.{body_bytes};
+ghost use Rattle.srt_pub.specs.Calls.{listed};
 
 use crate::reports::Reports;
 use crate::session::Publisher;
 use srt_packet::Packet;
 
 impl Publisher {
-    ghost use Rattle.srt_pub.specs.Stands.{StandsFor, opening_of};
+    ghost use Rattle.srt_pub.specs.Stands.{opening_of};
     ghost use Rattle.srt_pub.specs.Sent.{packets_of};
-    ghost use Rattle.srt_pub.specs.Changes.{Becomes, BecomesAt, Writes, WritesAt};
+    ghost use Rattle.srt_pub.specs.Changes.{Becomes, BecomesAt, Writes, WritesAt, IsWritableIf, KeptUnless, with_sent};
 
     /// Ends an event. Writes the ACK, the NAK and the KEEPALIVE that are due at `now`, each into its place, and
     /// returns which were written. They are sent in this order, and the other places are unchanged. Linear in the
@@ -32,8 +32,8 @@ impl Publisher {
         ensures stands { BecomesAt now self.old self.new reported }
         ensures opening { opening_of self.new ≡ opening_of self.old }
         ensures bytes { WritesAt now self.old (packets_of result ack.new nak.new keep_alive.new) reports }
-        ensures each { (result.ack ≡ true → IsWritable ack.new.body) × (result.nak ≡ true → IsWritable nak.new.body) × (result.keep_alive ≡ true → IsWritable keep_alive.new.body) }
-        ensures kept { (result.ack ≡ false → ack.new ≡ ack.old) × (result.nak ≡ false → nak.new ≡ nak.old) × (result.keep_alive ≡ false → keep_alive.new ≡ keep_alive.old) }
+        ensures each { IsWritableIf result.ack ack.new × IsWritableIf result.nak nak.new × IsWritableIf result.keep_alive keep_alive.new }
+        ensures kept { KeptUnless result.ack ack.old ack.new × KeptUnless result.nak nak.old nak.new × KeptUnless result.keep_alive keep_alive.old keep_alive.new }
     {
         let time = now.saturating_sub(self.agreed.opening);
         let is_ack = self.ack(time, ack);
@@ -49,7 +49,7 @@ impl Publisher {
 
     /// Writes the ACK that is due. Returns whether one is; if not, `packet` is unchanged.
     fn ack(&mut self, time: u64, packet: &mut Packet) -> bool
-        ensures stands { Becomes self.old self.new (λ terms initial m. record m { notes = noted time (acks terms time m) m.notes }) }
+        ensures stands { Becomes self.old self.new (λ terms initial m. with_sent time (acks terms time m) m) }
         ensures opening { opening_of self.new ≡ opening_of self.old }
         ensures bytes { Writes time self.old (listed (given result packet.new)) acks }
         ensures writable { result ≡ true → IsWritable packet.new.body }

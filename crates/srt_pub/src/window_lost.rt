@@ -2,20 +2,18 @@
 
 ghost use Rattle.std.specs.Prelude.{◌≡◌, ℕ, List};
 ghost use Rattle.srt_seq.specs.Window.{counted_from};
-ghost use Rattle.srt_pub.specs.Heard.Heard.{Data};
-ghost use Rattle.srt_pub.specs.Publishing.{Terms, Publishing, loses_window, is_past_window};
+ghost use Rattle.srt_pub.specs.Publishing.{loses_window, is_past_window};
 
 use crate::session::Publisher;
 use srt_seq::limits::RANGE_END;
 use srt_seq::{Mode, Seq31};
 
 impl Publisher {
-    ghost use Rattle.srt_pub.specs.Stands.{StandsFor};
-    ghost use Rattle.srt_pub.specs.Changes.{HoldsOf};
+    ghost use Rattle.srt_pub.specs.Changes.{HoldsOf, data_from, loses_window_by};
 
     /// Whether an unencrypted data packet with this number ends the session. Never in buffer mode.
     pub(crate) fn loses_window(&self, word: u32) -> bool
-        ensures { (payload : List ℕ) → HoldsOf self.now (λ terms initial m. result ≡ loses_window terms.mode terms (Data (counted_from initial word) 0 payload) m) }
+        ensures { (payload : List ℕ) → HoldsOf self.now (λ terms initial m. result ≡ loses_window_by terms (data_from initial word 0 payload) m) }
     {
         match self.agreed.mode {
             Mode::Live => self.is_past(word),

@@ -1,7 +1,7 @@
 //! The receiver buffer: what is received, delivered and dropped, and the acknowledgement point. What is missing is in
 //! `gaps.rt`.
 
-ghost use Rattle.std.specs.Prelude.{◌≡◌, ℕ, ◌+◌, ◌-◌, ◌^◌, ◌<◌, ◌≤◌, ℤ, pos, ◌+ℤ◌, Option, None, Some, option_map, IfOk, IfSome, is_some, true, false, nat_le, nat_lt, ◌&&◌};
+ghost use Rattle.std.specs.Prelude.{◌≡◌, ℕ, ◌+◌, ◌-◌, ◌^◌, ◌<◌, ◌≤◌, ◌+ℤ◌, Option, None, Some, IfOk, IfSome, is_some, true, false, nat_le, nat_lt, ◌&&◌};
 ghost use Rattle.srt_seq.specs.Given.{given};
 ghost use Rattle.srt_seq.specs.Window.{word_of, counted_from, in_window, offset_of, number_word};
 ghost use Rattle.srt_recvbuf.specs.Cells.{width_of, cell_at, cell_is_missing, cell_is_received};
@@ -48,7 +48,7 @@ pub struct RecvBuf {
 impl RecvBuf {
     ghost use Rattle.srt_recvbuf.specs.Stands.{IsNextDue, StandsFor, places_of, own_range};
     ghost use Rattle.srt_recvbuf.specs.Changes.{Becomes, BecomesAt, HoldsOf, HoldsOfAt, Stores, payload_in};
-    ghost use Rattle.srt_recvbuf.specs.Receiving.{Receiving, Arrival, nothing_yet, received, put_of, requested, settled, moved_to, top, ack_point, available, is_waiting, next_due, after_next};
+    ghost use Rattle.srt_recvbuf.specs.Receiving.{nothing_yet, put_of, requested, settled, moved_to, top, ack_point, available, is_waiting, next_due, after_next};
 
     /// An empty buffer of `width` packets, 32 to 8192, for a stream with the initial number 0; `start` begins any
     /// other. The only call that takes memory; the error is a refused allocation. O(width).

@@ -1,10 +1,9 @@
 //! The gaps: which runs of missing numbers a NAK reports (draft-sharabayko-srt-01, section 4.8.2), lowest first and at
 //! most 32.
 
-ghost use Rattle.std.specs.Prelude.{◌≡◌, ℕ, ◌+◌, ◌-◌, ◌≤◌, map, filter, take, Bool, nat_lt};
-ghost use Rattle.srt_seq.specs.Window.{word_of, number_word};
-ghost use Rattle.srt_seq.specs.Runs.{runs, numbers_from};
-ghost use Rattle.srt_recvbuf.specs.Cells.{cell_at, cell_is_missing};
+ghost use Rattle.std.specs.Prelude.{◌≡◌, ◌+◌, ◌-◌, ◌≤◌, nat_lt};
+ghost use Rattle.srt_seq.specs.Window.{word_of};
+ghost use Rattle.srt_seq.specs.Runs.{runs};
 
 use crate::buffer::RecvBuf;
 use crate::window::Seek;
@@ -13,9 +12,9 @@ use srt_seq::Seq31;
 use srt_seq::limits::NAK_RUNS_MAX;
 
 impl RecvBuf {
-    ghost use Rattle.srt_recvbuf.specs.Stands.{StandsFor, run_words, said_runs, words_of};
+    ghost use Rattle.srt_recvbuf.specs.Stands.{said_runs, words_of};
     ghost use Rattle.srt_recvbuf.specs.Changes.{HoldsOf, AreRunsFrom};
-    ghost use Rattle.srt_recvbuf.specs.Receiving.{Receiving, ack_point, end_of};
+    ghost use Rattle.srt_recvbuf.specs.Receiving.{ack_point, end_of};
 
     /// Whether any number from the front to the highest received one is missing. O(1).
     pub fn has_gaps(&self) -> bool

@@ -1,6 +1,6 @@
 //! The window: a ring of packet states and payloads.
 
-ghost use Rattle.std.specs.Prelude.{◌≡◌, ℕ, ◌+◌, ◌<◌, ◌≤◌, List, length, IfOk, vec_len, ◌==◌, true, false, nat_le, nat_lt, ◌&&◌, if◌then◌else◌};
+ghost use Rattle.std.specs.Prelude.{◌≡◌, ℕ, ◌+◌, ◌<◌, ◌≤◌, length, IfOk, ◌==◌, true, false, nat_le, nat_lt, ◌&&◌, if◌then◌else◌};
 ghost use Rattle.srt_ring.specs.Ring.{width_of as width_in};
 
 use circular_buffer::HeapCircularBuffer;
@@ -43,7 +43,7 @@ pub struct Window {
 
 impl Window {
     ghost use Rattle.srt_ring.specs.Ring.{payload_at};
-    ghost use Rattle.srt_recvbuf.specs.Cells.{Cell, place_at, cell_at, cell_of, due_of, after_drop, cell_is_missing, cell_is_received, is_sought, payload_of, width_of};
+    ghost use Rattle.srt_recvbuf.specs.Cells.{place_at, cell_at, due_of, after_drop, cell_is_received, is_sought, payload_of, width_of};
     ghost use Rattle.srt_recvbuf.specs.Cells.Cell.{Missing, Dropped, Received};
 
     /// A window of `width` missing places. The only call that takes memory; the error is a refused allocation.
