@@ -120,8 +120,8 @@ abbrev pub IsWritableIf : (written : Bool) → Packet → Type 0
 IsWritableIf written packet = written ≡ true → IsWritable packet.body
 
 -- a packet that wasn't written is as it was
-abbrev pub KeptUnless : (written : Bool) → (old new : Packet) → Type 0
-KeptUnless written old new = written ≡ false → new ≡ old
+abbrev pub KeptIfNot : (written : Bool) → (old new : Packet) → Type 0
+KeptIfNot written old new = written ≡ false → new ≡ old
 
 -- the moment at which a packet with this timestamp that comes at a moment is due
 abbrev pub IsDueTime : Agreed → (stamp now : ℕ) → (due : ℤ) → Type 0

@@ -16,7 +16,7 @@ use srt_packet::Packet;
 impl Publisher {
     ghost use Rattle.srt_pub.specs.Stands.{opening_of};
     ghost use Rattle.srt_pub.specs.Sent.{packets_of};
-    ghost use Rattle.srt_pub.specs.Changes.{Becomes, BecomesAt, Writes, WritesAt, IsWritableIf, KeptUnless, with_sent};
+    ghost use Rattle.srt_pub.specs.Changes.{Becomes, BecomesAt, Writes, WritesAt, IsWritableIf, KeptIfNot, with_sent};
 
     /// Ends an event. Writes the ACK, the NAK and the KEEPALIVE that are due at `now`, each into its place, and
     /// returns which were written. They are sent in this order, and the other places are unchanged. Linear in the
@@ -33,7 +33,7 @@ impl Publisher {
         ensures opening { opening_of self.new ≡ opening_of self.old }
         ensures bytes { WritesAt now self.old (packets_of result ack.new nak.new keep_alive.new) reports }
         ensures each { IsWritableIf result.ack ack.new × IsWritableIf result.nak nak.new × IsWritableIf result.keep_alive keep_alive.new }
-        ensures kept { KeptUnless result.ack ack.old ack.new × KeptUnless result.nak nak.old nak.new × KeptUnless result.keep_alive keep_alive.old keep_alive.new }
+        ensures kept { KeptIfNot result.ack ack.old ack.new × KeptIfNot result.nak nak.old nak.new × KeptIfNot result.keep_alive keep_alive.old keep_alive.new }
     {
         let time = now.saturating_sub(self.agreed.opening);
         let is_ack = self.ack(time, ack);
