@@ -2,15 +2,12 @@
 
 use crate::{Secret, cookie, right};
 use srt_seq::{MOMENT_END, Peer};
+use std::array;
 use std::test::Fail;
 
 /// The bytes 0 to 31.
 fn secret() -> Secret {
-    let mut bytes = [0u8; 32];
-    for i in 0..32 {
-        bytes[i] = i as u8;
-    }
-    Secret::new(bytes)
+    Secret::new(array::from_fn(|i| i as u8))
 }
 
 /// 127.0.0.1
