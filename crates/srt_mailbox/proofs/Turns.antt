@@ -2,6 +2,7 @@
 use Rattle.std.proofs.Common.{◌≡◌, ℕ, ◌+◌, ◌-◌, ◌^◌, min, arith, Option, None, Some, List, [], ◌∷◌, ◌++◌, map, option_to_list, refl, sym, ap, ◌∙◌, append_assoc, append-nil}
 use Rattle.std.proofs.lemmas.List.{map-append}
 use Rattle.std.specs.Global.{Box}
+use Rattle.srt_seq.specs.declared.shared.Item.{Item as TheItem}
 use Rattle.srt_seq.specs.Items.{Datagram, Item, told}
 use Rattle.srt_seq.specs.Terms.{Terms}
 use Rattle.srt_route.specs.declared.replies.Reply.{Reply}
@@ -23,6 +24,10 @@ told_last earlier (m ∷ ms) x = told_last (told m.item ∷ earlier) ms x
 pub none_held : (held : Option (Box Reply)) (route : Route) → waiting_at held route ≡ [] → map written (replies_in (option_to_list held)) ≡ []
 none_held None route none = refl
 none_held (Some b) route none = absurd (let e : (written b.value ∷ (waiting route)) ≡ [] = none in cc)
+
+-- the replies to an item that was applied while none waited are all that wait; the item is known by another expression, j
+pub waits_next : (e : Terms) (r : ℕ) (items : List Item) (held : Option (Box Reply)) (old new : Route) (i j : TheItem) → waiting_at held old ≡ [] → waiting new ≡ reply e r (told i ∷ items) → i ≡ j → waiting_at held new ≡ reply e r (told j ∷ items)
+waits_next e r items held old new i j none replies same = ap (λ l. l ++ waiting new) (none_held held old none) ∙ replies ∙ ap (λ (k : TheItem). reply e r (told k ∷ items)) same
 
 pub applied_replays : (e : Terms) (r : ℕ) (put old new : List Datagram) (items : List Item) (item : Item) → put ++ old ≡ solo e r items → old ≡ [] → new ≡ reply e r (item ∷ items) → put ++ new ≡ solo e r (item ∷ items)
 applied_replays e r put old new items item so_far none is =

@@ -1,9 +1,10 @@
 -- What a caller sees of the ends of a route's queues.
-use Rattle.std.specs.Prelude.{ℕ, List}
+use Rattle.std.specs.Prelude.{◌≡◌, ℕ, List, [], ◌++◌, length}
 use Rattle.atomic_table.specs.Seated.{TableId}
 use Rattle.srt_seq.specs.declared.shared.Item.{Item}
 use Rattle.srt_route.specs.declared.replies.Reply.{Reply}
 use Rattle.srt_mailbox.specs.declared.inbox_rule.Marked.{Marked}
+use Rattle.srt_mailbox.specs.Inbox.{polled_of, ticked_of}
 
 -- an end that offers items: which inbox, its capacity, and the items of this end that were accepted, the oldest first
 pub record Producer : Type 0 where
@@ -42,3 +43,14 @@ pub record Drained : Type 0 where
 
 abbrev pub drained : TableId → (capacity : ℕ) → (through : List Reply) → (hand : Reply) → Drained
 drained q c xs h = record { queue = q; capacity = c; through = xs; hand = h }
+
+-- the three ends of one inbox, through which nothing has passed
+abbrev pub AreNew : (capacity : ℕ) → (ingress clock : Producer) → Consumer → Type 0
+AreNew capacity ingress clock taker =
+    (ingress ≡ producer taker.queue capacity []) × (clock ≡ producer taker.queue capacity []) × (taker ≡ consumer taker.queue capacity [])
+
+-- n items are left: those taken, followed by those left, are what the two ends offered, each in order
+abbrev pub AreLeft : (n : ℕ) → (taken : List Marked) → (ingress clock : Producer) → Type 0
+AreLeft n taken ingress clock =
+    (left : List Marked) × (length left ≡ n)
+    × (ingress.offered ≡ polled_of (taken ++ left)) × (clock.offered ≡ ticked_of (taken ++ left))

@@ -20,6 +20,22 @@ pub trait Gate {
         ensures { result ≡ held self.now };
 }
 
+/// A gate that lets every turn pass.
+#[derive(Clone, Copy, Debug, PartialEq, Eq)]
+pub struct Ungated;
+
+impl Gate for Ungated {
+    ghost held = { λ gate. 0 };
+
+    fn pass(&mut self, _route: usize) -> bool {
+        true
+    }
+
+    fn held(&self) -> u64 {
+        0
+    }
+}
+
 /// The outcome of `RouteCell::serve`.
 #[derive(Clone, Copy, Debug, PartialEq, Eq)]
 pub enum Served {

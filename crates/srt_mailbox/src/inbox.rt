@@ -1,12 +1,11 @@
 //! The three ends of an inbox: two offer items (the poller, the clock), one takes them (the route).
 
-ghost use Rattle.std.specs.Prelude.{◌≡◌, ◌<◌, ◌^◌, List, [], ◌∷◌, ◌++◌, length, true, IfOk, OnOk, IfErr, MatchOption};
+ghost use Rattle.std.specs.Prelude.{◌≡◌, ◌<◌, ◌^◌, [], ◌∷◌, ◌++◌, true, IfOk, OnOk, IfErr, MatchOption};
 ghost use Rattle.std.specs.Arc.{arc_value};
 ghost use Rattle.crossbeam_queue.specs.Fifo.{Held};
 ghost use Rattle.srt_seq.specs.Items.{told, moment_of};
-ghost use Rattle.srt_mailbox.specs.Ends.{producer, consumer};
-ghost use Rattle.srt_mailbox.specs.Inbox.{StoodAsPolled, StoodAsTicked, StoodAsTaken, polled_of, ticked_of};
-ghost use Rattle.srt_mailbox.specs.declared.inbox_rule.Marked.{Marked as TheMarked};
+ghost use Rattle.srt_mailbox.specs.Ends.{producer, consumer, AreNew, AreLeft};
+ghost use Rattle.srt_mailbox.specs.Inbox.{StoodAsPolled, StoodAsTicked, StoodAsTaken};
 
 use crate::inbox_rule::{Clock, Inbox, InboxPass, Left, Marked, Poller, Polls, Takes, Ticks};
 use srt_seq::Item;
@@ -139,7 +138,7 @@ impl Taker {
     /// items taken, followed by those left, are what the two ends offered, each in order.
     pub fn settle<R: Wait>(self, rt: &R, ingress: Ingress, clock: ClockEnd) -> usize
         requires { (ingress.queue ≡ self.queue) × (clock.queue ≡ self.queue) }
-        ensures { (left : List TheMarked) × (length left ≡ result) × (ingress.offered ≡ polled_of (self.taken ++ left)) × (clock.offered ≡ ticked_of (self.taken ++ left)) }
+        ensures { AreLeft result self.taken ingress clock }
     {
         let Taker { queue, mut pass } = self;
         let Ingress {
@@ -169,7 +168,7 @@ impl Taker {
 /// means that it was refused.
 pub fn open_inbox(alloc: Global, capacity: usize) -> Result<(Ingress, ClockEnd, Taker), AllocError>
     requires { 0 < capacity }
-    ensures { IfOk result (λ r. (r.0 ≡ producer r.2.queue capacity []) × (r.1 ≡ producer r.2.queue capacity []) × (r.2 ≡ consumer r.2.queue capacity [])) }
+    ensures { IfOk result (λ r. AreNew capacity r.0 r.1 r.2) }
 {
     let (queue, mut pass) = Inbox::ruled(alloc, capacity)?;
     let poller = queue.another::<Poller>(&mut pass);

@@ -5,7 +5,8 @@
 //!
 //! Types: the four ends of a route, which are `Ingress` (the poller offers datagrams), `ClockEnd` (the ticking thread
 //! offers ticks), `RouteCell` (workers serve the route) and `Drain` (the poller takes replies). A `Gate` may refuse a
-//! turn, `Served` is the outcome of `serve`, and `Account` has the counts of a route that has ended.
+//! turn (`Ungated` never does), `Served` is the outcome of `serve`, and `Account` has the counts of a route that has
+//! ended.
 //!
 //! Calls: `open_route`; then, each from its own thread, `offer` on `Ingress` and `ClockEnd`, `RouteCell::serve` (any
 //! number of workers), and `Drain::take` with `Drain::reply`; last `settle`, which takes all four ends.
@@ -28,7 +29,7 @@ mod spares;
 
 pub use accounts::{Account, Unsettled, settle};
 pub use cells::{RouteCell, Serve};
-pub use gates::{Gate, Served};
+pub use gates::{Gate, Served, Ungated};
 pub use inbox::{ClockEnd, Full, Ingress};
 pub use openings::open_route;
 pub use outbox::Drain;

@@ -11,7 +11,7 @@ use Rattle.srt_mailbox.specs.Counts.{counted}
 use Rattle.srt_mailbox.specs.Inbox.{applied, StoodAsTaken}
 use Rattle.srt_mailbox.specs.Ends.{Consumer, consumer}
 use Rattle.srt_mailbox.specs.Runs.{Run, run, waiting_at}
-use Rattle.srt_mailbox.proofs.Turns.{told_last, none_held, applied_replays, counted_more}
+use Rattle.srt_mailbox.proofs.Turns.{told_last, none_held, waits_next, applied_replays, counted_more}
 use Rattle.srt_mailbox.proofs.running.Running.apply_item.Goals as goal
 
 pub invariant_of-self : goal.invariant_of-self
@@ -22,33 +22,28 @@ invariant_of-self g c =
     let items = applied inside.taker.taken in
     let x = c.in-Some.marked in
     let none = ap (λ (w : Run). w.waiting) c.self.view_is ∙ c.requires in
-    let now = ap (λ l. l ++ waiting c.step-self-inside.new.self) (none_held inside.held inside.route.value none) in
     let taken = ap (λ (k : Consumer). applied k.taken) c.in-Some.ensures ∙ told_last [] inside.taker.taken x in
     let stood : stands c.deref_mut.result.now e r items = rw c.deref_mut.ensures.value c.self.invariant.0 in
-    let waits = now ∙ c.step-self-inside.ensures.replies e r items stood ∙ ap (λ (i : Item). reply e r (told i ∷ items)) c.into_item.ensures.item in (
+    let waits = waits_next e r items inside.held inside.route.value c.step-self-inside.new.self _ _ none (c.step-self-inside.ensures.replies e r items stood) c.into_item.ensures.item in (
       rw taken (subst (λ (i : Item). stands c.step-self-inside.new.self e r (told i ∷ items)) c.into_item.ensures.item (c.step-self-inside.ensures.stands e r items stood)),
       rw taken (applied_replays e r (map written inside.putter.put) (waiting_at inside.held inside.route.value) (waiting_at inside.held c.step-self-inside.new.self) items (told x.item) c.self.invariant.1 none waits),
-      c.step-self-inside.ensures.count ∙ ap length (sym now),
+      c.step-self-inside.ensures.count ∙ ap (λ l. length (l ++ waiting c.step-self-inside.new.self)) (sym (none_held inside.held inside.route.value none)),
       c.saturating_add-self-inside.ensures ∙ counted_more (length inside.taker.taken) inside.taken c.self.invariant.3 ∙ sym (ap counted (ap (λ (k : Consumer). length k.taken) c.in-Some.ensures ∙ length-append inside.taker.taken (x ∷ []))),
     )
 
 pub returns-in-Some : goal.returns-in-Some
 returns-in-Some g c =
     let inside = c.self.inside in
-    let e = terms_of inside.entry.value in
-    let r = inside.index.value in
-    let items = applied inside.taker.taken in
-    let x = c.in-Some.marked in
-    let none = ap (λ (w : Run). w.waiting) c.self.view_is ∙ c.requires in
-    let now = ap (λ l. l ++ waiting c.step-self-inside.new.self) (none_held inside.held inside.route.value none) in
-    let stood : stands c.deref_mut.result.now e r items = rw c.deref_mut.ensures.value c.self.invariant.0 in
-    let waits = now ∙ c.step-self-inside.ensures.replies e r items stood ∙ ap (λ (i : Item). reply e r (told i ∷ items)) c.into_item.ensures.item in (
-      x,
+    let now = c.step-self-inside.new.self in
+    let run_of = run (terms_of inside.entry.value) inside.index.value in
+    let stood : stands c.deref_mut.result.now (terms_of inside.entry.value) inside.index.value (applied inside.taker.taken) = rw c.deref_mut.ensures.value c.self.invariant.0 in
+    let waits = waits_next (terms_of inside.entry.value) _ _ inside.held inside.route.value now _ _ (ap (λ (w : Run). w.waiting) c.self.view_is ∙ c.requires) (c.step-self-inside.ensures.replies _ _ _ stood) c.into_item.ensures.item in (
+      c.in-Some.marked,
       c.requires,
       subst
-          (λ (w : Run). run e r c.take.new.self inside.putter (waiting_at inside.held c.step-self-inside.new.self) ≡ run w.terms w.index (consumer w.inbox.queue w.inbox.capacity (w.inbox.taken ++ x ∷ [])) w.outbox (reply w.terms w.index (told x.item ∷ applied w.inbox.taken)))
+          (λ (w : Run). run_of c.take.new.self inside.putter (waiting_at inside.held now) ≡ run w.terms w.index (consumer w.inbox.queue w.inbox.capacity (w.inbox.taken ++ c.in-Some.marked ∷ [])) w.outbox (reply w.terms w.index (told c.in-Some.marked.item ∷ applied w.inbox.taken)))
           c.self.view_is
-          (λ i. run e r (c.in-Some.ensures i) inside.putter (waits i)),
+          (λ i. run_of (c.in-Some.ensures i) inside.putter (waits i)),
     )
 
 pub returns-in-None : goal.returns-in-None

@@ -2,7 +2,6 @@ use Rattle.std.proofs.Common.{◌≡◌, ◌++◌, ◌∷◌, [], map, length, s
 use Rattle.srt_seq.specs.Terms.{terms_of}
 use Rattle.srt_route.specs.Stands.{waiting}
 use Rattle.srt_route.specs.Written.{written}
-use Rattle.srt_mailbox.specs.Inbox.{applied}
 use Rattle.srt_mailbox.specs.Ends.{Pipe, pipe}
 use Rattle.srt_mailbox.specs.Runs.{Run, run, waiting_at}
 use Rattle.srt_mailbox.proofs.Turns.{moved_replays}
@@ -11,14 +10,11 @@ use Rattle.srt_mailbox.proofs.running.Running.move_reply.Goals as goal
 pub invariant_of-self : goal.invariant_of-self
 invariant_of-self g c =
     let inside = c.self.inside in
-    let e = terms_of inside.entry.value in
-    let r = inside.index.value in
-    let items = applied inside.taker.taken in
     let y = c.next_waiting-reply.result.value in
     let rest = waiting c.next_waiting-reply.new.route in
     let first = ap (waiting_at inside.held) (sym c.deref_mut.ensures.value) ∙ c.next_waiting-reply.ensures.first in
     let put = ap (λ (p : Pipe). p.put) c.in-Ok.ensures.ok in (
-      c.next_waiting-reply.ensures.stands e r items (rw c.deref_mut.ensures.value c.self.invariant.0),
+      c.next_waiting-reply.ensures.stands _ _ _ (rw c.deref_mut.ensures.value c.self.invariant.0),
       rw (put, c.next_waiting-reply.ensures.held) (moved_replays inside.putter.put y rest _ (ap (λ l. map written inside.putter.put ++ l) (sym first) ∙ c.self.invariant.1)),
       rw c.next_waiting-reply.ensures.held (omega (arith, c.self.invariant.2, ap length first)),
       c.self.invariant.3,
@@ -27,14 +23,11 @@ invariant_of-self g c =
 pub invariant_of-self-in-Err : goal.invariant_of-self-in-Err
 invariant_of-self-in-Err g c =
     let inside = c.self.inside in
-    let e = terms_of inside.entry.value in
-    let r = inside.index.value in
-    let items = applied inside.taker.taken in
     let full = c.in-Err.ensures.full in
     let first = ap (waiting_at inside.held) (sym c.deref_mut.ensures.value) ∙ c.next_waiting-reply.ensures.first in
     let same = (λ i. written (full.0 i).value ∷ waiting c.next_waiting-reply.new.route) ∙ sym first in
     let put = ap (λ (p : Pipe). map written p.put) full.1 in (
-      c.next_waiting-reply.ensures.stands e r items (rw c.deref_mut.ensures.value c.self.invariant.0),
+      c.next_waiting-reply.ensures.stands _ _ _ (rw c.deref_mut.ensures.value c.self.invariant.0),
       (λ i. put i ++ same i) ∙ c.self.invariant.1,
       c.self.invariant.2 ∙ ap length (sym same),
       c.self.invariant.3,
