@@ -7,12 +7,12 @@
 //! `Report` has the counts; `Signals` are hints that save looks at empty outboxes. Devices in memory are
 //! `SourceScript`, `WireScript` and `ClockScript`; `MioSource` and `MioWire` share one UDP socket.
 //!
-//! Calls: open the routes (`srt_mailbox::open_route`), bind or make the devices, then `pump` once for n rounds; or
-//! `pump_under`, with hints.
+//! Calls: open the routes (`srt_mailbox::open_route`), bind or make the devices, then `pump` once for n rounds, with
+//! hints or `Unsignalled`.
 //!
-//! Files: a round is in `poller.rt` (order, limits, the reply that is kept), what it uses in `context.rt`, the rounds in
-//! `pumping.rt`, what is counted in `report.rt`, how long a socket's source waits in `pace.rt`. `specs/History.antt`
-//! has the events of a poller.
+//! Files: the steps of a round are in `poller.rt` (limits, the reply that is kept), what they use in `context.rt`, the
+//! rounds in `pumping.rt`, what is counted in `report.rt`, how long a socket's source waits in `pace.rt`.
+//! `specs/History.antt` has the events of a poller.
 #![tactic(auto)]
 
 mod context;
@@ -28,7 +28,7 @@ mod sockets;
 
 pub use devices::{Clock, Polled, Read, Sent, Source, Wire};
 pub use ends::Ends;
-pub use pumping::{pump, pump_under};
+pub use pumping::pump;
 pub use report::Report;
 pub use scripts::{
     ClockScript, ScriptDatagram, SentDatagram, SourceScript, SourceStep, WireScript,

@@ -1,4 +1,4 @@
-//! One round of a poller. `round`, at the end, has the order.
+//! The steps of a poller's round: `resend`, then `listen`, then `drain`.
 
 ghost use Rattle.std.specs.Prelude.{◌≡◌, ◌<◌, ◌≤◌, ◌+◌, ◌*◌, ◌^◌, true, false, None, Option, List, length};
 ghost use Rattle.srt_seq.specs.Items.{Datagram};
@@ -66,10 +66,10 @@ pub(crate) struct Poller {
 impl Poller {
     ghost use Rattle.srt_lobby.specs.declared.classes.Class.TheVariants.{Route};
     ghost use Rattle.srt_poller.specs.declared.ends.Ends.{Ends as TheEnds};
-    ghost use Rattle.srt_poller.specs.declared.poller.Drained.TheVariants.{Gone};
+    ghost use Rattle.srt_poller.specs.declared.poller.Drained.TheVariants.{Empty, Gone};
     ghost use Rattle.srt_poller.specs.Reports.{nothing, with_kept};
     ghost use Rattle.srt_poller.specs.Rounds.{Went};
-    ghost use Rattle.srt_poller.specs.Pollers.{sorted_by, named_in, came, kept_in, world_of, reading, sending, Waited, WaitFailed, Came, Reads, Replies};
+    ghost use Rattle.srt_poller.specs.Pollers.{sorted_by, named_in, came, kept_in, world_of, reading, sending, Waited, WaitFailed, Came, Replies};
 
     /// A poller with no reply kept and all counts 0. Takes no memory.
     pub(crate) fn new() -> Poller
@@ -91,7 +91,7 @@ impl Poller {
     }
 
     /// Sends the kept reply again, if there is one.
-    fn resend<W: Wire>(&mut self, wire: &mut W)
+    pub(crate) fn resend<W: Wire>(&mut self, wire: &mut W)
         ensures { (ends : List TheEnds) →
             Replies 1 (sending (W.handed wire.old) ends self.old) (sending (W.handed wire.new) ends self.new) }
     {
@@ -171,57 +171,8 @@ impl Poller {
         }
     }
 
-    /// Reads a datagram, if there is one. False if there was none, or if the read failed: this round reads no more.
-    fn read_one<R: Wait, S: Source, W: Wire, G: Signals>(
-        &mut self,
-        context: &Context<R, G>,
-        source: &mut S,
-        wire: &mut W,
-        ends: &mut [Ends],
-    ) -> bool
-        requires { length ends.old ≡ length (named_in context.now.lobby) }
-        ensures { Reads (sorted_by context.now.lobby) 1
-            (world_of (S.gave source.old) (W.handed wire.old) ends.old self.old)
-            (world_of (S.gave source.new) (W.handed wire.new) ends.new self.new) }
-    {
-        match source.next(&mut self.datagram) {
-            Read::Datagram(peer, len, moment) => {
-                let incoming = Incoming { peer, len, moment };
-                self.arrive(context, wire, ends, incoming);
-                true
-            }
-            Read::Empty => false,
-            Read::Failed => {
-                self.report.count_fault();
-                false
-            }
-        }
-    }
-
-    /// Reads at most 256 datagrams.
-    fn read<R: Wait, S: Source, W: Wire, G: Signals>(
-        &mut self,
-        context: &Context<R, G>,
-        source: &mut S,
-        wire: &mut W,
-        ends: &mut [Ends],
-    )
-        requires { length ends.old ≡ length (named_in context.now.lobby) }
-        ensures { Reads (sorted_by context.now.lobby) 256
-            (world_of (S.gave source.old) (W.handed wire.old) ends.old self.old)
-            (world_of (S.gave source.new) (W.handed wire.new) ends.new self.new) }
-    {
-        for came in 0..256u32 {
-            if !self.read_one(context, source, wire, ends) {
-                context.signals.read_ended(came);
-                return;
-            }
-        }
-        context.signals.read_ended(256);
-    }
-
-    /// Waits, and reads unless the wait failed.
-    fn listen<R: Wait, S: Source, W: Wire, G: Signals>(
+    /// Waits, and reads at most 256 datagrams unless the wait failed. A read that finds none or fails is the last one.
+    pub(crate) fn listen<R: Wait, S: Source, W: Wire, G: Signals>(
         &mut self,
         context: &Context<R, G>,
         source: &mut S,
@@ -236,7 +187,24 @@ impl Poller {
         if !self.wait(source) {
             return;
         }
-        self.read(context, source, wire, ends);
+        for came in 0..256u32 {
+            match source.next(&mut self.datagram) {
+                Read::Datagram(peer, len, moment) => {
+                    let incoming = Incoming { peer, len, moment };
+                    self.arrive(context, wire, ends, incoming);
+                }
+                Read::Empty => {
+                    context.signals.read_ended(came);
+                    return;
+                }
+                Read::Failed => {
+                    self.report.count_fault();
+                    context.signals.read_ended(came);
+                    return;
+                }
+            }
+        }
+        context.signals.read_ended(256);
     }
 
     /// Takes a reply from an outbox and sends it. No reply may be kept.
@@ -251,6 +219,7 @@ impl Poller {
         requires kept { self.old.kept ≡ None }
         ensures went { Replies 1 (sending (W.handed wire.old) ends.old self.old) (sending (W.handed wire.new) ends.new self.new) }
         ensures more { result ≡ Gone → self.new.kept ≡ None }
+        ensures none { result ≡ Empty → self.new.kept ≡ None }
     {
         let end = &mut ends[route];
         if !end.drain.take(rt) {
@@ -270,30 +239,8 @@ impl Poller {
         }
     }
 
-    /// Takes at most 64 replies from an outbox and sends them, until one is kept. True if the outbox was found empty.
-    fn drain_route<R: Wait, W: Wire>(
-        &mut self,
-        rt: &R,
-        wire: &mut W,
-        ends: &mut [Ends],
-        route: usize,
-    ) -> bool
-        requires route { route < length ends.old }
-        requires kept { self.old.kept ≡ None }
-        ensures { Replies 64 (sending (W.handed wire.old) ends.old self.old) (sending (W.handed wire.new) ends.new self.new) }
-    {
-        for _ in 0..64u32 {
-            match self.drain_one(rt, wire, ends, route) {
-                Drained::Gone => {}
-                Drained::Empty => return true,
-                Drained::Kept => return false,
-            }
-        }
-        false
-    }
-
-    /// Sends replies of a route, unless its hint says that its outbox has none and the round doesn't look at all. True
-    /// if no reply is kept.
+    /// Sends at most 64 replies of a route, until one is kept, unless its hint says that its outbox has none and the
+    /// round doesn't look at all. True if no reply is kept.
     fn visit<R: Wait, W: Wire, G: Signals>(
         &mut self,
         context: &Context<R, G>,
@@ -309,13 +256,22 @@ impl Poller {
         if !context.signals.may_have(route) && !context.all {
             return true;
         }
-        let empty = self.drain_route(context.rt, wire, ends, route);
-        self.left |= !empty;
-        self.kept.is_none()
+        for _ in 0..64u32 {
+            match self.drain_one(context.rt, wire, ends, route) {
+                Drained::Gone => {}
+                Drained::Empty => return true,
+                Drained::Kept => {
+                    self.left = true;
+                    return false;
+                }
+            }
+        }
+        self.left = true;
+        true
     }
 
     /// Sends replies of all routes, in the order of their indexes, until one is kept.
-    fn drain<R: Wait, W: Wire, G: Signals>(
+    pub(crate) fn drain<R: Wait, W: Wire, G: Signals>(
         &mut self,
         context: &Context<R, G>,
         wire: &mut W,
@@ -339,24 +295,6 @@ impl Poller {
             }
             route = at + 1;
         }
-    }
-
-    /// One round: sends the kept reply again, waits, reads, and sends replies.
-    pub(crate) fn round<R: Wait, S: Source, W: Wire, G: Signals>(
-        &mut self,
-        context: &Context<R, G>,
-        source: &mut S,
-        wire: &mut W,
-        ends: &mut [Ends],
-    )
-        requires { length ends.old ≡ length (named_in context.now.lobby) }
-        ensures { Went (sorted_by context.now.lobby) (258 + 64 * length ends.old) 1 1
-            (world_of (S.gave source.old) (W.handed wire.old) ends.old self.old)
-            (world_of (S.gave source.new) (W.handed wire.new) ends.new self.new) }
-    {
-        self.resend(wire);
-        self.listen(context, source, wire, ends);
-        self.drain(context, wire, ends);
     }
 
     /// The counts so far, in which a reply that is still kept counts as lost.

@@ -8,12 +8,12 @@ mod faults;
 
 use crate::{
     BindFault, ClockScript, Ends, MioSource, MioWire, Polled, Read, Report, ScriptDatagram, Sent,
-    Source, SourceScript, SourceStep, Wire, WireScript, pump,
+    Source, SourceScript, SourceStep, Unsignalled, Wire, WireScript, pump,
 };
 use mio::net::UdpSocket;
 use srt_cookie::Secret;
 use srt_lobby::Names;
-use srt_mailbox::{Gate, RouteCell, Serve, Served, open_route};
+use srt_mailbox::{RouteCell, Serve, Served, Ungated, open_route};
 use srt_seq::{Entry, Mode, Peer, Turned};
 use std::alloc::Global;
 use std::net::{Ipv4Addr, Net, SocketAddr, SocketAddrV4};
@@ -40,6 +40,14 @@ const CONCLUSION_ANSWER: &str =
 /// A SHUTDOWN to a socket ID that is no route's.
 const STRAY: &str = "80050000000000000000000000400000";
 
+/// The report of rounds that read an induction.
+const ANSWERED: Report = Report {
+    read: 1,
+    answered: 1,
+    sent: 1,
+    ..Report::NOTHING
+};
+
 /// The bytes 0 to 31.
 const SECRET: [u8; 32] = [
     0, 1, 2, 3, 4, 5, 6, 7, 8, 9, 10, 11, 12, 13, 14, 15, 16, 17, 18, 19, 20, 21, 22, 23, 24, 25,
@@ -61,12 +69,15 @@ fn comes(alloc: Global, text: &str) -> Result<SourceStep, Fail> {
     }))
 }
 
-fn entry(alloc: Global, name: &str, mode: Mode, buffer: u32) -> Result<Entry, Fail> {
+/// The routes' names, modes and buffers.
+const ROUTES: [(&str, Mode, u32); 2] = [("studio", Mode::Live, 1024), ("files", Mode::Buffer, 32)];
+
+fn entry(alloc: Global, route: &(&str, Mode, u32)) -> Result<Entry, Fail> {
     Ok(Entry {
-        name: String::from_str(alloc, name)?,
-        mode,
+        name: String::from_str(alloc, route.0)?,
+        mode: route.1,
         latency_ms: 120,
-        buffer,
+        buffer: route.2,
         sessions: 5,
         inbox: 16,
         outbox: 16,
@@ -91,10 +102,7 @@ struct Routes {
 
 /// The routes `studio` and `files`.
 fn open_routes<R: Wait>(rt: &R, alloc: Global) -> Result<Routes, Fail> {
-    let entries = vec![in alloc;
-        entry(alloc, "studio", Mode::Live, 1024)?,
-        entry(alloc, "files", Mode::Buffer, 32)?,
-    ]?;
+    let entries = vec![in alloc; entry(alloc, &ROUTES[0])?, entry(alloc, &ROUTES[1])?]?;
     let Ok(names) = Names::open(alloc, &entries) else {
         return Err(Fail::from("the names open"));
     };
@@ -117,22 +125,6 @@ fn open_routes<R: Wait>(rt: &R, alloc: Global) -> Result<Routes, Fail> {
     Ok(Routes { lobby, cells })
 }
 
-/// A gate that lets every turn pass.
-#[derive(Drop)]
-struct Open;
-
-impl Gate for Open {
-    ghost held = { λ gate. 0 };
-
-    fn pass(&mut self, _route: usize) -> bool {
-        true
-    }
-
-    fn held(&self) -> u64 {
-        0
-    }
-}
-
 /// The report of this many rounds over these devices.
 fn pumped<S: Source, W: Wire>(
     rt: &(impl AllocGlobal + Wait),
@@ -150,6 +142,7 @@ fn pumped<S: Source, W: Wire>(
         wire,
         lobby.ends.as_mut_slice(),
         rounds,
+        &Unsignalled,
     )
 }
 
@@ -172,7 +165,7 @@ fn reported(
 
 /// Serves the first route this many times.
 fn serve(rt: &impl Wait, routes: &Routes, times: u32) {
-    let mut gate = Open;
+    let mut gate = Ungated;
     if let Some(cell) = routes.cells.first() {
         for _ in 0..times {
             let _ = cell.serve(rt, &mut gate);
@@ -204,11 +197,8 @@ fn an_induction_is_answered_and_a_failed_read_is_counted(rt: HostRuntime) -> Res
     assert_eq!(&rt;
         report,
         Report {
-            read: 1,
-            answered: 1,
-            sent: 1,
             faults: 1,
-            ..Report::NOTHING
+            ..ANSWERED
         }
     );
     assert_handed(&rt, &wire, &[INDUCTION_ANSWER])
@@ -362,7 +352,7 @@ fn a_reply_that_meets_a_failure_is_lost(rt: HostRuntime) -> Result<(), Fail> {
 
 /// Serves a route until it has nothing to do or is blocked, and returns whether it is blocked.
 fn serve_all<R: Wait>(rt: &R, cell: &RouteCell) -> bool {
-    let mut gate = Open;
+    let mut gate = Ungated;
     for _ in 0..64u32 {
         match cell.serve(rt, &mut gate) {
             Served::Turned(Turned::Applied) | Served::Turned(Turned::Moved) => {}
@@ -530,40 +520,46 @@ fn a_socket_reads_datagrams_of_several_peers(rt: HostRuntime) -> Result<(), Fail
     Ok(())
 }
 
+/// A client sends an induction to this source, and gets the answer from its address.
+fn assert_answers(
+    rt: &(impl AllocGlobal + Net + Wait + Abort),
+    lobby: &mut Lobby,
+    source: &mut MioSource<ClockScript>,
+    wire: &mut MioWire,
+) -> Result<(), Fail> {
+    let target = address(source)?;
+    let client = UdpSocket::bind(rt, SocketAddr::V4(local(0)))?;
+    client.send_to(&hex::decode(rt.alloc(), INDUCTION)?, target)?;
+    assert_eq!(rt; pumped(rt, lobby, source, wire, 10), ANSWERED);
+    let mut answer = [0u8; 100];
+    let (len, from) = client.recv_from(&mut answer)?;
+    assert_eq!(rt; len, 64);
+    assert_eq!(rt; from, target);
+    Ok(())
+}
+
 #[test]
 fn a_socket_answers_an_induction(rt: HostRuntime) -> Result<(), Fail> {
     let alloc = rt.alloc();
     let mut lobby = open_routes(&rt, alloc)?.lobby;
     let (mut source, mut wire) = bound(&rt, alloc, 0)?;
-    let client = UdpSocket::bind(&rt, SocketAddr::V4(local(0)))?;
-    client.send_to(&hex::decode(alloc, INDUCTION)?, address(&source)?)?;
-    let report = pumped(&rt, &mut lobby, &mut source, &mut wire, 10);
-    assert_eq!(&rt;
-        report,
-        Report {
-            read: 1,
-            answered: 1,
-            sent: 1,
-            ..Report::NOTHING
-        }
-    );
-    let mut answer = [0u8; 100];
-    let (len, from) = client.recv_from(&mut answer)?;
-    assert_eq!(&rt; len, 64);
-    assert_eq!(&rt; from, address(&source)?);
+    assert_answers(&rt, &mut lobby, &mut source, &mut wire)
+}
+
+/// A client gets what this wire sends to it.
+fn assert_sends(rt: &(impl Net + Abort), wire: &mut MioWire) -> Result<(), Fail> {
+    let client = UdpSocket::bind(rt, SocketAddr::V4(local(0)))?;
+    let port = client.local_addr()?.port();
+    assert_eq!(rt; wire.send(peer(port), &[1, 2, 3]), Sent::Taken);
+    let mut bytes = [0u8; 100];
+    assert_eq!(rt; client.recv_from(&mut bytes)?.0, 3);
     Ok(())
 }
 
 #[test]
 fn a_send_to_a_peer_without_an_ipv4_address_fails(rt: HostRuntime) -> Result<(), Fail> {
     let (_source, mut wire) = bound(&rt, rt.alloc(), 0)?;
-    let client = UdpSocket::bind(&rt, SocketAddr::V4(local(0)))?;
-    assert_eq!(&rt;
-        wire.send(peer(client.local_addr()?.port()), &[1, 2, 3]),
-        Sent::Taken
-    );
-    let mut bytes = [0u8; 100];
-    assert_eq!(&rt; client.recv_from(&mut bytes)?.0, 3);
+    assert_sends(&rt, &mut wire)?;
     let elsewhere = Peer {
         ip: [1; 16],
         port: 5000,

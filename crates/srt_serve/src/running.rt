@@ -88,7 +88,7 @@ fn open_stage<R: Wait>(
 /// the wire, the ticking thread ticks all routes at each moment that the ticker gives, and the workers serve the
 /// routes. After the rounds all threads end, and each route is settled. A ticker that waits delays that end.
 #[tactic(auto, unfolding(crate::specs::Polled::AreUntouched))]
-pub fn run<R, S, W, K, G>(
+pub fn run<R, S: Source, W: Wire, K, G>(
     rt: &R,
     alloc: Global,
     secret: &Secret,
@@ -101,8 +101,6 @@ pub fn run<R, S, W, K, G>(
 ) -> Result<Ran<K>, RunFault>
 where
     R: Threads + Wait + Sync,
-    S: Source,
-    W: Wire,
     K: Ticker + Send + Drop,
     G: Gate + Send + Drop,
     requires entries { fault_of (map terms_of entries.now) ≡ None }

@@ -13,7 +13,7 @@ use crate::working::work;
 use srt_cookie::Secret;
 use srt_lobby::Names;
 use srt_mailbox::{Gate, Serve};
-use srt_poller::{Ends, Report, Source, Wire, pump_under};
+use srt_poller::{Ends, Report, Source, Wire, pump};
 use std::alloc::Global;
 use std::sync::Wait;
 use std::thread::{Threads, join_mut};
@@ -104,13 +104,13 @@ fn poll<R: Wait, S: Source, W: Wire, C>(
         hall.finish();
         return None;
     }
-    let report = pump_under(rt, alloc, secret, names, source, wire, ends, rounds, hall);
+    let report = pump(rt, alloc, secret, names, source, wire, ends, rounds, hall);
     hall.finish();
     Some(report)
 }
 
 // Ticks in a new thread, and polls in this one. Returns when both have ended.
-fn tick_and_poll<R, S, W, K, C>(
+fn tick_and_poll<R, S: Source, W: Wire, K, C>(
     context: &Context<R, C>,
     source: &mut S,
     wire: &mut W,
@@ -119,8 +119,6 @@ fn tick_and_poll<R, S, W, K, C>(
 ) -> Option<Report>
 where
     R: Threads + Wait + Sync,
-    S: Source,
-    W: Wire,
     K: Ticker + Send + Drop,
     C: Sync,
     requires { length ends.old ≡ length (names_of context.now.names.now) }
@@ -140,7 +138,7 @@ where
 
 /// Starts the workers and the ticking thread, and then polls. All threads have ended when it returns. `None` if one
 /// could not be started, or wasn't running after ten seconds; then nothing was read.
-pub fn serve_routes<R, S, W, K, G, C>(
+pub fn serve_routes<R, S: Source, W: Wire, K, G, C>(
     context: &Context<R, C>,
     source: &mut S,
     wire: &mut W,
@@ -149,8 +147,6 @@ pub fn serve_routes<R, S, W, K, G, C>(
 ) -> Option<Report>
 where
     R: Threads + Wait + Sync,
-    S: Source,
-    W: Wire,
     K: Ticker + Send + Drop,
     G: Gate + Send + Drop,
     C: Serve + Sync,

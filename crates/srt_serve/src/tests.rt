@@ -9,7 +9,7 @@ ghost use Rattle.srt_lobby.specs.Opening.{fault_of};
 use crate::{Ran, RunFault, Ticker, run};
 use srt_cookie::Secret;
 use srt_lobby::Names;
-use srt_mailbox::{Account, Gate};
+use srt_mailbox::{Account, Gate, Ungated};
 use srt_poller::{Polled, Read, Report, Sent, Source, Wire};
 use srt_seq::{Entry, Mode, Peer};
 use std::alloc::Global;
@@ -237,22 +237,6 @@ impl Gate for Member {
     }
 }
 
-/// A gate that lets every turn pass.
-#[derive(Clone, Copy)]
-struct Open;
-
-impl Gate for Open {
-    ghost held = { λ gate. 0 };
-
-    fn pass(&mut self, _route: usize) -> bool {
-        true
-    }
-
-    fn held(&self) -> u64 {
-        0
-    }
-}
-
 fn peer() -> Peer {
     Peer {
         ip: [0, 0, 0, 0, 0, 0, 0, 0, 0, 0, 0xff, 0xff, 127, 0, 0, 1],
@@ -272,13 +256,37 @@ fn entry(alloc: Global, name: &str) -> Result<Entry, Fail> {
     })
 }
 
+/// The entries of the routes `studio` and `studia`.
+fn two_entries(alloc: Global) -> Result<Vec<Entry>, Fail> {
+    Ok(vec![in alloc; entry(alloc, "studio")?, entry(alloc, "studia")?]?)
+}
+
+/// What the threads of a run share, and its source.
+#[derive(Drop)]
+struct Scene {
+    meeting: Arc<Meeting>,
+    source: Callers,
+}
+
+impl Scene {
+    /// Callers that send these texts.
+    fn open(alloc: Global, texts: &[&str], repeats: bool) -> Result<Scene, Fail> {
+        let meeting = Meeting::open(alloc)?;
+        let mut datagrams = Vec::new(alloc);
+        for text in texts {
+            datagrams.push(hex::decode(alloc, text)?)?;
+        }
+        let source = Callers::new(Arc::try_clone(&meeting)?, datagrams, repeats);
+        Ok(Scene { meeting, source })
+    }
+}
+
 /// A run of these entries, which must be right.
 fn run_of<R, G>(
     rt: &R,
     alloc: Global,
     entries: &[Entry],
-    meeting: &Arc<Meeting>,
-    source: &mut Callers,
+    scene: &mut Scene,
     workers: Vec<G>,
     rounds: u32,
 ) -> Result<Ran<Member>, Fail>
@@ -290,14 +298,14 @@ where
     let Ok(_names) = Names::open(alloc, entries) else {
         return Err(Fail::from("the entries are right"));
     };
-    let mut wire = Member::of(meeting)?;
-    let ticker = Member::of(meeting)?;
+    let mut wire = Member::of(&scene.meeting)?;
+    let ticker = Member::of(&scene.meeting)?;
     match run(
         rt,
         alloc,
         &Secret::new(SECRET),
         entries,
-        source,
+        &mut scene.source,
         &mut wire,
         ticker,
         workers,
@@ -313,21 +321,13 @@ where
 #[test]
 fn with_nobody_calling_nothing_is_counted(rt: HostRuntime) -> Result<(), Fail> {
     let alloc = rt.alloc();
-    let entries = vec![in alloc; entry(alloc, "studio")?, entry(alloc, "studia")?]?;
-    let meeting = Meeting::open(alloc)?;
-    let mut source = Callers::new(Arc::try_clone(&meeting)?, Vec::new(alloc), false);
-    let ran = run_of(
-        &rt,
-        alloc,
-        &entries,
-        &meeting,
-        &mut source,
-        vec![in alloc; Open]?,
-        3,
-    )?;
+    let entries = two_entries(alloc)?;
+    let mut scene = Scene::open(alloc, &[], false)?;
+    let workers = vec![in alloc; Ungated]?;
+    let ran = run_of(&rt, alloc, &entries, &mut scene, workers, 3)?;
     assert_eq!(rt; ran.report, Report::NOTHING);
     assert_eq!(rt; ran.accounts.len(), 2);
-    assert_eq!(rt; source.waits, 3);
+    assert_eq!(rt; scene.source.waits, 3);
     for account in &ran.accounts {
         assert!(rt; account.waiting == 0 && account.queued == 0 && account.drained == 0);
     }
@@ -338,13 +338,11 @@ fn with_nobody_calling_nothing_is_counted(rt: HostRuntime) -> Result<(), Fail> {
 #[test]
 fn two_routes_are_served_at_once(rt: HostRuntime) -> Result<(), Fail> {
     let alloc = rt.alloc();
-    let entries = vec![in alloc; entry(alloc, "studio")?, entry(alloc, "studia")?]?;
-    let meeting = Meeting::open(alloc)?;
-    let texts = vec![in alloc; hex::decode(alloc, STUDIO)?, hex::decode(alloc, STUDIA)?]?;
-    let mut source = Callers::new(Arc::try_clone(&meeting)?, texts, false);
-    let workers = vec![in alloc; Member::of(&meeting)?, Member::of(&meeting)?]?;
-    let ran = run_of(&rt, alloc, &entries, &meeting, &mut source, workers, LIMIT)?;
-    assert!(rt; !meeting.is_late.load(Ordering::SeqCst));
+    let entries = two_entries(alloc)?;
+    let mut scene = Scene::open(alloc, &[STUDIO, STUDIA], false)?;
+    let workers = vec![in alloc; Member::of(&scene.meeting)?, Member::of(&scene.meeting)?]?;
+    let ran = run_of(&rt, alloc, &entries, &mut scene, workers, LIMIT)?;
+    assert!(rt; !scene.meeting.is_late.load(Ordering::SeqCst));
     assert_eq!(rt;
         ran.report,
         Report {
@@ -365,19 +363,10 @@ fn two_routes_are_served_at_once(rt: HostRuntime) -> Result<(), Fail> {
 #[test]
 fn a_hundred_answers_are_sent(rt: HostRuntime) -> Result<(), Fail> {
     let alloc = rt.alloc();
-    let entries = vec![in alloc; entry(alloc, "studio")?, entry(alloc, "studia")?]?;
-    let meeting = Meeting::open(alloc)?;
-    let texts = vec![in alloc; hex::decode(alloc, STUDIO)?]?;
-    let mut source = Callers::new(Arc::try_clone(&meeting)?, texts, true);
-    let ran = run_of(
-        &rt,
-        alloc,
-        &entries,
-        &meeting,
-        &mut source,
-        vec![in alloc; Open, Open]?,
-        LIMIT,
-    )?;
+    let entries = two_entries(alloc)?;
+    let mut scene = Scene::open(alloc, &[STUDIO], true)?;
+    let workers = vec![in alloc; Ungated, Ungated]?;
+    let ran = run_of(&rt, alloc, &entries, &mut scene, workers, LIMIT)?;
     assert!(rt; ran.report.sent >= ANSWERS);
     assert_eq!(rt; ran.report.faults, 0);
     let (Some(studio), Some(studia)) = (ran.accounts.get(0), ran.accounts.get(1)) else {
@@ -398,15 +387,13 @@ fn as_many_routes_and_workers_as_there_can_be_run(rt: HostRuntime) -> Result<(),
         entries.push(entry(alloc, &name)?)?;
     }
     entries.push(entry(alloc, "studio")?)?;
-    let meeting = Meeting::open(alloc)?;
-    let texts = vec![in alloc; hex::decode(alloc, STUDIO)?]?;
-    let mut source = Callers::new(Arc::try_clone(&meeting)?, texts, false);
-    let workers = vec![in alloc; Open; 16]?;
-    let ran = run_of(&rt, alloc, &entries, &meeting, &mut source, workers, 2_000)?;
-    assert_eq!(rt; source.waits, 2_000);
+    let mut scene = Scene::open(alloc, &[STUDIO], false)?;
+    let workers = vec![in alloc; Ungated; 16]?;
+    let ran = run_of(&rt, alloc, &entries, &mut scene, workers, 2_000)?;
+    assert_eq!(rt; scene.source.waits, 2_000);
     assert_eq!(rt; ran.accounts.len(), 511);
     assert!(rt; ran.report.read == 1 && ran.report.accepted == 1 && ran.report.sent <= 1);
-    assert_eq!(rt; meeting.taken.load(Ordering::SeqCst), ran.report.sent);
+    assert_eq!(rt; scene.meeting.taken.load(Ordering::SeqCst), ran.report.sent);
     for account in &ran.accounts {
         assert!(rt; account.drained <= ran.report.sent && account.queued <= 1);
     }

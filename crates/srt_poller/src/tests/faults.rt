@@ -8,6 +8,7 @@ use super::{
 };
 use crate::{Report, Sent, Source, SourceStep, Wire, WireScript};
 use std::alloc::Global;
+use std::process::Abort;
 use std::sync::Wait;
 use std::test::Fail;
 
@@ -32,7 +33,7 @@ enum Fault {
 /// The outcome of the rounds: the report, the failures of the source and of the wire, and the datagrams that were not
 /// put off, in order, as decimal digits: 1 to 3 are the answers to the inductions, 4 to 6 the replies to the
 /// conclusions.
-#[derive(Debug, PartialEq, Drop)]
+#[derive(Drop)]
 struct Outcome {
     report: Report,
     source: u64,
@@ -177,41 +178,59 @@ fn wanted(fault: Fault, handed: u32) -> Outcome {
     }
 }
 
+/// Asserts the outcome of the rounds with this fault.
+fn assert_played(
+    rt: &(impl AllocGlobal + Wait + Abort),
+    fault: Fault,
+    handed: u32,
+) -> Result<(), Fail> {
+    let found = played(rt, fault)?;
+    let expected = wanted(fault, handed);
+    assert_eq!(rt; found.report, expected.report);
+    assert_eq!(rt; found.source, expected.source);
+    assert_eq!(rt; found.wire, expected.wire);
+    assert_eq!(rt; found.handed, expected.handed);
+    Ok(())
+}
+
+/// Each fault, with the expected order of the datagrams.
+const FAULTS: [(Fault, u32); 28] = [
+    (Fault::Nothing, 124356),
+    (Fault::Wait(0), 124356),
+    (Fault::Wait(1), 142356),
+    (Fault::Wait(2), 124536),
+    (Fault::Read(0), 124356),
+    (Fault::Read(1), 124356),
+    (Fault::Read(2), 124356),
+    (Fault::Read(3), 124356),
+    (Fault::Read(4), 142356),
+    (Fault::Read(5), 142356),
+    (Fault::Read(6), 124356),
+    (Fault::Read(7), 124356),
+    (Fault::Read(8), 124536),
+    (Fault::Read(9), 124536),
+    (Fault::Read(10), 124356),
+    (Fault::Read(11), 124356),
+    (Fault::Send(0), 124356),
+    (Fault::Send(1), 124356),
+    (Fault::Send(2), 124356),
+    (Fault::Send(3), 124356),
+    (Fault::Send(4), 124356),
+    (Fault::Send(5), 124356),
+    (Fault::Later(0), 24356),
+    (Fault::Later(1), 14356),
+    (Fault::Later(2), 124356),
+    (Fault::Later(3), 12456),
+    (Fault::Later(4), 124356),
+    (Fault::Later(5), 124356),
+];
+
 /// In a round the answers go before the replies. A conclusion is served at the wait after it came, so its reply goes
 /// out in the round after, behind that round's answer; if that answer is late, the reply goes before it.
 #[test]
 fn one_failed_call_at_each_place_loses_at_most_its_datagram(rt: HostRuntime) -> Result<(), Fail> {
-    for (fault, handed) in [
-        (Fault::Nothing, 124356),
-        (Fault::Wait(0), 124356),
-        (Fault::Wait(1), 142356),
-        (Fault::Wait(2), 124536),
-        (Fault::Read(0), 124356),
-        (Fault::Read(1), 124356),
-        (Fault::Read(2), 124356),
-        (Fault::Read(3), 124356),
-        (Fault::Read(4), 142356),
-        (Fault::Read(5), 142356),
-        (Fault::Read(6), 124356),
-        (Fault::Read(7), 124356),
-        (Fault::Read(8), 124536),
-        (Fault::Read(9), 124536),
-        (Fault::Read(10), 124356),
-        (Fault::Read(11), 124356),
-        (Fault::Send(0), 124356),
-        (Fault::Send(1), 124356),
-        (Fault::Send(2), 124356),
-        (Fault::Send(3), 124356),
-        (Fault::Send(4), 124356),
-        (Fault::Send(5), 124356),
-        (Fault::Later(0), 24356),
-        (Fault::Later(1), 14356),
-        (Fault::Later(2), 124356),
-        (Fault::Later(3), 12456),
-        (Fault::Later(4), 124356),
-        (Fault::Later(5), 124356),
-    ] {
-        assert_eq!(&rt; played(&rt, fault)?, wanted(fault, handed));
+    for (fault, handed) in &FAULTS {
+        assert_played(&rt, *fault, *handed)?;
     }
     Ok(())
 }

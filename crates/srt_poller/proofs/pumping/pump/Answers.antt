@@ -6,13 +6,15 @@ use Rattle.srt_poller.specs.Pollers.{kept_in}
 use Rattle.srt_poller.proofs.Sums.{all_summed}
 use Rattle.srt_poller.proofs.Origins.{have_origins}
 use Rattle.srt_poller.proofs.Steps.{went_none, went_then, went_more, rounds_more}
-use Rattle.srt_poller.proofs.pumping.pump_under.Goals as goal
+use Rattle.srt_poller.proofs.pumping.pump.Goals as goal
 
 pub loop-round-init : goal.loop-round-init
 loop-round-init g c = rw (c.new-poller.ensures.kept, c.new-poller.ensures.report) (went_none _ _ _)
 
 pub loop-round-preserved : goal.loop-round-preserved
-loop-round-preserved g c = went_more (rounds_more c.loop-round.round _ _ c.loop-round.auto.ends) (omega arith) (went_then c.loop-round.invariant c.round.ensures)
+loop-round-preserved g c =
+    let round = went_then (went_then (c.resend.ensures _ _ _) c.listen.ensures) (c.drain.ensures _ _) in
+    went_more (rounds_more c.loop-round.round (length c.args.ends.now) (length c.listen.new.ends) (omega (arith, c.listen.auto.ends, c.loop-round.auto.ends))) (omega arith) (went_then c.loop-round.invariant round)
 
 pub returns : goal.returns
 returns g c =

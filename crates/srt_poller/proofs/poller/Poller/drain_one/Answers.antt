@@ -26,6 +26,7 @@ returns-in-Taken g c = record {
       (ap (option_map (λ (k : KeptReply). kept k.route (record { peer = k.peer; bytes = take k.len c.encode-len.new.out }))) c.requires.kept ∙ gone)
       c.count_reply.ensures;
   more = λ same. c.requires.kept;
+  none = λ same. c.requires.kept;
 }
 
 pub returns-in-Later-clause-went : goal.returns-in-Later-clause-went

@@ -1,8 +1,27 @@
-use Rattle.srt_poller.proofs.Steps.{went_none}
+use Rattle.std.proofs.Common.{arith, refl}
+use Rattle.srt_poller.proofs.Steps.{went_none, went_then, went_more}
 use Rattle.srt_poller.proofs.poller.Poller.visit.Goals as goal
 
 pub returns-then-not-context-clause-went : goal.returns-then-not-context-clause-went
 returns-then-not-context-clause-went g c class gave = went_none _ _ _
 
-pub returns-clause-went : goal.returns-clause-went
-returns-clause-went g c class gave = c.drain_route-empty.ensures class gave
+pub loop-init : goal.loop-init
+loop-init g c = (c.requires.kept, λ class gave. went_none _ _ _)
+
+pub loop-preserved : goal.loop-preserved
+loop-preserved g c = (c.in-Gone.ensures.more refl, λ class gave. went_then (c.loop.invariant.1 class gave) (c.drain_one.ensures.went class gave))
+
+pub returns-in-Empty : goal.returns-in-Empty
+returns-in-Empty g c = record {
+  went = λ class gave. went_more {n = 64} (omega arith) (omega arith) (went_then (c.loop.invariant.1 class gave) (c.drain_one.ensures.went class gave));
+  none = λ same. c.in-Empty.ensures.none refl;
+}
+
+pub returns-in-Kept-clause-went : goal.returns-in-Kept-clause-went
+returns-in-Kept-clause-went g c class gave = went_more {n = 64} (omega arith) (omega arith) (went_then (c.loop.invariant.1 class gave) (c.drain_one.ensures.went class gave))
+
+pub returns : goal.returns
+returns g c = record {
+  went = λ class gave. went_more {n = 64} (omega arith) (omega arith) (c.loop.invariant.1 class gave);
+  none = λ same. c.loop.invariant.0;
+}

@@ -1,6 +1,6 @@
 use Rattle.std.proofs.Common.{◌≡◌, None}
 use Rattle.srt_poller.specs.Pollers.{Replies, sending}
-use Rattle.srt_poller.proofs.poller.Poller.drain_route.Given as goal
+use Rattle.srt_poller.proofs.poller.Poller.visit.Given as goal
 
 abbrev pub invariant-loop : goal.invariant-loop
 invariant-loop g l =
