@@ -105,7 +105,10 @@ impl Coming {
     }
 }
 
-/// The four ends of a route with queues of 16 places.
+/// The number of places of each queue.
+const PLACES: u32 = 16;
+
+/// The four ends of a route.
 type Ends = (Ingress, ClockEnd, RouteCell, Drain);
 
 fn entry(alloc: Global) -> Result<Entry, Fail> {
@@ -115,8 +118,8 @@ fn entry(alloc: Global) -> Result<Entry, Fail> {
         latency_ms: 120,
         buffer: 1024,
         sessions: 5,
-        inbox: 16,
-        outbox: 16,
+        inbox: PLACES,
+        outbox: PLACES,
     })
 }
 
@@ -294,18 +297,13 @@ fn an_entry_out_of_its_limits_is_refused(rt: HostRuntime) -> Result<(), Fail> {
     Ok(())
 }
 
-/// An inbox of 16 places accepts 16 items and refuses one more; after a turn it accepts that one.
-#[test]
-fn what_meets_a_full_inbox_comes_back(rt: HostRuntime) -> Result<(), Fail> {
+/// Offers a datagram to a full inbox, and asserts that it comes back as it was.
+fn assert_comes_back(
+    rt: &(impl AllocGlobal + Wait + Abort),
+    ingress: &mut Ingress,
+) -> Result<(), Fail> {
     let alloc = rt.alloc();
-    let (mut ingress, mut clock, cell, mut drain) = studio(&rt, alloc)?;
-    for coming in [PUBLISHER, DATA, SUBSCRIBER] {
-        offer_times(&rt, &mut ingress, coming, 1)?;
-    }
-    for _ in 0..13 {
-        assert!(rt; tick(&rt, &mut clock, DELIVERY));
-    }
-    let back = match ingress.offer(&rt, DATA.item(alloc)?) {
+    let back = match ingress.offer(rt, DATA.item(alloc)?) {
         Err(full) => full.item,
         Ok(()) => return Err(Fail::from("the inbox is full")),
     };
@@ -321,38 +319,83 @@ fn what_meets_a_full_inbox_comes_back(rt: HostRuntime) -> Result<(), Fail> {
     assert!(rt; from == peer(DATA.port) && moment == DATA.moment);
     assert_eq!(rt; &head[..], hex::decode(alloc, &DATA.text[..32])?.as_slice());
     assert_eq!(rt; body.as_slice(), [0x68, 0x69].as_slice());
-    assert!(rt; !tick(&rt, &mut clock, DELIVERY));
-    assert_served(&rt, &cell, &[APPLIED]);
-    assert!(rt; ingress.offer(&rt, DATA.item(alloc)?).is_ok());
-    assert_served(
-        &rt,
-        &cell,
-        &[MOVED, APPLIED, APPLIED, MOVED, MOVED, APPLIED, MOVED, MOVED],
-    );
-    for wanted in REPLIES {
-        assert_drained(&rt, &mut drain, wanted)?;
-    }
-    assert_served(&rt, &cell, &[APPLIED; 13]);
-    assert_served(&rt, &cell, &[IDLE]);
-    assert!(rt; !drain.take(&rt));
     Ok(())
 }
 
+/// An inbox of 16 places accepts 16 items and refuses one more; after a turn it accepts that one.
+fn assert_full_inbox(
+    rt: &(impl AllocGlobal + Wait + Abort),
+    ingress: &mut Ingress,
+    clock: &mut ClockEnd,
+    cell: &RouteCell,
+) -> Result<(), Fail> {
+    for coming in [PUBLISHER, DATA, SUBSCRIBER] {
+        offer_times(rt, ingress, coming, 1)?;
+    }
+    for _ in 0..13 {
+        assert!(rt; tick(rt, clock, DELIVERY));
+    }
+    assert_comes_back(rt, ingress)?;
+    assert!(rt; !tick(rt, clock, DELIVERY));
+    assert_served(rt, cell, &[APPLIED]);
+    offer_times(rt, ingress, DATA, 1)
+}
+
+/// Serves the route until the stream's items are applied, and asserts each reply.
+fn assert_stream(
+    rt: &(impl AllocGlobal + Wait + Abort),
+    cell: &RouteCell,
+    drain: &mut Drain,
+) -> Result<(), Fail> {
+    assert_served(
+        rt,
+        cell,
+        &[MOVED, APPLIED, APPLIED, MOVED, MOVED, APPLIED, MOVED, MOVED],
+    );
+    for wanted in REPLIES {
+        assert_drained(rt, drain, wanted)?;
+    }
+    assert_served(rt, cell, &[APPLIED; 13]);
+    assert_served(rt, cell, &[IDLE]);
+    assert!(rt; !drain.take(rt));
+    Ok(())
+}
+
+#[test]
+fn what_meets_a_full_inbox_comes_back(rt: HostRuntime) -> Result<(), Fail> {
+    let (mut ingress, mut clock, cell, mut drain) = studio(&rt, rt.alloc())?;
+    assert_full_inbox(&rt, &mut ingress, &mut clock, &cell)?;
+    assert_stream(&rt, &cell, &mut drain)
+}
+
 /// The drain lags behind: 16 replies fill the outbox, one waits, and none is lost or doubled.
+fn assert_full_outbox(
+    rt: &(impl AllocGlobal + Wait + Abort),
+    ingress: &mut Ingress,
+    clock: &mut ClockEnd,
+    cell: &RouteCell,
+    drain: &mut Drain,
+) -> Result<(), Fail>
+    ensures ingress { ingress.new.queue ≡ ingress.old.queue }
+    ensures clock { clock.new.queue ≡ clock.old.queue }
+    ensures drain { drain.new.queue ≡ drain.old.queue }
+{
+    offer_times(rt, ingress, PUBLISHER, 16)?;
+    for _ in 0..16 {
+        assert_served(rt, cell, &[APPLIED, MOVED]);
+    }
+    offer_times(rt, ingress, PUBLISHER, 2)?;
+    assert_served(rt, cell, &[APPLIED, BLOCKED, BLOCKED]);
+    assert!(rt; tick(rt, clock, 1_000_000));
+    drain_times(rt, drain, ANSWER, 16)?;
+    assert_served(rt, cell, &[MOVED, APPLIED, MOVED, APPLIED, IDLE]);
+    drain_times(rt, drain, ANSWER, 2)
+}
+
 #[test]
 fn a_full_outbox_blocks_the_route(rt: HostRuntime) -> Result<(), Fail> {
-    let alloc = rt.alloc();
-    let (mut ingress, mut clock, cell, mut drain) = studio(&rt, alloc)?;
-    offer_times(&rt, &mut ingress, PUBLISHER, 16)?;
-    for _ in 0..16 {
-        assert_served(&rt, &cell, &[APPLIED, MOVED]);
-    }
-    offer_times(&rt, &mut ingress, PUBLISHER, 2)?;
-    assert_served(&rt, &cell, &[APPLIED, BLOCKED, BLOCKED]);
-    assert!(rt; tick(&rt, &mut clock, 1_000_000));
-    drain_times(&rt, &mut drain, ANSWER, 16)?;
-    assert_served(&rt, &cell, &[MOVED, APPLIED, MOVED, APPLIED, IDLE]);
-    drain_times(&rt, &mut drain, ANSWER, 2)?;
+    let (mut ingress, mut clock, cell, mut drain) = studio(&rt, rt.alloc())?;
+    assert_full_outbox(&rt, &mut ingress, &mut clock, &cell, &mut drain)?;
     assert!(rt; !drain.take(&rt));
     let account = settled(&rt, ingress, clock, cell, drain)?;
     assert_eq!(rt;
