@@ -1,6 +1,6 @@
 //! Opens all routes of a run, before any thread is started.
 
-ghost use Rattle.std.specs.Prelude.{◌≡◌, [], IfOk, map, length};
+ghost use Rattle.std.specs.Prelude.{◌≡◌, [], ◌∷◌, ◌++◌, IfOk, OnOk, map, length};
 ghost use Rattle.srt_seq.specs.Terms.{terms_of};
 ghost use Rattle.srt_serve.specs.Opened.{AreOpened};
 
@@ -31,6 +31,18 @@ impl Opened {
             cells: Vec::with_capacity(alloc, routes)?,
         })
     }
+
+    // Appends the ends of a route to the lists.
+    fn add(&mut self, ends: Ends, clock: ClockEnd, cell: RouteCell) -> Result<(), AllocError>
+        ensures ends { OnOk result (self.new.ends.items ≡ self.old.ends.items ++ ends ∷ []) }
+        ensures clocks { OnOk result (self.new.clocks.items ≡ self.old.clocks.items ++ clock ∷ []) }
+        ensures cells { OnOk result (self.new.cells.items ≡ self.old.cells.items ++ cell ∷ []) }
+    {
+        self.ends.push(ends)?;
+        self.clocks.push(clock)?;
+        self.cells.push(cell)?;
+        Ok(())
+    }
 }
 
 /// Opens the routes of these entries, in order. Takes all memory that they will ever need. An error means that memory
@@ -44,9 +56,7 @@ pub fn open_routes<R: Wait>(rt: &R, alloc: Global, entries: &[Entry]) -> Result<
         let Ok((ingress, clock, cell, drain)) = open_route(rt, alloc, entry, index) else {
             return Err(AllocError);
         };
-        opened.ends.push(Ends { ingress, drain })?;
-        opened.clocks.push(clock)?;
-        opened.cells.push(cell)?;
+        opened.add(Ends { ingress, drain }, clock, cell)?;
         index += 1;
     }
     Ok(opened)
