@@ -7,8 +7,8 @@
 //! `Report` has the counts; `Signals` are hints that save looks at empty outboxes. Devices in memory are
 //! `SourceScript`, `WireScript` and `ClockScript`; `MioSource` and `MioWire` share one UDP socket.
 //!
-//! Calls: open the routes (`srt_mailbox::open_route`), bind or make the devices, then `pump` once for n rounds, with
-//! hints or `Unsignalled`.
+//! Calls: open the routes (`srt_mailbox::open_route`), bind or make the devices, then `pump` once for n rounds; or
+//! `pump_under`, with hints.
 //!
 //! Files: the steps of a round are in `poller.rt` (limits, the reply that is kept), what they use in `context.rt`, the
 //! rounds in `pumping.rt`, what is counted in `report.rt`, how long a socket's source waits in `pace.rt`.
@@ -28,14 +28,14 @@ mod sockets;
 
 pub use devices::{Clock, Polled, Read, Sent, Source, Wire};
 pub use ends::Ends;
-pub use pumping::pump;
+pub use pumping::{pump, pump_under};
 pub use report::Report;
 pub use scripts::{
     ClockScript, ScriptDatagram, SentDatagram, SourceScript, SourceStep, WireScript,
 };
 pub use signals::{Signals, Unsignalled};
 pub use sockets::{BindFault, MioSource, MioWire};
-pub use srt_mailbox::Gate;
+pub use srt_mailbox::{Gate, Ungated};
 
 #[cfg(test)]
 mod tests;

@@ -10,7 +10,7 @@ use crate::devices::{Source, Wire};
 use crate::ends::Ends;
 use crate::poller::Poller;
 use crate::report::Report;
-use crate::signals::Signals;
+use crate::signals::{Signals, Unsignalled};
 use srt_cookie::Secret;
 use srt_lobby::Names;
 use std::alloc::Global;
@@ -27,10 +27,37 @@ use std::sync::Wait;
 /// is lost in that case. A datagram whose send fails is lost. After a failed wait the round reads nothing; a failed
 /// read ends the reads of its round. Memory is taken only for the copy of a datagram that is offered; if it is refused,
 /// the datagram is lost.
-///
-/// A route whose outbox has nothing by the hints is passed over, except in every 64th round, the first among them, and
-/// in the round after one that left an outbox before it was found empty. `&Unsignalled` are no hints.
-pub fn pump<R: Wait, S: Source, W: Wire, G: Signals>(
+pub fn pump<R: Wait, S: Source, W: Wire>(
+    rt: &R,
+    alloc: Global,
+    secret: &Secret,
+    names: &Names,
+    source: &mut S,
+    wire: &mut W,
+    ends: &mut [Ends],
+    rounds: u32,
+) -> Report
+    requires { length ends.old ≡ length (names_of names.now) }
+    ensures { Pumped (sorting secret.now names.now) rounds
+        (before (S.gave source.old) (W.handed wire.old) ends.old)
+        (after (S.gave source.new) (W.handed wire.new) ends.new result) }
+{
+    pump_under(
+        rt,
+        alloc,
+        secret,
+        names,
+        source,
+        wire,
+        ends,
+        rounds,
+        &Unsignalled,
+    )
+}
+
+/// As `pump`, with hints. A route whose outbox has nothing by the hints is passed over, except in every 64th round, the
+/// first among them, and in the round after one that left an outbox before it was found empty.
+pub fn pump_under<R: Wait, S: Source, W: Wire, G: Signals>(
     rt: &R,
     alloc: Global,
     secret: &Secret,

@@ -8,7 +8,7 @@ mod faults;
 
 use crate::{
     BindFault, ClockScript, Ends, MioSource, MioWire, Polled, Read, Report, ScriptDatagram, Sent,
-    Source, SourceScript, SourceStep, Unsignalled, Wire, WireScript, pump,
+    Source, SourceScript, SourceStep, Wire, WireScript, pump,
 };
 use mio::net::UdpSocket;
 use srt_cookie::Secret;
@@ -142,7 +142,6 @@ fn pumped<S: Source, W: Wire>(
         wire,
         lobby.ends.as_mut_slice(),
         rounds,
-        &Unsignalled,
     )
 }
 

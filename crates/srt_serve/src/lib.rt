@@ -9,7 +9,7 @@
 //! Calls: `run`, once. It returns when the given number of rounds is over and all its threads have ended.
 //!
 //! Files, in the order of a run: `opening.rt` opens all routes; `serving.rt` starts and joins the threads, which are
-//! `ticking.rt`, `working.rt` and `srt_poller::pump`; `settling.rt` settles the routes. How threads wake each
+//! `ticking.rt`, `working.rt` and `srt_poller::pump_under`; `settling.rt` settles the routes. How threads wake each
 //! other is `hall.rt`, with `bell.rt` and `marks.rt`; no contract depends on it. `specs/Ran.antt` says what a run did.
 #![tactic(auto)]
 

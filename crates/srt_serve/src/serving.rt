@@ -13,7 +13,7 @@ use crate::working::work;
 use srt_cookie::Secret;
 use srt_lobby::Names;
 use srt_mailbox::{Gate, Serve};
-use srt_poller::{Ends, Report, Source, Wire, pump};
+use srt_poller::{Ends, Report, Source, Wire, pump_under};
 use std::alloc::Global;
 use std::sync::Wait;
 use std::thread::{Threads, join_mut};
@@ -104,7 +104,7 @@ fn poll<R: Wait, S: Source, W: Wire, C>(
         hall.finish();
         return None;
     }
-    let report = pump(rt, alloc, secret, names, source, wire, ends, rounds, hall);
+    let report = pump_under(rt, alloc, secret, names, source, wire, ends, rounds, hall);
     hall.finish();
     Some(report)
 }

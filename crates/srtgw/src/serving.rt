@@ -5,7 +5,7 @@ ghost use Rattle.std.specs.Vec.{vec_len};
 
 use crate::faults::Fault;
 use srt_gateway::Config;
-use srt_poller::{BindFault, Gate, MioSource, Report};
+use srt_poller::{BindFault, MioSource, Report, Ungated};
 use srt_serve::{RunFault, Ticker, run};
 use std::alloc::{AllocError, Global};
 use std::io;
@@ -74,26 +74,11 @@ impl<R: Clock> Ticker for Ticks<'_, R> {
     }
 }
 
-/// A worker's gate that lets every turn pass.
-#[derive(Clone, Copy)]
-struct Open;
-
-impl Gate for Open {
-    ghost held = { λ g. 0 };
-
-    fn pass(&mut self, _route: usize) -> bool {
-        true
-    }
-
-    fn held(&self) -> u64 {
-        0
-    }
-}
-
-fn gates(alloc: Global, count: u32) -> Result<Vec<Open>, AllocError>
+/// A gate for each worker, which lets every turn pass.
+fn gates(alloc: Global, count: u32) -> Result<Vec<Ungated>, AllocError>
     ensures { IfOk result (λ gates. vec_len gates ≡ count) }
 {
-    vec![in alloc; Open; count as usize]
+    vec![in alloc; Ungated; count as usize]
 }
 
 /// Serves the routes of a configuration for this number of rounds of the poller, and returns its report. Binds the UDP

@@ -6,7 +6,7 @@ use Rattle.srt_poller.specs.Pollers.{kept_in}
 use Rattle.srt_poller.proofs.Sums.{all_summed}
 use Rattle.srt_poller.proofs.Origins.{have_origins}
 use Rattle.srt_poller.proofs.Steps.{went_none, went_then, went_more, rounds_more}
-use Rattle.srt_poller.proofs.pumping.pump.Goals as goal
+use Rattle.srt_poller.proofs.pumping.pump_under.Goals as goal
 
 pub loop-round-init : goal.loop-round-init
 loop-round-init g c = rw (c.new-poller.ensures.kept, c.new-poller.ensures.report) (went_none _ _ _)

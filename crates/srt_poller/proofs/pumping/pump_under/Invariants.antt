@@ -2,7 +2,7 @@ use Rattle.std.proofs.Common.{◌+◌, ◌*◌, length, None}
 use Rattle.srt_poller.specs.Reports.{nothing}
 use Rattle.srt_poller.specs.Rounds.{Went, world}
 use Rattle.srt_poller.specs.Pollers.{sorting, world_of}
-use Rattle.srt_poller.proofs.pumping.pump.Given as goal
+use Rattle.srt_poller.proofs.pumping.pump_under.Given as goal
 
 abbrev pub invariant-loop-round : goal.invariant-loop-round
 invariant-loop-round g l =
