@@ -6,7 +6,7 @@ use Rattle.std.proofs.lemmas.List.{length-map, length-append, length-take}
 use Rattle.srt_seq.specs.declared.shared.Peer.{Peer}
 use Rattle.srt_seq.specs.Runs.{Run, numbers_from}
 use Rattle.srt_seq.specs.Terms.{Terms}
-use Rattle.srt_seq.specs.Items.{Item, Received, Tick}
+use Rattle.srt_seq.specs.Items.{Item, Received, Tick, Close}
 use Rattle.srt_packet.specs.declared.reading.PacketFault.{PacketFault}
 use Rattle.srt_packet.specs.Grammar.{Packet, Body}
 use Rattle.srt_packet.specs.Reading.{packet_in}
@@ -19,7 +19,7 @@ use Rattle.srt_sub.specs.Heard as to_subscriber
 use Rattle.srt_route.specs.declared.conclusion.Conclusion.{Conclusion}
 use Rattle.srt_route.specs.Past.{Past, Publishes, Subscribes, Agreed, ToPublisher, ToSubscriber, reports_of, answers_to}
 use Rattle.srt_route.specs.Sessions.{Session, free_slot, is_publisher, is_subscriber, open_publishers, is_open_in, by_slot, time_in, terms_of, aged, publishes}
-use Rattle.srt_route.specs.Route.{Taken, Reply, sent, refused, opens, considered, concluded, is_of, is_for, concludes, without_destination, arrived, answered_by, said_by, packet_taken, read_taken, taken, after, clock_after, taken_by, passed_by, replies_to, packets_at, packets_where, RepliesHavePlaces}
+use Rattle.srt_route.specs.Route.{Taken, Reply, sent, refused, opens, considered, concluded, is_of, is_for, concludes, without_destination, arrived, answered_by, said_by, packet_taken, read_taken, taken, shutdown_to, Route, after, clock_after, taken_by, passed_by, replies_at, packets_at, packets_where, RepliesHavePlaces}
 
 -- a publisher is sent an ACK and a NAK at most, and a keep-alive only without them
 acks_few : (full light : Bool) (x y : publisher.Report) → length (publisher.ack_of full light x y) ≤ 1
@@ -185,17 +185,22 @@ read_brief : (e : Terms) (index clock : ℕ) (peer : Peer) (packet : Result Pack
 read_brief e index clock peer (Ok packet) ss = packet_brief e index clock peer packet ss
 read_brief e index clock peer (Err fault) ss = omega arith
 
-taken_brief : (e : Terms) (index clock : ℕ) (item : Item) (ss : List Session) → IsBrief (taken e index clock item ss)
-taken_brief e index clock (Received d moment) ss = read_brief e index clock d.peer (packet_in d.bytes) ss
+-- and where the route is closed, each open session gets a SHUTDOWN
+taken_brief : (e : Terms) (index clock : ℕ) (item : Item) (ss : List Session) → length (taken e index clock item ss).answers ≤ 1 + e.sessions
+taken_brief e index clock (Received d moment) ss = omega (arith, read_brief e index clock d.peer (packet_in d.bytes) ss)
 taken_brief e index clock (Tick moment) ss = omega arith
+taken_brief e index clock (Close moment) ss = omega (arith, length-map (by_slot e ss) (shutdown_to clock), few_by_slot e ss)
 
-pub replies_have_places : RepliesHavePlaces
-replies_have_places e index [] = omega arith
-replies_have_places e index (item ∷ items) =
-    let m = after e index items in
+replies_few : (is_closed : Bool) (e : Terms) (index : ℕ) (item : Item) (m : Route) → length (map sent (replies_at is_closed e index item m)) ≤ 4 + 66 * e.sessions
+replies_few true e index item m = omega arith
+replies_few false e index item m =
     let clock = clock_after item m in
     let ss = passed_by e index item m in
     let answers = (taken_by e index item m).answers in
     let first = packets_where e clock is_publisher ss in
     let second = packets_where e clock is_subscriber ss in
-    omega (arith, length-map (replies_to e index item m) sent, length-append (answers ++ first) second, length-append answers first, taken_brief e index clock item (map (aged e clock) m.sessions), all_said e clock (by_slot e ss), few_by_slot e ss)
+    omega (arith, length-map (replies_at false e index item m) sent, length-append (answers ++ first) second, length-append answers first, taken_brief e index clock item (map (aged e clock) m.sessions), all_said e clock (by_slot e ss), few_by_slot e ss)
+
+pub replies_have_places : RepliesHavePlaces
+replies_have_places e index [] = omega arith
+replies_have_places e index (item ∷ items) = let m = after e index items in replies_few m.is_closed e index item m

@@ -32,3 +32,4 @@ pub mod Sound
 pub mod Sendables
 pub mod Renumbered
 pub mod ShiftRows
+pub mod Closings

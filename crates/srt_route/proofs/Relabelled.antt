@@ -7,7 +7,7 @@ use Rattle.srt_seq.specs.declared.shared.Peer.{Peer}
 use Rattle.srt_seq.specs.Lift.{stamped_from}
 use Rattle.srt_seq.specs.Runs.{numbers_from}
 use Rattle.srt_seq.specs.Terms.{Terms}
-use Rattle.srt_seq.specs.Items.{Datagram, Item, Received, Tick}
+use Rattle.srt_seq.specs.Items.{Datagram, Item, Received, Tick, Close}
 use Rattle.srt_packet.specs.declared.reading.PacketFault.{PacketFault}
 use Rattle.srt_packet.specs.Grammar.{Packet}
 use Rattle.srt_packet.specs.Reading.{packet_in}
@@ -20,7 +20,7 @@ use Rattle.srt_sub.specs.Subscribing as subscriber
 use Rattle.srt_route.specs.declared.conclusion.Conclusion.{Conclusion}
 use Rattle.srt_route.specs.Past.{Past, Publishes, Subscribes, Agreed, Report, ToSubscriber, took_past, is_shutdown, ends_with, answers_to, least_with, payloads_of}
 use Rattle.srt_route.specs.Sessions.{Session, is_publisher, is_subscriber, open_publishers, active, is_active, is_open_in, by_slot, is_free, free_slot, generation_of, time_in, stamp_in, is_idle, aged_at, aged, terms_of, took_at, took, answered_at_once, passed_at, passed, reports_at, reported_at, reported}
-use Rattle.srt_route.specs.Route.{Route, Taken, Output, Answers, Says, Reply, clock_after, session_opened, with_session, opens, considered, refused, is_of, heard_if, concluded, is_for, took_if, said_by, answered_by, arrived, concludes, without_destination, packet_taken, read_taken, taken, least_room, delivery_of, delivery, room_if, delivered, packets_at, packets_where, taken_by, passed_by, replies_to, told_more, after}
+use Rattle.srt_route.specs.Route.{Route, Taken, Output, Answers, Says, Ends, Reply, clock_after, closes, ended, shutdown_to, closed, session_opened, with_session, opens, considered, refused, is_of, heard_if, concluded, is_for, took_if, said_by, answered_by, arrived, concludes, without_destination, packet_taken, read_taken, taken, least_room, delivery_of, delivery, room_if, delivered, packets_at, packets_where, taken_by, passed_by, replies_at, replies_to, sessions_at, told_more, after}
 use Rattle.srt_route.proofs.Standbys.{publishers_through, active_through, is_active_through}
 use Rattle.srt_route.proofs.Lists.{map_through, any_through, find_through, find_same, flat_through, picked_through, fold_through}
 
@@ -43,6 +43,7 @@ changed_answer r a = record a { initial = r.initial a.initial }
 abbrev pub changed_output : Change → Output → Output
 changed_output r (Answers caller answer) = Answers caller (changed_answer r answer)
 changed_output r (Says caller initial time report) = Says caller (r.initial initial) time report
+changed_output r (Ends caller time) = Ends caller time
 
 abbrev pub changed_reply : Change → Reply → Reply
 changed_reply r x = record { peer = x.peer; packet = changed_output r x.packet }
@@ -69,8 +70,13 @@ pub record IsChangedDatagram (r : Change) (d c : Datagram) : Type 0 where
 abbrev pub IsChangedItem : Change → Item → Item → Type 0
 IsChangedItem r (Received d n) (Received c m) = IsChangedDatagram r d c × (n ≡ m + r.later)
 IsChangedItem r (Tick n) (Tick m) = n ≡ m + r.later
+IsChangedItem r (Close n) (Close m) = n ≡ m + r.later
 IsChangedItem r (Received d n) (Tick m) = ⊥
 IsChangedItem r (Tick n) (Received c m) = ⊥
+IsChangedItem r (Received d n) (Close m) = ⊥
+IsChangedItem r (Tick n) (Close m) = ⊥
+IsChangedItem r (Close n) (Received c m) = ⊥
+IsChangedItem r (Close n) (Tick m) = ⊥
 
 abbrev pub AreChanged : Change → List Item → List Item → Type 0
 AreChanged r [] [] = ⊤
@@ -220,13 +226,28 @@ read_same e index r clock peer (Err f) (Err g) h ss = refl
 read_same e index r clock peer (Ok q) (Err g) h ss = absurd h
 read_same e index r clock peer (Err f) (Ok p) h ss = absurd h
 
+-- what a Close does
+shutdown_same : (r : Change) (clock : ℕ) (s : Session) → shutdown_to (clock + r.later) (changed_session r s) ≡ changed_reply r (shutdown_to clock s)
+shutdown_same r clock s = ap (λ t. record { peer = s.peer; packet = Ends s.conclusion.caller t }) (own_time r clock s)
+
+closed_same : (e : Terms) (r : Change) (clock : ℕ) (ss : List Session) → closed e (clock + r.later) (map (changed_session r) ss) ≡ changed_taken r (closed e clock ss)
+closed_same e r clock ss =
+    ap (λ xs. taken_as xs (map (shutdown_to (clock + r.later)) (by_slot e (map (changed_session r) ss)))) (map_through (changed_session r) ended ended (changed_session r) (λ s. refl) ss)
+    ∙ ap (λ xs. taken_as (map (changed_session r) (map ended ss)) (map (shutdown_to (clock + r.later)) xs)) (by_slot_same e r ss)
+    ∙ ap (λ xs. taken_as (map (changed_session r) (map ended ss)) xs) (map_through (changed_session r) (shutdown_to (clock + r.later)) (shutdown_to clock) (changed_reply r) (shutdown_same r clock) (by_slot e ss))
+
 taken_same : (e : Terms) (index : ℕ) (r : Change) (clock : ℕ) (j i : Item) → IsChangedItem r j i → (ss : List Session) → taken e index (clock + r.later) j (map (changed_session r) ss) ≡ changed_taken r (taken e index clock i ss)
 taken_same e index r clock (Received d n) (Received c m) h ss =
     ap (λ peer. read_taken e index (clock + r.later) peer (packet_in d.bytes) (map (changed_session r) ss)) h.0.peer_is
     ∙ read_same e index r clock c.peer (packet_in d.bytes) (packet_in c.bytes) h.0.reading_is ss
 taken_same e index r clock (Tick n) (Tick m) h ss = refl
+taken_same e index r clock (Close n) (Close m) h ss = closed_same e r clock ss
 taken_same e index r clock (Received d n) (Tick m) h ss = absurd h
 taken_same e index r clock (Tick n) (Received c m) h ss = absurd h
+taken_same e index r clock (Received d n) (Close m) h ss = absurd h
+taken_same e index r clock (Tick n) (Close m) h ss = absurd h
+taken_same e index r clock (Close n) (Received c m) h ss = absurd h
+taken_same e index r clock (Close n) (Tick m) h ss = absurd h
 
 -- deliveries
 room_same : (e : Terms) (r : Change) (ss : List Session) → least_room e (map (changed_session r) ss) ≡ least_room e ss
@@ -284,12 +305,29 @@ packets_same e r clock test same ss =
 record IsChangedRoute (r : Change) (n m : Route) : Type 0 where
   clock_is : (moment : ℕ) → max n.clock (moment + r.later) ≡ max m.clock moment + r.later
   sessions_are : n.sessions ≡ map (changed_session r) m.sessions
+  closed_is : n.is_closed ≡ m.is_closed
 
 clock_same : (r : Change) (j i : Item) (n m : Route) → IsChangedItem r j i → IsChangedRoute r n m → clock_after j n ≡ clock_after i m + r.later
 clock_same r (Received d y) (Received c x) n m h k = ap (λ z. max n.clock z) h.1 ∙ k.clock_is x
 clock_same r (Tick y) (Tick x) n m h k = ap (λ z. max n.clock z) h ∙ k.clock_is x
+clock_same r (Close y) (Close x) n m h k = ap (λ z. max n.clock z) h ∙ k.clock_is x
 clock_same r (Received d y) (Tick x) n m h k = absurd h
 clock_same r (Tick y) (Received c x) n m h k = absurd h
+clock_same r (Received d y) (Close x) n m h k = absurd h
+clock_same r (Tick y) (Close x) n m h k = absurd h
+clock_same r (Close y) (Received c x) n m h k = absurd h
+clock_same r (Close y) (Tick x) n m h k = absurd h
+
+closes_same : (r : Change) (j i : Item) → IsChangedItem r j i → closes j ≡ closes i
+closes_same r (Received d y) (Received c x) h = refl
+closes_same r (Tick y) (Tick x) h = refl
+closes_same r (Close y) (Close x) h = refl
+closes_same r (Received d y) (Tick x) h = absurd h
+closes_same r (Tick y) (Received c x) h = absurd h
+closes_same r (Received d y) (Close x) h = absurd h
+closes_same r (Tick y) (Close x) h = absurd h
+closes_same r (Close y) (Received c x) h = absurd h
+closes_same r (Close y) (Tick x) h = absurd h
 
 taken_by_same : (e : Terms) (index : ℕ) (r : Change) (j i : Item) (n m : Route) → IsChangedItem r j i → IsChangedRoute r n m → taken_by e index j n ≡ changed_taken r (taken_by e index i m)
 taken_by_same e index r j i n m h k =
@@ -309,19 +347,25 @@ passed_by_same e index r j i n m h k =
 goes_on : (a b later moment : ℕ) → a ≡ b + later → max a (moment + later) ≡ max b moment + later
 goes_on a b later moment same = omega (arith, same)
 
+sessions_same : (is_closed : Bool) (e : Terms) (index : ℕ) (r : Change) (j i : Item) (n m : Route) → IsChangedItem r j i → IsChangedRoute r n m → sessions_at is_closed e index j n ≡ map (changed_session r) (sessions_at is_closed e index i m)
+sessions_same true e index r j i n m h k = k.sessions_are
+sessions_same false e index r j i n m h k =
+    let clock = clock_after i m in
+    ap (λ t. map (reported e t) (passed_by e index j n)) (clock_same r j i n m h k)
+    ∙ ap (λ ss. map (reported e (clock + r.later)) ss) (passed_by_same e index r j i n m h k)
+    ∙ map_through (changed_session r) (reported e (clock + r.later)) (reported e clock) (changed_session r) (reported_same e r clock) (passed_by e index i m)
+
 told_same : (e : Terms) (index : ℕ) (r : Change) (j i : Item) (n m : Route) → IsChangedItem r j i → IsChangedRoute r n m → IsChangedRoute r (told_more e index j n) (told_more e index i m)
 told_same e index r j i n m h k =
-    let clock = clock_after i m in
     record {
-      clock_is = λ moment. goes_on (clock_after j n) clock r.later moment (clock_same r j i n m h k);
-      sessions_are =
-          ap (λ t. map (reported e t) (passed_by e index j n)) (clock_same r j i n m h k)
-          ∙ ap (λ ss. map (reported e (clock + r.later)) ss) (passed_by_same e index r j i n m h k)
-          ∙ map_through (changed_session r) (reported e (clock + r.later)) (reported e clock) (changed_session r) (reported_same e r clock) (passed_by e index i m);
+      clock_is = λ moment. goes_on (clock_after j n) (clock_after i m) r.later moment (clock_same r j i n m h k);
+      sessions_are = ap (λ b. sessions_at b e index j n) k.closed_is ∙ sessions_same m.is_closed e index r j i n m h k;
+      closed_is = ap (λ b. b || closes j) k.closed_is ∙ ap (λ b. m.is_closed || b) (closes_same r j i h);
     }
 
-replies_same : (e : Terms) (index : ℕ) (r : Change) (j i : Item) (n m : Route) → IsChangedItem r j i → IsChangedRoute r n m → replies_to e index j n ≡ map (changed_reply r) (replies_to e index i m)
-replies_same e index r j i n m h k =
+replies_at_same : (is_closed : Bool) (e : Terms) (index : ℕ) (r : Change) (j i : Item) (n m : Route) → IsChangedItem r j i → IsChangedRoute r n m → replies_at is_closed e index j n ≡ map (changed_reply r) (replies_at is_closed e index i m)
+replies_at_same true e index r j i n m h k = refl
+replies_at_same false e index r j i n m h k =
     let clock = clock_after i m in
     let others = passed_by e index j n in
     let ss = passed_by e index i m in
@@ -336,11 +380,14 @@ replies_same e index r j i n m h k =
     ∙ ap (λ xs. xs ++ map (changed_reply r) third) (sym (map-append (changed_reply r) first second))
     ∙ sym (map-append (changed_reply r) (first ++ second) third)
 
+replies_same : (e : Terms) (index : ℕ) (r : Change) (j i : Item) (n m : Route) → IsChangedItem r j i → IsChangedRoute r n m → replies_to e index j n ≡ map (changed_reply r) (replies_to e index i m)
+replies_same e index r j i n m h k = ap (λ b. replies_at b e index j n) k.closed_is ∙ replies_at_same m.is_closed e index r j i n m h k
+
 at_first : (later moment : ℕ) → max 0 (moment + later) ≡ max 0 moment + later
 at_first later moment = omega arith
 
 after_same : (e : Terms) (index : ℕ) (r : Change) (js is : List Item) → AreChanged r js is → IsChangedRoute r (after e index js) (after e index is)
-after_same e index r [] [] h = record { clock_is = at_first r.later; sessions_are = refl }
+after_same e index r [] [] h = record { clock_is = at_first r.later; sessions_are = refl; closed_is = refl }
 after_same e index r (j ∷ js) (i ∷ is) h = told_same e index r j i (after e index js) (after e index is) h.0 (after_same e index r js is h.1)
 after_same e index r [] (i ∷ is) h = absurd h
 after_same e index r (j ∷ js) [] h = absurd h

@@ -3,13 +3,15 @@ use Rattle.std.proofs.Common.{◌≡◌, ℕ, ◌+◌, ◌%◌, ◌^◌, Option,
 use Rattle.std.specs.Prelude.{option_map}
 use Rattle.std.proofs.lemmas.List.{map-append}
 use Rattle.srt_seq.specs.Terms.{Terms}
-use Rattle.srt_seq.specs.Items.{Datagram, Item, Received, Tick}
+use Rattle.srt_seq.specs.Items.{Datagram, Item, Received, Tick, Close}
 use Rattle.srt_packet.specs.declared.reading.PacketFault.{PacketFault}
 use Rattle.srt_packet.specs.Grammar.{Packet, Body, Data, Handshake, KeepAlive, Ack, Nak, CongestionWarning, Shutdown, AckAck, DropRequest, PeerError, UserDefined}
 use Rattle.srt_packet.specs.Reading.{packet_in}
+use Rattle.srt_packet.specs.Text.{text}
+use Rattle.srt_packet.specs.declared.writing.Body.TheVariants as out
 use Rattle.srt_route.specs.declared.conclusion.Conclusion.{Conclusion}
 use Rattle.srt_route.specs.Past.{is_shutdown, ToPublisher, ToSubscriber}
-use Rattle.srt_route.specs.Route.{Output, Answers, Says, Reply, output_text, sent, concludes, after, replies_to, reply, solo}
+use Rattle.srt_route.specs.Route.{Output, Answers, Says, Ends, Reply, output_text, sent, concludes, after, replies_to, reply, solo}
 use Rattle.srt_route.specs.Shifted.{shifted, shifted_body, shifted_reading, renumbered, renumbered_datagram, renumbered_item, restamped_datagram, restamped_item, moved_item}
 use Rattle.srt_route.specs.ShiftLaws.{restamped_reading}
 use Rattle.srt_route.specs.Relabel.{Renumbers, Restamps, Moves}
@@ -120,14 +122,17 @@ renumbered_told by d = record { peer_is = refl; reading_is = subst (λ read. IsC
 restamped_item_is : (by : ℕ) (item : Item) → IsChangedItem (restamp by) (restamped_item by item) item
 restamped_item_is by (Received d m) = (restamped_told by d, not_later m)
 restamped_item_is by (Tick m) = not_later m
+restamped_item_is by (Close m) = not_later m
 
 moved_item_is : (by : ℕ) (item : Item) → IsChangedItem (move by) (moved_item by item) item
 moved_item_is by (Received d m) = (moved_told by d, refl)
 moved_item_is by (Tick m) = refl
+moved_item_is by (Close m) = refl
 
 renumbered_item_is : (by : ℕ) (item : Item) → IsChangedItem (renumber by) (renumbered_item by item) item
 renumbered_item_is by (Received d m) = (renumbered_told by d, not_later m)
 renumbered_item_is by (Tick m) = not_later m
+renumbered_item_is by (Close m) = not_later m
 
 all_changed : (r : Change) (change : Item → Item) → ((item : Item) → IsChangedItem r (change item) item) → (items : List Item) → AreChanged r (map change items) items
 all_changed r change is [] = tt
@@ -137,6 +142,7 @@ all_changed r change is (item ∷ items) = (is item, all_changed r change is ite
 same_output : (r : Change) → ((n : ℕ) → r.initial n ≡ n) → (x : Output) → changed_output r x ≡ x
 same_output r numbers (Answers caller a) = ap (λ n. Answers caller (record a { initial = n })) (numbers a.initial)
 same_output r numbers (Says caller initial time report) = ap (λ n. Says caller n time report) (numbers initial)
+same_output r numbers (Ends caller time) = refl
 
 same_replies : (r : Change) → ((n : ℕ) → r.initial n ≡ n) → (xs : List Reply) → map (changed_reply r) xs ≡ xs
 same_replies r numbers [] = refl
@@ -153,11 +159,17 @@ restamps e index by items = alike e index (restamp by) (λ n. refl) (map (restam
 pub moves : Moves
 moves e index by items = alike e index (move by) (λ n. refl) (map (moved_item by) items) items (all_changed (move by) (moved_item by) (moved_item_is by) items)
 
+-- a SHUTDOWN has no numbers
+shutdown_says : (by stamp dest : ℕ) → renumbered by (text (record { stamp = stamp; dest = dest; body = out.Shutdown })) ≡ text (record { stamp = stamp; dest = dest; body = out.Shutdown })
+unfolding renumbered
+shutdown_says by stamp dest = refl
+
 -- what is said with other numbers is the same bytes with those
 output_shifts : (by : ℕ) (x : Output) → IsSaid x → output_text (changed_output (renumber by) x) ≡ renumbered by (output_text x)
 output_shifts by (Answers caller a) h = sym (answers_say by caller a h)
 output_shifts by (Says caller initial time (ToPublisher report)) h = sym (publishers_say by caller initial time report h)
 output_shifts by (Says caller initial time (ToSubscriber report)) h = sym (subscribers_say by caller initial time report h)
+output_shifts by (Ends caller time) h = sym (shutdown_says by (time % 2 ^ 32) caller)
 
 all_shift : (by : ℕ) (xs : List Reply) → Each (λ (x : Reply). IsSaid x.packet) xs → map sent (map (changed_reply (renumber by)) xs) ≡ map (renumbered_datagram by) (map sent xs)
 all_shift by [] h = refl

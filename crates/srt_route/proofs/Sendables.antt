@@ -21,7 +21,7 @@ use Rattle.srt_pub.specs.Says.{losses_said, says}
 use Rattle.srt_sub.specs.Subscribing as subscriber
 use Rattle.srt_sub.specs.Says.{packet_text}
 use Rattle.srt_route.specs.Past.{ToPublisher, ToSubscriber}
-use Rattle.srt_route.specs.Route.{Output, Answers, Says, Reply, output_text, sent, after, replies_to}
+use Rattle.srt_route.specs.Route.{Output, Answers, Says, Ends, Reply, output_text, sent, after, replies_to}
 use Rattle.srt_route.specs.Sendable.{IsSendable, PublishersSendPackets, SubscribersSendPackets, AnswersArePackets, RepliesArePackets}
 use Rattle.srt_route.proofs.Lists.{Each, each_mapped}
 use Rattle.srt_route.proofs.ShiftedOutput.{losses_some, losses_few}
@@ -106,6 +106,10 @@ outputs_send : (output : Output) → IsSaid output → IsSendable (output_text o
 outputs_send (Answers caller answer) h = answers_send caller answer h
 outputs_send (Says caller initial time (ToPublisher report)) h = publishers_send caller initial time report h
 outputs_send (Says caller initial time (ToSubscriber report)) h = subscribers_send caller initial time report h
+outputs_send (Ends caller time) h =
+    made _ (record { stamp = time % 2 ^ 32; dest = caller % 2 ^ 32; body = out.Shutdown })
+    (record { stamp = omega arith; dest = omega arith; word1 = omega arith; rest = omega arith; body = tt })
+    (lows 0x8005_0000 0 (time % 2 ^ 32) caller [])
 
 each_all : {A : Type 0} (P : A → Type 0) (xs : List A) → Each P xs → All P xs
 each_all P [] h = All-nil P

@@ -12,7 +12,7 @@ use Rattle.srt_seq.specs.declared.shared.Role.TheVariants.{Publish, Request}
 use Rattle.srt_seq.specs.Window.{in_window}
 use Rattle.srt_seq.specs.Runs.{Range, Run, runs, numbers_from, span}
 use Rattle.srt_seq.specs.Terms.{Terms}
-use Rattle.srt_seq.specs.Items.{Item, Received, Tick}
+use Rattle.srt_seq.specs.Items.{Item, Received, Tick, Close}
 use Rattle.srt_packet.specs.declared.reading.PacketFault.{PacketFault}
 use Rattle.srt_packet.specs.Grammar.{Packet, Body, Spells, SpellsBody, Data, Handshake, KeepAlive, Ack, Nak, CongestionWarning, Shutdown, AckAck, DropRequest, PeerError, UserDefined}
 use Rattle.srt_packet.specs.Reading.{packet_in}
@@ -26,7 +26,7 @@ use Rattle.srt_sub.specs.Subscribing as subscriber
 use Rattle.srt_route.specs.declared.conclusion.Conclusion.{Conclusion}
 use Rattle.srt_route.specs.Past.{Past, Publishes, Subscribes, Agreed, Report, ToPublisher, ToSubscriber, past_of, expired_past, took_past, answers_to, payload_of, payloads_of, passed_past, reports_of, reported_past}
 use Rattle.srt_route.specs.Sessions.{Session, is_publisher, is_subscriber, open_publishers, active, is_active, is_open_in, by_slot, free_slot, time_in, stamp_in, is_idle, terms_of, aged_at, aged, passed_at, passed, reported_at, reported}
-use Rattle.srt_route.specs.Route.{Output, Answers, Says, Reply, Taken, refused, is_of, heard_if, opens, considered, concluded, is_for, took_if, said_by, answered_by, arrived, concludes, without_destination, packet_taken, read_taken, taken, least_room, delivery_of, delivery, room_if, delivered, packets_at, packets_where, clock_after, taken_by, passed_by, replies_to, after}
+use Rattle.srt_route.specs.Route.{Output, Answers, Says, Ends, Reply, Taken, Route, closed, ended, shutdown_to, refused, is_of, heard_if, opens, considered, concluded, is_for, took_if, said_by, answered_by, arrived, concludes, without_destination, packet_taken, read_taken, taken, least_room, delivery_of, delivery, room_if, delivered, packets_at, packets_where, clock_after, taken_by, passed_by, replies_at, replies_to, sessions_at, after}
 use Rattle.srt_route.specs.ShiftLaws.{IsPublishersReport, IsSubscribersReport, HasFewWords, IsReadable}
 use Rattle.srt_packet.proofs.Agreement.{packet_found}
 use Rattle.srt_route.proofs.ShiftedAnswers.{conclusions_have_few}
@@ -59,6 +59,7 @@ IsSaidReport (ToSubscriber report) = IsSubscribersReport report
 abbrev pub IsSaid : Output → Type 0
 IsSaid (Answers caller answer) = IsReadable answer.what
 IsSaid (Says caller initial time report) = IsSaidReport report
+IsSaid (Ends caller time) = ⊤
 
 abbrev IsSaidReply : Reply → Type 0
 IsSaidReply x = IsSaid x.packet
@@ -393,9 +394,22 @@ read_sound : (e : Terms) (index clock : ℕ) (peer : Peer) (bytes : List ℕ) (r
 read_sound e index clock peer bytes (Ok p) is ss h = packet_sound e index clock peer p ss (body_read bytes p p.body refl (read_is_spelled bytes p is)) h
 read_sound e index clock peer bytes (Err fault) is ss h = record { sessions = h; answers = tt }
 
+-- a SHUTDOWN is as it should be, whatever the session is
+each_shutdown : (clock : ℕ) (ss : List Session) → Each IsSaidReply (map (shutdown_to clock) ss)
+each_shutdown clock [] = tt
+each_shutdown clock (s ∷ ss) = (tt, each_shutdown clock ss)
+
+closed_sound : (e : Terms) (clock : ℕ) (ss : List Session) → Each IsSound ss → IsSoundTaken (closed e clock ss)
+closed_sound e clock ss h =
+    record {
+      sessions = each_mapped IsSound IsSound ended (λ s sound. record { past = sound.past; answer = sound.answer }) ss h;
+      answers = each_shutdown clock (by_slot e ss);
+    }
+
 taken_sound : (e : Terms) (index clock : ℕ) (item : Item) (ss : List Session) → Each IsSound ss → IsSoundTaken (taken e index clock item ss)
 taken_sound e index clock (Received d moment) ss h = read_sound e index clock d.peer d.bytes (packet_in d.bytes) refl ss h
 taken_sound e index clock (Tick moment) ss h = record { sessions = h; answers = tt }
+taken_sound e index clock (Close moment) ss h = closed_sound e clock ss h
 
 -- the delivery
 delivered_payloads : (e : Terms) (clock : ℕ) (room : Option ℕ) (o : Option Session) → IfSome o IsSound → Each IsPayload (delivery_of e clock room o)
@@ -420,15 +434,20 @@ taken_by_sound e index items item h =
 passed_by_sound : (e : Terms) (index : ℕ) (items : List Item) (item : Item) → Each IsSound (after e index items).sessions → Each IsSound (passed_by e index item (after e index items))
 passed_by_sound e index items item h = let m = after e index items in delivered_sound e (clock_after item m) (taken_by e index item m).sessions (taken_by_sound e index items item h).sessions
 
-after_sound : (e : Terms) (index : ℕ) (items : List Item) → Each IsSound (after e index items).sessions
-after_sound e index [] = tt
-after_sound e index (item ∷ items) =
+sessions_sound : (is_closed : Bool) (e : Terms) (index : ℕ) (items : List Item) (item : Item) → Each IsSound (after e index items).sessions → Each IsSound (sessions_at is_closed e index item (after e index items))
+sessions_sound true e index items item h = h
+sessions_sound false e index items item h =
     let m = after e index items in
     let clock = clock_after item m in
-    each_mapped IsSound IsSound (reported e clock) (λ s sound. reported_at_sound e s.is_open (time_in s clock) s sound) (passed_by e index item m) (passed_by_sound e index items item (after_sound e index items))
+    each_mapped IsSound IsSound (reported e clock) (λ s sound. reported_at_sound e s.is_open (time_in s clock) s sound) (passed_by e index item m) (passed_by_sound e index items item h)
 
-pub replies_said : (e : Terms) (index : ℕ) (items : List Item) (item : Item) → Each (λ (x : Reply). IsSaid x.packet) (replies_to e index item (after e index items))
-replies_said e index items item =
+after_sound : (e : Terms) (index : ℕ) (items : List Item) → Each IsSound (after e index items).sessions
+after_sound e index [] = tt
+after_sound e index (item ∷ items) = sessions_sound (after e index items).is_closed e index items item (after_sound e index items)
+
+replies_at_said : (is_closed : Bool) (e : Terms) (index : ℕ) (items : List Item) (item : Item) → Each IsSaidReply (replies_at is_closed e index item (after e index items))
+replies_at_said true e index items item = tt
+replies_at_said false e index items item =
     let m = after e index items in
     let clock = clock_after item m in
     let ss = passed_by e index item m in
@@ -437,6 +456,9 @@ replies_said e index items item =
     let second = packets_where e clock is_publisher ss in
     let third = packets_where e clock is_subscriber ss in
     each_append IsSaidReply (first ++ second) third (each_append IsSaidReply first second (taken_by_sound e index items item (after_sound e index items)).answers (all_packets_said e clock is_publisher ss sound)) (all_packets_said e clock is_subscriber ss sound)
+
+pub replies_said : (e : Terms) (index : ℕ) (items : List Item) (item : Item) → Each (λ (x : Reply). IsSaid x.packet) (replies_to e index item (after e index items))
+replies_said e index items item = replies_at_said (after e index items).is_closed e index items item
 
 pub all_said : (e : Terms) (index : ℕ) (items : List Item) → Each (λ (x : Reply). IsSaid x.packet) (all_replies e index items)
 all_said e index [] = tt

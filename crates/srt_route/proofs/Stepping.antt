@@ -1,14 +1,16 @@
 -- An item more.
-use Rattle.std.proofs.Common.{◌≡◌, ℕ, ◌<◌, ◌≤◌, ◌^◌, List, [], ◌∷◌, ◌++◌, length, map, max, sym, ap, subst, ◌∙◌, append_assoc, arith}
+use Rattle.std.proofs.Common.{◌≡◌, ℕ, ◌<◌, ◌≤◌, ◌^◌, false, ◌||◌, refl, List, [], ◌∷◌, ◌++◌, length, map, max, sym, ap, subst, ◌∙◌, append_assoc, arith}
 use Rattle.std.proofs.lemmas.List.{length-map, map-append}
 use Rattle.srt_seq.specs.Terms.{Terms}
-use Rattle.srt_seq.specs.Items.{Item, Datagram, moment_of}
+use Rattle.srt_seq.specs.declared.shared.Item.{Item as TheItem}
+use Rattle.srt_seq.specs.declared.shared.Item.TheVariants as given
+use Rattle.srt_seq.specs.Items.{Item, Datagram, told, moment_of}
 use Rattle.srt_route.specs.declared.state.Route.{Route as TheRoute}
 use Rattle.srt_route.specs.declared.reply_queue.ReplyQueue.{ReplyQueue}
 use Rattle.srt_route.specs.declared.table.Table.{Table}
 use Rattle.srt_route.specs.Written.{written}
 use Rattle.srt_route.specs.Sessions.{Session, is_publisher, is_subscriber, aged, reported}
-use Rattle.srt_route.specs.Route.{Reply, sent, after, clock_after, taken, taken_by, passed_by, delivered, packets_where, reply}
+use Rattle.srt_route.specs.Route.{Reply, sent, after, clock_after, taken, taken_by, passed_by, delivered, packets_where, replies_at, sessions_at, closes, reply}
 use Rattle.srt_route.specs.Tables.{IsTable}
 use Rattle.srt_route.specs.Reports.{AreSaid, Queues}
 use Rattle.srt_route.specs.Delivery.{changed, after_publisher, after_subscriber}
@@ -46,15 +48,23 @@ stepped e index before clock item sessions replies first aged_to second third fo
           (said_then (replies_of queue) (replies_of middle) (replies_of end) _ _ _ (map sent from_publishers) (map sent from_subscribers) (published e index ss third_is) rest);
     }
 
+-- no item of the code closes a route
+pub told_keeps_open : (item : TheItem) → closes (told item) ≡ false
+told_keeps_open (given.Datagram peer moment head body) = refl
+told_keeps_open (given.Tick moment) = refl
+
 -- after the six steps the route stands for one item more
-pub stands_more : (e : Terms) (index : ℕ) (items : List Item) (item : Item) (old new : TheRoute) → IsRoute e index old (after e index items) → new.clock ≡ max old.clock (moment_of item) → IsTable e index new.clock new.table (map (reported e new.clock) (delivered e new.clock (taken e index new.clock item (map (aged e new.clock) (after e index items).sessions)).sessions)) → places old ≤ places new → IsRoute e index new (after e index (item ∷ items))
-stands_more e index items item old new h moment body more =
+pub stands_more : (e : Terms) (index : ℕ) (items : List Item) (item : Item) (old new : TheRoute) → IsRoute e index old (after e index items) → new.clock ≡ max old.clock (moment_of item) → IsTable e index new.clock new.table (map (reported e new.clock) (delivered e new.clock (taken e index new.clock item (map (aged e new.clock) (after e index items).sessions)).sessions)) → places old ≤ places new → closes item ≡ false → IsRoute e index new (after e index (item ∷ items))
+stands_more e index items item old new h moment body more stays =
     let m = after e index items in
     let clock : new.clock ≡ clock_after item m = moment ∙ ap (λ (n : ℕ). max n (moment_of item)) h.clock_is in
     record {
       clock_is = clock;
-      table_is = subst (λ (n : ℕ). IsTable e index new.clock new.table (map (reported e n) (delivered e n (taken e index n item (map (aged e n) m.sessions)).sessions))) clock body;
+      table_is =
+          subst (λ b. IsTable e index new.clock new.table (sessions_at b e index item m)) (sym h.is_open)
+          (subst (λ (n : ℕ). IsTable e index new.clock new.table (map (reported e n) (delivered e n (taken e index n item (map (aged e n) m.sessions)).sessions))) clock body);
       room = omega (arith, h.room, more);
+      is_open = ap (λ b. b || closes item) h.is_open ∙ stays;
     }
 
 -- and the replies are those of the definition
@@ -65,7 +75,10 @@ replies_more e index items item old time queue h moment none both =
     let answers = (taken_by e index item m).answers in
     let first = packets_where e (clock_after item m) is_publisher (passed_by e index item m) in
     let second = packets_where e (clock_after item m) is_subscriber (passed_by e index item m) in
-    let all : map sent answers ++ map sent (first ++ second) ≡ reply e index (item ∷ items) = sym (map-append sent answers (first ++ second)) ∙ ap (λ (rs : List Reply). map sent rs) (sym (append_assoc answers first second)) in
+    let all : map sent answers ++ map sent (first ++ second) ≡ reply e index (item ∷ items) =
+    sym (map-append sent answers (first ++ second))
+    ∙ ap (λ (rs : List Reply). map sent rs) (sym (append_assoc answers first second))
+    ∙ ap (λ b. map sent (replies_at b e index item m)) (sym h.is_open) in
     let said : AreSaid (replies_of old.waiting) (replies_of queue) (places old) (places_of queue) (reply e index (item ∷ items)) =
     same_said (ap (λ (n : ℕ). map sent (taken e index n item (map (aged e n) m.sessions)).answers ++ said_at e n (taken e index n item (map (aged e n) m.sessions)).sessions) clock ∙ all) both in
     let empty : length (replies_of old.waiting) ≡ 0 = sym (length-map (replies_of old.waiting) written) ∙ ap length none in

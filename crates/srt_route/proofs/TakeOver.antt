@@ -8,7 +8,7 @@ use Rattle.std.proofs.lemmas.Bool.Decides.{nat_tests}
 use Rattle.srt_seq.specs.declared.shared.Peer.{Peer}
 use Rattle.srt_seq.specs.declared.shared.Mode.{Mode}
 use Rattle.srt_seq.specs.Terms.{Terms}
-use Rattle.srt_seq.specs.Items.{Item, Received, Tick}
+use Rattle.srt_seq.specs.Items.{Item, Received, Tick, Close}
 use Rattle.srt_packet.specs.declared.reading.PacketFault.{PacketFault}
 use Rattle.srt_packet.specs.Grammar.{Packet}
 use Rattle.srt_packet.specs.Reading.{packet_in}
@@ -22,7 +22,7 @@ use Rattle.srt_route.specs.declared.conclusion.Conclusion.{Conclusion}
 use Rattle.srt_route.specs.Sessions.{Session, publishes, is_publisher, is_open_in, by_slot, open_publishers, active, has_slot, is_active, free_slot, generation_of, time_in, is_idle, aged_at, aged, passed_at, passed, reported_at, reported}
 use Rattle.srt_route.proofs.Lists.{find_through}
 use Rattle.srt_route.proofs.Standbys.{active_through}
-use Rattle.srt_route.specs.Route.{differ, is_buffer, refused, session_opened, opens, considered, concluded, heard_if, took_if, is_of, is_for, concludes, without_destination, arrived, packet_taken, read_taken, taken, least_room, delivery, room_if, delivered, taken_by, passed_by, clock_after, after}
+use Rattle.srt_route.specs.Route.{differ, is_buffer, refused, session_opened, opens, considered, concluded, heard_if, took_if, is_of, is_for, concludes, without_destination, arrived, packet_taken, read_taken, taken, ended, least_room, delivery, room_if, delivered, taken_by, passed_by, Route, sessions_at, clock_after, after}
 
 -- no older session is open in an open session's slot
 abbrev pub AreApart : List Session → Type 0
@@ -475,9 +475,13 @@ read_few : (e : Terms) (index clock : ℕ) (peer : Peer) (read : Result Packet P
 read_few e index clock peer (Ok packet) ss few = packet_few e index clock peer packet ss few
 read_few e index clock peer (Err fault) ss few = few
 
+ended_opens_none : OpensNone ended
+ended_opens_none s h = absurd (let bad : false ≡ true = h in cc)
+
 pub taken_few : (e : Terms) (index clock : ℕ) (item : Item) (ss : List Session) → AreFew ss → AreFew (taken e index clock item ss).sessions
 taken_few e index clock (Received d moment) ss few = read_few e index clock d.peer (packet_in d.bytes) ss few
 taken_few e index clock (Tick moment) ss few = few
+taken_few e index clock (Close moment) ss few = few_kept ended ended_opens_none ss few
 
 pub aged_few : (e : Terms) (clock : ℕ) (ss : List Session) → AreFew ss → AreFew (map (aged e clock) ss)
 aged_few e clock ss few = few_kept (aged e clock) (aged_opens_none e clock) ss few
@@ -491,11 +495,14 @@ delivered_few e clock ss few =
 pub reported_few : (e : Terms) (clock : ℕ) (ss : List Session) → AreFew ss → AreFew (map (reported e clock) ss)
 reported_few e clock ss few = few_kept (reported e clock) (λ s h. sym (reported_keeps e s.is_open (time_in s clock) s) ∙ h) ss few
 
-pub two_at_most : (e : Terms) (index : ℕ) (items : List Item) → AreFew (after e index items).sessions
-two_at_most e index [] = omega arith
-two_at_most e index (item ∷ items) =
-    let m = after e index items in
+sessions_few : (is_closed : Bool) (e : Terms) (index : ℕ) (item : Item) (m : Route) → AreFew m.sessions → AreFew (sessions_at is_closed e index item m)
+sessions_few true e index item m few = few
+sessions_few false e index item m few =
     let clock = clock_after item m in
     let taken = taken_by e index item m in
     reported_few e clock (passed_by e index item m)
-    (delivered_few e clock taken.sessions (taken_few e index clock item (map (aged e clock) m.sessions) (aged_few e clock m.sessions (two_at_most e index items))))
+    (delivered_few e clock taken.sessions (taken_few e index clock item (map (aged e clock) m.sessions) (aged_few e clock m.sessions few)))
+
+pub two_at_most : (e : Terms) (index : ℕ) (items : List Item) → AreFew (after e index items).sessions
+two_at_most e index [] = omega arith
+two_at_most e index (item ∷ items) = let m = after e index items in sessions_few m.is_closed e index item m (two_at_most e index items)

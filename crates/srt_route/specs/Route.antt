@@ -1,12 +1,12 @@
 -- A route as a function of all its items. Lists of items and of sessions have the newest first, lists of replies the
 -- oldest.
-use Rattle.std.specs.Prelude.{ℕ, ◌+◌, ◌*◌, ◌≤◌, Bool, true, false, Option, None, Some, Result, Ok, Err, List, [], ◌∷◌, ◌++◌, length, map, fold, max, find, not, nat_lt, nat_le, ◌==◌, ◌&&◌, ◌||◌, if◌then◌else◌}
+use Rattle.std.specs.Prelude.{ℕ, ◌+◌, ◌*◌, ◌%◌, ◌^◌, ◌≤◌, Bool, true, false, Option, None, Some, Result, Ok, Err, List, [], ◌∷◌, ◌++◌, length, map, fold, max, find, not, nat_lt, nat_le, ◌==◌, ◌&&◌, ◌||◌, if◌then◌else◌}
 use Rattle.std.specs.List.{flat_map}
 use Rattle.srt_seq.specs.declared.shared.Peer.{Peer}
 use Rattle.srt_seq.specs.declared.shared.Mode.{Mode}
 use Rattle.srt_seq.specs.declared.shared.Mode.TheVariants.{Live, Buffer}
 use Rattle.srt_seq.specs.Terms.{Terms}
-use Rattle.srt_seq.specs.Items.{Datagram, Item, Received, Tick, moment_of}
+use Rattle.srt_seq.specs.Items.{Datagram, Item, Received, Tick, Close, moment_of}
 use Rattle.srt_packet.specs.declared.reading.PacketFault.{PacketFault}
 use Rattle.srt_packet.specs.declared.writing.Body.TheVariants as out
 use Rattle.srt_packet.specs.Grammar.{Packet, Body, Handshake}
@@ -22,19 +22,21 @@ use Rattle.srt_route.specs.Conclusions.{conclusion_in}
 use Rattle.srt_route.specs.Past.{Report, report_text, past_of, least_with}
 use Rattle.srt_route.specs.Sessions.{Session, is_same_peer, session_id, answer_of, publishes, is_publisher, is_subscriber, open_publishers, active, is_active, by_slot, free_slot, generation_of, time_in, aged, took, answered_at_once, payloads, passed, reports_at, reported}
 
--- every session that was ever opened, and the clock in microseconds
+-- the clock in microseconds, every session that was ever opened, and whether the route was closed
 pub record Route : Type 0 where
   pub clock : ℕ
   pub sessions : List Session
+  pub is_closed : Bool
 
 abbrev pub opened : Route
-opened = record { clock = 0; sessions = [] }
+opened = record { clock = 0; sessions = []; is_closed = false }
 
--- what is sent to the socket with this ID: an answer to its handshake, or a report of a session with this initial
--- number, `time` microseconds after its opening
+-- what is sent to the socket with this ID: an answer to its handshake, a report of a session with this initial number,
+-- or a SHUTDOWN, which ends the session; `time` is microseconds after the session's opening
 pub data Output : Type 0 where
   Answers : (caller : ℕ) (answer : HsAnswer) → Output
   Says : (caller initial time : ℕ) (report : Report) → Output
+  Ends : (caller time : ℕ) → Output
 
 pub record Reply : Type 0 where
   pub peer : Peer
@@ -44,6 +46,7 @@ pub record Reply : Type 0 where
 abbrev pub output_text : Output → List ℕ
 output_text (Answers caller answer) = text (record { stamp = 0; dest = caller; body = out.Handshake (record { items = answer_text answer }) })
 output_text (Says caller initial time report) = report_text caller initial time report
+output_text (Ends caller time) = text (record { stamp = time % 2 ^ 32; dest = caller; body = out.Shutdown })
 
 abbrev pub sent : Reply → Datagram
 sent r = record { peer = r.peer; bytes = output_text r.packet }
@@ -155,9 +158,20 @@ abbrev pub read_taken : Terms → (index clock : ℕ) → Peer → Result Packet
 read_taken e index clock peer (Ok packet) sessions = packet_taken e index clock peer packet sessions
 read_taken e index clock peer (Err fault) sessions = nothing_taken sessions
 
+-- the route is closed: every open session ends, and its peer is sent a SHUTDOWN, slots upwards (section 3.2.7)
+abbrev pub ended : Session → Session
+ended s = record s { is_open = false }
+
+abbrev pub shutdown_to : (clock : ℕ) → Session → Reply
+shutdown_to clock s = record { peer = s.peer; packet = Ends s.conclusion.caller (time_in s clock) }
+
+abbrev pub closed : Terms → (clock : ℕ) → List Session → Taken
+closed e clock sessions = record { sessions = map ended sessions; answers = map (shutdown_to clock) (by_slot e sessions) }
+
 abbrev pub taken : Terms → (index clock : ℕ) → Item → List Session → Taken
 taken e index clock (Received datagram moment) sessions = read_taken e index clock datagram.peer (packet_in datagram.bytes) sessions
 taken e index clock (Tick moment) sessions = nothing_taken sessions
+taken e index clock (Close moment) sessions = closed e clock sessions
 
 -- the least room of the open subscribers; None if none is open
 abbrev pub least_room : Terms → List Session → Option ℕ
@@ -191,7 +205,7 @@ packets_at e here time s = map (said_by time s) (reports_at e here time s)
 abbrev pub packets_where : Terms → (clock : ℕ) → (Session → Bool) → List Session → List Reply
 packets_where e clock test sessions = flat_map (λ s. packets_at e (test s) (time_in s clock) s) (by_slot e sessions)
 
--- an event, in this profile's order: the clock advances, sessions age, the datagram is taken
+-- an event of a route that wasn't closed, in this profile's order: the clock advances, sessions age, the item is taken
 abbrev pub taken_by : Terms → (index : ℕ) → Item → Route → Taken
 taken_by e index item route = let clock = clock_after item route in taken e index clock item (map (aged e clock) route.sessions)
 
@@ -199,18 +213,35 @@ taken_by e index item route = let clock = clock_after item route in taken e inde
 abbrev pub passed_by : Terms → (index : ℕ) → Item → Route → List Session
 passed_by e index item route = delivered e (clock_after item route) (taken_by e index item route).sessions
 
--- then the publishers send, and then the subscribers do
-abbrev pub replies_to : Terms → (index : ℕ) → Item → Route → List Reply
-replies_to e index item route =
+-- then the publishers send, and then the subscribers do. A route that was closed replies to nothing
+abbrev pub replies_at : (is_closed : Bool) → Terms → (index : ℕ) → Item → Route → List Reply
+replies_at true e index item route = []
+replies_at false e index item route =
     let clock = clock_after item route in
     let sessions = passed_by e index item route in
     (taken_by e index item route).answers ++ packets_where e clock is_publisher sessions ++ packets_where e clock is_subscriber sessions
 
--- the route after one more item
+abbrev pub replies_to : Terms → (index : ℕ) → Item → Route → List Reply
+replies_to e index item route = replies_at route.is_closed e index item route
+
+-- the sessions at the end of an event. After a route was closed they stay as they are
+abbrev pub sessions_at : (is_closed : Bool) → Terms → (index : ℕ) → Item → Route → List Session
+sessions_at true e index item route = route.sessions
+sessions_at false e index item route = map (reported e (clock_after item route)) (passed_by e index item route)
+
+abbrev pub closes : Item → Bool
+closes (Received datagram moment) = false
+closes (Tick moment) = false
+closes (Close moment) = true
+
+-- the route after one more item. If it was closed before, only its clock goes on
 abbrev pub told_more : Terms → (index : ℕ) → Item → Route → Route
 told_more e index item route =
-    let clock = clock_after item route in
-    record { clock = clock; sessions = map (reported e clock) (passed_by e index item route) }
+    record {
+      clock = clock_after item route;
+      sessions = sessions_at route.is_closed e index item route;
+      is_closed = route.is_closed || closes item;
+    }
 
 -- the route after these items
 abbrev pub after : Terms → (index : ℕ) → List Item → Route

@@ -1,7 +1,7 @@
 -- Other sequence numbers, other timestamps and later moments, in the bytes of a route's items and replies.
 use Rattle.std.specs.Prelude.{ℕ, ◌+◌, ◌*◌, ◌/◌, ◌%◌, ◌^◌, List, [], ◌∷◌, ◌++◌, length, map, take, drop, is_ok, nat_lt, if◌then◌else◌, Result, Ok, Err}
 use Rattle.srt_seq.specs.Words.{word_at}
-use Rattle.srt_seq.specs.Items.{Datagram, Item, Received, Tick}
+use Rattle.srt_seq.specs.Items.{Datagram, Item, Received, Tick, Close}
 use Rattle.srt_packet.specs.declared.reading.PacketFault.{PacketFault}
 use Rattle.srt_packet.specs.Grammar.{Packet, Body, Data, Handshake, KeepAlive, Ack, Nak, CongestionWarning, Shutdown, AckAck, DropRequest, PeerError, UserDefined}
 use Rattle.srt_packet.specs.Reading.{packet_in}
@@ -93,15 +93,18 @@ restamped_datagram by d = record { peer = d.peer; bytes = restamped by d.bytes }
 abbrev pub renumbered_item : (by : ℕ) → Item → Item
 renumbered_item by (Received datagram moment) = Received (renumbered_datagram by datagram) moment
 renumbered_item by (Tick moment) = Tick moment
+renumbered_item by (Close moment) = Close moment
 
 abbrev pub restamped_item : (by : ℕ) → Item → Item
 restamped_item by (Received datagram moment) = Received (restamped_datagram by datagram) moment
 restamped_item by (Tick moment) = Tick moment
+restamped_item by (Close moment) = Close moment
 
 -- the same item, later by `by` microseconds
 abbrev pub moved_item : (by : ℕ) → Item → Item
 moved_item by (Received datagram moment) = Received datagram (moment + by)
 moved_item by (Tick moment) = Tick (moment + by)
+moved_item by (Close moment) = Close (moment + by)
 
 abbrev pub renumbered_items : (by : ℕ) → List Item → List Item
 renumbered_items by items = map (renumbered_item by) items

@@ -9,10 +9,11 @@ pub record Datagram : Type 0 where
   pub peer : Peer
   pub bytes : List ℕ
 
--- an input of a route; moments are microseconds
+-- an input of a route; moments are microseconds. Close ends the route: after it no session is open or is opened
 pub data Item : Type 0 where
   Received : (datagram : Datagram) (moment : ℕ) → Item
   Tick : (moment : ℕ) → Item
+  Close : (moment : ℕ) → Item
 
 -- the input that a value of the code means: its head and its body are one datagram
 abbrev pub told : TheItem → Item
@@ -22,3 +23,4 @@ told (TheTick moment) = Tick moment
 abbrev pub moment_of : Item → ℕ
 moment_of (Received datagram moment) = moment
 moment_of (Tick moment) = moment
+moment_of (Close moment) = moment
