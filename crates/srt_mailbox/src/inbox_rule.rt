@@ -16,29 +16,31 @@ use std::marker::Model;
 /// side with neither an enum's tag nor padding before or between them, since those make each copy slow.
 #[derive(Drop)]
 pub struct Marked {
-    // a datagram's header and sender; without meaning if it is a tick
+    // a datagram's header and sender; without meaning if it is none
     head: [u8; 16],
     peer: Peer,
     // true if the poller offered it, false if the clock did
     polled: bool,
-    // true if it is a tick, false if it is a datagram
+    // true if it is a tick
     tick: bool,
+    // true if it is a Close; if it is neither, it is a datagram
+    close: bool,
     // fills the eight bytes that end with this field
-    _apart: [u8; 4],
+    _apart: [u8; 3],
     // microseconds, below 2^62
     moment: u64,
-    // a datagram's bytes after the header; empty if it is a tick
+    // a datagram's bytes after the header; empty if it is none
     body: Vec<u8>,
 }
 
 impl Model for Marked {
     ghost use Rattle.std.specs.Prelude.{◌<◌, ◌^◌, if◌then◌else◌};
-    ghost use Rattle.srt_seq.specs.declared.shared.Item.TheVariants.{Datagram, Tick};
+    ghost use Rattle.srt_seq.specs.declared.shared.Item.TheVariants.{Datagram, Tick, Close};
     ghost use Rattle.srt_mailbox.specs.Marks.{MarkedItem, marked_item};
 
     ghost Value = { MarkedItem };
 
-    ghost view = { λ s. marked_item s.polled (if s.tick then Tick s.moment else Datagram s.peer s.moment s.head s.body) };
+    ghost view = { λ s. marked_item s.polled (if s.tick then Tick s.moment else if s.close then Close s.moment else Datagram s.peer s.moment s.head s.body) };
 
     ghost invariant = { λ s. s.moment < 2 ^ 62 };
 }
@@ -49,7 +51,7 @@ const NOWHERE: Peer = Peer {
 };
 
 impl Marked {
-    /// Marks an item. Its moment is in microseconds, below 2^62. Takes no memory; `alloc` is that of a tick's empty body.
+    /// Marks an item. Its moment is in microseconds, below 2^62. Takes no memory; `alloc` is that of the empty body of what is no datagram.
     pub fn new(alloc: Global, polled: bool, item: Item) -> Marked
         requires timely { moment_of (told item) < 2 ^ 62 }
         ensures { result ≡ marked_item polled item }
@@ -65,7 +67,8 @@ impl Marked {
                 peer,
                 polled,
                 tick: false,
-                _apart: [0; 4],
+                close: false,
+                _apart: [0; 3],
                 moment,
                 body,
             },
@@ -74,7 +77,18 @@ impl Marked {
                 peer: NOWHERE,
                 polled,
                 tick: true,
-                _apart: [0; 4],
+                close: false,
+                _apart: [0; 3],
+                moment,
+                body: Vec::new(alloc),
+            },
+            Item::Close { moment } => Marked {
+                head: [0; 16],
+                peer: NOWHERE,
+                polled,
+                tick: false,
+                close: true,
+                _apart: [0; 3],
                 moment,
                 body: Vec::new(alloc),
             },
@@ -91,12 +105,15 @@ impl Marked {
             peer,
             polled: _,
             tick,
+            close,
             _apart: _,
             moment,
             body,
         } = self;
         if tick {
             Item::Tick { moment }
+        } else if close {
+            Item::Close { moment }
         } else {
             Item::Datagram {
                 peer,

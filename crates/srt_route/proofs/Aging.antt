@@ -53,11 +53,11 @@ aged_stored e index clock (Some t) (Some s) opens is = by (peer_idle clock t) (i
     o = opens s refl
 
     lives : IsStored e index (Some t) (while_open (aged_at e true (time_in s clock) s))
-    lives = rw (o) (record { peer_is = is.peer_is; caller_is = is.caller_is; id_is = is.id_is; role_is = is.role_is; heard_is = is.heard_is; answer_is = is.answer_is })
+    lives = rw (o) (record { peer_is = is.peer_is; caller_is = is.caller_is; id_is = is.id_is; role_is = is.role_is; opened_is = is.opened_is; heard_is = is.heard_is; answer_is = is.answer_is })
 
     by : (stale idle : Bool) → idle ≡ stale → IsStored e index (cond stale None (Some t)) (while_open (aged_at e (s.is_open && not idle) (time_in s clock) s))
     by true idle same = rw (same, o) tt
-    by false idle same = rw (same, o) (record { peer_is = is.peer_is; caller_is = is.caller_is; id_is = is.id_is; role_is = is.role_is; heard_is = is.heard_is; answer_is = is.answer_is })
+    by false idle same = rw (same, o) (record { peer_is = is.peer_is; caller_is = is.caller_is; id_is = is.id_is; role_is = is.role_is; opened_is = is.opened_is; heard_is = is.heard_is; answer_is = is.answer_is })
 
 -- a session that stays open isn't stale in its slot
 pub kept_is : (e : Terms) (index clock : ℕ) (o : Option TheSession) (s : Session) → s.is_open ≡ true → IsStored e index o (Some s) → (aged e clock s).is_open ≡ true → publishes s.conclusion.role ≡ false → session_passes (is_kept_subscriber clock) o ≡ true

@@ -120,7 +120,7 @@ stored_past e index g None None opens is = tt
 stored_past e index g None (Some s) opens is = absurd is
 stored_past e index g (Some t) None opens is = absurd is
 stored_past e index g (Some t) (Some s) opens is =
-    rw (opens s refl) (record { peer_is = is.peer_is; caller_is = is.caller_is; id_is = is.id_is; role_is = is.role_is; heard_is = is.heard_is; answer_is = is.answer_is })
+    rw (opens s refl) (record { peer_is = is.peer_is; caller_is = is.caller_is; id_is = is.id_is; role_is = is.role_is; opened_is = is.opened_is; heard_is = is.heard_is; answer_is = is.answer_is })
 
 pub past_becomes : (g : Session → Past) (e : Terms) (index clock at : ℕ) (p q : Publisher) (x y : Seat) (ss : List Session) → IsSeat e index clock at p x ss → y.generation ≡ x.generation → y.session ≡ x.session → subscribers.IsWide e.buffer y.subscriber → ((s : Session) → find (is_open_in at) ss ≡ Some s → IsSeated e clock q y.subscriber (changed g s)) → Becomes (changed g) e index clock at q x y ss
 past_becomes g e index clock at p q x y ss is count stored wide seated =

@@ -33,3 +33,4 @@ pub mod Sendables
 pub mod Renumbered
 pub mod ShiftRows
 pub mod Closings
+pub mod Ending

@@ -235,7 +235,7 @@ hears peer caller clock = record { slot = λ s. slot_of s (is_of peer caller s);
 
 heard_stored : (e : Terms) (index clock : ℕ) (t : TheSession) (s : Session) → IsSession e index t s → IsSession e index (heard_at clock t) (record s { heard = clock })
 heard_stored e index clock t s is =
-    record { peer_is = is.peer_is; caller_is = is.caller_is; id_is = is.id_is; role_is = is.role_is; heard_is = refl; answer_is = is.answer_is }
+    record { peer_is = is.peer_is; caller_is = is.caller_is; id_is = is.id_is; role_is = is.role_is; opened_is = is.opened_is; heard_is = refl; answer_is = is.answer_is }
 
 -- a caller's session is heard of
 heard_seat : (e : Terms) (clock : ℕ) (p : Publisher) (x : Subscriber) (b : Bool) (s : Session) → IsSeated e clock p x s → IsSeated e clock p x (heard_if b clock s)
@@ -411,7 +411,7 @@ took_becomes e index clock q ss peer packet at x y t s here count stored wide se
 
     ended : (b : Bool) → ends_with (terms_of e s) s.conclusion.initial packet.body s.past ≡ b → IsStored e index (stored_after b clock (Some t)) (while_open (took e clock packet.stamp packet.body s))
     ended true h = rw (h) tt
-    ended false h = rw (h) (record { peer_is = here.session_is.peer_is; caller_is = here.session_is.caller_is; id_is = here.session_is.id_is; role_is = here.session_is.role_is; heard_is = refl; answer_is = here.session_is.answer_is })
+    ended false h = rw (h) (record { peer_is = here.session_is.peer_is; caller_is = here.session_is.caller_is; id_is = here.session_is.id_is; role_is = here.session_is.role_is; opened_is = here.session_is.opened_is; heard_is = refl; answer_is = here.session_is.answer_is })
 
 -- two reads at one index
 pub same_read : {A : Type 0} (xs : List A) (at : ℕ) (x y : A) → at < length xs → x ≡ get_or xs at x → y ≡ get_or xs at y → x ≡ y

@@ -1,8 +1,10 @@
 -- What the calls of an event do to a route's table, for any sessions that it stands for.
 use Rattle.std.specs.Prelude.{◌≡◌, ℕ, ◌<◌, ◌≤◌, ◌^◌, true, None, Some, Result, List, [], ◌∷◌, length, map, find}
+use Rattle.srt_seq.specs.declared.shared.Peer.{Peer}
 use Rattle.srt_seq.specs.Terms.{Terms}
 use Rattle.srt_seq.specs.Items.{Datagram, Item}
 use Rattle.srt_packet.specs.Grammar.{Packet}
+use Rattle.srt_packet.specs.Reading.{packet_in}
 use Rattle.srt_hs.specs.declared.refusals.RefusalCode.{RefusalCode}
 use Rattle.srt_route.specs.declared.admission.Admission.{Admission}
 use Rattle.srt_route.specs.declared.arrival.Arrival.{Arrival}
@@ -10,7 +12,7 @@ use Rattle.srt_route.specs.declared.conclusion.Conclusion.{Conclusion}
 use Rattle.srt_route.specs.declared.reply_queue.ReplyQueue.{ReplyQueue}
 use Rattle.srt_route.specs.declared.table.Table.{Table}
 use Rattle.srt_route.specs.Sessions.{Session, aged, is_open_in, open_publishers, publishes}
-use Rattle.srt_route.specs.Route.{Reply, arrived, concluded, considered, is_of, opens, packet_taken, refused, sent, taken}
+use Rattle.srt_route.specs.Route.{Reply, arrived, concluded, considered, is_of, opens, packet_taken, read_taken, refused, sent, taken}
 use Rattle.srt_route.specs.Tables.{IsTable, IsTaken}
 use Rattle.srt_route.specs.Admission.{admitted, agreement_of}
 use Rattle.srt_route.specs.Delivery.{HaveRoom, changed, fed}
@@ -34,11 +36,24 @@ AgesTo clock old new =
     (e : Terms) (index before : ℕ) (sessions : List Session)
     → IsTable e index before old sessions → before ≤ clock → clock < 2 ^ 62 → IsTable e index clock new (map (aged e clock) sessions)
 
--- step 3: an item is taken, and these datagrams answer it
-abbrev pub TakesItem : (clock : ℕ) → Item → (old new : Table) → List Datagram → Type 0
-TakesItem clock item old new replies =
+-- step 3: an item is taken
+abbrev pub TakesItem : (clock : ℕ) → Item → (old new : Table) → Type 0
+TakesItem clock item old new =
     (e : Terms) (index : ℕ) (sessions : List Session)
-    → IsTable e index clock old sessions → IsTaken e index clock new replies (taken e index clock item sessions)
+    → IsTable e index clock old sessions → IsTable e index clock new (taken e index clock item sessions).sessions
+
+-- and its replies are queued
+abbrev pub AnswersItem : (clock : ℕ) → Item → Table → (before after : ReplyQueue) → Type 0
+AnswersItem clock item old before after =
+    (e : Terms) (index : ℕ) (sessions : List Session)
+    → IsTable e index clock old sessions → Queues before after (map sent (taken e index clock item sessions).answers)
+
+-- a datagram with these bytes is taken, and these datagrams answer it
+abbrev pub TakesDatagram : (clock : ℕ) → Peer → (bytes : List ℕ) → (old new : Table) → List Datagram → Type 0
+TakesDatagram clock peer bytes old new replies =
+    (e : Terms) (index : ℕ) (sessions : List Session)
+    → IsTable e index clock old sessions
+    → IsTaken e index clock new replies (read_taken e index clock peer (packet_in bytes) sessions)
 
 -- a packet is taken
 abbrev pub TakesPacket : Arrival → Packet → (old new : Table) → Type 0

@@ -1,5 +1,5 @@
 -- The effect of a call on the buffers and the seat of one session, whatever they stood for.
-use Rattle.std.specs.Prelude.{◌≡◌, ℕ, ◌+◌, ◌-◌, ◌<◌, ◌≤◌, true, Option, None, Some, List, length, map}
+use Rattle.std.specs.Prelude.{◌≡◌, ℕ, ◌+◌, ◌-◌, ◌%◌, ◌^◌, ◌<◌, ◌≤◌, true, Option, None, Some, List, [], ◌∷◌, length, map}
 use Rattle.std.specs.Option.{is_some}
 use Rattle.srt_seq.specs.declared.shared.Peer.{Peer}
 use Rattle.srt_seq.specs.declared.shared.Mode.TheVariants.{Buffer}
@@ -8,7 +8,10 @@ use Rattle.srt_seq.specs.declared.shared.Role.TheVariants.{Publish, Request}
 use Rattle.srt_seq.specs.Terms.{Terms}
 use Rattle.srt_seq.specs.Lift.{stamped_from}
 use Rattle.srt_seq.specs.Items.{Datagram}
+use Rattle.srt_packet.specs.declared.writing.Body.TheVariants.{Shutdown}
+use Rattle.srt_packet.specs.declared.writing.Packet.{Packet as WrittenPacket}
 use Rattle.srt_packet.specs.Grammar.{Packet}
+use Rattle.srt_packet.specs.Text.{text}
 use Rattle.srt_sendbuf.specs.Sending.{room}
 use Rattle.srt_pub.specs.Calls.{ended}
 use Rattle.srt_pub.specs.Heard as to_publisher
@@ -143,3 +146,11 @@ abbrev pub SeatSaid : (clock : ℕ) → Seat → (before after : ReplyQueue) →
 SeatSaid clock seat before after =
     has_subscriber seat ≡ true → (t : StoredSession) → seat.session ≡ Some t
     → SubscriberSaid clock t.peer seat.subscriber before after
+
+-- a stored session's SHUTDOWN (section 3.2.7)
+abbrev pub shutdown_of : (clock : ℕ) → StoredSession → WrittenPacket
+shutdown_of clock t = record { stamp = (clock - t.opened) % 2 ^ 32; dest = t.caller; body = Shutdown }
+
+abbrev pub shutdowns_to : (clock : ℕ) → Option StoredSession → List Datagram
+shutdowns_to clock None = []
+shutdowns_to clock (Some t) = datagrams_to t.peer (text (shutdown_of clock t) ∷ [])

@@ -24,6 +24,7 @@ pub record IsSession (e : Terms) (index : ℕ) (t : TheSession) (s : Session) : 
   pub caller_is : t.caller ≡ s.conclusion.caller
   pub id_is : t.id ≡ session_id index s
   pub role_is : t.role ≡ s.conclusion.role
+  pub opened_is : t.opened ≡ s.opening
   pub heard_is : t.heard ≡ s.heard
   pub answer_is : t.answer ≡ answer_of e index s
 

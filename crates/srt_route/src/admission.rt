@@ -120,6 +120,7 @@ fn open_session(
         id,
         role,
         second,
+        opened: arrival.clock,
         heard: arrival.clock,
         answer,
     });

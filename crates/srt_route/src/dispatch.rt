@@ -1,6 +1,7 @@
-//! Step 3 of an event: a datagram is for an open session, or is a conclusion. What is neither changes nothing.
+//! Step 3 of an event: a datagram is for an open session, or is a conclusion; what is neither changes nothing. A Close
+//! ends every session.
 
-ghost use Rattle.std.specs.Prelude.{◌≡◌, ◌<◌, ◌^◌};
+ghost use Rattle.std.specs.Prelude.{◌≡◌, ◌<◌, ◌^◌, ◌++◌};
 ghost use Rattle.srt_seq.specs.Given.{given};
 ghost use Rattle.srt_seq.specs.Items.{told};
 ghost use Rattle.srt_packet.specs.View.{body_of, packet_of};
@@ -9,13 +10,15 @@ ghost use Rattle.srt_sub.specs.Stands.{texts_of};
 ghost use Rattle.srt_route.specs.Buffers.{datagrams_to};
 ghost use Rattle.srt_route.specs.Tables.{stored_after, written_of};
 ghost use Rattle.srt_route.specs.OneSession.{PublisherTook, PublisherEnds, SubscriberTook, SubscriberAnswers};
-ghost use Rattle.srt_route.specs.Calls.{AnswersPacket, TakenBySession, TakesItem, TakesPacket};
+ghost use Rattle.srt_route.specs.Calls.{AnswersItem, AnswersPacket, TakenBySession, TakesDatagram, TakesItem, TakesPacket};
 
 use crate::admission::conclude;
 use crate::arrival::Arrival;
+use crate::closing::close_seats;
 use crate::conclusion::conclusion_in;
 use crate::places::place_of;
 use crate::replies::Reply;
+use crate::reply_queue::ReplyQueue;
 use crate::seat::Seat;
 use crate::socket_ids::slot_in;
 use crate::table::Table;
@@ -131,29 +134,55 @@ fn to_destination(
     conclude(table, arrival, c, reply)
 }
 
-/// Applies an item's datagram at this clock in microseconds; a tick changes nothing here. Returns true if `reply` has
-/// an answer. A datagram that isn't a packet changes nothing.
-pub fn dispatch(table: &mut Table, clock: u64, item: &Item, reply: &mut Reply) -> bool
+/// Applies a datagram with this header and these bytes after it. Returns true if `reply` has an answer. A datagram that
+/// isn't a packet changes nothing.
+fn take_datagram(
+    table: &mut Table,
+    clock: u64,
+    peer: Peer,
+    head: &[u8; 16],
+    body: &[u8],
+    reply: &mut Reply,
+) -> bool
     requires { clock < 2 ^ 62 }
-    ensures { TakesItem clock (told item.now) table.old table.new (written_of (given result reply.new)) }
+    ensures { TakesDatagram clock peer (head.now ++ body.now) table.old table.new (written_of (given result reply.new)) }
+{
+    match decode_parts(head, body) {
+        Ok(packet) => {
+            let arrival = Arrival {
+                clock,
+                peer,
+                stamp: packet.stamp,
+            };
+            to_destination(table, arrival, &packet, reply)
+        }
+        Err(_) => false,
+    }
+}
+
+/// Applies an item at this clock in microseconds, and queues the replies to it. A tick changes nothing here.
+pub fn dispatch(
+    table: &mut Table,
+    clock: u64,
+    item: &Item,
+    hand: &mut Box<Reply>,
+    waiting: &mut ReplyQueue,
+)
+    requires { clock < 2 ^ 62 }
+    ensures table { TakesItem clock (told item.now) table.old table.new }
+    ensures said { AnswersItem clock (told item.now) table.old waiting.old waiting.new }
 {
     match item {
-        Item::Tick { moment: _ } => false,
+        Item::Tick { moment: _ } => {}
+        Item::Close { moment: _ } => close_seats(table, clock, hand, waiting),
         Item::Datagram {
             peer,
             moment: _,
             head,
             body,
-        } => match decode_parts(head, body) {
-            Ok(packet) => {
-                let arrival = Arrival {
-                    clock,
-                    peer: *peer,
-                    stamp: packet.stamp,
-                };
-                to_destination(table, arrival, &packet, reply)
-            }
-            Err(_) => false,
-        },
+        } => {
+            let answered = take_datagram(table, clock, *peer, head, body, hand);
+            waiting.put_if(hand, answered);
+        }
     }
 }

@@ -1,7 +1,7 @@
 //! A route: its sessions open and close, and payloads go from its active publisher to its subscribers. A second
-//! publisher stands by, and takes over when the active one ends.
+//! publisher stands by, and takes over when the active one ends. When the route is closed, every session ends.
 //!
-//! It reads no clock and no socket: a datagram or a tick comes in as an item, and replies wait to be taken. It doesn't
+//! It reads no clock and no socket: a datagram, a tick or a Close comes in as an item, and replies wait to be taken. It doesn't
 //! choose the route of a datagram and checks no cookie (`srt_lobby` does), and what a session does by itself is in
 //! `srt_pub` and `srt_sub`.
 //!
@@ -12,7 +12,7 @@
 //!
 //! An event's six steps, as `step` in `route.rt` calls them: the clock; `idle.rt`, idle peers and what is too late;
 //! `dispatch.rt`, a packet for a session or a conclusion (`conclusion.rt` reads it, `admission.rt` has each refusal,
-//! `agreement.rt` what both sides agree on, `answer.rt` the answer); `delivery.rt`; `transmit.rt`, the publishers'
+//! `agreement.rt` what both sides agree on, `answer.rt` the answer) or a Close (`closing.rt`); `delivery.rt`; `transmit.rt`, the publishers'
 //! packets and then the subscribers'. Socket IDs are in `socket_ids.rt`, waiting replies in `reply_queue.rt`, the
 //! definition of all of it in `specs/Route.antt`.
 #![tactic(auto)]
@@ -21,6 +21,7 @@ mod admission;
 mod agreement;
 mod answer;
 mod arrival;
+mod closing;
 mod conclusion;
 mod delivery;
 mod dispatch;

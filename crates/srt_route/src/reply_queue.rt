@@ -23,7 +23,7 @@ pub struct ReplyQueue {
 /// Scratch boxes, which an event writes packets into. One that is queued is exchanged for a spare box.
 #[derive(Drop)]
 pub struct ScratchBoxes {
-    /// For an answer, and for a subscriber's packets.
+    /// For an answer, for SHUTDOWNs, and for a subscriber's packets.
     pub reply: Box<Reply>,
     /// For a publisher's ACK.
     pub ack: Box<Reply>,

@@ -8,7 +8,7 @@ ghost use Rattle.srt_seq.specs.Items.{Item as TheItem, told, moment_of};
 ghost use Rattle.srt_route.specs.Opening.{fault_of};
 ghost use Rattle.srt_route.specs.Written.{written};
 ghost use Rattle.srt_route.specs.Sessions.{Session as TheSession, is_publisher, is_subscriber, reported};
-ghost use Rattle.srt_route.specs.Route.{Route as TheRoute, sent, taken_by, delivered, packets_where, reply};
+ghost use Rattle.srt_route.specs.Route.{Route as TheRoute, sent, taken_by, delivered, packets_where, closes, reply};
 ghost use Rattle.srt_route.specs.Tables.{written_of};
 ghost use Rattle.srt_route.specs.Waits.{replies_of, places_of};
 ghost use Rattle.srt_route.specs.Reports.{AreSaid};
@@ -40,6 +40,7 @@ fn moment(item: &Item) -> u64
 {
     match item {
         Item::Tick { moment } => *moment,
+        Item::Close { moment } => *moment,
         Item::Datagram {
             peer: _,
             moment,
@@ -47,6 +48,13 @@ fn moment(item: &Item) -> u64
             body: _,
         } => *moment,
     }
+}
+
+/// Whether an item closes the route.
+fn closes(item: &Item) -> bool
+    ensures { result ≡ closes (told item.now) }
+{
+    matches!(item, Item::Close { moment: _ })
 }
 
 impl Route {
@@ -77,12 +85,13 @@ impl Route {
             payload: ArrayVec::new(),
             scratch,
             waiting,
+            closed: false,
         })
     }
 
-    /// One event: applies one item, a datagram or a tick, whose moment is in microseconds. Returns the number of
-    /// replies that now wait: at most 66 for each session that the entry allows, and 4 more. Take them all with
-    /// `next_reply` before the next call. Takes no memory.
+    /// One event: applies one item, a datagram, a tick or a Close, whose moment is in microseconds. Returns the number
+    /// of replies that now wait: at most 66 for each session that the entry allows, and 4 more; none if the route was
+    /// closed before. Take them all with `next_reply` before the next call. Takes no memory.
     pub fn step(&mut self, item: Item) -> usize
         requires none_waits { waiting self.old ≡ [] }
         requires timely { moment_of (told item) < 2 ^ 62 }
@@ -91,13 +100,22 @@ impl Route {
         ensures replies { (e : Terms) (index : ℕ) (items : List TheItem) →
             stands self.old e index items → waiting self.new ≡ reply e index (told item ∷ items) }
     {
-        // 1: the clock never goes back.
+        // 1: the clock never goes back. After a Close nothing else goes on.
         self.clock = later(self.clock, moment(&item));
+        if self.closed {
+            return 0;
+        }
+        self.closed = closes(&item);
         // 2: idle sessions end, and what is too late is dropped.
         end_idle(&mut self.table, self.clock);
-        // 3: a datagram is for a session, or is a conclusion.
-        let answered = dispatch(&mut self.table, self.clock, &item, &mut self.scratch.reply);
-        self.waiting.put_if(&mut self.scratch.reply, answered);
+        // 3: a datagram is for a session, or is a conclusion; a Close ends every session.
+        dispatch(
+            &mut self.table,
+            self.clock,
+            &item,
+            &mut self.scratch.reply,
+            &mut self.waiting,
+        );
         // 4: payloads go from the active publisher to the subscribers.
         deliver(&mut self.table, self.clock, &mut self.payload);
         // 5: the publishers' packets.

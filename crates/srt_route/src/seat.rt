@@ -26,6 +26,8 @@ pub struct Session {
     /// Whether a publisher's session uses the second of the route's two publisher buffers; without meaning for a
     /// subscriber.
     pub second: bool,
+    /// The moment at which it was opened, in microseconds: its packets' timestamps count from it.
+    pub opened: u64,
     /// The moment of the last packet or conclusion from the peer, in microseconds.
     pub heard: u64,
     /// The answer to its conclusion, kept to answer a repeated conclusion with the same bytes (section 4.3.1.2).

@@ -19,5 +19,7 @@ pub struct Route {
     pub(crate) scratch: ScratchBoxes,
     /// The replies that wait to be sent.
     pub(crate) waiting: ReplyQueue,
+    /// Whether the route was closed. Then no session is open, and only the clock goes on.
+    pub(crate) closed: bool,
     pub(crate) ghost early: { clock < 2 ^ 62 },
 }

@@ -2,7 +2,7 @@
 use Rattle.std.specs.Prelude.{ℕ, List, ◌++◌}
 use Rattle.srt_seq.specs.declared.shared.Peer.{Peer}
 use Rattle.srt_seq.specs.declared.shared.Item.{Item as TheItem}
-use Rattle.srt_seq.specs.declared.shared.Item.TheVariants.{Datagram as TheDatagram, Tick as TheTick}
+use Rattle.srt_seq.specs.declared.shared.Item.TheVariants.{Datagram as TheDatagram, Tick as TheTick, Close as TheClose}
 
 -- the bytes of a datagram, and the peer that it comes from or goes to
 pub record Datagram : Type 0 where
@@ -19,6 +19,7 @@ pub data Item : Type 0 where
 abbrev pub told : TheItem → Item
 told (TheDatagram peer moment head body) = Received (record { peer = peer; bytes = head ++ body.items }) moment
 told (TheTick moment) = Tick moment
+told (TheClose moment) = Close moment
 
 abbrev pub moment_of : Item → ℕ
 moment_of (Received datagram moment) = moment

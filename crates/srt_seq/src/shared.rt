@@ -83,6 +83,12 @@ pub enum Item {
         /// The moment, in microseconds: below [`MOMENT_END`](crate::MOMENT_END).
         moment: u64,
     },
+    /// The route's end: its sessions end, and each one's peer is sent a SHUTDOWN (section 3.2.7). After it the route
+    /// replies to nothing.
+    Close {
+        /// The moment, in microseconds: below [`MOMENT_END`](crate::MOMENT_END).
+        moment: u64,
+    },
 }
 
 /// A copy of the bytes that a data packet carries: at most 1456, held inline. A packet that is sent has at least one

@@ -31,6 +31,6 @@ returns c e index ss h agrees first free few =
     let answer : c.accepted-answer.result ≡ answer_of e index s = c.accepted-answer.ensures e agrees h.buffer_is ∙ ap (λ (n : ℕ). agreed e n c.args.c) id in
     record {
       table_is = session_stored e index clock peer c.args.arrival.stamp c.args.c old _ ss at second c.start_buffers.new.publisher x c.start_buffers.new.seat c.index_mut-3.result.now c.fill.new.self _ h c.requires.inside c.index_mut.ensures.value c.index_mut-3.ensures.value c.fill.ensures refl (refl, refl, refl, refl) (ap (λ (n : ℕ). set old.publishers.items n c.start_buffers.new.publisher) place) c.older_after-table.ensures refl begun
-          (record { peer_is = refl; caller_is = refl; id_is = id; role_is = refl; heard_is = refl; answer_is = answer }) free first free_buffers;
+          (record { peer_is = refl; caller_is = refl; id_is = id; role_is = refl; opened_is = refl; heard_is = refl; answer_is = answer }) free first free_buffers;
       replies_are = ap (λ (d : Datagram). d ∷ []) (c.answer_to.ensures ∙ ap (λ (a : HsAnswer). sent (record { peer = peer; packet = Answers c.args.c.caller a })) answer);
     }
