@@ -110,6 +110,31 @@ fn assert_told(
     Ok(())
 }
 
+/// Asserts what a route that is closed at this moment sends: the ports of the peers, and a SHUTDOWN to each.
+fn assert_closed(
+    rt: &(impl AllocGlobal + Abort),
+    route: &mut Route,
+    moment: u64,
+    shutdowns: &[(u16, &str)],
+) -> Result<(), Fail> {
+    if route.waits() || moment > 10_000_000 {
+        return Err(Fail::from("an early moment, and no reply that waits"));
+    }
+    let waiting = route.step(Item::Close { moment });
+    assert_eq!(rt; waiting, shutdowns.len());
+    let mut out = [0u8; 1472];
+    let mut place = Box::new(rt.alloc(), Reply::blank())?;
+    for (port, text) in shutdowns {
+        assert!(rt; route.next_reply(&mut place));
+        assert!(rt; place.peer == peer(*port));
+        let len = encode(&place.packet, &mut out);
+        let wanted = hex::decode(rt.alloc(), text)?;
+        assert_eq!(rt; &out[..len], wanted.as_slice());
+    }
+    assert!(rt; !route.waits());
+    Ok(())
+}
+
 /// A refusal to this caller with this initial number.
 fn refusal(alloc: Global, caller: &str, initial: &str, code: &str) -> Result<String, Fail> {
     joined(
@@ -317,4 +342,58 @@ fn a_wrong_entry_is_refused(rt: HostRuntime) -> Result<(), Fail> {
     wrong.name = String::from_str(alloc, "a b")?;
     assert_eq!(rt; Route::open(alloc, &wrong, 0).err(), Some(OpenFault::Names));
     Ok(())
+}
+
+#[test]
+fn a_closed_route_sends_shutdowns_and_nothing_more(rt: HostRuntime) -> Result<(), Fail> {
+    let alloc = rt.alloc();
+    let mut route = studio(alloc)?;
+    let first = conclusion(alloc, FIRST, &[HSREQ, PUBLISH])?;
+    let answer = agreed(alloc, "00100000", "00780078")?;
+    assert_told(&rt, &mut route, peer(5000), first.as_str(), answer.as_str())?;
+    let shutdown = "80050000000000000007a12000000001";
+    assert_closed(&rt, &mut route, 1_500_000, &[(5000, shutdown)])?;
+    assert_closed(&rt, &mut route, 1_600_000, &[])?;
+    // Its conclusion again, that of another caller, and a data packet.
+    let request = conclusion(alloc, SECOND, &[HSREQ, REQUEST])?;
+    assert_told(&rt, &mut route, peer(5000), first.as_str(), "")?;
+    assert_told(&rt, &mut route, peer(5001), request.as_str(), "")?;
+    let data = "00000005e0000001000003e8001000006869";
+    assert_told(&rt, &mut route, peer(5000), data, "")?;
+    if route.waits() {
+        return Err(Fail::from("no reply waits"));
+    }
+    assert_eq!(rt; route.step(Item::Tick { moment: 2_000_000 }), 0);
+    Ok(())
+}
+
+#[test]
+fn shutdowns_come_slots_upwards(rt: HostRuntime) -> Result<(), Fail> {
+    let alloc = rt.alloc();
+    let mut route = studio(alloc)?;
+    let first = conclusion(alloc, FIRST, &[HSREQ, PUBLISH])?;
+    let answer = agreed(alloc, "00100000", "00780078")?;
+    assert_told(&rt, &mut route, peer(5000), first.as_str(), answer.as_str())?;
+    let second = conclusion(alloc, SECOND, &[HSREQ, REQUEST])?;
+    assert_told(&rt, &mut route, peer(5001), second.as_str(), SECOND_ANSWER)?;
+    // The first caller leaves and comes back: it opens last, in slot 0.
+    let end = "80050000000000000000000000100000";
+    assert_told(&rt, &mut route, peer(5000), end, "")?;
+    let next = agreed(alloc, "00100100", "00780078")?;
+    assert_told(&rt, &mut route, peer(5000), first.as_str(), next.as_str())?;
+    let shutdowns = [
+        (5000, "80050000000000000007a12000000001"),
+        (5001, "80050000000000000007a12000000002"),
+    ];
+    assert_closed(&rt, &mut route, 1_500_000, &shutdowns)
+}
+
+#[test]
+fn an_idle_session_gets_no_shutdown(rt: HostRuntime) -> Result<(), Fail> {
+    let alloc = rt.alloc();
+    let mut route = studio(alloc)?;
+    let first = conclusion(alloc, FIRST, &[HSREQ, PUBLISH])?;
+    let answer = agreed(alloc, "00100000", "00780078")?;
+    assert_told(&rt, &mut route, peer(5000), first.as_str(), answer.as_str())?;
+    assert_closed(&rt, &mut route, 6_000_000, &[])
 }
