@@ -34,3 +34,4 @@ pub mod Renumbered
 pub mod ShiftRows
 pub mod Closings
 pub mod Ending
+pub mod Closed

@@ -1,5 +1,6 @@
 //! Laws of the definitions.
 
+ghost use Rattle.srt_route.specs.Closed.{ClosesOnce, ClosedHasNoSession, ClosedIsQuiet};
 ghost use Rattle.srt_route.specs.Relabel.{Renumbers, Restamps, Moves};
 ghost use Rattle.srt_route.specs.Route.{RepliesHavePlaces};
 ghost use Rattle.srt_route.specs.Sendable.{PublishersSendPackets, SubscribersSendPackets, AnswersArePackets, RepliesArePackets};
@@ -17,6 +18,14 @@ pub fn replies_are_packets()
     ensures publishers { PublishersSendPackets }
     ensures subscribers { SubscribersSendPackets }
     ensures answers { AnswersArePackets }
+{}
+
+/// A route with a Close among its items is closed. It has no open session; and whatever comes, it replies to nothing
+/// and no session opens.
+pub fn closed_routes()
+    ensures closes { ClosesOnce }
+    ensures ended { ClosedHasNoSession }
+    ensures quiet { ClosedIsQuiet }
 {}
 
 /// Nothing depends on the values at which sequence numbers, timestamps and moments begin. If all sequence numbers are
