@@ -4,6 +4,7 @@ use Rattle.std.specs.Str.{bytes_eq}
 use Rattle.hex.specs.Hex.{encode_lower}
 use Rattle.srt_seq.specs.Items.{Datagram}
 use Rattle.srt_seq.specs.Terms.{Terms}
+use Rattle.srt_lobby.specs.Names.{RouteName}
 use Rattle.srt_hub.specs.World.{Event, Arrives, Ticks, Turns, Sends, Sorting, Meaning, solo, accepted, sent, IsQuiet}
 use Rattle.srt_hub.specs.Hubs.{names, terms_at, lane_at}
 use Rattle.srt_gateway.specs.Tape.{lines_of}
@@ -53,7 +54,7 @@ SentLinesTell =
 -- items and nothing of it waits at the end, these lines are the same, and are those of what the route alone replies
 abbrev pub TapesAreIsolated : Type 0
 TapesAreIsolated =
-    (class : (secret : List ℕ) → (names : List (List ℕ)) → Sorting) (reply : Meaning) (secret : List ℕ) (entries entries' : List Terms) (r : ℕ) (tape tape' : List ℕ) →
+    (class : (secret : List ℕ) → (names : List RouteName) → Sorting) (reply : Meaning) (secret : List ℕ) (entries entries' : List Terms) (r : ℕ) (tape tape' : List ℕ) →
     let here = class secret (names entries) in
     let there = class secret (names entries') in
     let e = terms_at entries r in

@@ -9,7 +9,7 @@ use Rattle.srt_seq.specs.Items.{Datagram, Item}
 use Rattle.srt_seq.specs.Terms.{Terms}
 use Rattle.srt_lobby.specs.declared.classes.Class.{Class}
 use Rattle.srt_lobby.specs.declared.classes.Class.TheVariants.{Answer, Route, Dropped}
-use Rattle.srt_lobby.specs.Names.{AreDistinct, name_of}
+use Rattle.srt_lobby.specs.Names.{AreDistinct, shown, name_of}
 use Rattle.srt_lobby.specs.Lobby.{class_of}
 use Rattle.srt_lobby.specs.Laws.{HasRoute}
 use Rattle.srt_lobby.proofs.Kept.{own}
@@ -24,20 +24,20 @@ use Rattle.srt_hub.specs.Gateways.{sorting, HaveRoute, ArrivalsAreOwn, StepsAreO
 use Rattle.srt_hub.proofs.Isolation.{sent_is_front, sent_is_whole, isolated}
 use Rattle.srt_hub.proofs.OwnSteps.{own_steps_decide, sorting_decides}
 
-named_at : (entries : List Terms) (r : ℕ) → r < length entries → slice_get (map name_of entries) r ≡ Some (terms_at entries r).name
+named_at : (entries : List Terms) (r : ℕ) → r < length entries → slice_get (map name_of entries) r ≡ Some (name_of (terms_at entries r))
 named_at [] r below = absurd (omega arith)
 named_at (e ∷ entries) zero below = refl
 named_at (e ∷ entries) (suc r) below = named_at entries r (omega arith)
 
-has_route : (entries : List Terms) (r : ℕ) (name : List ℕ) → r < length entries → (terms_at entries r).name ≡ name → AreDistinct (names entries) → HasRoute (names entries) r name
+has_route : (entries : List Terms) (r : ℕ) (name : List ℕ) → r < length entries → (terms_at entries r).name ≡ name → AreDistinct (names entries) → HasRoute (names entries) r (shown name)
 has_route entries r name below same distinct = record {
-  named = named_at entries r below ∙ ap Some same;
+  named = named_at entries r below ∙ ap (λ (text : List ℕ). Some (shown text)) same;
   distinct = distinct;
 }
 
 pub arrivals_are_own : ArrivalsAreOwn
 arrivals_are_own secret entries others r h d moment =
-    own secret (names entries) (names others) r (terms_at entries r).name
+    own secret (names entries) (names others) r (name_of (terms_at entries r))
     (has_route entries r (terms_at entries r).name h.below refl h.distinct)
     (has_route others r (terms_at entries r).name h.below_there (sym h.same_name) h.distinct_there)
     d moment

@@ -2,14 +2,14 @@
 use Rattle.std.specs.Prelude.{◌≡◌, ℕ, ◌<◌, Bool, List, [], map, length, slice_index_or}
 use Rattle.srt_seq.specs.declared.shared.Mode.TheVariants.{Live}
 use Rattle.srt_seq.specs.Terms.{Terms}
-use Rattle.srt_lobby.specs.Names.{name_of}
+use Rattle.srt_lobby.specs.Names.{RouteName, name_of}
 use Rattle.srt_hub.specs.World.{Event, Sorting, Meaning, Lane, lane_after, has_room}
 
 -- the entry with this index
 abbrev pub terms_at : List Terms → ℕ → Terms
 terms_at entries r = slice_index_or entries r (record { name = []; mode = Live; latency_ms = 0; buffer = 0; sessions = 0; inbox = 0; outbox = 0 })
 
-abbrev pub names : List Terms → List (List ℕ)
+abbrev pub names : List Terms → List RouteName
 names entries = map name_of entries
 
 -- the route with this index after these events

@@ -4,6 +4,7 @@ use Rattle.srt_lobby.specs.declared.classes.Class.TheVariants.{Route}
 use Rattle.srt_seq.specs.Items.{Datagram}
 use Rattle.srt_seq.specs.Terms.{Terms}
 use Rattle.srt_hub.specs.World.{Event, Arrives, Ticks, Turns, Sends, Sorting, Meaning, solo, Step, Offers, Turn, Send, Nothing, is_route, step_for, lane_after, accepted, sent, IsQuiet}
+use Rattle.srt_lobby.specs.Names.{RouteName}
 use Rattle.srt_lobby.specs.Opening.{fault_of}
 use Rattle.srt_hub.specs.Hubs.{names, terms_at, lane_at}
 
@@ -72,7 +73,7 @@ OthersStay =
 -- happens to them may differ
 abbrev pub GatewaysAreIsolated : Type 0
 GatewaysAreIsolated =
-    (class : (secret : List ℕ) → (names : List (List ℕ)) → Sorting) (reply : Meaning) (secret : List ℕ) (entries entries' : List Terms) (r : ℕ) (events events' : List Event) →
+    (class : (secret : List ℕ) → (names : List RouteName) → Sorting) (reply : Meaning) (secret : List ℕ) (entries entries' : List Terms) (r : ℕ) (events events' : List Event) →
     let here = class secret (names entries) in
     let there = class secret (names entries') in
     let e = terms_at entries r in
@@ -83,7 +84,7 @@ GatewaysAreIsolated =
 
 -- a way of sorting in which a route's datagrams depend on the secret, the route's index and name, and the datagram
 -- alone, whatever else the gateway was opened with
-abbrev pub SortsByOwnName : ((secret : List ℕ) → (names : List (List ℕ)) → Sorting) → Type 0
+abbrev pub SortsByOwnName : ((secret : List ℕ) → (names : List RouteName) → Sorting) → Type 0
 SortsByOwnName class =
     (secret : List ℕ) (entries entries' : List Terms) (r : ℕ) → fault_of entries ≡ None → fault_of entries' ≡ None →
     r < length entries → r < length entries' → (terms_at entries r).name ≡ (terms_at entries' r).name →
@@ -92,7 +93,7 @@ SortsByOwnName class =
 -- with such a way of sorting the same events are the same steps for a route
 abbrev pub OwnNameDecides : Type 0
 OwnNameDecides =
-    (class : (secret : List ℕ) → (names : List (List ℕ)) → Sorting) → SortsByOwnName class →
+    (class : (secret : List ℕ) → (names : List RouteName) → Sorting) → SortsByOwnName class →
     (secret : List ℕ) (entries entries' : List Terms) (r : ℕ) → fault_of entries ≡ None → fault_of entries' ≡ None →
     r < length entries → r < length entries' → (terms_at entries r).name ≡ (terms_at entries' r).name →
     (events : List Event) → own_steps (class secret (names entries)) r events ≡ own_steps (class secret (names entries')) r events

@@ -11,6 +11,7 @@ ghost use Rattle.srt_seq.specs.Items.{Item as TheItem, Datagram, told, moment_of
 ghost use Rattle.srt_seq.specs.Terms.{Terms, terms_of};
 ghost use Rattle.srt_route.specs.Written.{written};
 ghost use Rattle.srt_seq.specs.Entries.{is_name, in_limits};
+ghost use Rattle.srt_lobby.specs.Names.{RouteName};
 ghost use Rattle.srt_lobby.specs.Opening.{fault_of};
 ghost use Rattle.srt_hub.specs.Hubs.{names};
 ghost use Rattle.srt_hub.specs.Calls.{LobbyAnswers, RouteReplies, datagram};
@@ -24,10 +25,10 @@ use std::alloc::Global;
 /// Sorts datagrams: answered, dropped, or for a route.
 pub trait Lobby: Drop {
     /// The class of a datagram for a lobby with this secret and these names.
-    ghost class: { (secret : List ℕ) → (names : List (List ℕ)) → Datagram → (moment : ℕ) → TheClass };
+    ghost class: { (secret : List ℕ) → (names : List RouteName) → Datagram → (moment : ℕ) → TheClass };
 
     /// The lobby was opened with this secret and these names of routes, in the order of their indexes.
-    ghost knows: { Self → (secret : List ℕ) → (names : List (List ℕ)) → Type 0 };
+    ghost knows: { Self → (secret : List ℕ) → (names : List RouteName) → Type 0 };
 
     /// Opens the lobby of these entries. Errors: `Names`, else `Limits`, else `OutOfMemory`, as `Hub::open`. After an
     /// error nothing is kept.
@@ -45,7 +46,7 @@ pub trait Lobby: Drop {
         ensures header { (r : ℕ) → result ≡ Class.Route r → 16 ≤ length bytes.now };
 
     /// A datagram for a route is for a route that exists.
-    ghost named: { (secret : List ℕ) (names : List (List ℕ)) (d : Datagram) (moment r : ℕ) → class secret names d moment ≡ ForRoute r → r < length names };
+    ghost named: { (secret : List ℕ) (names : List RouteName) (d : Datagram) (moment r : ℕ) → class secret names d moment ≡ ForRoute r → r < length names };
 }
 
 /// A route as the hub drives it: items in, replies out.

@@ -1,5 +1,5 @@
 -- Names of entries that can be opened.
-use Rattle.std.proofs.Common.{◌≡◌, ℕ, zero, suc, Bool, true, false, not, ◌&&◌, ◌||◌, cond, List, [], ◌∷◌, ◌++◌, take, map, None, Some, slice_get, refl, sym, ap, ◌∙◌}
+use Rattle.std.proofs.Common.{◌≡◌, ℕ, zero, suc, Bool, true, false, not, ◌&&◌, ◌||◌, cond, List, [], ◌∷◌, ◌++◌, take, map, None, Some, slice_get, option_map, refl, sym, ap, ◌∙◌}
 use Rattle.std.specs.List.{list_any}
 use Rattle.std.specs.Str.{bytes_eq}
 use Rattle.std.proofs.lemmas.Bool.{false_from_ne_true}
@@ -8,8 +8,8 @@ use Rattle.std.proofs.lemmas.Slice.Eq.{bytes_eq-Decides}
 use Rattle.srt_seq.specs.declared.shared.OpenFault.TheVariants as faults
 use Rattle.srt_seq.specs.Terms.{Terms}
 use Rattle.srt_seq.specs.Entries.{is_name}
-use Rattle.srt_lobby.specs.Opening.{is_taken, are_names, are_in_limits, fault_of}
-use Rattle.srt_lobby.specs.Names.{AreDistinct, name_of}
+use Rattle.srt_lobby.specs.Opening.{text_in, is_taken, are_names, are_in_limits, fault_of}
+use Rattle.srt_lobby.specs.Names.{RouteName, shown, name_of}
 use Rattle.srt_lobby.specs.Laws.{NamesAreDistinct}
 use Rattle.srt_lobby.proofs.Finds.{any_of, take_next}
 
@@ -38,12 +38,16 @@ parts false false c h = cc
 first_parts : (e : Terms) (es : List Terms) → are_names (e ∷ es) ≡ true → Parts (is_taken e.name es) (are_names es)
 first_parts e es h = parts (is_name e.name) (is_taken e.name es) (are_names es) h
 
-taken : (name : List ℕ) (es : List Terms) (k : ℕ) → slice_get (map name_of es) k ≡ Some name → is_taken name es ≡ true
+taken : (name : List ℕ) (es : List Terms) (k : ℕ) → slice_get (map text_in es) k ≡ Some name → is_taken name es ≡ true
 taken name [] k h = cc
 taken name (e ∷ es) zero h = true_or (bytes_eq e.name name) (is_taken name es) ((bytes_eq-Decides e.name name).1 (cc))
 taken name (e ∷ es) (suc k) h = or_true (bytes_eq e.name name) (is_taken name es) (taken name es k h)
 
-pub distinct : (es : List Terms) → are_names es ≡ true → AreDistinct (map name_of es)
+-- no text appears twice
+abbrev AreApart : List (List ℕ) → Type 0
+AreApart texts = (i j : ℕ) (text : List ℕ) → slice_get texts i ≡ Some text → slice_get texts j ≡ Some text → i ≡ j
+
+distinct : (es : List Terms) → are_names es ≡ true → AreApart (map text_in es)
 distinct [] h i j name p q = cc
 distinct (e ∷ es) h zero zero name p q = refl
 distinct (e ∷ es) h zero (suc j) name p q =
@@ -67,11 +71,16 @@ named es h = by_test (are_names es) (are_in_limits es) h
     by_test true b h = refl
     by_test false b h = cc
 
+text_at : (es : List Terms) (i : ℕ) (text : List ℕ) → slice_get (map name_of es) i ≡ Some (shown text) → slice_get (map text_in es) i ≡ Some text
+text_at [] i text h = cc
+text_at (e ∷ es) zero text h = ap (option_map (λ (n : RouteName). n.text)) h
+text_at (e ∷ es) (suc i) text h = text_at es i text h
+
 pub names_are_distinct : NamesAreDistinct
-names_are_distinct es h = distinct es (named es h)
+names_are_distinct es h i j text p q = distinct es (named es h) i j text (text_at es i text p) (text_at es j text q)
 
 -- a name doesn't stand before its index
-pub is_new : (es : List Terms) (i : ℕ) (name : List ℕ) → are_names es ≡ true → slice_get (map name_of es) i ≡ Some name → list_any (λ other. bytes_eq name other) (take i (map name_of es)) ≡ false
+pub is_new : (es : List Terms) (i : ℕ) (name : List ℕ) → are_names es ≡ true → slice_get (map text_in es) i ≡ Some name → list_any (λ other. bytes_eq name other) (take i (map text_in es)) ≡ false
 is_new [] i name h p = cc
 is_new (e ∷ es) zero name h p = refl
 is_new (e ∷ es) (suc i) name h p =
@@ -81,12 +90,12 @@ is_new (e ∷ es) (suc i) name h p =
     let there : is_taken e.name es ≡ true = taken e.name es i (p ∙ ap Some ((bytes_eq-Decides name e.name).0 same)) in
     let never : true ≡ false = sym there ∙ both.new in
     cc) in
-    or_false (bytes_eq name e.name) (list_any (λ other. bytes_eq name other) (take i (map name_of es))) other (is_new es i name both.more p)
+    or_false (bytes_eq name e.name) (list_any (λ other. bytes_eq name other) (take i (map text_in es))) other (is_new es i name both.more p)
 
 -- names, and one more of these entries
-pub one_more : {K : Type 0} (f : K → List ℕ) (keys : List K) (key : K) (es : List Terms) (i : ℕ) → are_names es ≡ true → slice_get (map name_of es) i ≡ Some (f key) → map f keys ≡ take i (map name_of es) →
-    map f (cond (list_any (λ k. bytes_eq (f key) (f k)) keys) keys (keys ++ key ∷ [])) ≡ take (suc i) (map name_of es)
+pub one_more : {K : Type 0} (f : K → List ℕ) (keys : List K) (key : K) (es : List Terms) (i : ℕ) → are_names es ≡ true → slice_get (map text_in es) i ≡ Some (f key) → map f keys ≡ take i (map text_in es) →
+    map f (cond (list_any (λ k. bytes_eq (f key) (f k)) keys) keys (keys ++ key ∷ [])) ≡ take (suc i) (map text_in es)
 one_more f keys key es i h p e =
     let new : list_any (λ k. bytes_eq (f key) (f k)) keys ≡ false =
     sym (any_of (λ other. bytes_eq (f key) other) f keys) ∙ ap (list_any (λ other. bytes_eq (f key) other)) e ∙ is_new es i (f key) h p in
-    ap (λ b. map f (cond b keys (keys ++ key ∷ []))) new ∙ map-append f keys (key ∷ []) ∙ ap (λ (names : List (List ℕ)). names ++ f key ∷ []) e ∙ sym (take_next (map name_of es) i (f key) p)
+    ap (λ b. map f (cond b keys (keys ++ key ∷ []))) new ∙ map-append f keys (key ∷ []) ∙ ap (λ (names : List (List ℕ)). names ++ f key ∷ []) e ∙ sym (take_next (map text_in es) i (f key) p)

@@ -12,18 +12,18 @@ use Rattle.std.proofs.lemmas.Option.{get_or_from_slice_get, slice_get-get_or, sl
 use Rattle.srt_seq.specs.declared.shared.Entry.{Entry}
 use Rattle.srt_seq.specs.Terms.{Terms, terms_of}
 use Rattle.srt_seq.specs.Entries.{is_between, is_name, in_limits}
-use Rattle.srt_lobby.specs.Opening.{is_taken, is_fresh, are_names, are_in_limits}
-use Rattle.srt_lobby.specs.Names.{AreDistinct, index_of, name_of}
+use Rattle.srt_lobby.specs.Opening.{text_in, is_taken, is_fresh, are_names, are_in_limits}
+use Rattle.srt_lobby.specs.Names.{RouteName, AreDistinct, shown, is_asked, index_of, shows, is_shown_at, name_of}
 
 same_length : {K X : Type 0} (f : K → X) (ks : List K) → length (map f ks) ≡ length ks
 same_length f [] = refl
 same_length f (k ∷ ks) = ap suc (same_length f ks)
 
-places_of : {K : Type 0} (p : List ℕ → Bool) (f : K → List ℕ) (ks : List K) → position_or_len p (map f ks) ≡ position_or_len (λ k. p (f k)) ks
+places_of : {K X : Type 0} (p : X → Bool) (f : K → X) (ks : List K) → position_or_len p (map f ks) ≡ position_or_len (λ k. p (f k)) ks
 places_of p f [] = refl
 places_of p f (k ∷ ks) = ap (λ n. cond (not (p (f k))) (1 + n) 0) (places_of p f ks)
 
-pub position_of : {K : Type 0} (p : List ℕ → Bool) (f : K → List ℕ) (ks : List K) → position p (map f ks) ≡ position (λ k. p (f k)) ks
+pub position_of : {K X : Type 0} (p : X → Bool) (f : K → X) (ks : List K) → position p (map f ks) ≡ position (λ k. p (f k)) ks
 position_of p f ks =
     ap (λ n. cond (nat_lt n (length (map f ks))) (Some n) None) (places_of p f ks) ∙
     ap (λ n. cond (nat_lt (position_or_len (λ k. p (f k)) ks) n) (Some (position_or_len (λ k. p (f k)) ks)) None) (same_length f ks)
@@ -32,28 +32,76 @@ pub any_of : {K X : Type 0} (p : X → Bool) (f : K → X) (ks : List K) → lis
 any_of p f [] = refl
 any_of p f (k ∷ ks) = rw (any_of p f ks)
 
--- what is found has the name
-pub found_name : (names : List (List ℕ)) (r : ℕ) (name asked : List ℕ) → slice_get names r ≡ Some name → index_of names asked ≡ Some r → asked ≡ name
-found_name names r name asked h e =
-    let same : bytes_eq asked (get_or names r []) ≡ true = (position-Some (λ other. bytes_eq asked other) names r [] e).1 in
-    (bytes_eq-Decides asked (get_or names r [])).0 same ∙ get_or_from_slice_get names r name [] h
+abbrev pub no_name : RouteName
+no_name = shown []
 
-other_before : (names : List (List ℕ)) (r : ℕ) (name : List ℕ) → AreDistinct names → slice_get names r ≡ Some name → (k : ℕ) → k < r → bytes_eq name (get_or names k []) ≡ false
-other_before names r name distinct h k below =
+-- what is found is asked for, and is shown
+pub found_name : (names : List RouteName) (r : ℕ) (name : RouteName) (asked : List ℕ) → slice_get names r ≡ Some name → index_of names asked ≡ Some r → is_asked asked name ≡ true
+found_name names r name asked h e = ap (is_asked asked) (sym (get_or_from_slice_get names r name no_name h)) ∙ (position-Some (is_asked asked) names r no_name e).1
+
+record IsBoth (a b : Bool) : Type 0 where
+  first : a ≡ true
+  second : b ≡ true
+
+both : (a b : Bool) → (a && b) ≡ true → IsBoth a b
+both true b h = record { first = refl; second = h }
+both false b h = cc
+
+-- what is asked for is this name, shown
+asked_is : (asked : List ℕ) (name : RouteName) → is_asked asked name ≡ true → name ≡ shown asked
+asked_is asked name h =
+    let parts = both name.is_shown (bytes_eq asked name.text) h in
+    ap (λ (b : Bool). record { text = name.text; is_shown = b }) parts.first
+    ∙ ap shown (sym ((bytes_eq-Decides asked name.text).0 parts.second))
+
+pub asked_is_shown : (asked : List ℕ) (name : RouteName) → is_asked asked name ≡ true → name.is_shown ≡ true
+asked_is_shown asked name h = (both name.is_shown (bytes_eq asked name.text) h).first
+
+other_before : (names : List RouteName) (r : ℕ) (asked : List ℕ) → AreDistinct names → slice_get names r ≡ Some (shown asked) → (k : ℕ) → k < r → is_asked asked (get_or names k no_name) ≡ false
+other_before names r asked distinct h k below =
     false_from_ne_true _ (λ same.
-    let inside : r < length names = slice_get_within names r name h in
-    let there : slice_get names k ≡ Some name = slice_get-get_or names k [] (omega arith) ∙ ap Some (sym ((bytes_eq-Decides name (get_or names k [])).0 same)) in
-    let e : k ≡ r = distinct k r name there h in
+    let inside : r < length names = slice_get_within names r (shown asked) h in
+    let there : slice_get names k ≡ Some (shown asked) = slice_get-get_or names k no_name (omega arith) ∙ ap Some (asked_is asked (get_or names k no_name) same) in
+    let e : k ≡ r = distinct k r asked there h in
     omega arith)
 
--- the name is found
-pub name_found : (names : List (List ℕ)) (r : ℕ) (name : List ℕ) → AreDistinct names → slice_get names r ≡ Some name → index_of names name ≡ Some r
-name_found names r name distinct h =
+-- a shown name is found
+pub name_found : (names : List RouteName) (r : ℕ) (name : RouteName) (asked : List ℕ) → AreDistinct names → slice_get names r ≡ Some name → is_asked asked name ≡ true → index_of names asked ≡ Some r
+name_found names r name asked distinct h is =
     let inside : r < length names = slice_get_within names r name h in
-    let here : bytes_eq name (get_or names r []) ≡ true = (bytes_eq-Decides name (get_or names r [])).1 (sym (get_or_from_slice_get names r name [] h)) in
-    let at : position_or_len (λ other. bytes_eq name other) names ≡ r =
-    position_or_len_is (λ other. bytes_eq name other) names r [] (omega arith) (other_before names r name distinct h) (λ w. here) in
+    let here : is_asked asked (get_or names r no_name) ≡ true = ap (is_asked asked) (get_or_from_slice_get names r name no_name h) ∙ is in
+    let at : position_or_len (is_asked asked) names ≡ r =
+    position_or_len_is (is_asked asked) names r no_name (omega arith) (other_before names r asked distinct (h ∙ ap Some (asked_is asked name is))) (λ w. here) in
     rw at (grind (arith, nat_tests))
+
+-- a route that is shown exists
+pub shown_within : (names : List RouteName) (r : ℕ) → is_shown_at names r ≡ true → r < length names
+shown_within [] r h = cc
+shown_within (x ∷ xs) zero h = omega arith
+shown_within (x ∷ xs) (suc r) h = omega (arith, shown_within xs r h)
+
+-- a route that is found is shown
+pub found_shown : (names : List RouteName) (r : ℕ) (asked : List ℕ) → index_of names asked ≡ Some r → is_shown_at names r ≡ true
+found_shown names r asked e =
+    let found = position-Some (is_asked asked) names r no_name e in
+    ap shows (slice_get-get_or names r no_name found.0) ∙ asked_is_shown asked (get_or names r no_name) found.1
+
+one_less : (a b : ℕ) → nat_lt (suc a) (suc b) ≡ nat_lt a b
+one_less a b = grind (arith, nat_tests)
+
+-- all of these are shown
+pub all_shown : {K : Type 0} (f : K → List ℕ) (keys : List K) (r : ℕ) → nat_lt r (length keys) ≡ is_shown_at (map (λ key. shown (f key)) keys) r
+all_shown f [] zero = refl
+all_shown f [] (suc r) = grind (arith, nat_tests)
+all_shown f (k ∷ keys) zero = grind (arith, nat_tests)
+all_shown f (k ∷ keys) (suc r) = one_less r (length keys) ∙ all_shown f keys r
+
+pub names_shown : {K : Type 0} (f : K → List ℕ) (keys : List K) (es : List Terms) → map f keys ≡ map text_in es → map (λ key. shown (f key)) keys ≡ map name_of es
+names_shown f keys es e = shown_after f keys ∙ ap (map shown) e ∙ sym (shown_after text_in es)
+  where
+    shown_after : {L : Type 0} (g : L → List ℕ) (xs : List L) → map (λ x. shown (g x)) xs ≡ map shown (map g xs)
+    shown_after g [] = refl
+    shown_after g (x ∷ xs) = ap (λ (ys : List RouteName). shown (g x) ∷ ys) (shown_after g xs)
 
 pub any_taken : (name : List ℕ) (es : List Entry) → list_any (λ (e : Entry). bytes_eq (terms_of e).name name) es ≡ is_taken name (map terms_of es)
 any_taken name es = sym (any_of (λ (e : Terms). bytes_eq e.name name) terms_of es)
@@ -67,7 +115,7 @@ names_step [] d h = absurd (omega arith)
 names_step (e ∷ es) d h = refl
 
 -- the name of an entry
-pub name_at : (es : List Entry) (i : ℕ) (d : Entry) → i < length es → slice_get (map name_of (map terms_of es)) i ≡ Some (terms_of (get_or es i d)).name
+pub name_at : (es : List Entry) (i : ℕ) (d : Entry) → i < length es → slice_get (map text_in (map terms_of es)) i ≡ Some (terms_of (get_or es i d)).name
 name_at [] i d h = absurd (omega arith)
 name_at (e ∷ es) zero d h = refl
 name_at (e ∷ es) (suc i) d h = name_at es i d (omega arith)

@@ -2,3 +2,4 @@ pub mod Finds
 pub mod Distinct
 pub mod Kept
 pub mod Bytes
+pub mod Changing

@@ -3,3 +3,4 @@ pub mod Opening
 pub mod Names
 pub mod Lobby
 pub mod Laws
+pub mod Changing

@@ -1,6 +1,6 @@
--- The class of a datagram. It depends on the secret, the routes' names and the datagram alone. The order of the tests
--- is this profile's.
-use Rattle.std.specs.Prelude.{ℕ, ◌-◌, ◌/◌, ◌^◌, List, length, Option, None, Some, is_some, not, Result, Ok, Err, nat_le, nat_lt, ◌==◌, ◌++◌, ◌&&◌, ◌||◌, if◌then◌else◌}
+-- The class of a datagram. It depends on the secret, the routes' names, which of them are shown, and the datagram alone.
+-- The order of the tests is this profile's.
+use Rattle.std.specs.Prelude.{ℕ, ◌-◌, ◌/◌, ◌^◌, List, Option, None, Some, is_some, not, Result, Ok, Err, nat_le, nat_lt, ◌==◌, ◌++◌, ◌&&◌, ◌||◌, if◌then◌else◌}
 use Rattle.srt_seq.specs.declared.shared.Peer.{Peer}
 use Rattle.srt_seq.specs.Items.{Datagram}
 use Rattle.srt_seq.specs.Words.{word}
@@ -26,7 +26,7 @@ use Rattle.srt_cookie.specs.Cookie.{cookie_of, is_right, minute_of}
 use Rattle.srt_lobby.specs.declared.classes.Class.{Class}
 use Rattle.srt_lobby.specs.declared.classes.Class.TheVariants.{Answer, Route, Dropped}
 use Rattle.srt_lobby.specs.declared.classes.Cause.TheVariants as causes
-use Rattle.srt_lobby.specs.Names.{index_of}
+use Rattle.srt_lobby.specs.Names.{RouteName, index_of, is_shown_at}
 
 -- the 64 bytes of an answer: a handshake packet (section 3.2) with timestamp 0, to the caller's socket
 abbrev pub answer_bytes : (id : ℕ) → HsAnswer → List ℕ
@@ -50,13 +50,13 @@ reason_of hs =
     else if hs.blocks.has_group then Some codes.Group
     else None
 
--- the index of the route that these bytes ask for, in either role
-abbrev pub route_named : (names : List (List ℕ)) → (bytes : List ℕ) → Result Ask AskFault → Option ℕ
+-- the index of the shown route that these bytes ask for, in either role
+abbrev pub route_named : (names : List RouteName) → (bytes : List ℕ) → Result Ask AskFault → Option ℕ
 route_named names bytes (Ok ask) = index_of names (name_of bytes ask)
 route_named names bytes (Err fault) = None
 
--- the index of the route that a Stream ID asks for, if there is one (appendix B)
-abbrev pub route_asked : (names : List (List ℕ)) → Option (List ℕ) → Option ℕ
+-- the index of the shown route that a Stream ID asks for, if there is one (appendix B)
+abbrev pub route_asked : (names : List RouteName) → Option (List ℕ) → Option ℕ
 route_asked names (Some bytes) = route_named names bytes (ask_in bytes)
 route_asked names None = None
 
@@ -66,42 +66,42 @@ by_route hs (Some r) = Route r
 by_route hs None = refused hs codes.Peer
 
 -- a conclusion that is refused for this reason, or isn't refused yet
-abbrev pub by_reason : (names : List (List ℕ)) → Handshake → Option RefusalCode → Class
+abbrev pub by_reason : (names : List RouteName) → Handshake → Option RefusalCode → Class
 by_reason names hs (Some code) = refused hs code
 by_reason names hs None = by_route hs (route_asked names hs.blocks.stream_id)
 
 -- a conclusion with a valid cookie
-unfoldable pub of_conclusion : (names : List (List ℕ)) → Handshake → Class
+unfoldable pub of_conclusion : (names : List RouteName) → Handshake → Class
 of_conclusion names hs = by_reason names hs (reason_of hs)
 
 -- a handshake of this type (section 4.3.1)
-abbrev pub by_kind : (secret : List ℕ) → (names : List (List ℕ)) → Peer → (moment : ℕ) → Handshake → HsKind → Class
+abbrev pub by_kind : (secret : List ℕ) → (names : List RouteName) → Peer → (moment : ℕ) → Handshake → HsKind → Class
 by_kind secret names peer moment hs kinds.Induction = answered hs (answers.Induction (cookie_of secret peer (minute_of moment)))
 by_kind secret names peer moment hs kinds.Conclusion = if is_right secret peer moment hs.cookie then of_conclusion names hs else Dropped causes.WrongCookie
 by_kind secret names peer moment hs _ = Dropped causes.WrongKind
 
-abbrev pub of_handshake : (secret : List ℕ) → (names : List (List ℕ)) → Peer → (moment : ℕ) → Result Handshake HsFault → Class
+abbrev pub of_handshake : (secret : List ℕ) → (names : List RouteName) → Peer → (moment : ℕ) → Result Handshake HsFault → Class
 of_handshake secret names peer moment (Ok hs) = by_kind secret names peer moment hs hs.kind
 of_handshake secret names peer moment (Err fault) = Dropped causes.Handshake
 
 -- a packet with destination 0 has to be a handshake
-abbrev pub of_body : (secret : List ℕ) → (names : List (List ℕ)) → Peer → (moment : ℕ) → Body → Class
+abbrev pub of_body : (secret : List ℕ) → (names : List RouteName) → Peer → (moment : ℕ) → Body → Class
 of_body secret names peer moment (packets.Handshake info) = of_handshake secret names peer moment (handshake_in info)
 of_body secret names peer moment _ = Dropped causes.NotHandshake
 
--- the route with this index + 1, if there is one
-abbrev pub by_place : (routes place : ℕ) → Class
-by_place routes place = if nat_lt 0 place && nat_le place routes then Route (place - 1) else Dropped causes.UnknownId
+-- the route with this index + 1, if there is one and it is shown
+abbrev pub by_place : (names : List RouteName) → (place : ℕ) → Class
+by_place names place = if nat_lt 0 place && is_shown_at names (place - 1) then Route (place - 1) else Dropped causes.UnknownId
 
 -- a session's socket ID has its route's index + 1 at bit 20 (this profile)
-abbrev pub to_session : (routes dest : ℕ) → Class
-to_session routes dest = by_place routes (dest / 2 ^ 20)
+abbrev pub to_session : (names : List RouteName) → (dest : ℕ) → Class
+to_session names dest = by_place names (dest / 2 ^ 20)
 
-abbrev pub of_packet : (secret : List ℕ) → (names : List (List ℕ)) → Peer → (moment : ℕ) → Result Packet PacketFault → Class
+abbrev pub of_packet : (secret : List ℕ) → (names : List RouteName) → Peer → (moment : ℕ) → Result Packet PacketFault → Class
 of_packet secret names peer moment (Ok packet) =
-    if packet.dest == 0 then of_body secret names peer moment packet.body else to_session (length names) packet.dest
+    if packet.dest == 0 then of_body secret names peer moment packet.body else to_session names packet.dest
 of_packet secret names peer moment (Err fault) = Dropped causes.Packet
 
 -- the class of a datagram
-unfoldable pub class_of : (secret : List ℕ) → (names : List (List ℕ)) → Datagram → (moment : ℕ) → Class
+unfoldable pub class_of : (secret : List ℕ) → (names : List RouteName) → Datagram → (moment : ℕ) → Class
 class_of secret names datagram moment = of_packet secret names datagram.peer moment (packet_in datagram.bytes)

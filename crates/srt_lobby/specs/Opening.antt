@@ -7,6 +7,9 @@ use Rattle.srt_seq.specs.declared.shared.OpenFault.TheVariants as faults
 use Rattle.srt_seq.specs.Terms.{Terms}
 use Rattle.srt_seq.specs.Entries.{is_between, is_name, in_limits}
 
+abbrev pub text_in : Terms → List ℕ
+text_in e = e.name
+
 -- one of these entries has this name
 abbrev pub is_taken : (name : List ℕ) → List Terms → Bool
 is_taken name entries = list_any (λ (e : Terms). bytes_eq e.name name) entries

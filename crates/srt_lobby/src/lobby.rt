@@ -137,10 +137,10 @@ fn of_info(secret: &Secret, names: &Names, peer: Peer, moment: u64, info: &[u8])
 /// The class of a packet to this socket ID, which isn't 0: its bits from 20 up are the route's index + 1 (this
 /// profile).
 fn to_session(names: &Names, dest: u32) -> Class
-    ensures { result ≡ to_session (length (names_of names.now)) dest }
+    ensures { result ≡ to_session (names_of names.now) dest }
 {
     let place = (dest >> 20) as usize;
-    if 0 < place && place <= names.count() {
+    if 0 < place && names.shows(place - 1) {
         Class::Route(place - 1)
     } else {
         Class::Dropped(Cause::UnknownId)

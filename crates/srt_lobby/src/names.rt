@@ -13,15 +13,15 @@ pub struct Names {
 }
 
 impl Names {
-    ghost use Rattle.std.specs.Prelude.{◌≡◌, true, None, Some, Err, IfOk, IfErr, map, length};
+    ghost use Rattle.std.specs.Prelude.{◌≡◌, true, None, Some, Err, IfOk, IfErr, map};
     ghost use Rattle.srt_seq.specs.declared.shared.OpenFault.{OpenFault as TheFault};
     ghost use Rattle.srt_seq.specs.Terms.{terms_of};
-    ghost use Rattle.srt_lobby.specs.Opening.{are_names, fault_of};
-    ghost use Rattle.srt_lobby.specs.Names.{name_of, names_of, index_of};
+    ghost use Rattle.srt_lobby.specs.Opening.{are_names, fault_of, text_in};
+    ghost use Rattle.srt_lobby.specs.Names.{name_of, names_of, index_of, is_shown_at};
 
     fn copied(alloc: Global, entries: &[Entry]) -> Result<Names, AllocError>
         requires { are_names (map terms_of entries.now) ≡ true }
-        ensures { IfOk result (λ names. names_of names ≡ map name_of (map terms_of entries.now)) }
+        ensures { IfOk result (λ names. map (λ key. key.items) names.set.keys ≡ map text_in (map terms_of entries.now)) }
     {
         let mut set = IndexSet::new(alloc);
         for entry in entries {
@@ -49,11 +49,11 @@ impl Names {
         }
     }
 
-    /// The number of routes.
-    pub(crate) fn count(&self) -> usize
-        ensures { result ≡ length (names_of self.now) }
+    /// Whether there is a route with this index, and it is shown.
+    pub(crate) fn shows(&self, r: usize) -> bool
+        ensures { result ≡ is_shown_at (names_of self.now) r }
     {
-        self.set.len()
+        r < self.set.len()
     }
 
     /// The index of the route with this name, if there is one. One look-up in the hash table, for any number of routes.

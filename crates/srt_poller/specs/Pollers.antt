@@ -4,7 +4,7 @@ use Rattle.srt_seq.specs.Items.{Datagram, Received, told}
 use Rattle.srt_cookie.specs.declared.secret.Secret.{Secret}
 use Rattle.srt_cookie.specs.Cookie.{secret_bytes}
 use Rattle.srt_lobby.specs.declared.names.Names.{Names}
-use Rattle.srt_lobby.specs.Names.{names_of}
+use Rattle.srt_lobby.specs.Names.{RouteName, names_of}
 use Rattle.srt_lobby.specs.Lobby.{class_of}
 use Rattle.srt_mailbox.specs.Ends.{Producer}
 use Rattle.srt_poller.specs.declared.ends.Ends.{Ends}
@@ -25,7 +25,7 @@ abbrev pub sorted_by : Lobby → Sorting
 sorted_by lobby = sorting lobby.secret.now lobby.names.now
 
 -- the names of the routes, in the order of their indexes
-abbrev pub named_in : Lobby → List (List ℕ)
+abbrev pub named_in : Lobby → List RouteName
 named_in lobby = names_of lobby.names.now
 
 -- a datagram whose bytes are at the front of the buffer

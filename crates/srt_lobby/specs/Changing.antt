@@ -1,0 +1,67 @@
+-- How the names of the routes change while a gateway runs: a route is added, hidden or shown. An index is never used
+-- again; the name of a hidden route may be.
+use Rattle.std.specs.Prelude.{◌≡◌, ◌≢◌, ◌↔◌, ℕ, zero, suc, ◌<◌, Bool, true, false, not, List, [], ◌∷◌, ◌++◌, length, Option, None, Some, IfSome, is_some, slice_get, nat_lt, ◌&&◌, if◌then◌else◌}
+use Rattle.srt_seq.specs.declared.shared.OpenFault.{OpenFault}
+use Rattle.srt_seq.specs.declared.shared.OpenFault.TheVariants as faults
+use Rattle.srt_seq.specs.Items.{Datagram}
+use Rattle.srt_seq.specs.Terms.{Terms}
+use Rattle.srt_seq.specs.Entries.{is_name, in_limits}
+use Rattle.srt_lobby.specs.declared.classes.Class.TheVariants.{Route}
+use Rattle.srt_lobby.specs.Names.{RouteName, name_of, index_of, AreDistinct}
+use Rattle.srt_lobby.specs.Lobby.{class_of}
+
+-- the names with the route with this index hidden, or shown
+abbrev pub marked_at : (is_shown : Bool) → (r : ℕ) → List RouteName → List RouteName
+marked_at is_shown r [] = []
+marked_at is_shown zero (name ∷ names) = record { text = name.text; is_shown = is_shown } ∷ names
+marked_at is_shown (suc r) (name ∷ names) = name ∷ marked_at is_shown r names
+
+abbrev pub hidden_at : (r : ℕ) → List RouteName → List RouteName
+hidden_at r names = marked_at false r names
+
+abbrev pub shown_at : (r : ℕ) → List RouteName → List RouteName
+shown_at r names = marked_at true r names
+
+-- no other shown route has the name of this one
+abbrev pub IsUnused : (r : ℕ) → List RouteName → Type 0
+IsUnused r names = IfSome (slice_get names r) (λ name. index_of (hidden_at r names) name.text ≡ None)
+
+-- the names with one more route, which is shown
+abbrev pub added : Terms → List RouteName → List RouteName
+added e names = names ++ name_of e ∷ []
+
+-- the first reason why a route can't be added, memory aside: a name of a wrong form or of a shown route, a 512th index
+-- or a number outside its limits
+abbrev pub fault_of_adding : List RouteName → Terms → Option OpenFault
+fault_of_adding names e =
+    if is_name e.name && not (is_some (index_of names e.name))
+    then (if nat_lt (length names) 511 && in_limits e then None else Some faults.Limits) else Some faults.Names
+
+-- no two shown routes ever have the same name
+abbrev pub AddingKeepsNames : Type 0
+AddingKeepsNames = (names : List RouteName) (e : Terms) → fault_of_adding names e ≡ None → AreDistinct names → AreDistinct (added e names)
+
+abbrev pub HidingKeepsNames : Type 0
+HidingKeepsNames = (names : List RouteName) (r : ℕ) → AreDistinct names → AreDistinct (hidden_at r names)
+
+abbrev pub ShowingKeepsNames : Type 0
+ShowingKeepsNames = (names : List RouteName) (r : ℕ) → r < length names → IsUnused r names → AreDistinct names → AreDistinct (shown_at r names)
+
+-- a datagram is for a route with some names if it is with others
+abbrev pub AreSameFor : (r : ℕ) → (names others : List RouteName) → Type 0
+AreSameFor r names others =
+    (secret : List ℕ) (datagram : Datagram) (moment : ℕ) → (class_of secret names datagram moment ≡ Route r) ↔ (class_of secret others datagram moment ≡ Route r)
+
+-- the routes that are there keep their datagrams when another one is added, hidden or shown
+abbrev pub AddingKeepsOthers : Type 0
+AddingKeepsOthers = (names : List RouteName) (e : Terms) (r : ℕ) → r < length names → fault_of_adding names e ≡ None → AreDistinct names → AreSameFor r names (added e names)
+
+abbrev pub HidingKeepsOthers : Type 0
+HidingKeepsOthers = (names : List RouteName) (s r : ℕ) → r < length names → r ≢ s → AreDistinct names → AreSameFor r names (hidden_at s names)
+
+abbrev pub ShowingKeepsOthers : Type 0
+ShowingKeepsOthers = (names : List RouteName) (s r : ℕ) → r < length names → s < length names → r ≢ s → IsUnused s names → AreDistinct names → AreSameFor r names (shown_at s names)
+
+-- a hidden route has no datagrams
+abbrev pub HiddenHasNone : Type 0
+HiddenHasNone = (secret : List ℕ) (names : List RouteName) (r : ℕ) (datagram : Datagram) (moment : ℕ) → class_of secret (hidden_at r names) datagram moment ≡ Route r → ⊥
