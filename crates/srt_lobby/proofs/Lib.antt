@@ -3,3 +3,4 @@ pub mod Distinct
 pub mod Kept
 pub mod Bytes
 pub mod Changing
+pub mod Rows
