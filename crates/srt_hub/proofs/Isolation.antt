@@ -4,9 +4,10 @@ use Rattle.std.proofs.lemmas.List.{append-nil, reverse-append}
 use Rattle.std.proofs.lemmas.Bool.Decides.{nat_tests}
 use Rattle.srt_seq.specs.Items.{Datagram, Item}
 use Rattle.srt_seq.specs.Terms.{Terms}
-use Rattle.srt_hub.specs.World.{Event, Sorting, Meaning, solo, Lane, Step, Offers, Turn, Send, Nothing, step_for, has_room, turned_by, first, without_first, after_step, lane_after, takes_in, sends_out, listed, accepted, sent, IsQuiet}
+use Rattle.srt_hub.specs.World.{Event, Sorting, Meaning, solo, Lane, Step, Offers, Turn, Send, Nothing, has_room, turned_by, first, without_first, after_step, takes_in, sends_out, listed, accepted, sent, IsQuiet}
 use Rattle.srt_hub.specs.Laws.{IsFrontOf, SentIsFront, SentIsWhole, RoutesAreIsolated, GatewaysAreIsolated}
-use Rattle.srt_hub.specs.Hubs.{names, terms_at}
+use Rattle.srt_hub.specs.Hubs.{entry_at, lane_at}
+use Rattle.srt_hub.proofs.OwnSteps.{lane_by, accepted_by, sent_by, by_own}
 
 -- an invariant of a route: the accepted items are those in the inbox and those applied; the replies to the applied ones
 -- are those sent, those in the outbox and those that wait; and no queue holds more than its capacity
@@ -66,9 +67,16 @@ step_keeps reply e r Send m items out h = record { items_are = h.items_are; repl
     fits (d ∷ ds) f = omega (arith, f)
 step_keeps reply e r Nothing m items out h = rw append-nil h
 
-pub kept : (class : Sorting) (reply : Meaning) (e : Terms) (r : ℕ) (events : List Event) → IsKept reply e r (lane_after class reply e r events) (accepted class reply e r events) (sent class reply e r events)
-kept class reply e r [] = record { items_are = refl; replies_are = refl; inbox_fits = omega arith; outbox_fits = omega arith }
-kept class reply e r (event ∷ events) = step_keeps reply e r (step_for class r event) (lane_after class reply e r events) (accepted class reply e r events) (sent class reply e r events) (kept class reply e r events)
+kept_by : (reply : Meaning) (e : Terms) (r : ℕ) (steps : List Step) → IsKept reply e r (lane_by reply e r steps) (accepted_by reply e r steps) (sent_by reply e r steps)
+unfolding lane_by accepted_by sent_by
+kept_by reply e r [] = record { items_are = refl; replies_are = refl; inbox_fits = omega arith; outbox_fits = omega arith }
+kept_by reply e r (step ∷ steps) = step_keeps reply e r step (lane_by reply e r steps) (accepted_by reply e r steps) (sent_by reply e r steps) (kept_by reply e r steps)
+
+pub kept : (class : Sorting) (reply : Meaning) (entries : List Terms) (r : ℕ) (events : List Event) →
+    IsKept reply (entry_at class reply entries r events) r (lane_at class reply entries r events) (accepted class reply entries r events) (sent class reply entries r events)
+kept class reply entries r events =
+    let h = by_own class reply entries r events (entry_at class reply entries r events) (λ below. refl) in
+    rw (h.lane, h.items_are, h.out_is) (kept_by reply (entry_at class reply entries r events) r _)
 
 -- more items make more replies
 solo_more : (reply : Meaning) (e : Terms) (r : ℕ) (newer items : List Item) → IsFrontOf (solo reply e r items) (solo reply e r (newer ++ items))
@@ -78,30 +86,32 @@ solo_more reply e r (x ∷ newer) items =
     (h.0 ++ reply e r (x ∷ (newer ++ items)), sym (append_assoc (solo reply e r items) h.0 (reply e r (x ∷ (newer ++ items)))) ∙ ap (λ (ys : List Datagram). ys ++ reply e r (x ∷ (newer ++ items))) h.1)
 
 pub sent_is_front : SentIsFront
-sent_is_front class reply e r events =
-    let m = lane_after class reply e r events in
-    let h = kept class reply e r events in
+sent_is_front class reply entries r events =
+    let e = entry_at class reply entries r events in
+    let m = lane_at class reply entries r events in
+    let h = kept class reply entries r events in
     let more = solo_more reply e r (reverse m.inbox) m.applied in (
       (m.outbox ++ m.waiting) ++ more.0,
-      sym (append_assoc (sent class reply e r events) (m.outbox ++ m.waiting) more.0) ∙ ap (λ (ys : List Datagram). ys ++ more.0) h.replies_are ∙ more.1 ∙ ap (solo reply e r) (sym h.items_are),
+      sym (append_assoc (sent class reply entries r events) (m.outbox ++ m.waiting) more.0) ∙ ap (λ (ys : List Datagram). ys ++ more.0) h.replies_are ∙ more.1 ∙ ap (solo reply e r) (sym h.items_are),
     )
 
 pub sent_is_whole : SentIsWhole
-sent_is_whole class reply e r events q =
-    let m = lane_after class reply e r events in
-    let h = kept class reply e r events in
-    let out = sent class reply e r events in
-    let items : accepted class reply e r events ≡ m.applied = h.items_are ∙ ap (λ (ys : List Item). reverse ys ++ m.applied) q.inbox in
+sent_is_whole class reply entries r events q =
+    let e = entry_at class reply entries r events in
+    let m = lane_at class reply entries r events in
+    let h = kept class reply entries r events in
+    let out = sent class reply entries r events in
+    let items : accepted class reply entries r events ≡ m.applied = h.items_are ∙ ap (λ (ys : List Item). reverse ys ++ m.applied) q.inbox in
     let replies : out ≡ solo reply e r m.applied = sym (append-nil out) ∙ ap (λ (ys : List Datagram). out ++ (ys ++ [])) (sym q.outbox) ∙ ap (λ (ys : List Datagram). out ++ (m.outbox ++ ys)) (sym q.waiting) ∙ h.replies_are in
     replies ∙ ap (solo reply e r) (sym items)
 
 pub isolated : RoutesAreIsolated
-isolated class class' reply e r events events' same q q' = sent_is_whole class reply e r events q ∙ ap (solo reply e r) same ∙ sym (sent_is_whole class' reply e r events' q')
+isolated class class' reply entries entries' r events events' entry same q q' =
+    sent_is_whole class reply entries r events q
+    ∙ ap (solo reply (entry_at class reply entries r events) r) same
+    ∙ ap (λ (e : Terms). solo reply e r (accepted class' reply entries' r events')) entry
+    ∙ sym (sent_is_whole class' reply entries' r events' q')
 
 pub gateways_isolated : GatewaysAreIsolated
 gateways_isolated class reply secret entries entries' r events events' entry same q q' =
-    let here = class secret (names entries) in
-    let there = class secret (names entries') in
-    let e = terms_at entries r in
-    let quiet : IsQuiet (lane_after there reply e r events') = subst (λ (f : Terms). IsQuiet (lane_after there reply f r events')) (sym entry) q' in
-    (isolated here there reply e r events events' same q quiet, sent_is_whole here reply e r events q)
+    (isolated (class secret) (class secret) reply entries entries' r events events' entry same q q', sent_is_whole (class secret) reply entries r events q)

@@ -6,18 +6,18 @@ use Rattle.std.specs.List.{list_all}
 use Rattle.srt_seq.specs.declared.shared.Entry.{Entry}
 use Rattle.srt_seq.specs.declared.shared.OpenFault.TheVariants.{Names, Limits}
 use Rattle.srt_seq.specs.Terms.{Terms, terms_of}
-use Rattle.srt_hub.specs.World.{Sorting, Meaning, Lane, empty}
+use Rattle.srt_hub.specs.World.{Lane, empty}
 use Rattle.srt_seq.specs.Entries.{is_name, in_limits, is_between}
 use Rattle.srt_lobby.specs.Opening.{fault_of, is_taken, is_fresh, are_names, are_in_limits}
 use Rattle.srt_hub.specs.Hubs.{AreLanes}
-use Rattle.srt_hub.proofs.Happens.{one_more}
+use Rattle.srt_hub.proofs.Happens.{start, one_more}
 
 -- the lanes of one more entry
-pub lanes_grow : {X : Type 0} (Is : X → Terms → ℕ → Lane → Type 0) (class : Sorting) (reply : Meaning) (entries : List Entry) (r i : ℕ) (entry : Entry) (lanes : List X) (lane : X) → r ≡ i → i < length entries → entry ≡ get_or entries i entry → Is lane (terms_of entry) r empty → AreLanes Is class reply (map terms_of (take i entries)) lanes [] → AreLanes Is class reply (map terms_of (take (i + 1) entries)) (lanes ++ lane ∷ []) []
-lanes_grow {X} Is class reply entries r i entry lanes lane index below there new h =
+pub lanes_grow : {X : Type 0} (Is : X → Terms → ℕ → Lane → Type 0) (entries : List Entry) (r i : ℕ) (entry : Entry) (lanes : List X) (lane : X) → r ≡ i → i < length entries → entry ≡ get_or entries i entry → Is lane (terms_of entry) r empty → AreLanes Is (start (map terms_of (take i entries))) lanes → AreLanes Is (start (map terms_of (take (i + 1) entries))) (lanes ++ lane ∷ [])
+lanes_grow {X} Is entries r i entry lanes lane index below there new h =
     let places : length (map terms_of (take i entries)) ≡ i = length-map (take i entries) terms_of ∙ omega (arith, length-take i entries) in
     rw (take_more entries i entry below, ← there, map-append terms_of (take i entries) (entry ∷ []))
-    (one_more Is class reply (map terms_of (take i entries)) lanes (terms_of entry) lane (subst (λ (j : ℕ). Is lane (terms_of entry) j empty) (index ∙ sym places) new) h)
+    (one_more Is (map terms_of (take i entries)) lanes (terms_of entry) lane (subst (λ (j : ℕ). Is lane (terms_of entry) j empty) (index ∙ sym places) new) h)
 
 both : (a b : Bool) → (a && b) ≡ true → (a ≡ true) × (b ≡ true)
 both true true h = (refl, refl)

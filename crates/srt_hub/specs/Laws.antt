@@ -1,12 +1,13 @@
 -- Laws for every run of the gateway, whatever routes reply and however the lobby sorts.
-use Rattle.std.specs.Prelude.{◌≡◌, ℕ, ◌<◌, Bool, None, List, [], ◌∷◌, ◌++◌, length}
+use Rattle.std.specs.Prelude.{◌≡◌, ℕ, ◌<◌, Bool, true, None, List, [], ◌∷◌, ◌++◌, length}
 use Rattle.srt_lobby.specs.declared.classes.Class.TheVariants.{Route}
 use Rattle.srt_seq.specs.Items.{Datagram}
 use Rattle.srt_seq.specs.Terms.{Terms}
-use Rattle.srt_hub.specs.World.{Event, Arrives, Ticks, Turns, Sends, Sorting, Meaning, solo, Step, Offers, Turn, Send, Nothing, is_route, step_for, lane_after, accepted, sent, IsQuiet}
 use Rattle.srt_lobby.specs.Names.{RouteName}
+use Rattle.srt_lobby.specs.Laws.{HasRoute}
 use Rattle.srt_lobby.specs.Opening.{fault_of}
-use Rattle.srt_hub.specs.Hubs.{names, terms_at, lane_at}
+use Rattle.srt_hub.specs.World.{Event, Arrives, Ticks, Turns, Sends, Opens, Closes, Sorting, Meaning, solo, World, place_in, is_there, names_in, Step, Offers, Turn, Send, Nothing, is_route, step_for, after, world_after, accepted, sent, IsQuiet}
+use Rattle.srt_hub.specs.Hubs.{terms_at, names_at, entry_at, is_shown_at, lane_at}
 
 -- xs is a prefix of ys
 abbrev pub IsFrontOf : {X : Type 0} → List X → List X → Type 0
@@ -15,24 +16,25 @@ IsFrontOf {X} xs ys = (rest : List X) × (xs ++ rest ≡ ys)
 -- what was sent for a route is a prefix of what it alone would reply to the items that it accepted
 abbrev pub SentIsFront : Type 0
 SentIsFront =
-    (class : Sorting) (reply : Meaning) (e : Terms) (r : ℕ) (events : List Event) →
-    IsFrontOf (sent class reply e r events) (solo reply e r (accepted class reply e r events))
+    (class : Sorting) (reply : Meaning) (entries : List Terms) (r : ℕ) (events : List Event) →
+    IsFrontOf (sent class reply entries r events) (solo reply (entry_at class reply entries r events) r (accepted class reply entries r events))
 
 -- and all of it if nothing waits
 abbrev pub SentIsWhole : Type 0
 SentIsWhole =
-    (class : Sorting) (reply : Meaning) (e : Terms) (r : ℕ) (events : List Event) →
-    IsQuiet (lane_after class reply e r events) →
-    sent class reply e r events ≡ solo reply e r (accepted class reply e r events)
+    (class : Sorting) (reply : Meaning) (entries : List Terms) (r : ℕ) (events : List Event) →
+    IsQuiet (lane_at class reply entries r events) →
+    sent class reply entries r events ≡ solo reply (entry_at class reply entries r events) r (accepted class reply entries r events)
 
--- so what is sent for a route depends only on the items that it accepted: two gateways may sort differently, have other
--- routes, and have other events in another order
+-- so what is sent for a route depends only on its entry and on the items that it accepted: two gateways may sort
+-- differently, have other routes, have opened this one earlier or later, and have other events in another order
 abbrev pub RoutesAreIsolated : Type 0
 RoutesAreIsolated =
-    (class class' : Sorting) (reply : Meaning) (e : Terms) (r : ℕ) (events events' : List Event) →
-    accepted class reply e r events ≡ accepted class' reply e r events' →
-    IsQuiet (lane_after class reply e r events) → IsQuiet (lane_after class' reply e r events') →
-    sent class reply e r events ≡ sent class' reply e r events'
+    (class class' : Sorting) (reply : Meaning) (entries entries' : List Terms) (r : ℕ) (events events' : List Event) →
+    entry_at class reply entries r events ≡ entry_at class' reply entries' r events' →
+    accepted class reply entries r events ≡ accepted class' reply entries' r events' →
+    IsQuiet (lane_at class reply entries r events) → IsQuiet (lane_at class' reply entries' r events') →
+    sent class reply entries r events ≡ sent class' reply entries' r events'
 
 -- the steps that are the route's own
 abbrev pub and_own : Step → List Step → List Step
@@ -41,59 +43,64 @@ and_own (Offers item) steps = Offers item ∷ steps
 and_own Turn steps = Turn ∷ steps
 and_own Send steps = Send ∷ steps
 
-abbrev pub own_steps : Sorting → ℕ → List Event → List Step
-own_steps class r [] = []
-own_steps class r (event ∷ events) = and_own (step_for class r event) (own_steps class r events)
+abbrev pub own_steps : Sorting → Meaning → List Terms → ℕ → List Event → List Step
+own_steps class reply entries r [] = []
+own_steps class reply entries r (event ∷ events) =
+    and_own (step_for class (world_after class reply entries events) r event) (own_steps class reply entries r events)
 
--- a route's own steps decide what it accepts, sends and holds, also if something waits
+-- a route's entry and its own steps decide what it accepts, sends and holds, also if something waits
 abbrev pub OwnStepsDecide : Type 0
 OwnStepsDecide =
-    (class class' : Sorting) (reply : Meaning) (e : Terms) (r : ℕ) (events events' : List Event) →
-    own_steps class r events ≡ own_steps class' r events' →
-    (lane_after class reply e r events ≡ lane_after class' reply e r events') ×
-    (accepted class reply e r events ≡ accepted class' reply e r events') ×
-    (sent class reply e r events ≡ sent class' reply e r events')
+    (class class' : Sorting) (reply : Meaning) (entries entries' : List Terms) (r : ℕ) (events events' : List Event) →
+    entry_at class reply entries r events ≡ entry_at class' reply entries' r events' →
+    own_steps class reply entries r events ≡ own_steps class' reply entries' r events' →
+    (lane_at class reply entries r events ≡ lane_at class' reply entries' r events') ×
+    (accepted class reply entries r events ≡ accepted class' reply entries' r events') ×
+    (sent class reply entries r events ≡ sent class' reply entries' r events')
 
--- the lobby matters only in which datagrams are the route's: two lobbies that agree on this give the route the same
--- steps
+-- the lobby matters only in which datagrams are the route's: two lobbies that agree on this, while both show the route or
+-- both hide it, give a route that both gateways were opened with the same steps
 abbrev pub SortingDecides : Type 0
 SortingDecides =
-    (class class' : Sorting) (r : ℕ) (events : List Event) →
-    ((d : Datagram) (moment : ℕ) → is_route r (class d moment) ≡ is_route r (class' d moment)) →
-    own_steps class r events ≡ own_steps class' r events
+    (class class' : Sorting) (reply : Meaning) (entries entries' : List Terms) (r : ℕ) (events : List Event) →
+    r < length entries → r < length entries' → terms_at entries r ≡ terms_at entries' r →
+    ((earlier : List Event) → is_shown_at class reply entries r earlier ≡ is_shown_at class' reply entries' r earlier →
+    (d : Datagram) (moment : ℕ) → is_route r (class (names_at class reply entries earlier) d moment) ≡ is_route r (class' (names_at class' reply entries' earlier) d moment)) →
+    own_steps class reply entries r events ≡ own_steps class' reply entries' r events
 
--- a route's arrivals, ticks, turns and sends don't change any other route
+-- a route's arrivals, ticks, turns, sends and closings don't change any other route, nor whether it is shown; the opening
+-- of a route is no step of any route, and leaves those that are there
 abbrev pub OthersStay : Type 0
 OthersStay =
-    (class : Sorting) (r s : ℕ) → (r ≡ s → ⊥) →
-    ((d : Datagram) (moment : ℕ) (refused : Bool) → class d moment ≡ Route s → step_for class r (Arrives d moment refused) ≡ Nothing) ×
-    ((moment : ℕ) → step_for class r (Ticks s moment) ≡ Nothing) × (step_for class r (Turns s) ≡ Nothing) × (step_for class r (Sends s) ≡ Nothing)
+    (class : Sorting) (reply : Meaning) (w : World) (r s : ℕ) → (r ≡ s → ⊥) →
+    ((d : Datagram) (moment : ℕ) (refused : Bool) → class (names_in w) d moment ≡ Route s → step_for class w r (Arrives d moment refused) ≡ Nothing) ×
+    ((moment : ℕ) → step_for class w r (Ticks s moment) ≡ Nothing) × (step_for class w r (Turns s) ≡ Nothing) × (step_for class w r (Sends s) ≡ Nothing) ×
+    ((moment : ℕ) → (step_for class w r (Closes s moment) ≡ Nothing) × (place_in (after class reply (Closes s moment) w) r ≡ place_in w r)) ×
+    ((e : Terms) (refused : Bool) → (step_for class w r (Opens e refused) ≡ Nothing) × (is_there w r ≡ true → place_in (after class reply (Opens e refused) w) r ≡ place_in w r))
 
 -- the main law for whole gateways: with the same secret and the same entry for a route, the other entries and all that
--- happens to them may differ
+-- happens to them may differ; the route may have been opened among the events
 abbrev pub GatewaysAreIsolated : Type 0
 GatewaysAreIsolated =
-    (class : (secret : List ℕ) → (names : List RouteName) → Sorting) (reply : Meaning) (secret : List ℕ) (entries entries' : List Terms) (r : ℕ) (events events' : List Event) →
-    let here = class secret (names entries) in
-    let there = class secret (names entries') in
-    let e = terms_at entries r in
-    e ≡ terms_at entries' r →
-    accepted here reply e r events ≡ accepted there reply e r events' →
-    IsQuiet (lane_at here reply entries r events) → IsQuiet (lane_at there reply entries' r events') →
-    (sent here reply e r events ≡ sent there reply e r events') × (sent here reply e r events ≡ solo reply e r (accepted here reply e r events))
+    (class : (secret : List ℕ) → Sorting) (reply : Meaning) (secret : List ℕ) (entries entries' : List Terms) (r : ℕ) (events events' : List Event) →
+    let sorting = class secret in
+    let e = entry_at sorting reply entries r events in
+    e ≡ entry_at sorting reply entries' r events' →
+    accepted sorting reply entries r events ≡ accepted sorting reply entries' r events' →
+    IsQuiet (lane_at sorting reply entries r events) → IsQuiet (lane_at sorting reply entries' r events') →
+    (sent sorting reply entries r events ≡ sent sorting reply entries' r events') × (sent sorting reply entries r events ≡ solo reply e r (accepted sorting reply entries r events))
 
--- a way of sorting in which a route's datagrams depend on the secret, the route's index and name, and the datagram
--- alone, whatever else the gateway was opened with
-abbrev pub SortsByOwnName : ((secret : List ℕ) → (names : List RouteName) → Sorting) → Type 0
+-- a way of sorting in which a route's datagrams depend on the secret, the route's index and name, whether it is shown,
+-- and the datagram alone, whatever other names are in force
+abbrev pub SortsByOwnName : ((secret : List ℕ) → Sorting) → Type 0
 SortsByOwnName class =
-    (secret : List ℕ) (entries entries' : List Terms) (r : ℕ) → fault_of entries ≡ None → fault_of entries' ≡ None →
-    r < length entries → r < length entries' → (terms_at entries r).name ≡ (terms_at entries' r).name →
-    (d : Datagram) (moment : ℕ) → is_route r (class secret (names entries) d moment) ≡ is_route r (class secret (names entries') d moment)
+    (secret : List ℕ) (names others : List RouteName) (r : ℕ) (name : RouteName) → HasRoute names r name → HasRoute others r name →
+    (d : Datagram) (moment : ℕ) → is_route r (class secret names d moment) ≡ is_route r (class secret others d moment)
 
--- with such a way of sorting the same events are the same steps for a route
+-- with such a way of sorting the same events are the same steps for a route that both gateways were opened with
 abbrev pub OwnNameDecides : Type 0
 OwnNameDecides =
-    (class : (secret : List ℕ) → (names : List RouteName) → Sorting) → SortsByOwnName class →
-    (secret : List ℕ) (entries entries' : List Terms) (r : ℕ) → fault_of entries ≡ None → fault_of entries' ≡ None →
-    r < length entries → r < length entries' → (terms_at entries r).name ≡ (terms_at entries' r).name →
-    (events : List Event) → own_steps (class secret (names entries)) r events ≡ own_steps (class secret (names entries')) r events
+    (class : (secret : List ℕ) → Sorting) → SortsByOwnName class →
+    (reply : Meaning) (secret : List ℕ) (entries entries' : List Terms) (r : ℕ) → fault_of entries ≡ None → fault_of entries' ≡ None →
+    r < length entries → r < length entries' → terms_at entries r ≡ terms_at entries' r →
+    (events : List Event) → own_steps (class secret) reply entries r events ≡ own_steps (class secret) reply entries' r events

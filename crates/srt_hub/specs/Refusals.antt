@@ -1,47 +1,52 @@
 -- When something is refused, and that nothing changes then.
-use Rattle.std.specs.Prelude.{◌≡◌, ℕ, Bool, true, None, Some, List, [], ◌∷◌, length}
+use Rattle.std.specs.Prelude.{◌≡◌, ℕ, ◌+◌, ◌⊎◌, Bool, true, false, None, Some, Ok, Err, List, [], ◌∷◌, length}
+use Rattle.srt_seq.specs.declared.shared.OpenFault.{OpenFault}
+use Rattle.srt_seq.specs.declared.shared.OpenFault.TheVariants as faults
 use Rattle.srt_seq.specs.declared.shared.Turned.TheVariants.{Blocked, Idle}
 use Rattle.srt_lobby.specs.declared.classes.Class.TheVariants.{Answer, Route, Dropped}
 use Rattle.srt_hub.specs.declared.answers.Arrived.TheVariants as arrived
+use Rattle.srt_hub.specs.declared.answers.Closing.TheVariants as closings
 use Rattle.srt_hub.specs.declared.answers.Ticked.TheVariants as ticked
 use Rattle.srt_lobby.specs.declared.classes.Cause.{Cause}
-use Rattle.srt_seq.specs.Items.{Datagram}
+use Rattle.srt_lobby.specs.Changing.{fault_of_adding}
+use Rattle.srt_seq.specs.Items.{Datagram, Close}
 use Rattle.srt_seq.specs.Terms.{Terms}
-use Rattle.srt_hub.specs.World.{Event, Arrives, Ticks, Turns, Sorting, Meaning, arrival_of, tick, turn}
-use Rattle.srt_hub.specs.Hubs.{terms_at, lane_at, room_at}
+use Rattle.srt_hub.specs.World.{Event, Arrives, Ticks, Turns, Opens, Closes, Sorting, Meaning, empty, world_after, is_there, opening, closing, accepted, sent, arrival_of, tick, turn}
+use Rattle.srt_hub.specs.Hubs.{names_at, routes_at, entry_at, is_shown_at, lane_at, room_at}
 
--- an event that leaves every route as it is
-abbrev pub ChangesNoRoute : Sorting → Meaning → List Terms → List Event → Event → Type 0
-ChangesNoRoute class reply entries events event = (k : ℕ) → lane_at class reply entries k (event ∷ events) ≡ lane_at class reply entries k events
+-- an event that leaves every route as it is, opens none and hides none
+pub record ChangesNoRoute (class : Sorting) (reply : Meaning) (entries : List Terms) (events : List Event) (event : Event) : Type 0 where
+  pub lanes : (k : ℕ) → lane_at class reply entries k (event ∷ events) ≡ lane_at class reply entries k events
+  pub places : (world_after class reply entries (event ∷ events)).places ≡ (world_after class reply entries events).places
 
 -- an arrival is refused as Full only if it is that route's and that route's own inbox holds its capacity
 abbrev pub FullIsAtCapacity : Type 0
 FullIsAtCapacity =
     (class : Sorting) (reply : Meaning) (entries : List Terms) (events : List Event) (d : Datagram) (moment : ℕ) (refused : Bool) (r : ℕ) →
-    arrival_of refused (room_at class reply entries events) (class d moment) ≡ Some (arrived.Full r) →
-    (class d moment ≡ Route r) × (length (lane_at class reply entries r events).inbox ≡ (terms_at entries r).inbox) ×
+    arrival_of refused (room_at class reply entries events) (class (names_at class reply entries events) d moment) ≡ Some (arrived.Full r) →
+    (class (names_at class reply entries events) d moment ≡ Route r) × (length (lane_at class reply entries r events).inbox ≡ (entry_at class reply entries r events).inbox) ×
     ChangesNoRoute class reply entries events (Arrives d moment refused)
 
 -- so is a tick
 abbrev pub FullTickIsAtCapacity : Type 0
 FullTickIsAtCapacity =
     (class : Sorting) (reply : Meaning) (entries : List Terms) (events : List Event) (r moment : ℕ) →
-    tick (terms_at entries r) (lane_at class reply entries r events) ≡ ticked.Full →
-    (length (lane_at class reply entries r events).inbox ≡ (terms_at entries r).inbox) × ChangesNoRoute class reply entries events (Ticks r moment)
+    tick (entry_at class reply entries r events) (lane_at class reply entries r events) ≡ ticked.Full →
+    (length (lane_at class reply entries r events).inbox ≡ (entry_at class reply entries r events).inbox) × ChangesNoRoute class reply entries events (Ticks r moment)
 
 -- a turn is Blocked only if a reply of the route waits and its own outbox holds its capacity
 abbrev pub BlockedIsAtCapacity : Type 0
 BlockedIsAtCapacity =
     (class : Sorting) (reply : Meaning) (entries : List Terms) (events : List Event) (r : ℕ) →
-    turn (terms_at entries r) (lane_at class reply entries r events) ≡ Blocked →
+    turn (entry_at class reply entries r events) (lane_at class reply entries r events) ≡ Blocked →
     ((lane_at class reply entries r events).waiting ≡ [] → ⊥) ×
-    (length (lane_at class reply entries r events).outbox ≡ (terms_at entries r).outbox) × ChangesNoRoute class reply entries events (Turns r)
+    (length (lane_at class reply entries r events).outbox ≡ (entry_at class reply entries r events).outbox) × ChangesNoRoute class reply entries events (Turns r)
 
 -- and Idle only if none waits and its inbox is empty
 abbrev pub IdleIsEmpty : Type 0
 IdleIsEmpty =
     (class : Sorting) (reply : Meaning) (entries : List Terms) (events : List Event) (r : ℕ) →
-    turn (terms_at entries r) (lane_at class reply entries r events) ≡ Idle →
+    turn (entry_at class reply entries r events) (lane_at class reply entries r events) ≡ Idle →
     ((lane_at class reply entries r events).waiting ≡ []) × ((lane_at class reply entries r events).inbox ≡ []) ×
     ChangesNoRoute class reply entries events (Turns r)
 
@@ -49,17 +54,72 @@ IdleIsEmpty =
 abbrev pub RefusedIsARoutes : Type 0
 RefusedIsARoutes =
     (class : Sorting) (reply : Meaning) (entries : List Terms) (events : List Event) (d : Datagram) (moment : ℕ) (refused : Bool) →
-    arrival_of refused (room_at class reply entries events) (class d moment) ≡ None →
-    ((r : ℕ) × (class d moment ≡ Route r)) × (refused ≡ true) × ChangesNoRoute class reply entries events (Arrives d moment refused)
+    arrival_of refused (room_at class reply entries events) (class (names_at class reply entries events) d moment) ≡ None →
+    ((r : ℕ) × (class (names_at class reply entries events) d moment ≡ Route r)) × (refused ≡ true) × ChangesNoRoute class reply entries events (Arrives d moment refused)
 
 -- what the lobby answers or drops depends on its class of that one datagram, whatever the routes hold and whatever
 -- memory there is
 abbrev pub LobbyAnswersAlone : Type 0
 LobbyAnswersAlone =
     (class : Sorting) (reply : Meaning) (entries : List Terms) (events : List Event) (d : Datagram) (moment : ℕ) (refused : Bool) →
-    ((bytes : List ℕ) → class d moment ≡ Answer bytes →
-    (arrival_of refused (room_at class reply entries events) (class d moment) ≡ Some (arrived.Answer bytes)) ×
+    ((bytes : List ℕ) → class (names_at class reply entries events) d moment ≡ Answer bytes →
+    (arrival_of refused (room_at class reply entries events) (class (names_at class reply entries events) d moment) ≡ Some (arrived.Answer bytes)) ×
     ChangesNoRoute class reply entries events (Arrives d moment refused)) ×
-    ((cause : Cause) → class d moment ≡ Dropped cause →
-    (arrival_of refused (room_at class reply entries events) (class d moment) ≡ Some (arrived.Dropped cause)) ×
+    ((cause : Cause) → class (names_at class reply entries events) d moment ≡ Dropped cause →
+    (arrival_of refused (room_at class reply entries events) (class (names_at class reply entries events) d moment) ≡ Some (arrived.Dropped cause)) ×
     ChangesNoRoute class reply entries events (Arrives d moment refused))
+
+-- an opening that ends in a fault opens nothing: the fault is that of the entry beside the names in force, or else the
+-- memory for the route was refused
+abbrev pub FaultOpensNothing : Type 0
+FaultOpensNothing =
+    (class : Sorting) (reply : Meaning) (entries : List Terms) (events : List Event) (e : Terms) (refused : Bool) (fault : OpenFault) →
+    opening (world_after class reply entries events) e refused ≡ Err fault →
+    ((fault_of_adding (names_at class reply entries events) e ≡ Some fault) ⊎ ((fault_of_adding (names_at class reply entries events) e ≡ None) × (fault ≡ faults.OutOfMemory) × (refused ≡ true))) ×
+    ChangesNoRoute class reply entries events (Opens e refused)
+
+-- an opening's index is the number of routes so far, those that are hidden too, so that no index is used again; there the
+-- route is shown, with its entry, and with nothing accepted or sent
+pub record HasOpened (class : Sorting) (reply : Meaning) (entries : List Terms) (events : List Event) (e : Terms) (refused : Bool) (r : ℕ) : Type 0 where
+  pub index : r ≡ routes_at class reply entries events
+  pub one_more : routes_at class reply entries (Opens e refused ∷ events) ≡ r + 1
+  pub entry : entry_at class reply entries r (Opens e refused ∷ events) ≡ e
+  pub shown : is_shown_at class reply entries r (Opens e refused ∷ events) ≡ true
+  pub lane : lane_at class reply entries r (Opens e refused ∷ events) ≡ empty
+  pub none_accepted : accepted class reply entries r (Opens e refused ∷ events) ≡ []
+  pub none_sent : sent class reply entries r (Opens e refused ∷ events) ≡ []
+
+abbrev pub OpeningIsNext : Type 0
+OpeningIsNext =
+    (class : Sorting) (reply : Meaning) (entries : List Terms) (events : List Event) (e : Terms) (refused : Bool) (r : ℕ) →
+    opening (world_after class reply entries events) e refused ≡ Ok r → HasOpened class reply entries events e refused r
+
+-- a closing is answered Closed only if the route is hidden, or was never opened
+abbrev pub ClosedIsHidden : Type 0
+ClosedIsHidden =
+    (class : Sorting) (reply : Meaning) (entries : List Terms) (events : List Event) (r moment : ℕ) →
+    closing (world_after class reply entries events) r ≡ closings.Closed →
+    (is_shown_at class reply entries r events ≡ false) × ChangesNoRoute class reply entries events (Closes r moment)
+
+-- and refused as Full only if the route is shown and its own inbox holds its capacity; it is then still shown
+abbrev pub FullClosingIsAtCapacity : Type 0
+FullClosingIsAtCapacity =
+    (class : Sorting) (reply : Meaning) (entries : List Terms) (events : List Event) (r moment : ℕ) →
+    closing (world_after class reply entries events) r ≡ closings.Full →
+    (is_shown_at class reply entries r events ≡ true) × (length (lane_at class reply entries r events).inbox ≡ (entry_at class reply entries r events).inbox) ×
+    ChangesNoRoute class reply entries events (Closes r moment)
+
+-- an accepted closing is an item that the route accepts, and hides it
+abbrev pub AcceptedClosingHides : Type 0
+AcceptedClosingHides =
+    (class : Sorting) (reply : Meaning) (entries : List Terms) (events : List Event) (r moment : ℕ) →
+    closing (world_after class reply entries events) r ≡ closings.Accepted →
+    (is_shown_at class reply entries r (Closes r moment ∷ events) ≡ false) ×
+    (accepted class reply entries r (Closes r moment ∷ events) ≡ Close moment ∷ accepted class reply entries r events)
+
+-- a hidden route stays hidden, and keeps its index and its entry, whatever happens
+abbrev pub HiddenStays : Type 0
+HiddenStays =
+    (class : Sorting) (reply : Meaning) (entries : List Terms) (events : List Event) (r : ℕ) (event : Event) →
+    is_there (world_after class reply entries events) r ≡ true → is_shown_at class reply entries r events ≡ false →
+    (is_shown_at class reply entries r (event ∷ events) ≡ false) × (entry_at class reply entries r (event ∷ events) ≡ entry_at class reply entries r events)

@@ -2,29 +2,39 @@
 -- items, have the newest first; queues and lists of what was sent have the oldest first.
 --
 -- The model doesn't say what routes and lobby do: a route's meaning is its replies to all its items, and the lobby's is
--- the class of each datagram.
-use Rattle.std.specs.Prelude.{◌≡◌, ℕ, ◌==◌, Bool, false, Option, None, Some, List, [], ◌∷◌, ◌++◌, length, nat_lt, if◌then◌else◌}
+-- the class of each datagram with the names in force.
+use Rattle.std.specs.Prelude.{◌≡◌, ℕ, zero, suc, ◌==◌, Bool, true, false, Option, None, Some, Result, Ok, Err, List, [], ◌∷◌, ◌++◌, map, length, slice_index_or, nat_lt, if◌then◌else◌}
+use Rattle.srt_seq.specs.declared.shared.Mode.TheVariants.{Live}
+use Rattle.srt_seq.specs.declared.shared.OpenFault.{OpenFault}
+use Rattle.srt_seq.specs.declared.shared.OpenFault.TheVariants as faults
 use Rattle.srt_seq.specs.declared.shared.Turned.{Turned}
 use Rattle.srt_seq.specs.declared.shared.Turned.TheVariants.{Moved, Applied, Blocked, Idle}
 use Rattle.srt_lobby.specs.declared.classes.Class.{Class}
 use Rattle.srt_lobby.specs.declared.classes.Class.TheVariants.{Answer, Route, Dropped}
+use Rattle.srt_lobby.specs.Changing.{fault_of_adding}
+use Rattle.srt_lobby.specs.Names.{RouteName}
 use Rattle.srt_hub.specs.declared.answers.Arrived.{Arrived}
 use Rattle.srt_hub.specs.declared.answers.Arrived.TheVariants as arrived
 use Rattle.srt_hub.specs.declared.answers.Ticked.{Ticked}
 use Rattle.srt_hub.specs.declared.answers.Ticked.TheVariants as ticked
-use Rattle.srt_seq.specs.Items.{Datagram, Item, Received, Tick}
+use Rattle.srt_hub.specs.declared.answers.Closing.{Closing}
+use Rattle.srt_hub.specs.declared.answers.Closing.TheVariants as closings
+use Rattle.srt_seq.specs.Items.{Datagram, Item, Received, Tick, Close}
 use Rattle.srt_seq.specs.Terms.{Terms}
 
--- the events of the gateway; an arrival is refused if there was no memory for its copy
+-- the events of the gateway; an arrival is refused if there was no memory for its copy, and the opening of a route if
+-- there was none for the route
 pub data Event : Type 0 where
   Arrives : (datagram : Datagram) (moment : ℕ) (refused : Bool) → Event
   Ticks : (route moment : ℕ) → Event
   Turns : (route : ℕ) → Event
   Sends : (route : ℕ) → Event
+  Opens : (entry : Terms) (refused : Bool) → Event
+  Closes : (route moment : ℕ) → Event
 
--- the class of a datagram, which depends on nothing else
+-- the class of a datagram, which depends on the names in force and on nothing else
 abbrev pub Sorting : Type 0
-Sorting = Datagram → (moment : ℕ) → Class
+Sorting = (names : List RouteName) → Datagram → (moment : ℕ) → Class
 
 -- the replies of a route with these terms and this index to the newest of all its items
 abbrev pub Meaning : Type 0
@@ -45,6 +55,41 @@ pub record Lane : Type 0 where
 abbrev pub empty : Lane
 empty = record { inbox = []; applied = []; waiting = []; outbox = [] }
 
+-- a route that was opened, at the place of its index: its entry, and whether it is shown. A hidden route is never shown
+-- again, and its place stays
+pub record Place : Type 0 where
+  pub entry : Terms
+  pub is_shown : Bool
+
+-- the gateway: the places of its routes in the order of their indexes, and each route with its queues
+pub record World : Type 0 where
+  pub places : List Place
+  pub lane : (index : ℕ) → Lane
+
+-- a route that was just opened is shown
+abbrev pub opened : Terms → Place
+opened e = record { entry = e; is_shown = true }
+
+-- the place with this index; there is no route at an index that wasn't opened
+abbrev pub place_in : World → (r : ℕ) → Place
+place_in w r = slice_index_or w.places r (record { entry = record { name = []; mode = Live; latency_ms = 0; buffer = 0; sessions = 0; inbox = 0; outbox = 0 }; is_shown = false })
+
+abbrev pub entry_in : World → (r : ℕ) → Terms
+entry_in w r = (place_in w r).entry
+
+abbrev pub is_shown_in : World → (r : ℕ) → Bool
+is_shown_in w r = (place_in w r).is_shown
+
+abbrev pub is_there : World → (r : ℕ) → Bool
+is_there w r = nat_lt r (length w.places)
+
+-- the names in force
+abbrev pub name_at : Place → RouteName
+name_at p = record { text = p.entry.name; is_shown = p.is_shown }
+
+abbrev pub names_in : World → List RouteName
+names_in w = map name_at w.places
+
 -- what an event is to one route
 pub data Step : Type 0 where
   Offers : (item : Item) → Step
@@ -60,11 +105,21 @@ is_route r (Dropped cause) = false
 abbrev pub offer_unless : (refused : Bool) → Item → Step
 offer_unless refused item = if refused then Nothing else Offers item
 
-abbrev pub step_for : Sorting → ℕ → Event → Step
-step_for class r (Arrives d moment refused) = if is_route r (class d moment) then offer_unless refused (Received d moment) else Nothing
-step_for class r (Ticks s moment) = if s == r then Offers (Tick moment) else Nothing
-step_for class r (Turns s) = if s == r then Turn else Nothing
-step_for class r (Sends s) = if s == r then Send else Nothing
+abbrev pub offer_if : (shown : Bool) → Item → Step
+offer_if shown item = if shown then Offers item else Nothing
+
+-- what an event is to a route that is there; a route is closed by an item of its own, unless it is hidden
+abbrev pub own_step : Sorting → World → ℕ → Event → Step
+own_step class w r (Arrives d moment refused) = if is_route r (class (names_in w) d moment) then offer_unless refused (Received d moment) else Nothing
+own_step class w r (Ticks s moment) = if s == r then Offers (Tick moment) else Nothing
+own_step class w r (Turns s) = if s == r then Turn else Nothing
+own_step class w r (Sends s) = if s == r then Send else Nothing
+own_step class w r (Opens e refused) = Nothing
+own_step class w r (Closes s moment) = if s == r then offer_if (is_shown_in w r) (Close moment) else Nothing
+
+-- no event is a step of a route that isn't there
+abbrev pub step_for : Sorting → World → ℕ → Event → Step
+step_for class w r event = if is_there w r then own_step class w r event else Nothing
 
 abbrev pub has_room : Terms → Lane → Bool
 has_room e m = nat_lt (length m.inbox) e.inbox
@@ -108,10 +163,59 @@ after_step reply e r Turn m = turned reply e r m
 after_step reply e r Send m = sent_from m
 after_step reply e r Nothing m = m
 
--- route r after these events, of which only its own matter
-abbrev pub lane_after : Sorting → Meaning → Terms → ℕ → List Event → Lane
-lane_after class reply e r [] = empty
-lane_after class reply e r (event ∷ events) = after_step reply e r (step_for class r event) (lane_after class reply e r events)
+-- the result of an opening is the next index, or a fault; that of the entry beside the names in force comes first
+abbrev pub opening_of : (next : ℕ) → (refused : Bool) → Option OpenFault → Result ℕ OpenFault
+opening_of next refused (Some fault) = Err fault
+opening_of next refused None = if refused then Err faults.OutOfMemory else Ok next
+
+abbrev pub opening : World → Terms → (refused : Bool) → Result ℕ OpenFault
+opening w e refused = opening_of (length w.places) refused (fault_of_adding (names_in w) e)
+
+abbrev pub places_opened : Terms → List Place → Result ℕ OpenFault → List Place
+places_opened e places (Ok next) = places ++ opened e ∷ []
+places_opened e places (Err fault) = places
+
+-- the result of a closing: a hidden route is closed; else it is the route's own inbox that refuses it
+abbrev pub closing_of : (shown room : Bool) → Closing
+closing_of shown room = if shown then (if room then closings.Accepted else closings.Full) else closings.Closed
+
+abbrev pub closing : World → (r : ℕ) → Closing
+closing w r = closing_of (is_shown_in w r) (has_room (entry_in w r) (w.lane r))
+
+-- a place that is hidden keeps its entry
+abbrev pub hidden : Place → Place
+hidden p = record p { is_shown = false }
+
+abbrev pub hidden_at : (r : ℕ) → List Place → List Place
+hidden_at r [] = []
+hidden_at zero (p ∷ places) = hidden p ∷ places
+hidden_at (suc r) (p ∷ places) = p ∷ hidden_at r places
+
+-- a route is hidden only if its closing is accepted
+abbrev pub places_closed : (r : ℕ) → List Place → Closing → List Place
+places_closed r places closings.Accepted = hidden_at r places
+places_closed r places closings.Full = places
+places_closed r places closings.Closed = places
+
+abbrev pub places_after : Event → World → List Place
+places_after (Arrives d moment refused) w = w.places
+places_after (Ticks r moment) w = w.places
+places_after (Turns r) w = w.places
+places_after (Sends r) w = w.places
+places_after (Opens e refused) w = places_opened e w.places (opening w e refused)
+places_after (Closes r moment) w = places_closed r w.places (closing w r)
+
+-- the gateway after an event: each route takes what the event is to it
+abbrev pub after : Sorting → Meaning → Event → World → World
+after class reply event w = record {
+  places = places_after event w;
+  lane = λ r. after_step reply (entry_in w r) r (step_for class w r event) (w.lane r);
+}
+
+-- the gateway that was opened with these entries, after these events
+abbrev pub world_after : Sorting → Meaning → (entries : List Terms) → List Event → World
+world_after class reply entries [] = record { places = map opened entries; lane = λ r. empty }
+world_after class reply entries (event ∷ events) = after class reply event (world_after class reply entries events)
 
 -- the items that a step adds to the inbox, and the datagrams that it sends
 abbrev pub takes_in : Terms → Step → Lane → List Item
@@ -131,14 +235,18 @@ sends_out Send m = listed (first m.outbox)
 sends_out Nothing m = []
 
 -- the items that entered the inbox of route r, the newest first
-abbrev pub accepted : Sorting → Meaning → Terms → ℕ → List Event → List Item
-accepted class reply e r [] = []
-accepted class reply e r (event ∷ events) = takes_in e (step_for class r event) (lane_after class reply e r events) ++ accepted class reply e r events
+abbrev pub accepted : Sorting → Meaning → List Terms → ℕ → List Event → List Item
+accepted class reply entries r [] = []
+accepted class reply entries r (event ∷ events) =
+    let w = world_after class reply entries events in
+    takes_in (entry_in w r) (step_for class w r event) (w.lane r) ++ accepted class reply entries r events
 
 -- the datagrams that were sent for route r, the oldest first
-abbrev pub sent : Sorting → Meaning → Terms → ℕ → List Event → List Datagram
-sent class reply e r [] = []
-sent class reply e r (event ∷ events) = sent class reply e r events ++ sends_out (step_for class r event) (lane_after class reply e r events)
+abbrev pub sent : Sorting → Meaning → List Terms → ℕ → List Event → List Datagram
+sent class reply entries r [] = []
+sent class reply entries r (event ∷ events) =
+    let w = world_after class reply entries events in
+    sent class reply entries r events ++ sends_out (step_for class w r event) (w.lane r)
 
 -- nothing of the route waits
 pub record IsQuiet (m : Lane) : Type 0 where

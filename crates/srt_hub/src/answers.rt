@@ -24,6 +24,17 @@ pub enum Ticked {
     Full,
 }
 
+/// The result of closing a route.
+#[derive(Clone, Copy, Debug, PartialEq, Eq)]
+pub enum Closing {
+    /// The route was hidden already. Nothing changed.
+    Closed,
+    /// The route's inbox held its capacity. Nothing changed: the route is still shown.
+    Full,
+    /// The last item in the inbox now ends the route's sessions, and the route is hidden from now on.
+    Accepted,
+}
+
 /// The memory for the copy of a datagram's body was refused. Nothing changed.
 #[derive(Clone, Copy, Debug, PartialEq, Eq)]
 pub struct OutOfMemory;

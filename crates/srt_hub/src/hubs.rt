@@ -48,11 +48,12 @@ pub struct Hub<R: RouteStep, L: Lobby> {
 }
 
 impl<R: RouteStep, L: Lobby> Gateway for Hub<R, L> {
-    ghost use Rattle.srt_hub.specs.Hubs.{names, AreLanes, IsHub};
+    ghost use Rattle.srt_hub.specs.World.{names_in, world_after};
+    ghost use Rattle.srt_hub.specs.Hubs.{AreLanes, IsHub};
 
     ghost routes = { λ hub. length hub.lanes.items };
 
-    ghost stands = { λ hub secret entries events. IsHub (L.knows hub.lobby secret (names entries)) (AreLanes ⟦<Lane<R> as Standing>⟧.is (L.class secret (names entries)) R.reply entries hub.lanes.items events) };
+    ghost stands = { λ hub secret entries events. let w = world_after (L.class secret) R.reply entries events in IsHub (L.knows hub.lobby secret (names_in w)) (AreLanes ⟦<Lane<R> as Standing>⟧.is w hub.lanes.items) };
 }
 
 impl<R: RouteStep, L: Lobby> Hub<R, L> {
@@ -61,7 +62,7 @@ impl<R: RouteStep, L: Lobby> Hub<R, L> {
     ghost use Rattle.srt_lobby.specs.Opening.{fault_of};
     ghost use Rattle.srt_seq.specs.Terms.{terms_of};
     ghost use Rattle.srt_hub.specs.World.{Arrives, Ticks, Turns, Sends, tick, turn};
-    ghost use Rattle.srt_hub.specs.Calls.{HasEntries, Happened, ArrivalAnswers, RouteAnswers, datagram, datagram_at, first_out};
+    ghost use Rattle.srt_hub.specs.Calls.{HasRoutes, Happened, ArrivalAnswers, RouteAnswers, datagram, datagram_at, first_out};
 
     /// Opens the gateway of these entries, 1 to 511. Takes all memory except that for copies of datagrams. Errors:
     /// `Names` if a name has a wrong form or appears twice, else `Limits` if the number of entries or a number of an
@@ -93,7 +94,7 @@ impl<R: RouteStep, L: Lobby> Hub<R, L> {
     /// The number of routes; their indexes are the numbers below it. O(1).
     pub fn routes(&self) -> usize
         ensures routes { result ≡ ⟦<Hub<R, L> as Gateway>⟧.routes self.now }
-        ensures entries { HasEntries ⟦<Hub<R, L> as Gateway>⟧.stands self.now result }
+        ensures number { HasRoutes ⟦<Hub<R, L> as Gateway>⟧.stands self.now L.class R.reply result }
     {
         self.lanes.len()
     }

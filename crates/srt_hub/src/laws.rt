@@ -4,10 +4,10 @@
 ghost use Rattle.srt_hub.specs.Laws.{SentIsFront, SentIsWhole, RoutesAreIsolated, GatewaysAreIsolated, OwnStepsDecide, SortingDecides, SortsByOwnName, OwnNameDecides, OthersStay};
 ghost use Rattle.srt_lobby.specs.Lobby.{class_of};
 ghost use Rattle.srt_hub.specs.Gateways.{ArrivalsAreOwn, StepsAreOwn, SentByOwnSteps, SentByAccepted, SoloIsTheRoutes, SentArePackets};
-ghost use Rattle.srt_hub.specs.Refusals.{FullIsAtCapacity, FullTickIsAtCapacity, BlockedIsAtCapacity, IdleIsEmpty, RefusedIsARoutes, LobbyAnswersAlone};
+ghost use Rattle.srt_hub.specs.Refusals.{FullIsAtCapacity, FullTickIsAtCapacity, BlockedIsAtCapacity, IdleIsEmpty, RefusedIsARoutes, LobbyAnswersAlone, FaultOpensNothing, OpeningIsNext, ClosedIsHidden, FullClosingIsAtCapacity, AcceptedClosingHides, HiddenStays};
 
-/// No route's traffic changes another's. Take any two lists of arrivals, ticks, turns and sends for two gateways with
-/// the same secret and the same entry for a route. If the route's inbox accepted the same items in the same order and
+/// No route's traffic changes another's. Take any two lists of arrivals, ticks, turns, sends, openings and closings for
+/// two gateways with the same secret and the same entry for a route, which may be opened among the events. If the route's inbox accepted the same items in the same order and
 /// nothing of it waits, the datagrams that were sent for it are equal byte for byte, and are those that the route alone
 /// replies.
 pub fn isolation()
@@ -33,8 +33,19 @@ pub fn refusals()
     ensures lobby { LobbyAnswersAlone }
 {}
 
+/// Routes are opened and closed while others go on. An opening that is refused changes nothing, one that isn't gives the
+/// next index, which no route had; a closing that is accepted is an item of the route itself, and hides it.
+pub fn openings()
+    ensures fault { FaultOpensNothing }
+    ensures next { OpeningIsNext }
+    ensures closed { ClosedIsHidden }
+    ensures full { FullClosingIsAtCapacity }
+    ensures accepted { AcceptedClosingHides }
+    ensures hidden { HiddenStays }
+{}
+
 /// The laws of the gateway with the real lobby and the real routes. Which datagrams are a route's depends on the
-/// secret, the route's index and name, and each datagram alone; what is sent for a route depends on the route's own
+/// secret, the route's index and name, whether it is shown, and each datagram alone; what is sent for a route depends on the route's own
 /// events alone.
 pub fn gateways()
     ensures arrivals { ArrivalsAreOwn }

@@ -26,7 +26,7 @@ mod lanes;
 pub mod laws;
 mod parts;
 
-pub use answers::{Arrived, OutOfMemory, Ticked};
+pub use answers::{Arrived, Closing, OutOfMemory, Ticked};
 pub use entrance::Entrance;
 pub use gateways::SrtGateway;
 pub use hubs::{Gateway, Hub};

@@ -1,5 +1,7 @@
 use Rattle.srt_hub.proofs.Isolation.{sent_is_front, sent_is_whole, isolated, gateways_isolated}
-use Rattle.srt_hub.proofs.OwnSteps.{own_steps_decide, sorting_decides, own_name_decides}
+use Rattle.srt_hub.proofs.OwnSteps.{own_steps_decide, sorting_decides}
+use Rattle.srt_hub.proofs.Own.{own_name_decides}
+use Rattle.srt_hub.proofs.Refusals.{others_stay}
 use Rattle.srt_hub.proofs.laws.isolation.Goals as goal
 
 pub returns-clause-front : goal.returns-clause-front
@@ -22,3 +24,6 @@ returns-clause-sorting c = sorting_decides
 
 pub returns-clause-own_name : goal.returns-clause-own_name
 returns-clause-own_name c = own_name_decides
+
+pub returns-clause-others : goal.returns-clause-others
+returns-clause-others c = others_stay
