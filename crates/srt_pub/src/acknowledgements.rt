@@ -13,8 +13,17 @@ use srt_seq::Seq31;
 use srt_seq::limits::{FULL_ACK_INTERVAL_US, FULL_ACKS_KEPT, LIGHT_ACK_PACKETS};
 use std::alloc::{AllocError, Global};
 
-/// Which Full ACKs were sent, and whether the current state is confirmed. The state is the pair of acknowledgement
-/// point and available buffer size that a Full ACK reports.
+/// The pair that a Full ACK reports.
+#[derive(Clone, Copy)]
+pub struct State {
+    /// The acknowledgement point.
+    pub point: Seq31,
+    /// The available buffer size: how many packets from the acknowledgement point on have room.
+    pub available: u32,
+}
+
+/// Which Full ACKs were sent, and whether the current pair of acknowledgement point and available buffer size is
+/// confirmed.
 ///
 /// The acknowledgement point and the window's end only grow. So a Full ACK that reported another pair can never match
 /// the current one again, and it is enough to count the Full ACKs since the pair last changed. Times are microseconds
@@ -111,9 +120,9 @@ impl Acks {
     }
 
     /// Writes a Full ACK and notes that it is sent.
-    fn full(&mut self, time: u64, point: Seq31, available: u32, rtt: Rtt, body: &mut Body)
-        ensures stands { NotesFullAck time available rtt self.old self.new }
-        ensures bytes { WritesFullAck time point available rtt self.old body.new }
+    fn full(&mut self, time: u64, state: State, rtt: Rtt, body: &mut Body)
+        ensures stands { NotesFullAck time state.available rtt self.old self.new }
+        ensures bytes { WritesFullAck time state.point state.available rtt self.old body.new }
         ensures writable { IsWritable body.new }
     {
         self.same = self.same.saturating_add(1).min(FULL_ACKS_KEPT);
@@ -121,10 +130,10 @@ impl Acks {
         self.came = 0;
         *body = Body::FullAck {
             number: self.book.note(time),
-            point,
+            point: state.point,
             round_trip: rtt.rtt(),
             variance: rtt.variance(),
-            available,
+            available: state.available,
         };
     }
 
@@ -139,28 +148,20 @@ impl Acks {
     }
 
     /// Writes the body of the ACK that is due at a time in microseconds since the opening: a Full ACK, or else a
-    /// Light one. `point` is the acknowledgement point, and `available` is the buffer size from there on, in packets.
-    /// Returns whether one is due; if not, `body` is unchanged and nothing is noted. O(1).
-    pub fn report(
-        &mut self,
-        time: u64,
-        point: Seq31,
-        available: u32,
-        rtt: Rtt,
-        body: &mut Body,
-    ) -> bool
-        ensures stands { NotesAck time available rtt self.old self.new }
-        ensures bytes { WritesAck time point available rtt self.old (listed (given result body.new)) }
-        ensures count { CountsAcks time available self.old (listed (given result body.new)) }
+    /// Light one. Returns whether one is due; if not, `body` is unchanged and nothing is noted. O(1).
+    pub fn report(&mut self, time: u64, state: State, rtt: Rtt, body: &mut Body) -> bool
+        ensures stands { NotesAck time state.available rtt self.old self.new }
+        ensures bytes { WritesAck time state.point state.available rtt self.old (listed (given result body.new)) }
+        ensures count { CountsAcks time state.available self.old (listed (given result body.new)) }
         ensures writable { result ≡ true → IsWritable body.new }
         ensures kept { result ≡ false → body.new ≡ body.old }
     {
         if self.is_full_due(time) {
-            self.full(time, point, available, rtt, body);
+            self.full(time, state, rtt, body);
             return true;
         }
         if self.is_light_due() {
-            self.light(time, point, body);
+            self.light(time, state.point, body);
             return true;
         }
         false

@@ -7,10 +7,9 @@ ghost use Rattle.srt_packet.specs.Text.{IsWritable};
 ghost use Rattle.srt_pub.specs.Publishing.{Came, confirmed_by, confirmed_notes};
 ghost use Rattle.srt_pub.specs.Calls.{listed};
 
-use crate::acknowledgements::Acks;
+use crate::acknowledgements::{Acks, State};
 use srt_packet::Body;
 use srt_rtt::Rtt;
-use srt_seq::Seq31;
 use std::alloc::{AllocError, Global};
 
 /// What a session remembers of its events. All times are microseconds since the opening, which counts as the last NAK
@@ -86,13 +85,13 @@ impl Log {
 
     /// Writes the body of the ACK that is due, Full or Light. Returns whether one is due; if not, `body` is
     /// unchanged.
-    pub fn ack(&mut self, time: u64, point: Seq31, available: u32, body: &mut Body) -> bool
-        ensures stands { LogNotesAck time available self.old self.new }
-        ensures bytes { LogWritesAck time point available self.old (listed (given result body.new)) }
+    pub fn ack(&mut self, time: u64, state: State, body: &mut Body) -> bool
+        ensures stands { LogNotesAck time state.available self.old self.new }
+        ensures bytes { LogWritesAck time state.point state.available self.old (listed (given result body.new)) }
         ensures writable { result ≡ true → IsWritable body.new }
         ensures kept { result ≡ false → body.new ≡ body.old }
     {
-        if self.acks.report(time, point, available, self.rtt, body) {
+        if self.acks.report(time, state, self.rtt, body) {
             self.sent = time;
             return true;
         }

@@ -9,6 +9,7 @@ ghost use Rattle.srt_pub.specs.Publishing.{acks, reports, reported};
 ghost use Rattle.srt_pub.specs.Says.{body_bytes};
 ghost use Rattle.srt_pub.specs.Calls.{listed};
 
+use crate::acknowledgements::State;
 use crate::reports::Reports;
 use crate::session::Publisher;
 use srt_packet::Packet;
@@ -57,7 +58,8 @@ impl Publisher {
     {
         let point = self.buffer.ack_point();
         let available = self.buffer.available();
-        if self.log.ack(time, point, available, &mut packet.body) {
+        let state = State { point, available };
+        if self.log.ack(time, state, &mut packet.body) {
             self.address(time, packet);
             return true;
         }

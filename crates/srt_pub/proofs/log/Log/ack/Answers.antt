@@ -7,7 +7,7 @@ use Rattle.srt_pub.proofs.log.Log.ack.Goals as goal
 
 pub returns-then-report-clause-stands : goal.returns-then-report-clause-stands
 returns-then-report-clause-stands c width front a seen notes is h =
-    let k = after_acks width a c.args.available c.args.time notes in
+    let k = after_acks width a c.args.state.available c.args.time notes in
     let one = sym (c.report.ensures.count width front a notes is h.acks) ∙ ap (λ (b : Bool). length (listed (given b c.report.new.body))) c.if-report.true in
     record {
       acks = c.report.ensures.stands width front a notes h.times is h.acks;
@@ -19,7 +19,7 @@ returns-then-report-clause-stands c width front a seen notes is h =
 
 pub returns-clause-stands : goal.returns-clause-stands
 returns-clause-stands c width front a seen notes is h =
-    let k = after_acks width a c.args.available c.args.time notes in
+    let k = after_acks width a c.args.state.available c.args.time notes in
     let none = sym (c.report.ensures.count width front a notes is h.acks) ∙ ap (λ (b : Bool). length (listed (given b c.report.new.body))) c.if-report.false in
     record {
       acks = c.report.ensures.stands width front a notes h.times is h.acks;
