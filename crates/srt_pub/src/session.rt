@@ -20,6 +20,16 @@ use srt_recvbuf::RecvBuf;
 use srt_seq::{Mode, Payload, PayloadRef, Seq31, Stamp32};
 use std::alloc::{AllocError, Global};
 
+/// A data packet without its timestamp.
+#[derive(Clone, Copy)]
+struct DataPacket<'a> {
+    /// The first word, which is a sequence number if its top bit is 0.
+    word: u32,
+    /// The encryption field; 0 if it is unencrypted.
+    encryption: u8,
+    payload: PayloadRef<'a>,
+}
+
 /// A publisher's session. Moments are microseconds of the route's clock, which doesn't go back; they are below 2^62.
 #[derive(Drop)]
 pub struct Publisher {
@@ -87,7 +97,14 @@ impl Publisher {
                 number,
                 encryption,
                 payload,
-            } => self.data(number, encryption, payload, packet.stamp, now),
+            } => {
+                let data = DataPacket {
+                    word: number,
+                    encryption,
+                    payload,
+                };
+                self.data(data, packet.stamp, now)
+            }
             Kind::AckAck { number } => {
                 self.ack_ack(number, now);
                 None
@@ -106,24 +123,17 @@ impl Publisher {
     }
 
     /// Takes a data packet (section 3.1). An encrypted one changes nothing (this profile).
-    fn data(
-        &mut self,
-        word: u32,
-        encryption: u8,
-        payload: PayloadRef<'_>,
-        stamp: u32,
-        now: u64,
-    ) -> Option<PubEnd>
+    fn data(&mut self, packet: DataPacket<'_>, stamp: u32, now: u64) -> Option<PubEnd>
         requires { now < 2 ^ 62 }
-        ensures stands { HearsAt now stamp self.old self.new (λ initial. data_from initial word encryption payload.entry.bytes.now) }
+        ensures stands { HearsAt now stamp self.old self.new (λ initial. data_from initial packet.entry.word packet.entry.encryption packet.entry.payload.bytes.now) }
         ensures opening { opening_of self.new ≡ opening_of self.old }
-        ensures end { HoldsOf self.old (λ terms initial m. result ≡ lost_by terms (data_from initial word encryption payload.entry.bytes.now) m) }
+        ensures end { HoldsOf self.old (λ terms initial m. result ≡ lost_by terms (data_from initial packet.entry.word packet.entry.encryption packet.entry.payload.bytes.now) m) }
     {
-        if encryption != 0 {
+        if packet.encryption != 0 {
             return None;
         }
-        let lost = self.loses_window(word);
-        self.receive(word, payload, stamp, now);
+        let lost = self.loses_window(packet.word);
+        self.receive(packet.word, packet.payload, stamp, now);
         if lost { Some(PubEnd::WindowLost) } else { None }
     }
 
