@@ -7,9 +7,9 @@ ghost use Rattle.srt_hub.specs.Gateways.{ArrivalsAreOwn, StepsAreOwn, SentByOwnS
 ghost use Rattle.srt_hub.specs.Refusals.{FullIsAtCapacity, FullTickIsAtCapacity, BlockedIsAtCapacity, IdleIsEmpty, RefusedIsARoutes, LobbyAnswersAlone, FaultOpensNothing, OpeningIsNext, ClosedIsHidden, FullClosingIsAtCapacity, AcceptedClosingHides, HiddenStays};
 
 /// No route's traffic changes another's. Take any two lists of arrivals, ticks, turns, sends, openings and closings for
-/// two gateways with the same secret and the same entry for a route, which may be opened among the events. If the route's inbox accepted the same items in the same order and
-/// nothing of it waits, the datagrams that were sent for it are equal byte for byte, and are those that the route alone
-/// replies.
+/// two gateways with the same secret and the same entry for a route, which may be opened among the events. If the
+/// route's inbox accepted the same items in the same order and nothing of it waits, the datagrams that were sent for it
+/// are equal byte for byte, and are those that the route alone replies.
 pub fn isolation()
     // If something waits, what was sent is a prefix of what the route alone replies.
     ensures front { SentIsFront }
@@ -45,8 +45,8 @@ pub fn openings()
 {}
 
 /// The laws of the gateway with the real lobby and the real routes. Which datagrams are a route's depends on the
-/// secret, the route's index and name, whether it is shown, and each datagram alone; what is sent for a route depends on the route's own
-/// events alone.
+/// secret, the route's index and name, whether it is shown, and each datagram alone; what is sent for a route depends
+/// on the route's own events alone.
 pub fn gateways()
     ensures arrivals { ArrivalsAreOwn }
     // So the lobby is one for which `isolation` has its clause on own names.
