@@ -6,6 +6,7 @@ pub mod Writing
 pub mod EventTexts
 pub mod Numbered
 pub mod Replays
+pub mod TapeEvents
 pub mod SentLines
 pub mod KeyFaults
 pub mod Parted

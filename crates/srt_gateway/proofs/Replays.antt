@@ -4,7 +4,9 @@ use Rattle.std.proofs.lemmas.List.{append-nil, take-append-drop}
 use Rattle.std.proofs.Math.Seq.{take-append_seam, drop-append_seam}
 use Rattle.std.specs.Io.KnownBytes.{Keeps}
 use Rattle.srt_seq.specs.Terms.{Terms}
+use Rattle.srt_lobby.specs.Names.{RouteName}
 use Rattle.srt_hub.specs.World.{Event, Sorting, Meaning}
+use Rattle.srt_hub.specs.Hubs.{names, names_at, routes_at}
 use Rattle.srt_gateway.specs.declared.replaying.ReplayFault.{ReplayFault}
 use Rattle.srt_gateway.specs.declared.replaying.ReplayFault.TheVariants.{Tape, OutOfMemory, Read, Write}
 use Rattle.srt_gateway.specs.Tape.{lines_of}
@@ -12,6 +14,7 @@ use Rattle.srt_gateway.specs.Texts.{event_text}
 use Rattle.srt_gateway.specs.Known.{NoLine, Wrote}
 use Rattle.srt_gateway.specs.Replay.{event_at, events_on, events_from, fault_on, fault_from, text_after, text_of, tape_text, front_text, Replays}
 use Rattle.srt_gateway.specs.Step.{History, NoEvent, TookEvent, Answered, with_past, Replayed, IsReplaying}
+use Rattle.srt_gateway.proofs.TapeEvents.{tape_routes, tape_names}
 use Rattle.srt_gateway.proofs.Writing.{wrote_same}
 
 abbrev Known : List ℕ → Option (List ℕ)
@@ -77,14 +80,23 @@ started class reply entries Now r w stands tape e =
 
 -- the result of a line, whatever happened before
 abbrev pub Step : Sorting → Meaning → List Terms → (Now Next : History) → (old new held holds : Option (List ℕ)) (number : ℕ) → Result Bool ReplayFault → Type 0
-Step class reply entries Now Next old new held holds number result = (past : List Event) → Now past → Answered class reply entries past Next old new held holds number result
+Step class reply entries Now Next old new held holds number result =
+    (past : List Event) → Now past → Answered class reply entries (names_at class reply entries past) (routes_at class reply entries past) past Next old new held holds number result
+
+-- after a tape's lines the names and the number of routes are those that the gateway was opened with
+answered : (class : Sorting) (reply : Meaning) (entries : List Terms) (Now Next : History) (r r' w w' : Option (List ℕ)) (n : ℕ) (result : Result Bool ReplayFault) (lines : List (List ℕ)) → Step class reply entries Now Next r r' w w' n result → Now (past_of entries lines) →
+    Answered class reply entries (names entries) (length entries) (past_of entries lines) Next r r' w w' n result
+answered class reply entries Now Next r r' w w' n result lines step stands =
+    let past = past_of entries lines in
+    subst (λ (routes : ℕ). Answered class reply entries (names entries) routes past Next r r' w w' n result) (tape_routes class reply entries (length entries) 1 lines)
+    (subst (λ (ns : List RouteName). Answered class reply entries ns (routes_at class reply entries past) past Next r r' w w' n result) (tape_names class reply entries (length entries) 1 lines) (step past stands))
 
 pub goes_on : (class : Sorting) (reply : Meaning) (entries : List Terms) (Now Next : History) (r0 w0 r w r' w' : Option (List ℕ)) (n : ℕ) → IsReplaying class reply entries Now r0 w0 r w n → Step class reply entries Now Next r r' w w' n (Ok true) → IsReplaying class reply entries Next r0 w0 r' w' (n + 1)
 goes_on class reply entries Now Next r0 w0 r w r' w' n h step tape e =
     let a = h tape e in
     let routes = length entries in
     let past = past_of entries a.lines in
-    let s = step past a.stands in
+    let s = answered class reply entries Now Next r r' w w' n (Ok true) a.lines step a.stands in
     let event = s.0 in
     let took = s.1 in
     let b = took.took a.left a.reader_is in
@@ -141,7 +153,7 @@ ends_at_memory : (class : Sorting) (reply : Meaning) (entries : List Terms) (Now
 ends_at_memory class reply entries Now Next r0 w0 r w r' w' n h step tape e =
     let a = h tape e in
     let routes = length entries in
-    let s = step (past_of entries a.lines) a.stands in
+    let s = answered class reply entries Now Next r r' w w' n (Err OutOfMemory) a.lines step a.stands in
     let took = s.2 in
     let b = took.took a.left a.reader_is in
     let number : n ≡ length a.lines + 1 = omega (arith, a.number_is) in (
@@ -173,7 +185,7 @@ text_on class reply entries Now tape held r w r' n event a took =
 ends_at_write : (class : Sorting) (reply : Meaning) (entries : List Terms) (Now Next : History) (r0 w0 r w r' w' : Option (List ℕ)) (n : ℕ) → IsReplaying class reply entries Now r0 w0 r w n → Step class reply entries Now Next r r' w w' n (Err Write) → Replays class reply entries r0 w0 w' (Err Write)
 ends_at_write class reply entries Now Next r0 w0 r w r' w' n h step tape e =
     let a = h tape e in
-    let s = step (past_of entries a.lines) a.stands in
+    let s = answered class reply entries Now Next r r' w w' n (Err Write) a.lines step a.stands in
     let text = event_text class reply entries (past_of entries a.lines) s.0 in
     let done = text_of class reply entries a.lines in
     let whole = text_on class reply entries Now tape w0 r w r' n s.0 a s.1 in
@@ -188,7 +200,7 @@ the_writer class reply entries r0 w0 w w' answer same h = subst (λ (v : Option 
 pub stops : (class : Sorting) (reply : Meaning) (entries : List Terms) (Now Next : History) (r0 w0 r w r' w' : Option (List ℕ)) (n : ℕ) (fault : ReplayFault) → IsReplaying class reply entries Now r0 w0 r w n → Step class reply entries Now Next r r' w w' n (Err fault) → Replays class reply entries r0 w0 w' (Err fault)
 stops class reply entries Now Next r0 w0 r w r' w' n (Tape line) h step tape e =
     let a = h tape e in
-    let s = step (past_of entries a.lines) a.stands in
+    let s = answered class reply entries Now Next r r' w w' n (Err (Tape line)) a.lines step a.stands in
     the_writer class reply entries r0 w0 w w' (Err (Tape line)) s.2 (subst (λ (m : ℕ). Replays class reply entries r0 w0 w (Err (Tape m))) (sym s.0) (ends_at_fault class reply entries Now r0 w0 r w n h s.1)) tape e
 stops class reply entries Now Next r0 w0 r w r' w' n OutOfMemory h step tape e =
     let a = h tape e in
@@ -201,7 +213,7 @@ stops class reply entries Now Next r0 w0 r w r' w' n Write h step tape e = ends_
 pub no_more : (class : Sorting) (reply : Meaning) (entries : List Terms) (Now Next : History) (r0 w0 r w r' w' : Option (List ℕ)) (n : ℕ) → IsReplaying class reply entries Now r0 w0 r w n → Step class reply entries Now Next r r' w w' n (Ok false) → Replays class reply entries r0 w0 w' (Ok tt)
 no_more class reply entries Now Next r0 w0 r w r' w' n h step tape e =
     let a = h tape e in
-    let s = step (past_of entries a.lines) a.stands in
+    let s = answered class reply entries Now Next r r' w w' n (Ok false) a.lines step a.stands in
     the_writer class reply entries r0 w0 w w' (Ok tt) s.1 (ends class reply entries Now r0 w0 r w n h s.0) tape e
 
 -- a flush changes nothing

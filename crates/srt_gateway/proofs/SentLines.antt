@@ -1,7 +1,8 @@
 -- The lines of what was sent.
-use Rattle.std.proofs.Common.{◌≡◌, ℕ, zero, suc, ◌+◌, ◌/◌, ◌%◌, ◌==◌, ◌&&◌, nat_lt, Bool, true, false, eqb-true, List, [], ◌∷◌, ◌++◌, slice_index, map, codes, decimal, Option, None, Some, refl, sym, ap, subst, ◌∙◌, append_assoc, if◌then◌else◌, arith, ◌^◌, nat_le, length, rules}
+use Rattle.std.proofs.Common.{◌≡◌, ℕ, zero, suc, ◌+◌, ◌/◌, ◌%◌, ◌==◌, ◌&&◌, nat_lt, Bool, true, false, eqb-true, List, [], ◌∷◌, ◌++◌, slice_index, map, codes, decimal, Option, None, Some, refl, sym, ap, subst, ◌∙◌, append_assoc, if◌then◌else◌, arith, length, cond, ◌≤◌, rules}
 use Rattle.std.specs.List.{AllByRecursion}
 use Rattle.std.specs.Fmt.{digits, digits_onto, digit_glyph}
+use Rattle.std.proofs.lemmas.Bool.Decides.{nat_tests}
 use Rattle.std.proofs.lemmas.List.{append-nil, map-append}
 use Rattle.hex.specs.Hex.{encode_with, encode_lower, lower_digits}
 use Rattle.srt_seq.specs.Items.{Datagram, Item, Received, Tick}
@@ -16,15 +17,16 @@ use Rattle.srt_hub.specs.declared.answers.Arrived.{Arrived}
 use Rattle.srt_hub.specs.declared.answers.Arrived.TheVariants as arrived
 use Rattle.srt_hub.specs.declared.answers.Ticked.{Ticked}
 use Rattle.srt_hub.specs.declared.answers.Ticked.TheVariants as ticked
-use Rattle.srt_hub.specs.World.{Event, Arrives, Ticks, Turns, Sends, Sorting, Meaning, Lane, Offers, Send, Nothing, step_for, sends_out, Turn, listed, arrival_of, offered_to, is_route, sent, first, tick, turn}
-use Rattle.srt_hub.specs.Hubs.{names, terms_at, lane_at, room_at}
-use Rattle.srt_gateway.specs.Tape.{lines_of, line_max, fields_of, number_in, address_in, bytes_in}
-use Rattle.srt_gateway.specs.Events.{arrival_of as line_arrival, tick_of, turn_of, send_of, moment_in, arrival_in, tick_in, turn_in, send_in, is_letter, event_in, event_of}
+use Rattle.srt_hub.specs.World.{Event, Arrives, Ticks, Turns, Sends, Opens, Closes, Sorting, Meaning, World, Lane, Step, Offers, Send, Nothing, own_step, step_for, sends_out, Turn, empty, names_in, listed, arrival_of, offered_to, is_route, solo, accepted, sent, first, tick, turn, world_after}
+use Rattle.srt_hub.specs.Hubs.{terms_at, names_at, entry_at, lane_at, room_at}
+use Rattle.srt_gateway.specs.Tape.{lines_of}
 use Rattle.srt_gateway.specs.Texts.{digit_of, route_text, arrived_text, arrival_text, ticked_text, turned_text, sent_text, event_text}
-use Rattle.srt_gateway.specs.Replay.{lines_max, event_at, events_on, events_from, text_after, tape_text}
+use Rattle.srt_gateway.specs.Replay.{text_after, tape_text}
 use Rattle.srt_gateway.specs.Step.{with_past}
 use Rattle.srt_gateway.specs.Sent.{events_of, happened, is_send, sent_line, is_sent_line, sent_at, sent_lines, SentLinesTell, TapesAreIsolated}
 use Rattle.srt_hub.proofs.Isolation.{gateways_isolated}
+use Rattle.srt_hub.proofs.Refusals.{empty_before}
+use Rattle.srt_gateway.proofs.TapeEvents.{Unrefused, AllUnrefused, lines_unrefused, tape_entry}
 use Rattle.srt_gateway.proofs.FirstLine.{IsInside, ended}
 
 abbrev Inside : List ℕ → Type 0
@@ -143,142 +145,69 @@ nothing_turned : (t : Bool) (m : Lane) → sends_out (if t then Turn else Nothin
 nothing_turned true m = refl
 nothing_turned false m = refl
 
--- no arrival of a tape is refused
-abbrev Unrefused : Event → Type 0
-Unrefused (Arrives d moment refused) = refused ≡ false
-Unrefused (Ticks r moment) = Unit {0}
-Unrefused (Turns r) = Unit {0}
-Unrefused (Sends r) = Unit {0}
-
-abbrev OnlyUnrefused : Option Event → Type 0
-OnlyUnrefused o = (event : Event) → o ≡ Some event → Unrefused event
-
-no_event : OnlyUnrefused None
-no_event event e = absurd cc
-
-one_event : (e : Event) → Unrefused e → OnlyUnrefused (Some e)
-one_event e u event is = subst Unrefused (own e event is) u
-  where
-    own : (e event : Event) → Some e ≡ Some event → e ≡ event
-    own e event is = cc
-
-either : (t : Bool) (o p : Option Event) → OnlyUnrefused o → OnlyUnrefused p → OnlyUnrefused (if t then o else p)
-either true o p h k = h
-either false o p h k = k
-
-arrival_unrefused : (moment : Option ℕ) (ip : Option (List ℕ)) (port : Option ℕ) (bytes : Option (List ℕ)) → OnlyUnrefused (line_arrival moment ip port bytes)
-arrival_unrefused (Some moment) (Some ip) (Some port) (Some bytes) = one_event (Arrives (record { peer = record { ip = ip; port = port }; bytes = bytes }) moment false) refl
-arrival_unrefused (Some moment) (Some ip) (Some port) None = no_event
-arrival_unrefused (Some moment) (Some ip) None bytes = no_event
-arrival_unrefused (Some moment) None port bytes = no_event
-arrival_unrefused None ip port bytes = no_event
-
-tick_unrefused : (route moment : Option ℕ) → OnlyUnrefused (tick_of route moment)
-tick_unrefused (Some r) (Some moment) = one_event (Ticks r moment) tt
-tick_unrefused (Some r) None = no_event
-tick_unrefused None moment = no_event
-
-turn_unrefused : (route : Option ℕ) → OnlyUnrefused (turn_of route)
-turn_unrefused (Some r) = one_event (Turns r) tt
-turn_unrefused None = no_event
-
-send_unrefused : (route : Option ℕ) → OnlyUnrefused (send_of route)
-send_unrefused (Some r) = one_event (Sends r) tt
-send_unrefused None = no_event
-
-arrivals_unrefused : (fields : List (List ℕ)) → OnlyUnrefused (arrival_in fields)
-arrivals_unrefused [] = no_event
-arrivals_unrefused (a ∷ []) = no_event
-arrivals_unrefused (a ∷ b ∷ []) = no_event
-arrivals_unrefused (a ∷ b ∷ c ∷ []) = no_event
-arrivals_unrefused (a ∷ b ∷ c ∷ d ∷ []) = arrival_unrefused (moment_in a) (address_in b) (number_in (2 ^ 16) c) (bytes_in d)
-arrivals_unrefused (a ∷ b ∷ c ∷ d ∷ e ∷ fields) = no_event
-
-ticks_unrefused : (routes : ℕ) (fields : List (List ℕ)) → OnlyUnrefused (tick_in routes fields)
-ticks_unrefused routes [] = no_event
-ticks_unrefused routes (a ∷ []) = no_event
-ticks_unrefused routes (a ∷ b ∷ []) = tick_unrefused (number_in routes a) (moment_in b)
-ticks_unrefused routes (a ∷ b ∷ c ∷ fields) = no_event
-
-turns_unrefused : (routes : ℕ) (fields : List (List ℕ)) → OnlyUnrefused (turn_in routes fields)
-turns_unrefused routes [] = no_event
-turns_unrefused routes (a ∷ []) = turn_unrefused (number_in routes a)
-turns_unrefused routes (a ∷ b ∷ fields) = no_event
-
-sends_unrefused : (routes : ℕ) (fields : List (List ℕ)) → OnlyUnrefused (send_in routes fields)
-sends_unrefused routes [] = no_event
-sends_unrefused routes (a ∷ []) = send_unrefused (number_in routes a)
-sends_unrefused routes (a ∷ b ∷ fields) = no_event
-
-fields_unrefused : (routes : ℕ) (fields : List (List ℕ)) → OnlyUnrefused (event_in routes fields)
-unfolding event_in
-fields_unrefused routes [] = no_event
-fields_unrefused routes (letter ∷ fields) =
-    either (is_letter 65 letter) _ _ (arrivals_unrefused fields)
-    (either (is_letter 84 letter) _ _ (ticks_unrefused routes fields)
-    (either (is_letter 85 letter) _ _ (turns_unrefused routes fields)
-    (either (is_letter 83 letter) _ _ (sends_unrefused routes fields) no_event)))
-
-line_unrefused : (routes number : ℕ) (line : List ℕ) → OnlyUnrefused (event_at routes number line)
-unfolding event_at event_of
-line_unrefused routes number line =
-    either (nat_le number lines_max) _ _ (either (nat_le (length line) line_max) _ _ (fields_unrefused routes (fields_of line)) no_event) no_event
-
-abbrev AllUnrefused : List Event → Type 0
-AllUnrefused [] = Unit {0}
-AllUnrefused (event ∷ events) = Unrefused event × AllUnrefused events
-
-and_on : (o : Option Event) (events : List Event) → OnlyUnrefused o → AllUnrefused events → AllUnrefused (events_on o events)
-and_on None events h k = tt
-and_on (Some e) events h k = (h e refl, k)
-
-lines_unrefused : (routes number : ℕ) (lines : List (List ℕ)) → AllUnrefused (events_from routes number lines)
-lines_unrefused routes number [] = tt
-lines_unrefused routes number (line ∷ lines) = and_on (event_at routes number line) (events_from routes (number + 1) lines) (line_unrefused routes number line) (lines_unrefused routes (number + 1) lines)
-
 -- an event's line, and its `sent` lines for a route
 record Told (class : Sorting) (reply : Meaning) (entries : List Terms) (r : ℕ) (past : List Event) (event : Event) : Type 0 where
   line : List ℕ
   text_is : event_text class reply entries past event ≡ line ++ 10 ∷ []
   inside : Inside line
-  sends : map sent_line (sends_out (step_for class r event) (lane_at class reply entries r past)) ≡ picked (is_send r event && is_sent_line line) line
+  sends : map sent_line (sends_out (step_for class (world_after class reply entries past) r event) (lane_at class reply entries r past)) ≡ picked (is_send r event && is_sent_line line) line
 
-send_told : (class : Sorting) (reply : Meaning) (entries : List Terms) (r s : ℕ) (past : List Event) (t : Bool) → (t ≡ true → s ≡ r) →
-    map sent_line (sends_out (if t then Send else Nothing) (lane_at class reply entries r past)) ≡ picked (t && is_sent_line (send_line (first (lane_at class reply entries s past).outbox)).line) (send_line (first (lane_at class reply entries s past).outbox)).line
-send_told class reply entries r s past true same =
+-- what sends nothing if the route is there sends nothing
+none_sent : (there : Bool) (step : Step) (m : Lane) → sends_out step m ≡ [] → sends_out (cond there step Nothing) m ≡ []
+none_sent true step m h = h
+none_sent false step m h = refl
+
+-- a route that isn't there sends nothing, and its outbox is empty
+not_there : (n r : ℕ) → nat_lt r n ≡ false → n ≤ r
+not_there n r h = grind (arith, nat_tests)
+
+send_told : (class : Sorting) (reply : Meaning) (entries : List Terms) (r s : ℕ) (past : List Event) (there : Bool) → nat_lt r (length (world_after class reply entries past).places) ≡ there → (t : Bool) → (t ≡ true → s ≡ r) →
+    map sent_line (sends_out (cond there (if t then Send else Nothing) Nothing) (lane_at class reply entries r past)) ≡ picked (t && is_sent_line (send_line (first (lane_at class reply entries s past).outbox)).line) (send_line (first (lane_at class reply entries s past).outbox)).line
+send_told class reply entries r s past true is true same =
     let o = first (lane_at class reply entries s past).outbox in
     subst (λ (q : ℕ). map sent_line (listed (first (lane_at class reply entries q past).outbox)) ≡ picked (is_sent_line (send_line o).line) (send_line o).line) (same refl) (sends_told o)
-send_told class reply entries r s past false same = refl
+send_told class reply entries r s past false is true same =
+    let none : lane_at class reply entries s past ≡ empty = ap (λ (q : ℕ). lane_at class reply entries q past) (same refl) ∙ empty_before class reply entries r past (not_there (length (world_after class reply entries past).places) r is) in
+    subst (λ (m : Lane). map sent_line [] ≡ picked (is_sent_line (send_line (first m.outbox)).line) (send_line (first m.outbox)).line) (sym none) refl
+send_told class reply entries r s past true is false same = refl
+send_told class reply entries r s past false is false same = refl
 
 told : (class : Sorting) (reply : Meaning) (entries : List Terms) (r : ℕ) (past : List Event) (event : Event) → Unrefused event → Told class reply entries r past event
 unfolding event_text
 told class reply entries r past (Arrives d moment true) u = absurd cc
 told class reply entries r past (Arrives d moment false) u =
-    let k = arrival_line (class d moment) (room_at class reply entries past) in
-    record { line = k.line; text_is = k.text_is; inside = k.inside; sends = ap (map sent_line) (nothing_offered (is_route r (class d moment)) (Received d moment) (lane_at class reply entries r past)) }
+    let w = world_after class reply entries past in
+    let k = arrival_line (class (names_in w) d moment) (room_at class reply entries past) in
+    record { line = k.line; text_is = k.text_is; inside = k.inside; sends = ap (map sent_line) (none_sent (nat_lt r (length w.places)) (own_step class w r (Arrives d moment false)) (w.lane r) (nothing_offered (is_route r (class (names_in w) d moment)) (Received d moment) (w.lane r))) }
 told class reply entries r past (Ticks s moment) u =
-    let k = tick_line s (tick (terms_at entries s) (lane_at class reply entries s past)) in
-    record { line = k.line; text_is = k.text_is; inside = k.inside; sends = ap (map sent_line) (nothing_offered (s == r) (Tick moment) (lane_at class reply entries r past)) }
+    let w = world_after class reply entries past in
+    let k = tick_line s (tick (entry_at class reply entries s past) (w.lane s)) in
+    record { line = k.line; text_is = k.text_is; inside = k.inside; sends = ap (map sent_line) (none_sent (nat_lt r (length w.places)) (own_step class w r (Ticks s moment)) (w.lane r) (nothing_offered (s == r) (Tick moment) (w.lane r))) }
 told class reply entries r past (Turns s) u =
-    let k = turn_line (turn (terms_at entries s) (lane_at class reply entries s past)) in
-    record { line = k.line; text_is = k.text_is; inside = k.inside; sends = ap (map sent_line) (nothing_turned (s == r) (lane_at class reply entries r past)) }
+    let w = world_after class reply entries past in
+    let k = turn_line (turn (entry_at class reply entries s past) (w.lane s)) in
+    record { line = k.line; text_is = k.text_is; inside = k.inside; sends = ap (map sent_line) (none_sent (nat_lt r (length w.places)) (own_step class w r (Turns s)) (w.lane r) (nothing_turned (s == r) (w.lane r))) }
 told class reply entries r past (Sends s) u =
-    let k = send_line (first (lane_at class reply entries s past).outbox) in
-    record { line = k.line; text_is = k.text_is; inside = k.inside; sends = send_told class reply entries r s past (s == r) (eqb-true s r) }
+    let w = world_after class reply entries past in
+    let k = send_line (first (w.lane s).outbox) in
+    record { line = k.line; text_is = k.text_is; inside = k.inside; sends = send_told class reply entries r s past (nat_lt r (length w.places)) refl (s == r) (eqb-true s r) }
+told class reply entries r past (Opens e refused) u = absurd u
+told class reply entries r past (Closes s moment) u = absurd u
 
 all_told : (class : Sorting) (reply : Meaning) (entries : List Terms) (r : ℕ) (past coming : List Event) → AllUnrefused coming →
-    map sent_line (sent class reply (terms_at entries r) r (with_past past coming)) ≡ map sent_line (sent class reply (terms_at entries r) r past) ++ sent_at r coming (lines_of (text_after class reply entries past coming))
-all_told class reply entries r past [] u = sym (append-nil (map sent_line (sent class reply (terms_at entries r) r past)))
+    map sent_line (sent class reply entries r (with_past past coming)) ≡ map sent_line (sent class reply entries r past) ++ sent_at r coming (lines_of (text_after class reply entries past coming))
+all_told class reply entries r past [] u = sym (append-nil (map sent_line (sent class reply entries r past)))
 all_told class reply entries r past (event ∷ coming) u =
+    let w = world_after class reply entries past in
     let p = told class reply entries r past event u.0 in
     let rest = text_after class reply entries (event ∷ past) coming in
-    let before = map sent_line (sent class reply (terms_at entries r) r past) in
+    let before = map sent_line (sent class reply entries r past) in
     let now = picked (is_send r event && is_sent_line p.line) p.line in
     let later = sent_at r coming (lines_of rest) in
     let lines : lines_of (text_after class reply entries past (event ∷ coming)) ≡ p.line ∷ lines_of rest = ap lines_of (ap (λ (xs : List ℕ). xs ++ rest) p.text_is ∙ append_assoc p.line (10 ∷ []) rest) ∙ ended p.line rest p.inside in
     let here : sent_at r (event ∷ coming) (lines_of (text_after class reply entries past (event ∷ coming))) ≡ now ++ later = ap (sent_at r (event ∷ coming)) lines ∙ picks (is_send r event && is_sent_line p.line) p.line later in
     all_told class reply entries r (event ∷ past) coming u.1
-    ∙ ap (λ (ls : List (List ℕ)). ls ++ later) (map-append sent_line (sent class reply (terms_at entries r) r past) (sends_out (step_for class r event) (lane_at class reply entries r past)) ∙ ap (λ (ls : List (List ℕ)). before ++ ls) p.sends)
+    ∙ ap (λ (ls : List (List ℕ)). ls ++ later) (map-append sent_line (sent class reply entries r past) (sends_out (step_for class w r event) (w.lane r)) ∙ ap (λ (ls : List (List ℕ)). before ++ ls) p.sends)
     ∙ append_assoc before now later
     ∙ ap (λ (ls : List (List ℕ)). before ++ ls) (sym here)
 
@@ -287,9 +216,11 @@ lines_tell class reply entries r tape = sym (all_told class reply entries r [] (
 
 pub tapes_isolated : TapesAreIsolated
 tapes_isolated class reply secret entries entries' r tape tape' same took quiet quiet' =
-    let h = gateways_isolated class reply secret entries entries' r (happened (length entries) tape) (happened (length entries') tape') same took quiet quiet' in
-    let there = class secret (names entries') in
-    let own : map sent_line (sent there reply (terms_at entries r) r (happened (length entries') tape')) ≡ sent_lines (length entries') r tape' (tape_text there reply entries' tape') =
-    ap (λ (e : Terms). map sent_line (sent there reply e r (happened (length entries') tape'))) same ∙ sym (lines_tell there reply entries' r tape') in
-    let tells = lines_tell (class secret (names entries)) reply entries r tape in
-    (tells ∙ ap (map sent_line) h.0 ∙ own, tells ∙ ap (map sent_line) h.1)
+    let sorting = class secret in
+    let entry = tape_entry sorting reply entries r (length entries) 1 (lines_of tape) in
+    let entry' = tape_entry sorting reply entries' r (length entries') 1 (lines_of tape') in
+    let h = gateways_isolated class reply secret entries entries' r (happened (length entries) tape) (happened (length entries') tape') (entry ∙ same ∙ sym entry') took quiet quiet' in
+    let tells = lines_tell sorting reply entries r tape in (
+      tells ∙ ap (map sent_line) h.0 ∙ sym (lines_tell sorting reply entries' r tape'),
+      tells ∙ ap (map sent_line) (h.1 ∙ ap (λ (e : Terms). solo reply e r (accepted sorting reply entries r (happened (length entries) tape))) entry),
+    )

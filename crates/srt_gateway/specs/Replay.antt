@@ -2,7 +2,9 @@
 use Rattle.std.specs.Prelude.{◌≡◌, ℕ, ◌+◌, nat_le, List, [], ◌∷◌, ◌++◌, take, drop, length, Option, None, Some, Result, Ok, Err, if◌then◌else◌}
 use Rattle.srt_seq.specs.Terms.{Terms}
 use Rattle.srt_lobby.specs.declared.classes.Class.TheVariants.{Route}
-use Rattle.srt_hub.specs.World.{Event, Arrives, Ticks, Turns, Sends, Sorting, Meaning}
+use Rattle.srt_lobby.specs.Names.{RouteName}
+use Rattle.srt_hub.specs.World.{Event, Arrives, Ticks, Turns, Sends, Opens, Closes, Sorting, Meaning}
+use Rattle.srt_hub.specs.Hubs.{names}
 use Rattle.srt_gateway.specs.declared.replaying.ReplayFault.{ReplayFault}
 use Rattle.srt_gateway.specs.declared.replaying.ReplayFault.TheVariants.{Tape, OutOfMemory, Read, Write}
 use Rattle.srt_gateway.specs.Tape.{lines_of}
@@ -59,22 +61,24 @@ front_text class reply entries tape lines = text_of class reply entries (take li
 abbrev pub fault_line : (routes : ℕ) → (tape : List ℕ) → Option ℕ
 fault_line routes tape = fault_from routes 1 (lines_of tape)
 
--- an arrival whose copy takes memory: it is for a route
-abbrev pub WantsCopy : Sorting → Event → Type 0
-WantsCopy class (Arrives d moment refused) = (r : ℕ) × (class d moment ≡ Route r)
-WantsCopy class (Ticks r moment) = ⊥
-WantsCopy class (Turns r) = ⊥
-WantsCopy class (Sends r) = ⊥
+-- an arrival whose copy takes memory: with the names in force it is for a route
+abbrev pub WantsCopy : Sorting → List RouteName → Event → Type 0
+WantsCopy class names (Arrives d moment refused) = (r : ℕ) × (class names d moment ≡ Route r)
+WantsCopy class names (Ticks r moment) = ⊥
+WantsCopy class names (Turns r) = ⊥
+WantsCopy class names (Sends r) = ⊥
+WantsCopy class names (Opens e refused) = ⊥
+WantsCopy class names (Closes r moment) = ⊥
 
 -- after this number of lines, all events, comes a line with such an arrival
-pub record WantsMemory (class : Sorting) (routes : ℕ) (tape : List ℕ) (lines : ℕ) : Type 0 where
+pub record WantsMemory (class : Sorting) (names : List RouteName) (routes : ℕ) (tape : List ℕ) (lines : ℕ) : Type 0 where
   pub line : List ℕ
   pub behind : List (List ℕ)
   pub event : Event
   pub no_fault : fault_from routes 1 (take lines (lines_of tape)) ≡ None
   pub line_is : drop lines (lines_of tape) ≡ line ∷ behind
   pub event_is : event_at routes (lines + 1) line ≡ Some event
-  pub wants : WantsCopy class event
+  pub wants : WantsCopy class names event
 
 -- the result of a replay, and what the writer then holds, if its bytes are known
 abbrev pub HasReplayed : Sorting → Meaning → List Terms → (tape : List ℕ) (before after : Option (List ℕ)) → Result (Unit {0}) ReplayFault → Type 0
@@ -83,7 +87,7 @@ HasReplayed class reply entries tape before after (Ok u) = Wrote before after (t
 -- the text of the lines before the first that isn't an event
 HasReplayed class reply entries tape before after (Err (Tape line)) = Wrote before after (tape_text class reply entries tape) × (fault_line (length entries) tape ≡ Some line)
 -- the text of the lines before an arrival that is for a route
-HasReplayed class reply entries tape before after (Err OutOfMemory) = (lines : ℕ) × Wrote before after (front_text class reply entries tape lines) × WantsMemory class (length entries) tape lines
+HasReplayed class reply entries tape before after (Err OutOfMemory) = (lines : ℕ) × Wrote before after (front_text class reply entries tape lines) × WantsMemory class (names entries) (length entries) tape lines
 -- the text of some first lines
 HasReplayed class reply entries tape before after (Err Read) = (lines : ℕ) × Wrote before after (front_text class reply entries tape lines)
 -- a prefix of the text

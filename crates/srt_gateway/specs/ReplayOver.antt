@@ -5,7 +5,6 @@ use Rattle.srt_seq.specs.Terms.{Terms, terms_of}
 use Rattle.srt_lobby.specs.Lobby.{class_of}
 use Rattle.srt_route.specs.Route.{reply}
 use Rattle.srt_hub.specs.World.{Meaning}
-use Rattle.srt_hub.specs.Hubs.{names}
 use Rattle.srt_hub.specs.Calls.{Past, SortingFor}
 use Rattle.srt_gateway.specs.declared.config.Config.{Config}
 use Rattle.srt_gateway.specs.declared.reader.CountedReader.{CountedReader}
@@ -19,10 +18,10 @@ use Rattle.srt_gateway.specs.Replay.{Replays}
 abbrev pub ReplaysOver : {X B W : Type 0} → (Stands : X → Past) → X → SortingFor → Meaning → (remaining : B → Option (List ℕ)) → CountedReader B → (contents : W → Option (List ℕ)) → (old new : CountedWriter W) → Result (Unit {0}) ReplayFault → Type 0
 ReplaysOver Stands hub class reply remaining reader contents old new result =
     (secret : List ℕ) (entries : List Terms) → Stands hub secret entries [] →
-    Replays (class secret (names entries)) reply entries (remaining (source reader)) (contents (sink old)) (contents (sink new)) result
+    Replays (class secret) reply entries (remaining (source reader)) (contents (sink old)) (contents (sink new)) result
 
 -- over the gateway of this configuration, with the real lobby and the real routes
 abbrev pub ReplaysOf : {B W : Type 0} → Config → (remaining : B → Option (List ℕ)) → CountedReader B → (contents : W → Option (List ℕ)) → (old new : CountedWriter W) → Result (Unit {0}) ReplayFault → Type 0
 ReplaysOf config remaining reader contents old new result =
     let entries = map terms_of config.entries.items in
-    Replays (class_of (secret_bytes config.secret) (names entries)) reply entries (remaining (source reader)) (contents (sink old)) (contents (sink new)) result
+    Replays (class_of (secret_bytes config.secret)) reply entries (remaining (source reader)) (contents (sink old)) (contents (sink new)) result

@@ -4,9 +4,8 @@ use Rattle.std.specs.Str.{bytes_eq}
 use Rattle.hex.specs.Hex.{encode_lower}
 use Rattle.srt_seq.specs.Items.{Datagram}
 use Rattle.srt_seq.specs.Terms.{Terms}
-use Rattle.srt_lobby.specs.Names.{RouteName}
-use Rattle.srt_hub.specs.World.{Event, Arrives, Ticks, Turns, Sends, Sorting, Meaning, solo, accepted, sent, IsQuiet}
-use Rattle.srt_hub.specs.Hubs.{names, terms_at, lane_at}
+use Rattle.srt_hub.specs.World.{Event, Arrives, Ticks, Turns, Sends, Opens, Closes, Sorting, Meaning, solo, accepted, sent, IsQuiet}
+use Rattle.srt_hub.specs.Hubs.{terms_at, lane_at}
 use Rattle.srt_gateway.specs.Tape.{lines_of}
 use Rattle.srt_gateway.specs.Replay.{events_from, tape_text}
 use Rattle.srt_gateway.specs.Step.{with_past}
@@ -25,6 +24,8 @@ is_send r (Sends s) = s == r
 is_send r (Arrives d moment refused) = false
 is_send r (Ticks s moment) = false
 is_send r (Turns s) = false
+is_send r (Opens e refused) = false
+is_send r (Closes s moment) = false
 
 -- the line of a datagram that was sent, without its LF
 abbrev pub sent_line : Datagram → List ℕ
@@ -48,20 +49,19 @@ sent_lines routes r tape text = sent_at r (events_of routes tape) (lines_of text
 abbrev pub SentLinesTell : Type 0
 SentLinesTell =
     (class : Sorting) (reply : Meaning) (entries : List Terms) (r : ℕ) (tape : List ℕ) →
-    sent_lines (length entries) r tape (tape_text class reply entries tape) ≡ map sent_line (sent class reply (terms_at entries r) r (happened (length entries) tape))
+    sent_lines (length entries) r tape (tape_text class reply entries tape) ≡ map sent_line (sent class reply entries r (happened (length entries) tape))
 
 -- two tapes, replayed over gateways with the same secret and the same entry for a route: if the route accepted the same
 -- items and nothing of it waits at the end, these lines are the same, and are those of what the route alone replies
 abbrev pub TapesAreIsolated : Type 0
 TapesAreIsolated =
-    (class : (secret : List ℕ) → (names : List RouteName) → Sorting) (reply : Meaning) (secret : List ℕ) (entries entries' : List Terms) (r : ℕ) (tape tape' : List ℕ) →
-    let here = class secret (names entries) in
-    let there = class secret (names entries') in
+    (class : (secret : List ℕ) → Sorting) (reply : Meaning) (secret : List ℕ) (entries entries' : List Terms) (r : ℕ) (tape tape' : List ℕ) →
+    let sorting = class secret in
     let e = terms_at entries r in
     let events = happened (length entries) tape in
     let events' = happened (length entries') tape' in
     e ≡ terms_at entries' r →
-    accepted here reply e r events ≡ accepted there reply e r events' →
-    IsQuiet (lane_at here reply entries r events) → IsQuiet (lane_at there reply entries' r events') →
-    (sent_lines (length entries) r tape (tape_text here reply entries tape) ≡ sent_lines (length entries') r tape' (tape_text there reply entries' tape')) ×
-    (sent_lines (length entries) r tape (tape_text here reply entries tape) ≡ map sent_line (solo reply e r (accepted here reply e r events)))
+    accepted sorting reply entries r events ≡ accepted sorting reply entries' r events' →
+    IsQuiet (lane_at sorting reply entries r events) → IsQuiet (lane_at sorting reply entries' r events') →
+    (sent_lines (length entries) r tape (tape_text sorting reply entries tape) ≡ sent_lines (length entries') r tape' (tape_text sorting reply entries' tape')) ×
+    (sent_lines (length entries) r tape (tape_text sorting reply entries tape) ≡ map sent_line (solo reply e r (accepted sorting reply entries r events)))

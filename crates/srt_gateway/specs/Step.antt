@@ -3,7 +3,8 @@ use Rattle.std.specs.Prelude.{◌≡◌, ℕ, ◌+◌, List, [], ◌∷◌, ◌+
 use Rattle.srt_hub.specs.declared.answers.OutOfMemory.{OutOfMemory as NoMemory}
 use Rattle.srt_seq.specs.Terms.{Terms}
 use Rattle.srt_hub.specs.World.{Event, Sorting, Meaning}
-use Rattle.srt_hub.specs.Hubs.{names}
+use Rattle.srt_lobby.specs.Names.{RouteName}
+use Rattle.srt_hub.specs.Hubs.{names_at, routes_at}
 use Rattle.srt_hub.specs.Calls.{Past, SortingFor}
 use Rattle.srt_gateway.specs.declared.replaying.ReplayFault.{ReplayFault}
 use Rattle.srt_gateway.specs.declared.replaying.ReplayFault.TheVariants.{Tape, OutOfMemory, Read, Write}
@@ -24,14 +25,14 @@ WasAnswered class reply entries past event text After = (text ≡ event_text cla
 -- an event's answer is at the front of a buffer, or the memory for the copy of an arrival to a route was refused
 abbrev pub EventAnswered : Sorting → Meaning → List Terms → (past : List Event) (event : Event) (buffer : List ℕ) → History → Result ℕ NoMemory → Type 0
 EventAnswered class reply entries past event buffer After (Ok n) = WasAnswered class reply entries past event (take n buffer) After
-EventAnswered class reply entries past event buffer After (Err fault) = WantsCopy class event
+EventAnswered class reply entries past event buffer After (Err fault) = WantsCopy class (names_at class reply entries past) event
 
 -- a line's answer is at the front of a buffer, or the line isn't an event, or the memory for its arrival's copy was
 -- refused
 abbrev pub LineAnswered : Sorting → Meaning → List Terms → (past : List Event) (line buffer : List ℕ) → History → Result (Option ℕ) NoMemory → Type 0
-LineAnswered class reply entries past line buffer After (Ok (Some n)) = (event : Event) × (event_of (length entries) line ≡ Some event) × WasAnswered class reply entries past event (take n buffer) After
-LineAnswered class reply entries past line buffer After (Ok None) = event_of (length entries) line ≡ None
-LineAnswered class reply entries past line buffer After (Err fault) = (event : Event) × (event_of (length entries) line ≡ Some event) × WantsCopy class event
+LineAnswered class reply entries past line buffer After (Ok (Some n)) = (event : Event) × (event_of (routes_at class reply entries past) line ≡ Some event) × WasAnswered class reply entries past event (take n buffer) After
+LineAnswered class reply entries past line buffer After (Ok None) = event_of (routes_at class reply entries past) line ≡ None
+LineAnswered class reply entries past line buffer After (Err fault) = (event : Event) × (event_of (routes_at class reply entries past) line ≡ Some event) × WantsCopy class (names_at class reply entries past) event
 
 -- if the bytes are known, their first line, with this number, isn't an event
 abbrev pub NoEvent : Option (List ℕ) → (routes number : ℕ) → Type 0
@@ -43,38 +44,39 @@ pub record TookEvent (old new : Option (List ℕ)) (routes number : ℕ) (event 
   pub took : TookLine old new line
   pub event_is : event_at routes number line ≡ Some event
 
--- the result of one line: true if it was answered, false if there is none
-abbrev pub Answered : Sorting → Meaning → List Terms → (past : List Event) → History → (old new held holds : Option (List ℕ)) (number : ℕ) → Result Bool ReplayFault → Type 0
-Answered class reply entries past After old new held holds number (Ok true) = (event : Event) × TookEvent old new (length entries) number event × Wrote held holds (event_text class reply entries past event) × After (event ∷ past)
-Answered class reply entries past After old new held holds number (Ok false) = NoLine old × (holds ≡ held)
-Answered class reply entries past After old new held holds number (Err (Tape line)) = (line ≡ number) × NoEvent old (length entries) number × (holds ≡ held)
-Answered class reply entries past After old new held holds number (Err OutOfMemory) = (event : Event) × (holds ≡ held) × TookEvent old new (length entries) number event × WantsCopy class event
-Answered class reply entries past After old new held holds number (Err Read) = holds ≡ held
-Answered class reply entries past After old new held holds number (Err Write) = (event : Event) × TookEvent old new (length entries) number event × ((n : ℕ) × Wrote held holds (take n (event_text class reply entries past event)))
+-- the result of one line, with these names in force and this number of routes: true if it was answered, false if there
+-- is none
+abbrev pub Answered : Sorting → Meaning → List Terms → (names : List RouteName) → (routes : ℕ) → (past : List Event) → History → (old new held holds : Option (List ℕ)) (number : ℕ) → Result Bool ReplayFault → Type 0
+Answered class reply entries names routes past After old new held holds number (Ok true) = (event : Event) × TookEvent old new routes number event × Wrote held holds (event_text class reply entries past event) × After (event ∷ past)
+Answered class reply entries names routes past After old new held holds number (Ok false) = NoLine old × (holds ≡ held)
+Answered class reply entries names routes past After old new held holds number (Err (Tape line)) = (line ≡ number) × NoEvent old routes number × (holds ≡ held)
+Answered class reply entries names routes past After old new held holds number (Err OutOfMemory) = (event : Event) × (holds ≡ held) × TookEvent old new routes number event × WantsCopy class names event
+Answered class reply entries names routes past After old new held holds number (Err Read) = holds ≡ held
+Answered class reply entries names routes past After old new held holds number (Err Write) = (event : Event) × TookEvent old new routes number event × ((n : ℕ) × Wrote held holds (take n (event_text class reply entries past event)))
 
 -- the same four over a gateway, whatever it has behind it: an event's answer,
 abbrev pub Answers : {X : Type 0} → (Stands : X → Past) → (old new : X) → SortingFor → Meaning → Event → (text : List ℕ) → Type 0
 Answers Stands old new class reply event text =
     (secret : List ℕ) (entries : List Terms) (past : List Event) → Stands old secret entries past →
-    WasAnswered (class secret (names entries)) reply entries past event text (Stands new secret entries)
+    WasAnswered (class secret) reply entries past event text (Stands new secret entries)
 
 -- an event's answer, or none for want of memory,
 abbrev pub Tries : {X : Type 0} → (Stands : X → Past) → (old new : X) → SortingFor → Meaning → Event → (buffer : List ℕ) → Result ℕ NoMemory → Type 0
 Tries Stands old new class reply event buffer result =
     (secret : List ℕ) (entries : List Terms) (past : List Event) → Stands old secret entries past →
-    EventAnswered (class secret (names entries)) reply entries past event buffer (Stands new secret entries) result
+    EventAnswered (class secret) reply entries past event buffer (Stands new secret entries) result
 
 -- a line's answer,
 abbrev pub TriesLine : {X : Type 0} → (Stands : X → Past) → (old new : X) → SortingFor → Meaning → (line buffer : List ℕ) → Result (Option ℕ) NoMemory → Type 0
 TriesLine Stands old new class reply line buffer result =
     (secret : List ℕ) (entries : List Terms) (past : List Event) → Stands old secret entries past →
-    LineAnswered (class secret (names entries)) reply entries past line buffer (Stands new secret entries) result
+    LineAnswered (class secret) reply entries past line buffer (Stands new secret entries) result
 
 -- and the result of one line, from what is left in a reader to what a writer holds
 abbrev pub TriesNext : {X : Type 0} → (Stands : X → Past) → (old new : X) → SortingFor → Meaning → (left left' held holds : Option (List ℕ)) → (number : ℕ) → Result Bool ReplayFault → Type 0
 TriesNext Stands old new class reply left left' held holds number result =
     (secret : List ℕ) (entries : List Terms) (past : List Event) → Stands old secret entries past →
-    Answered (class secret (names entries)) reply entries past (Stands new secret entries) left left' held holds number result
+    Answered (class secret) reply entries (names_at (class secret) reply entries past) (routes_at (class secret) reply entries past) past (Stands new secret entries) left left' held holds number result
 
 -- past events, the newest first, with those that came since, the oldest first
 abbrev pub with_past : (past came : List Event) → List Event

@@ -47,7 +47,7 @@ sound_of next r refused (Some fault) h = absurd (let bad : Err fault ≡ Ok r = 
 opened_distinct : (w : World) (e : Terms) (refused : Bool) (result : Result ℕ OpenFault) → opening w e refused ≡ result → AreDistinct (names_in w) → AreDistinct (map name_at (places_opened e w.places result))
 opened_distinct w e refused (Err fault) is distinct = distinct
 opened_distinct w e refused (Ok r) is distinct =
-    subst AreDistinct (sym (more_names w.places e)) (adding_keeps_names (names_in w) e (sound_of (length w.places) r refused (fault_of_adding (names_in w) e) is) distinct)
+    subst AreDistinct (sym (more_names w.places e)) (adding_keeps_names (names_in w) e (sound_of _ r refused (fault_of_adding (names_in w) e) is) distinct)
 
 -- no two shown routes have the same name, after any events
 pub always_distinct : (class : Sorting) (reply : Meaning) (entries : List Terms) (events : List Event) → AreDistinct (names entries) → AreDistinct (names_at class reply entries events)

@@ -1,9 +1,9 @@
 -- A route's own steps decide all of it.
-use Rattle.std.proofs.Common.{◌≡◌, ℕ, ◌<◌, nat_lt, Bool, true, false, cond, eqb, not, ◌&&◌, List, [], ◌∷◌, ◌++◌, length, refl, sym, ap, subst, ◌∙◌}
+use Rattle.std.proofs.Common.{◌≡◌, ℕ, ◌<◌, nat_lt, Bool, true, false, cond, List, [], ◌∷◌, ◌++◌, length, refl, sym, ap, subst, ◌∙◌}
 use Rattle.std.proofs.lemmas.List.{append-nil}
-use Rattle.srt_seq.specs.Items.{Datagram, Item, Received, Tick, Close}
+use Rattle.srt_seq.specs.Items.{Datagram, Item, Received}
 use Rattle.srt_seq.specs.Terms.{Terms}
-use Rattle.srt_hub.specs.World.{Event, Arrives, Ticks, Turns, Sends, Opens, Closes, Sorting, Meaning, Lane, empty, World, Place, names_in, entry_in, is_shown_in, Step, Offers, Turn, Send, Nothing, offer_unless, offer_if, is_route, own_step, step_for, after_step, takes_in, sends_out, has_room, world_after, accepted, sent}
+use Rattle.srt_hub.specs.World.{Event, Arrives, Ticks, Turns, Sends, Opens, Closes, Sorting, Meaning, Lane, empty, World, Place, names_in, entry_in, is_shown_in, Step, Offers, Turn, Send, Nothing, offer_unless, is_route, own_step, step_for, after_step, takes_in, sends_out, has_room, world_after, accepted, sent}
 use Rattle.srt_hub.specs.Laws.{and_own, own_steps, OwnStepsDecide, SortingDecides}
 use Rattle.srt_hub.specs.Hubs.{terms_at, names_at, entry_at, is_shown_at, lane_at}
 use Rattle.srt_hub.proofs.Places.{below_of, there_in, there_stays, entry_stays, shows_on, shows_next, start_at, always_there, always_entry}
@@ -69,7 +69,7 @@ same_own class class' w w' r (Ticks s moment) shown agree = refl
 same_own class class' w w' r (Turns s) shown agree = refl
 same_own class class' w w' r (Sends s) shown agree = refl
 same_own class class' w w' r (Opens e refused) shown agree = refl
-same_own class class' w w' r (Closes s moment) shown agree = ap (λ (b : Bool). cond (eqb s r) (offer_if b (Close moment)) Nothing) shown
+same_own class class' w w' r (Closes s moment) shown agree = rw shown refl
 
 record AreAlike (class class' : Sorting) (reply : Meaning) (entries entries' : List Terms) (r : ℕ) (events : List Event) : Type 0 where
   steps : own_steps class reply entries r events ≡ own_steps class' reply entries' r events

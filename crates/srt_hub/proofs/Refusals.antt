@@ -194,6 +194,13 @@ no_steps class reply entries r (event ∷ events) h =
       | inr le ↦ le
     ]
 
+-- and holds nothing
+pub empty_before : (class : Sorting) (reply : Meaning) (entries : List Terms) (r : ℕ) (events : List Event) → length (world_after class reply entries events).places ≤ r → lane_at class reply entries r events ≡ empty
+unfolding lane_by accepted_by sent_by
+empty_before class reply entries r events h =
+    let e = entry_at class reply entries r events in
+    (by_own class reply entries r events e (λ below. refl)).lane ∙ ap (lane_by reply e r) (no_steps class reply entries r events h)
+
 pub opening_is_next : OpeningIsNext
 unfolding lane_by accepted_by sent_by
 opening_is_next class reply entries events e refused r h =

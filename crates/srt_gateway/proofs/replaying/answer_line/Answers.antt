@@ -6,13 +6,13 @@ use Rattle.srt_gateway.proofs.replaying.answer_line.Goals as goal
 pub returns-in-Ok-clause-answered : goal.returns-in-Ok-clause-answered
 returns-in-Ok-clause-answered g c secret entries past h = (
   event_said c.read_event.new.buffer c.in-Some.event,
-  sym (c.in-Some.ensures.value ∙ ap (λ (n : ℕ). event_of n c.args.line.now) (c.routes.ensures.entries secret entries past h)),
+  sym (c.in-Some.ensures.value ∙ ap (λ (n : ℕ). event_of n c.args.line.now) (c.routes.ensures.number secret entries past h)),
   c.in-Ok.ensures.answered secret entries past h,
 )
 
 pub returns-in-Err-clause-answered : goal.returns-in-Err-clause-answered
 returns-in-Err-clause-answered g c secret entries past h = (
   event_said c.read_event.new.buffer c.in-Some.event,
-  sym (c.in-Some.ensures.value ∙ ap (λ (n : ℕ). event_of n c.args.line.now) (c.routes.ensures.entries secret entries past h)),
+  sym (c.in-Some.ensures.value ∙ ap (λ (n : ℕ). event_of n c.args.line.now) (c.routes.ensures.number secret entries past h)),
   c.in-Err.ensures.answered secret entries past h,
 )
