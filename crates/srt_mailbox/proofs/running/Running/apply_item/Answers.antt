@@ -37,7 +37,7 @@ returns-in-Some g c =
     let now = c.step-self-inside.new.self in
     let run_of = run (terms_of inside.entry.value) inside.index.value in
     let stood : stands c.deref_mut.result.now (terms_of inside.entry.value) inside.index.value (applied inside.taker.taken) = rw c.deref_mut.ensures.value c.self.invariant.0 in
-    let waits = waits_next (terms_of inside.entry.value) _ _ inside.held inside.route.value now _ _ (ap (λ (w : Run). w.waiting) c.self.view_is ∙ c.requires) (c.step-self-inside.ensures.replies _ _ _ stood) c.into_item.ensures.item in (
+    let waits = waits_next (terms_of inside.entry.value) inside.index.value (applied inside.taker.taken) inside.held inside.route.value now _ _ (ap (λ (w : Run). w.waiting) c.self.view_is ∙ c.requires) (c.step-self-inside.ensures.replies (terms_of inside.entry.value) inside.index.value (applied inside.taker.taken) stood) c.into_item.ensures.item in (
       c.in-Some.marked,
       c.requires,
       subst
