@@ -1,10 +1,8 @@
 -- A route that is closed.
-use Rattle.std.proofs.Common.{◌≡◌, ℕ, suc, ◌+◌, ◌-◌, ◌<◌, ◌≤◌, ◌^◌, Bool, true, false, ◌||◌, cond, Option, None, Some, List, [], ◌∷◌, ◌++◌, length, map, find, refl, sym, ap, subst, ◌∙◌, append_assoc, append-nil, arith}
+use Rattle.std.proofs.Common.{◌≡◌, ℕ, suc, ◌+◌, ◌-◌, ◌<◌, ◌≤◌, ◌^◌, Bool, true, false, ◌||◌, Option, None, Some, List, [], ◌∷◌, ◌++◌, map, find, refl, sym, ap, subst, ◌∙◌, append_assoc, append-nil, arith}
 use Rattle.std.specs.List.{cons_option}
-use Rattle.srt_seq.specs.declared.shared.Peer.{Peer}
 use Rattle.srt_seq.specs.Terms.{Terms}
 use Rattle.srt_seq.specs.Items.{Datagram, Item, Received, Tick, Close}
-use Rattle.srt_packet.specs.Text.{text}
 use Rattle.srt_pub.specs.declared.session.Publisher.{Publisher}
 use Rattle.srt_route.specs.declared.replies.Reply.{Reply}
 use Rattle.srt_route.specs.declared.seat.Session.{Session as TheSession}
@@ -12,13 +10,12 @@ use Rattle.srt_route.specs.declared.seat.Seat.{Seat}
 use Rattle.srt_route.specs.declared.table.Table.{Table}
 use Rattle.srt_route.specs.Sessions.{Session, by_slot, is_active, is_open_in, time_in, passed_at, reported_at}
 use Rattle.srt_route.specs.Route.{Route, sent, ended, shutdown_to, closes, clock_after, passed_by, sessions_at, taken_by, least_room, room_if, delivery, delivered, after}
-use Rattle.srt_route.specs.Buffers.{datagrams_to}
 use Rattle.srt_route.specs.Tables.{IsSession, IsStored, IsSeat, IsTable, with_stored}
-use Rattle.srt_route.specs.OneSession.{shutdown_of, shutdowns_to}
+use Rattle.srt_route.specs.OneSession.{shutdowns_to}
 use Rattle.srt_route.specs.Reports.{AreSaid}
 use Rattle.srt_route.proofs.Lists.{Each, each_mapped}
-use Rattle.srt_route.proofs.Found.{found_passes, open_parts, Keeps, changed}
-use Rattle.srt_route.proofs.Kept.{Becomes, KeepsBuffers, table_stands}
+use Rattle.srt_route.proofs.Found.{Keeps, changed}
+use Rattle.srt_route.proofs.Kept.{Becomes, table_stands}
 use Rattle.srt_route.proofs.Delivered.{from_places}
 use Rattle.srt_route.proofs.Saying.{same_said, said_then}
 

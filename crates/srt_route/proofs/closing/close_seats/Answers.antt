@@ -1,4 +1,4 @@
-use Rattle.std.proofs.Common.{◌<◌, ℕ, ◌-◌, ◌≡◌, [], length, refl, sym, ap, arith}
+use Rattle.std.proofs.Common.{◌<◌, ℕ, ◌-◌, ◌≡◌, [], length, refl, ap, arith}
 use Rattle.srt_route.specs.Route.{ended}
 use Rattle.srt_route.specs.Waits.{replies_of}
 use Rattle.srt_route.specs.Tables.{buffers_of}

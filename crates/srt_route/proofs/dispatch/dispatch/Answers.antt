@@ -5,7 +5,7 @@ use Rattle.srt_packet.specs.Reading.{packet_in}
 use Rattle.srt_route.specs.Route.{taken, read_taken, sent}
 use Rattle.srt_route.specs.Tables.{IsTable}
 use Rattle.srt_route.specs.Reports.{Queues}
-use Rattle.srt_route.specs.Calls.{TakesItem, AnswersItem, TakesDatagram}
+use Rattle.srt_route.specs.Calls.{TakesItem, AnswersItem}
 use Rattle.srt_route.proofs.Saying.{same_said}
 use Rattle.srt_route.proofs.dispatch.dispatch.Goals as goal
 

@@ -1,4 +1,4 @@
-use Rattle.std.proofs.Common.{◌<◌, ◌≤◌, ◌^◌, ◌∙◌, max, refl, ap, arith}
+use Rattle.std.proofs.Common.{◌≤◌, ◌∙◌, max, refl, ap, arith}
 use Rattle.srt_seq.specs.Items.{told}
 use Rattle.srt_route.specs.Route.{after}
 use Rattle.srt_route.proofs.Stepping.{stepped, stands_more, stays_closed, replies_more}
