@@ -6,9 +6,9 @@ use Rattle.srt_lobby.specs.declared.classes.Class.TheVariants.{Answer, Route, Dr
 use Rattle.srt_lobby.specs.declared.classes.Cause.{Cause}
 use Rattle.srt_seq.specs.Items.{Datagram, Received, Tick}
 use Rattle.srt_seq.specs.Terms.{Terms}
-use Rattle.srt_hub.specs.World.{Event, Arrives, Ticks, Turns, Sends, Step, Offers, Turn, Send, Nothing, Sorting, Meaning, own_step, step_for, after_step, places_after, after, empty, Lane, Place, World, opened, entry_in, names_in}
+use Rattle.srt_hub.specs.World.{Event, Arrives, Ticks, Turns, Sends, Opens, Step, Offers, Turn, Send, Nothing, Sorting, Meaning, own_step, step_for, after_step, places_after, after, empty, Lane, Place, World, opened, entry_in, names_in}
 use Rattle.srt_hub.specs.Hubs.{AreLanes}
-use Rattle.srt_hub.proofs.Places.{nowhere, at, there_in}
+use Rattle.srt_hub.proofs.Places.{nowhere, at, there_in, entry_stays}
 
 -- a step of a route that is there
 pub step_there : (class : Sorting) (w : World) (r : ℕ) (event : Event) → r < length w.places → step_for class w r event ≡ own_step class w r event
@@ -30,21 +30,44 @@ nothing_happens {X} Is class reply w lanes event places nothing h =
       each = λ k x below. rw (places, no_step class w k event (nothing k)) (h.each k x below);
     }
 
--- an event that is a step of one route, and opens and hides none, changes that lane alone
-pub event_happens : {X : Type 0} (Is : X → Terms → ℕ → Lane → Type 0) (class : Sorting) (reply : Meaning) (w : World) (lanes : List X) (event : Event) (r : ℕ) (old lane : X) (step : Step) → r < length lanes → old ≡ get_or lanes r old → places_after event w ≡ w.places → own_step class w r event ≡ step → ((k : ℕ) → k ≢ r → own_step class w k event ≡ Nothing) → ((e : Terms) (i : ℕ) (m : Lane) → Is old e i m → Is lane e i (after_step reply e i step m)) → AreLanes Is w lanes → AreLanes Is (after class reply event w) (set lanes r lane)
-event_happens {X} Is class reply w lanes event r old lane step lt there places own others goes_on h =
+-- an event that is a step of one route, and keeps the number of routes and their entries, changes that lane alone
+pub lane_happens : {X : Type 0} (Is : X → Terms → ℕ → Lane → Type 0) (class : Sorting) (reply : Meaning) (w : World) (lanes : List X) (event : Event) (r : ℕ) (old lane : X) (step : Step) → r < length lanes → old ≡ get_or lanes r old → length (places_after event w) ≡ length w.places → own_step class w r event ≡ step → ((k : ℕ) → k ≢ r → own_step class w k event ≡ Nothing) → ((e : Terms) (i : ℕ) (m : Lane) → Is old e i m → Is lane e i (after_step reply e i step m)) → AreLanes Is w lanes → AreLanes Is (after class reply event w) (set lanes r lane)
+lane_happens {X} Is class reply w lanes event r old lane step lt there many own others goes_on h =
     record {
-      as_many = length-set lanes r lane ∙ h.as_many ∙ ap (λ (ps : List Place). length ps) (sym places);
+      as_many = length-set lanes r lane ∙ h.as_many ∙ sym many;
       each = λ k d below. elim (cases_eq k r) [
         | inl here ↦
             let before : Is old (entry_in w r) r (w.lane r) = subst (λ (x : X). Is x (entry_in w r) r (w.lane r)) (sym there) (h.each r old lt) in
             let taken = goes_on (entry_in w r) r (w.lane r) before in
             let mine : step_for class w r event ≡ step = step_there class w r event (omega (arith, lt, h.as_many)) ∙ own in
+            let entry : entry_in (after class reply event w) r ≡ entry_in w r = entry_stays event w r (omega (arith, lt, h.as_many)) in
             subst (λ (j : ℕ). Is (get_or (set lanes r lane) j d) (entry_in (after class reply event w) j) j ((after class reply event w).lane j)) (sym here)
-            (rw (get_or-set_same lanes r lane d lt, places, mine) taken)
+            (rw (get_or-set_same lanes r lane d lt, entry, mine) taken)
         | inr other ↦
             let in_old : k < length lanes = omega (arith, length-set lanes r lane) in
-            rw (get_or-set_other lanes r k lane d other, places, no_step class w k event (others k other)) (h.each k d in_old)
+            let entry : entry_in (after class reply event w) k ≡ entry_in w k = entry_stays event w k (omega (arith, in_old, h.as_many)) in
+            rw (get_or-set_other lanes r k lane d other, entry, no_step class w k event (others k other)) (h.each k d in_old)
+      ];
+    }
+
+pub event_happens : {X : Type 0} (Is : X → Terms → ℕ → Lane → Type 0) (class : Sorting) (reply : Meaning) (w : World) (lanes : List X) (event : Event) (r : ℕ) (old lane : X) (step : Step) → r < length lanes → old ≡ get_or lanes r old → places_after event w ≡ w.places → own_step class w r event ≡ step → ((k : ℕ) → k ≢ r → own_step class w k event ≡ Nothing) → ((e : Terms) (i : ℕ) (m : Lane) → Is old e i m → Is lane e i (after_step reply e i step m)) → AreLanes Is w lanes → AreLanes Is (after class reply event w) (set lanes r lane)
+event_happens {X} Is class reply w lanes event r old lane step lt there places own others goes_on h =
+    lane_happens Is class reply w lanes event r old lane step lt there (ap (λ (ps : List Place). length ps) places) own others goes_on h
+
+-- one more route is opened, where no route was
+pub route_opens : {X : Type 0} (Is : X → Terms → ℕ → Lane → Type 0) (class : Sorting) (reply : Meaning) (w : World) (lanes : List X) (e : Terms) (refused : Bool) (r : ℕ) (lane : X) → r ≡ length lanes → places_after (Opens e refused) w ≡ w.places ++ opened e ∷ [] → w.lane r ≡ empty → Is lane e r empty → AreLanes Is w lanes → AreLanes Is (after class reply (Opens e refused) w) (lanes ++ lane ∷ [])
+route_opens {X} Is class reply w lanes e refused r lane index places blank new h =
+    record {
+      as_many = length_push lanes lane ∙ omega (arith, h.as_many, length_push w.places (opened e)) ∙ ap (λ (ps : List Place). length ps) (sym places);
+      each = λ k d below. elim (cases_lt k (length lanes)) [
+        | inl lt ↦
+            let entry : entry_in (after class reply (Opens e refused) w) k ≡ entry_in w k = entry_stays (Opens e refused) w k (omega (arith, lt, h.as_many)) in
+            rw (get_or_append_left lanes (lane ∷ []) d k lt, entry, no_step class w k (Opens e refused) refl) (h.each k d lt)
+        | inr le ↦
+            let at_end : length lanes ≡ k = omega (arith, le, below, length_push lanes lane) in
+            let entry : entry_in (after class reply (Opens e refused) w) k ≡ e = ap (λ (ps : List Place). (at ps k).entry) places ∙ ap (λ (p : Place). p.entry) (get_or_push w.places (opened e) nowhere k (sym h.as_many ∙ at_end)) in
+            let nothing_yet : w.lane k ≡ empty = ap w.lane (sym at_end ∙ sym index) ∙ blank in
+            rw (get_or_push lanes lane d k at_end, entry, no_step class w k (Opens e refused) refl, nothing_yet) (subst (λ (j : ℕ). Is lane e j empty) (index ∙ at_end) new)
       ];
     }
 

@@ -5,4 +5,6 @@ pub mod Named
 pub mod Own
 pub mod Happens
 pub mod Refusals
+pub mod Pushed
 pub mod Opened
+pub mod Shutting

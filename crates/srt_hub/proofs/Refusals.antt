@@ -141,10 +141,10 @@ lobby_alone class reply entries events d moment refused = (
 )
 
 -- closings and openings are nobody else's steps
-close_elsewhere : (class : Sorting) (w : World) (r moment k : ℕ) → k ≢ r → own_step class w k (Closes r moment) ≡ Nothing
+pub close_elsewhere : (class : Sorting) (w : World) (r moment k : ℕ) → k ≢ r → own_step class w k (Closes r moment) ≡ Nothing
 close_elsewhere class w r moment k other = rw (ne_eqb r k (other_way k r other)) refl
 
-close_here : (class : Sorting) (w : World) (r moment : ℕ) → own_step class w r (Closes r moment) ≡ offer_if (is_shown_in w r) (Close moment)
+pub close_here : (class : Sorting) (w : World) (r moment : ℕ) → own_step class w r (Closes r moment) ≡ offer_if (is_shown_in w r) (Close moment)
 close_here class w r moment = rw (eq-eqb r r refl) refl
 
 arrives_elsewhere : (class : Sorting) (w : World) (d : Datagram) (moment s k : ℕ) (refused : Bool) → class (names_in w) d moment ≡ Route s → k ≢ s → own_step class w k (Arrives d moment refused) ≡ Nothing

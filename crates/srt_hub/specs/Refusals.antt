@@ -1,4 +1,4 @@
--- When something is refused, and that nothing changes then.
+-- When something is refused, and that nothing changes then; and what the opening and the closing of a route change.
 use Rattle.std.specs.Prelude.{◌≡◌, ℕ, ◌+◌, ◌⊎◌, Bool, true, false, None, Some, Ok, Err, List, [], ◌∷◌, length}
 use Rattle.srt_seq.specs.declared.shared.OpenFault.{OpenFault}
 use Rattle.srt_seq.specs.declared.shared.OpenFault.TheVariants as faults

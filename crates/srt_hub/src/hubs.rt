@@ -1,14 +1,15 @@
 //! All routes of a gateway behind its lobby.
 
-ghost use Rattle.std.specs.Prelude.{◌≡◌, ℕ, ◌<◌, ◌≤◌, ◌^◌, List, [], None, Some, Err, IfOk, IfErr, OnErr, IfSome, IfNone, map, drop, length, is_err, if◌then◌else◌};
+ghost use Rattle.std.specs.Prelude.{◌≡◌, ℕ, ◌+◌, ◌<◌, ◌≤◌, ◌^◌, List, [], None, Some, Err, IfOk, IfErr, OnErr, IfSome, IfNone, map, drop, length, is_err, if◌then◌else◌};
 ghost use Rattle.srt_hub.specs.World.{offered_to};
 
-use crate::answers::{Arrived, OutOfMemory, Ticked};
+use crate::answers::{Arrived, Closing, OutOfMemory, Ticked};
 use crate::items::{Timely, copied};
 use crate::lanes::{Lane, Standing};
-use crate::parts::{Lobby, RouteStep};
+use crate::parts::{Doors, Lobby, RouteStep};
 use srt_cookie::Secret;
 use srt_lobby::{Cause, Class};
+use srt_seq::limits::MAX_ROUTES;
 use srt_seq::{Entry, Item, OpenFault, Peer, Turned};
 use std::alloc::Global;
 
@@ -170,5 +171,67 @@ impl<R: RouteStep, L: Lobby> Hub<R, L> {
         ensures routes { ⟦<Hub<R, L> as Gateway>⟧.routes self.new ≡ ⟦<Hub<R, L> as Gateway>⟧.routes self.old }
     {
         self.lanes[r].send(out)
+    }
+}
+
+impl<R: RouteStep, L: Doors> Hub<R, L> {
+    ghost use Rattle.srt_seq.specs.Terms.{terms_of};
+    ghost use Rattle.srt_hub.specs.World.{Opens, Closes};
+    ghost use Rattle.srt_hub.specs.Calls.{Happened, OpeningAnswers, ClosingAnswers, wants_memory};
+
+    /// Opens one more route and shows it. Returns its index, the next one; an index is never used again. Takes all
+    /// memory that the route will need, except that for copies of datagrams. Errors: `Names` if the name has a wrong
+    /// form or is that of a shown route, else `Limits` if there are 511 routes or a number is outside its limits, else
+    /// `OutOfMemory`. After an error nothing has changed.
+    pub fn open_route(&mut self, alloc: Global, entry: &Entry) -> Result<usize, OpenFault>
+        ensures stands { Happened ⟦<Hub<R, L> as Gateway>⟧.stands self.old self.new (Opens (terms_of entry.now) (wants_memory result)) }
+        ensures answer { OpeningAnswers ⟦<Hub<R, L> as Gateway>⟧.stands self.old L.class R.reply (terms_of entry.now) result }
+        ensures index { IfOk result (λ r. r ≡ ⟦<Hub<R, L> as Gateway>⟧.routes self.old) }
+        ensures routes { IfOk result (λ r. ⟦<Hub<R, L> as Gateway>⟧.routes self.new ≡ r + 1) }
+        ensures err { OnErr result (⟦<Hub<R, L> as Gateway>⟧.routes self.new ≡ ⟦<Hub<R, L> as Gateway>⟧.routes self.old) }
+    {
+        if let Some(fault) = self.lobby.fault(entry) {
+            return Err(fault);
+        }
+        let r = self.lanes.len();
+        // The lobby has found that there is an index left.
+        if r >= MAX_ROUTES {
+            return Err(OpenFault::Limits);
+        }
+        let Ok(()) = self.lanes.reserve(1) else {
+            return Err(OpenFault::OutOfMemory);
+        };
+        let Ok(lane) = Lane::open(alloc, entry, r) else {
+            return Err(OpenFault::OutOfMemory);
+        };
+        let Ok(()) = self.lobby.add(alloc, entry) else {
+            return Err(OpenFault::OutOfMemory);
+        };
+        let _ = self.lanes.push(lane);
+        Ok(r)
+    }
+
+    /// Closes route `r` at this moment, in microseconds: puts the item that ends all its sessions into its inbox, and
+    /// hides it. From then on no datagram is for it, and its name may be used again; its ticks, turns and sends go on.
+    /// Returns `Closed` if the route was hidden already, else `Full` if its inbox holds its capacity; both change
+    /// nothing. O(1). Takes no memory.
+    pub fn close_route(&mut self, r: usize, moment: u64) -> Closing
+        requires route { r < ⟦<Hub<R, L> as Gateway>⟧.routes self.old }
+        requires moment { moment < 2 ^ 62 }
+        ensures stands { Happened ⟦<Hub<R, L> as Gateway>⟧.stands self.old self.new (Closes r moment) }
+        ensures answer { ClosingAnswers ⟦<Hub<R, L> as Gateway>⟧.stands self.old L.class R.reply r result }
+        ensures routes { ⟦<Hub<R, L> as Gateway>⟧.routes self.new ≡ ⟦<Hub<R, L> as Gateway>⟧.routes self.old }
+    {
+        if !self.lobby.shows(r) {
+            return Closing::Closed;
+        }
+        let item = Timely {
+            item: Item::Close { moment },
+        };
+        if !self.lanes[r].offer(item) {
+            return Closing::Full;
+        }
+        self.lobby.hide(r);
+        Closing::Accepted
     }
 }

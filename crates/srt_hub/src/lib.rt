@@ -11,9 +11,11 @@
 //!
 //! Calls: `Hub::open`; then in any order `arrive` for each datagram, `tick` for a route's clock, `turn`, which moves a
 //! waiting reply to the outbox or applies one item of the inbox, and `send`, which takes a reply out of the outbox.
+//! Over a lobby whose names change (`Doors` in `parts.rt`) also `open_route`, which adds a route with the next index, and
+//! `close_route`, which hides a route and ends its sessions.
 //!
-//! Laws: `laws.rt` states that routes don't affect each other (`specs/Laws.antt`) and why something is refused
-//! (`specs/Refusals.antt`).
+//! Laws: `laws.rt` states that routes don't affect each other (`specs/Laws.antt`), why something is refused, and what
+//! openings and closings change (`specs/Refusals.antt`).
 #![tactic(auto)]
 
 mod answers;
@@ -30,7 +32,7 @@ pub use answers::{Arrived, Closing, OutOfMemory, Ticked};
 pub use entrance::Entrance;
 pub use gateways::SrtGateway;
 pub use hubs::{Gateway, Hub};
-pub use parts::{Lobby, RouteStep};
+pub use parts::{Doors, Lobby, RouteStep};
 pub use srt_lobby::{Cause, Class};
 pub use srt_route::Reply;
 

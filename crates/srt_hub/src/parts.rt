@@ -2,7 +2,7 @@
 //! route from the contracts of these traits alone: what a route replies and how arrivals are sorted are ghost members,
 //! which each implementation defines.
 
-ghost use Rattle.std.specs.Prelude.{◌≡◌, ◌↔◌, ℕ, ◌<◌, ◌≤◌, ◌^◌, ◌∷◌, [], List, length, true, false, None, Some, Err, IfOk, IfErr, map};
+ghost use Rattle.std.specs.Prelude.{◌≡◌, ◌↔◌, ℕ, ◌<◌, ◌≤◌, ◌^◌, ◌∷◌, [], List, length, true, false, None, Some, Err, IfOk, IfErr, OnErr, map};
 ghost use Rattle.srt_seq.specs.declared.shared.OpenFault.{OpenFault as TheFault};
 ghost use Rattle.srt_cookie.specs.Cookie.{secret_bytes};
 ghost use Rattle.srt_lobby.specs.declared.classes.Class.{Class as TheClass};
@@ -11,7 +11,8 @@ ghost use Rattle.srt_seq.specs.Items.{Item as TheItem, Datagram, told, moment_of
 ghost use Rattle.srt_seq.specs.Terms.{Terms, terms_of};
 ghost use Rattle.srt_route.specs.Written.{written};
 ghost use Rattle.srt_seq.specs.Entries.{is_name, in_limits};
-ghost use Rattle.srt_lobby.specs.Names.{RouteName};
+ghost use Rattle.srt_lobby.specs.Names.{RouteName, is_shown_at};
+ghost use Rattle.srt_lobby.specs.Changing.{fault_of_adding, added, hidden_at};
 ghost use Rattle.srt_lobby.specs.Opening.{fault_of};
 ghost use Rattle.srt_hub.specs.Hubs.{names};
 ghost use Rattle.srt_hub.specs.Calls.{LobbyAnswers, RouteReplies, datagram};
@@ -47,6 +48,30 @@ pub trait Lobby: Drop {
 
     /// A datagram for a route is for a route that exists.
     ghost named: { (secret : List ℕ) (names : List RouteName) (d : Datagram) (moment r : ℕ) → class secret names d moment ≡ ForRoute r → r < length names };
+}
+
+/// A lobby whose routes open and close while it runs.
+pub trait Doors: Lobby {
+    /// Whether there is a route with this index, and it is shown. Takes no memory.
+    fn shows(&self, r: usize) -> bool
+        ensures { (secret : List ℕ) (names : List RouteName) → Self.knows self.now secret names → result ≡ is_shown_at names r };
+
+    /// The first reason why a route of this entry can't be added, memory aside. Takes no memory.
+    fn fault(&self, entry: &Entry) -> Option<OpenFault>
+        ensures fault { (secret : List ℕ) (names : List RouteName) → Self.knows self.now secret names → result ≡ fault_of_adding names (terms_of entry.now) }
+        // Whatever the names are, the entry by itself has none.
+        ensures name { result ≡ None → is_name (terms_of entry.now).name ≡ true }
+        ensures limits { result ≡ None → in_limits (terms_of entry.now) ≡ true };
+
+    /// Adds the name of a route, which is shown. Takes memory for a copy of the name. After an error nothing has
+    /// changed.
+    fn add(&mut self, alloc: Global, entry: &Entry) -> Result<(), OpenFault>
+        ensures added { IfOk result (λ _. (secret : List ℕ) (names : List RouteName) → Self.knows self.old secret names → fault_of_adding names (terms_of entry.now) ≡ None → Self.knows self.new secret (added (terms_of entry.now) names)) }
+        ensures err { OnErr result (self.new ≡ self.old) };
+
+    /// Hides a route: from now on no datagram is for it, and its name may be used again. Takes no memory.
+    fn hide(&mut self, r: usize)
+        ensures { (secret : List ℕ) (names : List RouteName) → r < length names → Self.knows self.old secret names → Self.knows self.new secret (hidden_at r names) };
 }
 
 /// A route as the hub drives it: items in, replies out.
