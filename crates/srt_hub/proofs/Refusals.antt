@@ -170,7 +170,7 @@ opening_fault next false None fault h = absurd (let bad : Ok next ≡ Err fault 
 pub fault_opens_nothing : FaultOpensNothing
 fault_opens_nothing class reply entries events e refused fault h =
     let w = world_after class reply entries events in (
-      opening_fault (length w.places) refused (fault_of_adding (names_in w) e) fault h,
+      opening_fault _ refused (fault_of_adding (names_in w) e) fault h,
       nothing class reply entries events (Opens e refused) (ap (places_opened e w.places) h) (λ k. refl),
     )
 
@@ -205,7 +205,7 @@ pub opening_is_next : OpeningIsNext
 unfolding lane_by accepted_by sent_by
 opening_is_next class reply entries events e refused r h =
     let w = world_after class reply entries events in
-    let index : r ≡ length w.places = opening_index (length w.places) refused (fault_of_adding (names_in w) e) r h in
+    let index : r ≡ length w.places = opening_index _ refused (fault_of_adding (names_in w) e) r h in
     let places : places_after (Opens e refused) w ≡ w.places ++ opened e ∷ [] = ap (places_opened e w.places) h in
     let none : own_steps class reply entries r events ≡ [] = no_steps class reply entries r events (omega (arith, index)) in
     let by = by_own class reply entries r events (entry_at class reply entries r events) (λ below. refl) in
