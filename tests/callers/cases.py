@@ -1,8 +1,10 @@
 """The cases. Each is a function of the gateway's address, and has the routes that it names to itself. It raises Wrong if it
 fails."""
+import itertools
 import random
 import socket
 import struct
+import threading
 import time
 
 import tools
@@ -510,6 +512,58 @@ def many_routes(_):
             relay(gateway.address, name, 100)
         expect(gateway.runs(), "it ended")
     finally:
+        gateway.kill()
+
+
+def accepted(caller, seconds=60):
+    """Calls again and again while the answer is 1002, for at most `seconds`. Returns whether a call was accepted."""
+    until = time.monotonic() + seconds
+    while time.monotonic() < until:
+        code = refusal(caller.call)
+        if code != 1002:
+            expect(code == 0, f"a call was refused with {code}")
+            return True
+        time.sleep(0.05)
+    return False
+
+
+@case("a route opens and closes by round, and its neighbour loses nothing")
+def opens_and_closes(_):
+    """With a stream on the other route a second has 1000 rounds or some more, so that the route opens after about four
+    seconds, and closes some eight seconds later. The neighbour's stream goes on until all of that has happened."""
+    gateway = Gateway([live("steady"), live("guest", open_round=4_000, close_round=12_000)])
+    over = threading.Event()
+    endless = itertools.takewhile(lambda _: not over.is_set(), map(payload, itertools.count()))
+    publisher, subscriber = Publisher(gateway.address, publish("steady"), endless, 5_000), Subscriber(gateway.address, "steady")
+    guest, taker = Publisher(gateway.address, publish("guest"), stream(1_000_000), 5_000), Subscriber(gateway.address, "guest")
+    try:
+        expect(gateway.is_up(), "it doesn't come up")
+        expect_refusal(1002, taker, "a call before the route opened")
+        for one in (publisher, subscriber):
+            one.call()
+            one.start()
+        expect(accepted(taker), "the route doesn't open")
+        guest.call()
+        for one in (taker, guest):
+            one.start()
+        for one, who in ((taker, "subscriber"), (guest, "publisher")):
+            expect(one.shut.wait(60), f"the {who} got no SHUTDOWN when the route closed")
+        expect(len(taker.got) >= 100, f"only {len(taker.got)} payloads came before the route closed")
+        expect_run(taker.got, 0, len(taker.got), "the subscriber of the route that closed")
+        expect_refusal(1002, Caller(gateway.address, "guest"), "a call after the route closed")
+        time.sleep(0.5)
+        over.set()
+        expect(publisher.wait_delivered(10), "the neighbour's window didn't become free")
+        count = publisher.next - publisher.initial
+        subscriber.wait(5, count)
+        for one in (subscriber, publisher):
+            expect(not one.shut.is_set() and one.dropped == 0, "the neighbour's session ended, or packets were dropped")
+            one.close()
+        expect_run(subscriber.got, 0, count, "the neighbour's subscriber")
+        expect(gateway.runs(), "it ended")
+    finally:
+        for one in (publisher, subscriber, guest, taker):
+            one.stop()
         gateway.kill()
 
 

@@ -15,9 +15,9 @@ NAMES = ["read", "answered", "accepted", "full", "dropped", "memory", "sent", "l
 SECRET = bytes(range(32)).hex()
 
 
-def live(name, latency_ms=120, buffer=1024, sessions=5, inbox=256, outbox=256):
-    """The configuration's table of a live route."""
-    return route(name, "live", latency_ms, buffer, sessions, inbox, outbox)
+def live(name, latency_ms=120, buffer=1024, sessions=5, inbox=256, outbox=256, **rounds):
+    """The configuration's table of a live route. `rounds` may have `open_round` and `close_round`."""
+    return route(name, "live", latency_ms, buffer, sessions, inbox, outbox, **rounds)
 
 
 def files(name, buffer=1024, sessions=5, inbox=256, outbox=256):
@@ -25,8 +25,8 @@ def files(name, buffer=1024, sessions=5, inbox=256, outbox=256):
     return route(name, "buffer", 120, buffer, sessions, inbox, outbox)
 
 
-def route(name, mode, latency_ms, buffer, sessions, inbox, outbox):
-    numbers = {"latency_ms": latency_ms, "buffer": buffer, "sessions": sessions, "inbox": inbox, "outbox": outbox}
+def route(name, mode, latency_ms, buffer, sessions, inbox, outbox, **rounds):
+    numbers = {"latency_ms": latency_ms, "buffer": buffer, "sessions": sessions, "inbox": inbox, "outbox": outbox, **rounds}
     lines = [f"{key} = {value}" for key, value in numbers.items()]
     return "\n".join(["[[route]]", f'name = "{name}"', f'mode = "{mode}"', *lines, ""])
 

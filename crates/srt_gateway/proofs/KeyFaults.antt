@@ -1,5 +1,5 @@
 -- The fault that is returned is that of the first key that has one.
-use Rattle.std.proofs.Common.{◌&&◌, is_some, ◌≡◌, ℕ, ℤ, pos, negsuc, ◌⊎◌, inl, inr, Bool, true, false, not, codes, List, [], ◌∷◌, ◌++◌, Option, Some, None, Result, Ok, Err, refl, sym, ap, subst, ◌∙◌, if◌then◌else◌}
+use Rattle.std.proofs.Common.{◌&&◌, is_some, ◌≡◌, ℕ, ◌+◌, ℤ, pos, negsuc, ◌⊎◌, inl, inr, Bool, true, false, not, codes, List, [], ◌∷◌, ◌++◌, Option, Some, None, option_and_then, Result, Ok, Err, refl, sym, ap, subst, ◌∙◌, if◌then◌else◌}
 use Rattle.std.specs.Str.{bytes_eq}
 use Rattle.toml.specs.Data.{Data, Members, Items, no_items, item, get_member, as_str, as_integer, as_array, as_table}
 use Rattle.hex.specs.Hex.{decode_sized}
@@ -10,14 +10,14 @@ use Rattle.srt_seq.specs.declared.shared.Mode.{Mode as TheMode}
 use Rattle.srt_seq.specs.declared.shared.Mode.TheVariants as mode
 use Rattle.srt_lobby.specs.Opening.{is_taken}
 use Rattle.srt_gateway.specs.declared.config.faults.Key.{Key}
-use Rattle.srt_gateway.specs.declared.config.faults.Key.TheVariants.{Secret, Bind, Workers, Route, Name, Mode, LatencyMs, Buffer, Sessions, Inbox, Outbox}
+use Rattle.srt_gateway.specs.declared.config.faults.Key.TheVariants.{Secret, Bind, Workers, Route, Name, Mode, LatencyMs, Buffer, Sessions, Inbox, Outbox, OpenRound, CloseRound}
 use Rattle.srt_gateway.specs.Faults.{key_name}
 use Rattle.srt_gateway.specs.FirstFault.{Fault, UnknownKey, Missing, WrongKind, OutOfRange, BadName, RepeatedName, BadSecret, BadAddress, ◌>>=◌}
 use Rattle.srt_gateway.specs.Address.{Address, address_in}
-use Rattle.srt_gateway.specs.Keys.{least_unknown, none_unknown, known, present, of_kind, value_at, text_at, within, number_at}
-use Rattle.srt_gateway.specs.Routes.{route_keys, name_in, mode_in, name_at, mode_at, numbers_at, terms_with, terms_at, are_tables, count, routes_from, routes_in, routes_at}
+use Rattle.srt_gateway.specs.Keys.{least_unknown, none_unknown, known, present, of_kind, value_at, text_at, within, number_at, optional_in, optional_at}
+use Rattle.srt_gateway.specs.Routes.{route_keys, name_in, mode_in, name_at, mode_at, numbers_at, round_of, schedule_of, schedule_at, terms_with, Planned, planned, route_at, Routes, no_routes, with_route, are_tables, count, routes_from, routes_in, routes_at}
 use Rattle.srt_gateway.specs.Config.{decoded, secret_in, secret_at, addressed, bind_at, top_keys, settings_at}
-use Rattle.srt_gateway.specs.KeyFaults.{Faulty, HasNone, ◌⊳◌, Unknown, AtKey, NoSecret, NoAddress, Outside, NoName, NoMode, InRoute, InRoutes, NoRoutes, NoRoutesOrIn, InTable, TellsFirstFault}
+use Rattle.srt_gateway.specs.KeyFaults.{Faulty, HasNone, ◌⊳◌, Unknown, AtKey, AtOptional, NoSecret, NoAddress, Outside, NoName, NoMode, InNumbers, number_or_0, opening_in, InSchedule, InRoute, InRoutes, NoRoutes, NoRoutesOrIn, InTable, TellsFirstFault}
 
 -- a reading fails with just these faults
 abbrev Tells : {A : Type 0} → Result A Fault → Faulty → Type 0
@@ -210,14 +210,6 @@ mode_tells table =
     (assoc (present Mode (get_member (key_name Mode) table)) (λ value. of_kind Mode (as_str value)) mode_in)
     (at_key Mode as_str mode_in NoMode table (λ text. mode_own text (bytes_eq text (codes "live")) (bytes_eq text (codes "buffer")) refl refl))
 
-abbrev InNumbers : Members → Faulty
-InNumbers table =
-    AtKey LatencyMs as_integer (Outside LatencyMs 20 8000) table ⊳
-    AtKey Buffer as_integer (Outside Buffer 32 8192) table ⊳
-    AtKey Sessions as_integer (Outside Sessions 1 17) table ⊳
-    AtKey Inbox as_integer (Outside Inbox 16 4096) table ⊳
-    AtKey Outbox as_integer (Outside Outbox 16 4096) table
-
 numbers_tells : (table : Members) → Tells (numbers_at table) (InNumbers table)
 unfolding numbers_at
 numbers_tells table =
@@ -227,55 +219,114 @@ numbers_tells table =
     on (number_at Inbox 16 4096 table) _ _ _ (number_tells Inbox 16 4096 table) (λ inbox e.
     last (number_at Outbox 16 4096 table) (λ outbox. record { latency_ms = latency_ms; buffer = buffer; sessions = sessions; inbox = inbox; outbox = outbox }) _ (number_tells Outbox 16 4096 table)))))
 
-terms_tells : (before : List Terms) (table : Members) → Tells (terms_at before table) (InRoute before table)
-unfolding terms_at
-terms_tells before table =
+-- a number at a key that may be missing
+optional_tells : (key : Key) (low high : ℕ) (table : Members) → Tells (optional_at key low high table) (AtOptional key as_integer (Outside key low high) table)
+unfolding optional_at
+optional_tells key low high table fault = (there (get_member (key_name key) table) refl, back)
+  where
+    some_of : ℕ → Option ℕ
+    some_of k = Some k
+
+    own : (n : ℤ) → Tells (within key low high n >>= λ k. Ok (Some k)) (Outside key low high n)
+    own n = last (within key low high n) (λ k. Some k) (Outside key low high n) (number_own key low high n)
+
+    with_kind : (value : Data) (k : Option ℤ) → as_integer value ≡ k → (of_kind key k >>= λ n. within key low high n >>= λ m. Ok (Some m)) ≡ failed {A = Option ℕ} fault → ((as_integer value ≡ None) × (fault ≡ WrongKind key)) ⊎ ((x : ℤ) × (as_integer value ≡ Some x) × Outside key low high x fault)
+    with_kind value None none e = inl (none, sym (the_fault {A = Option ℕ} (WrongKind key) fault e))
+    with_kind value (Some x) some e = inr (x, some, (own x fault).0 e)
+
+    there : (o : Option Data) → get_member (key_name key) table ≡ o → optional_in key low high o ≡ failed {A = Option ℕ} fault → AtOptional key as_integer (Outside key low high) table fault
+    there None none e = absurd (never None fault e)
+    there (Some value) is e = (value, is, with_kind value (as_integer value) refl e)
+
+    of_value : (value : Data) → ((as_integer value ≡ None) × (fault ≡ WrongKind key)) ⊎ ((x : ℤ) × (as_integer value ≡ Some x) × Outside key low high x fault) → optional_in key low high (Some value) ≡ failed {A = Option ℕ} fault
+    of_value value (inl m) = ap (λ (k : Option ℤ). of_kind key k >>= λ n. within key low high n >>= λ m. Ok (Some m)) m.0 ∙ ap (failed {A = Option ℕ}) (sym m.1)
+    of_value value (inr m) = ap (λ (k : Option ℤ). of_kind key k >>= λ n. within key low high n >>= λ m. Ok (Some m)) m.1 ∙ (own m.0 fault).1 m.2
+
+    back : AtOptional key as_integer (Outside key low high) table fault → optional_in key low high (get_member (key_name key) table) ≡ failed {A = Option ℕ} fault
+    back k = ap (optional_in key low high) k.1 ∙ of_value k.0 k.2
+
+abbrev said_round : Option ℕ → Result (Option ℕ) Fault
+said_round opens = Ok opens
+
+own_round : (a b : Option ℕ) → said_round a ≡ said_round b → b ≡ a
+own_round a b e = cc
+
+-- the round that was read is the one in the table
+round_is : (key : Key) (low high : ℕ) (o : Option Data) (opens : Option ℕ) → optional_in key low high o ≡ Ok opens → round_of opens ≡ number_or_0 (option_and_then as_integer o)
+round_is key low high None opens e = ap round_of (own_round None opens e)
+round_is key low high (Some value) opens e = kinds (as_integer value) e
+  where
+    chosen : (t : Bool) (n : ℕ) → ((if t then Ok n else failed {A = ℕ} (OutOfRange key)) >>= λ k. Ok (Some k)) ≡ Ok opens → round_of opens ≡ n
+    chosen true n e = ap round_of (own_round (Some n) opens e)
+    chosen false n e = absurd cc
+
+    kinds : (k : Option ℤ) → (of_kind key k >>= λ n. within key low high n >>= λ m. Ok (Some m)) ≡ Ok opens → round_of opens ≡ number_or_0 k
+    kinds None e = absurd cc
+    kinds (Some (pos n)) e = chosen (is_between low high n) n e
+    kinds (Some (negsuc n)) e = absurd cc
+
+opening_is : (table : Members) (opens : Option ℕ) → optional_at OpenRound 0 1_000_000_000 table ≡ Ok opens → round_of opens ≡ opening_in table
+unfolding optional_at
+opening_is table opens e = round_is OpenRound 0 1_000_000_000 (get_member (key_name OpenRound) table) opens e
+
+schedule_tells : (table : Members) → Tells (schedule_at table) (InSchedule table)
+unfolding schedule_at
+schedule_tells table =
+    on (optional_at OpenRound 0 1_000_000_000 table) _ _ _ (optional_tells OpenRound 0 1_000_000_000 table) (λ opens e.
+    last (optional_at CloseRound (round_of opens + 1) 1_000_000_000 table) (schedule_of (round_of opens)) _
+    (subst (λ (n : ℕ). Tells (optional_at CloseRound (round_of opens + 1) 1_000_000_000 table) (AtOptional CloseRound as_integer (Outside CloseRound (n + 1) 1_000_000_000) table)) (opening_is table opens e)
+    (optional_tells CloseRound (round_of opens + 1) 1_000_000_000 table)))
+
+route_tells : (before : List Terms) (table : Members) → Tells (route_at before table) (InRoute before table)
+unfolding route_at
+route_tells before table =
     on (known route_keys table) _ _ _ (known_tells route_keys table) (λ u e.
     on (name_at before table) _ _ _ (name_tells before table) (λ name e.
     on (mode_at table) _ _ _ (mode_tells table) (λ mode e.
-    last (numbers_at table) (terms_with name mode) _ (numbers_tells table))))
+    on (numbers_at table) _ _ _ (numbers_tells table) (λ numbers e.
+    last (schedule_at table) (planned (terms_with name mode numbers)) _ (schedule_tells table)))))
 
 some_table : (table other : Members) → Some table ≡ Some other → table ≡ other
 some_table table other e = cc
 
-abbrev said : Terms → Result Terms Fault
-said terms = Ok terms
+abbrev said : Planned → Result Planned Fault
+said route = Ok route
 
-ok_terms : (terms other : Terms) → said terms ≡ said other → terms ≡ other
-ok_terms terms other e = cc
+ok_route : (route other : Planned) → said route ≡ said other → route ≡ other
+ok_route route other e = cc
 
-routes_tells : (items : Items) (before : List Terms) → are_tables items ≡ true → Tells (routes_from before items) (InRoutes before items)
-routes_tells no_items before h = right before (InRoutes before no_items) (λ fault k. k)
-routes_tells (item value rest) before h = one (as_table value) refl h (λ terms more. routes_tells rest (before ++ terms ∷ []) more)
+routes_tells : (items : Items) (before : Routes) → are_tables items ≡ true → Tells (routes_from before items) (InRoutes before.terms items)
+routes_tells no_items before h = right before (InRoutes before.terms no_items) (λ fault k. k)
+routes_tells (item value rest) before h = one (as_table value) refl h (λ route more. routes_tells rest (with_route before route) more)
   where
-    two : (table : Members) → as_table value ≡ Some table → (r : Result Terms Fault) → terms_at before table ≡ r → ((terms : Terms) → Tells (routes_from (before ++ terms ∷ []) rest) (InRoutes (before ++ terms ∷ []) rest)) →
-        Tells (r >>= λ terms. routes_from (before ++ terms ∷ []) rest) (InRoutes before (item value rest))
-    two table is (Ok terms) says more fault = (λ e. (table, is, inr (terms, says, (more terms fault).0 e)), back)
+    two : (table : Members) → as_table value ≡ Some table → (r : Result Planned Fault) → route_at before.terms table ≡ r → ((route : Planned) → Tells (routes_from (with_route before route) rest) (InRoutes (before.terms ++ route.terms ∷ []) rest)) →
+        Tells (r >>= λ route. routes_from (with_route before route) rest) (InRoutes before.terms (item value rest))
+    two table is (Ok route) says more fault = (λ e. (table, is, inr (route, says, (more route fault).0 e)), back)
       where
-        back : InRoutes before (item value rest) fault → routes_from (before ++ terms ∷ []) rest ≡ failed {A = List Terms} fault
+        back : InRoutes before.terms (item value rest) fault → routes_from (with_route before route) rest ≡ failed {A = Routes} fault
         back k = of_one (some_table k.0 table (sym k.1 ∙ is)) k.2
           where
-            of_one : {other : Members} → other ≡ table → (InRoute before other fault ⊎ ((them : Terms) × (terms_at before other ≡ Ok them) × InRoutes (before ++ them ∷ []) rest fault)) → routes_from (before ++ terms ∷ []) rest ≡ failed {A = List Terms} fault
-            of_one {other} same_table (inl m) = absurd (never terms fault (sym says ∙ ap (terms_at before) (sym same_table) ∙ (terms_tells before other fault).1 m))
-            of_one {other} same_table (inr m) = (more terms fault).1 (subst (λ (them : Terms). InRoutes (before ++ them ∷ []) rest fault) (ok_terms m.0 terms (sym m.1 ∙ ap (terms_at before) same_table ∙ says)) m.2)
-    two table is (Err g) says more fault = (λ e. (table, is, inl ((terms_tells before table fault).0 (says ∙ ap (failed {A = Terms}) (the_fault {A = List Terms} g fault e)))), back)
+            of_one : {other : Members} → other ≡ table → (InRoute before.terms other fault ⊎ ((them : Planned) × (route_at before.terms other ≡ Ok them) × InRoutes (before.terms ++ them.terms ∷ []) rest fault)) → routes_from (with_route before route) rest ≡ failed {A = Routes} fault
+            of_one {other} same_table (inl m) = absurd (never route fault (sym says ∙ ap (route_at before.terms) (sym same_table) ∙ (route_tells before.terms other fault).1 m))
+            of_one {other} same_table (inr m) = (more route fault).1 (subst (λ (them : Planned). InRoutes (before.terms ++ them.terms ∷ []) rest fault) (ok_route m.0 route (sym m.1 ∙ ap (route_at before.terms) same_table ∙ says)) m.2)
+    two table is (Err g) says more fault = (λ e. (table, is, inl ((route_tells before.terms table fault).0 (says ∙ ap (failed {A = Planned}) (the_fault {A = Routes} g fault e)))), back)
       where
-        back : InRoutes before (item value rest) fault → failed {A = List Terms} g ≡ failed {A = List Terms} fault
+        back : InRoutes before.terms (item value rest) fault → failed {A = Routes} g ≡ failed {A = Routes} fault
         back k = of_one (some_table k.0 table (sym k.1 ∙ is)) k.2
           where
-            of_one : {other : Members} → other ≡ table → (InRoute before other fault ⊎ ((them : Terms) × (terms_at before other ≡ Ok them) × InRoutes (before ++ them ∷ []) rest fault)) → failed {A = List Terms} g ≡ failed {A = List Terms} fault
-            of_one {other} same_table (inl m) = ap (failed {A = List Terms}) (the_fault {A = Terms} g fault (sym says ∙ ap (terms_at before) (sym same_table) ∙ (terms_tells before other fault).1 m))
-            of_one {other} same_table (inr m) = absurd (never m.0 g (sym m.1 ∙ ap (terms_at before) same_table ∙ says))
+            of_one : {other : Members} → other ≡ table → (InRoute before.terms other fault ⊎ ((them : Planned) × (route_at before.terms other ≡ Ok them) × InRoutes (before.terms ++ them.terms ∷ []) rest fault)) → failed {A = Routes} g ≡ failed {A = Routes} fault
+            of_one {other} same_table (inl m) = ap (failed {A = Routes}) (the_fault {A = Planned} g fault (sym says ∙ ap (route_at before.terms) (sym same_table) ∙ (route_tells before.terms other fault).1 m))
+            of_one {other} same_table (inr m) = absurd (never m.0 g (sym m.1 ∙ ap (route_at before.terms) same_table ∙ says))
 
-    one : (o : Option Members) → as_table value ≡ o → (is_some o && are_tables rest) ≡ true → ((terms : Terms) → are_tables rest ≡ true → Tells (routes_from (before ++ terms ∷ []) rest) (InRoutes (before ++ terms ∷ []) rest)) →
-        Tells (of_kind Route o >>= λ table. terms_at before table >>= λ terms. routes_from (before ++ terms ∷ []) rest) (InRoutes before (item value rest))
+    one : (o : Option Members) → as_table value ≡ o → (is_some o && are_tables rest) ≡ true → ((route : Planned) → are_tables rest ≡ true → Tells (routes_from (with_route before route) rest) (InRoutes (before.terms ++ route.terms ∷ []) rest)) →
+        Tells (of_kind Route o >>= λ table. route_at before.terms table >>= λ route. routes_from (with_route before route) rest) (InRoutes before.terms (item value rest))
     one None is h more = absurd (clash h)
-    one (Some table) is h more = two table is (terms_at before table) refl (λ terms. more terms h)
+    one (Some table) is h more = two table is (route_at before.terms table) refl (λ route. more route h)
 
 abbrev guarded : (t u : Bool) → Result (Unit {0}) Fault
 guarded t u = if not t then failed {A = Unit {0}} (WrongKind Route) else if not u then failed {A = Unit {0}} (OutOfRange Route) else Ok tt
 
-guarded_is : (t u : Bool) (r : Result (List Terms) Fault) → (if not t then failed {A = List Terms} (WrongKind Route) else if not u then failed {A = List Terms} (OutOfRange Route) else r) ≡ (guarded t u >>= λ x. r)
+guarded_is : (t u : Bool) (r : Result Routes Fault) → (if not t then failed {A = Routes} (WrongKind Route) else if not u then failed {A = Routes} (OutOfRange Route) else r) ≡ (guarded t u >>= λ x. r)
 guarded_is false u r = refl
 guarded_is true false r = refl
 guarded_is true true r = refl
@@ -287,10 +338,10 @@ guarded_ok false u x e = absurd cc
 items_tells : (items : Items) → Tells (routes_in items) (NoRoutesOrIn items)
 unfolding routes_in
 items_tells items =
-    same (routes_in items) (guarded (are_tables items) (is_between 1 511 (count items)) >>= λ x. routes_from [] items) (NoRoutesOrIn items)
-    (guarded_is (are_tables items) (is_between 1 511 (count items)) (routes_from [] items))
-    (on (guarded (are_tables items) (is_between 1 511 (count items))) (λ x. routes_from [] items) (NoRoutes items) (InRoutes [] items) (routes_own items (are_tables items) (is_between 1 511 (count items)) refl refl)
-    (λ x e. routes_tells items [] (guarded_ok (are_tables items) (is_between 1 511 (count items)) x e)))
+    same (routes_in items) (guarded (are_tables items) (is_between 1 511 (count items)) >>= λ x. routes_from no_routes items) (NoRoutesOrIn items)
+    (guarded_is (are_tables items) (is_between 1 511 (count items)) (routes_from no_routes items))
+    (on (guarded (are_tables items) (is_between 1 511 (count items))) (λ x. routes_from no_routes items) (NoRoutes items) (InRoutes [] items) (routes_own items (are_tables items) (is_between 1 511 (count items)) refl refl)
+    (λ x e. routes_tells items no_routes (guarded_ok (are_tables items) (is_between 1 511 (count items)) x e)))
 
 routes_at_tells : (table : Members) → Tells (routes_at table) (AtKey Route as_array NoRoutesOrIn table)
 unfolding routes_at value_at
@@ -303,7 +354,7 @@ table_tells table =
     on (secret_at table) _ _ _ (secret_tells table) (λ secret e.
     on (bind_at table) _ _ _ (bind_tells table) (λ bind e.
     on (number_at Workers 1 16 table) _ _ _ (number_tells Workers 1 16 table) (λ workers e.
-    last (routes_at table) (λ routes. record { secret = secret; bind = bind; workers = workers; routes = routes }) _ (routes_at_tells table)))))
+    last (routes_at table) (λ routes. record { secret = secret; bind = bind; workers = workers; routes = routes.terms; schedules = routes.schedules }) _ (routes_at_tells table)))))
 
 pub first_fault : TellsFirstFault
 first_fault table fault = table_tells table fault

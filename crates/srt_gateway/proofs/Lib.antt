@@ -4,6 +4,7 @@ pub mod Taking
 pub mod FirstLine
 pub mod Writing
 pub mod EventTexts
+pub mod Utf8
 pub mod Numbered
 pub mod Replays
 pub mod TapeEvents

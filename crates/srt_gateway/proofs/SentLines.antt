@@ -1,12 +1,15 @@
 -- The lines of what was sent.
-use Rattle.std.proofs.Common.{◌≡◌, ℕ, zero, suc, ◌+◌, ◌/◌, ◌%◌, ◌==◌, ◌&&◌, nat_lt, Bool, true, false, eqb-true, List, [], ◌∷◌, ◌++◌, slice_index, map, codes, decimal, Option, None, Some, refl, sym, ap, subst, ◌∙◌, append_assoc, if◌then◌else◌, arith, length, cond, ◌≤◌, rules}
+use Rattle.std.proofs.Common.{◌≡◌, ℕ, zero, suc, ◌+◌, ◌/◌, ◌%◌, ◌==◌, ◌&&◌, nat_lt, Bool, true, false, not, is_some, eqb-true, List, [], ◌∷◌, ◌++◌, slice_index, map, codes, decimal, Option, None, Some, refl, sym, ap, subst, ◌∙◌, append_assoc, if◌then◌else◌, arith, length, cond, ◌≤◌, rules}
 use Rattle.std.specs.List.{AllByRecursion}
 use Rattle.std.specs.Fmt.{digits, digits_onto, digit_glyph}
 use Rattle.std.proofs.lemmas.Bool.Decides.{nat_tests}
 use Rattle.std.proofs.lemmas.List.{append-nil, map-append}
 use Rattle.hex.specs.Hex.{encode_with, encode_lower, lower_digits}
-use Rattle.srt_seq.specs.Items.{Datagram, Item, Received, Tick}
+use Rattle.srt_seq.specs.Items.{Datagram, Item, Received, Tick, Close}
+use Rattle.srt_seq.specs.declared.shared.OpenFault.TheVariants as faults
 use Rattle.srt_seq.specs.Terms.{Terms}
+use Rattle.srt_seq.specs.Entries.{is_name, in_limits}
+use Rattle.srt_lobby.specs.Names.{index_of}
 use Rattle.srt_seq.specs.declared.shared.Turned.{Turned}
 use Rattle.srt_seq.specs.declared.shared.Turned.TheVariants.{Moved, Applied, Blocked, Idle}
 use Rattle.srt_lobby.specs.declared.classes.Cause.{Cause}
@@ -15,18 +18,19 @@ use Rattle.srt_lobby.specs.declared.classes.Class.{Class}
 use Rattle.srt_lobby.specs.declared.classes.Class.TheVariants.{Answer, Route, Dropped}
 use Rattle.srt_hub.specs.declared.answers.Arrived.{Arrived}
 use Rattle.srt_hub.specs.declared.answers.Arrived.TheVariants as arrived
+use Rattle.srt_hub.specs.declared.answers.Closing.{Closing}
+use Rattle.srt_hub.specs.declared.answers.Closing.TheVariants as closings
 use Rattle.srt_hub.specs.declared.answers.Ticked.{Ticked}
 use Rattle.srt_hub.specs.declared.answers.Ticked.TheVariants as ticked
-use Rattle.srt_hub.specs.World.{Event, Arrives, Ticks, Turns, Sends, Opens, Closes, Sorting, Meaning, World, Lane, Step, Offers, Send, Nothing, own_step, step_for, sends_out, Turn, empty, names_in, listed, arrival_of, offered_to, is_route, solo, accepted, sent, first, tick, turn, world_after}
-use Rattle.srt_hub.specs.Hubs.{terms_at, names_at, entry_at, lane_at, room_at}
+use Rattle.srt_hub.specs.World.{Event, Arrives, Ticks, Turns, Sends, Opens, Closes, Sorting, Meaning, World, Lane, Step, Offers, Send, Nothing, own_step, step_for, sends_out, Turn, empty, names_in, is_shown_in, listed, offer_if, opening_of, opening, closing, arrival_of, offered_to, is_route, solo, accepted, sent, first, tick, turn, world_after}
+use Rattle.srt_hub.specs.Hubs.{names_at, entry_at, lane_at, room_at}
 use Rattle.srt_gateway.specs.Tape.{lines_of}
-use Rattle.srt_gateway.specs.Texts.{digit_of, route_text, arrived_text, arrival_text, ticked_text, turned_text, sent_text, event_text}
-use Rattle.srt_gateway.specs.Replay.{text_after, tape_text}
-use Rattle.srt_gateway.specs.Step.{with_past}
+use Rattle.srt_gateway.specs.Texts.{digit_of, route_text, arrived_text, arrival_text, ticked_text, turned_text, sent_text, opened_text, closed_text, event_text}
+use Rattle.srt_gateway.specs.Replay.{text_after, tape_text, with_past}
 use Rattle.srt_gateway.specs.Sent.{events_of, happened, is_send, sent_line, is_sent_line, sent_at, sent_lines, SentLinesTell, TapesAreIsolated}
 use Rattle.srt_hub.proofs.Isolation.{gateways_isolated}
 use Rattle.srt_hub.proofs.Refusals.{empty_before}
-use Rattle.srt_gateway.proofs.TapeEvents.{Unrefused, AllUnrefused, lines_unrefused, tape_entry}
+use Rattle.srt_gateway.proofs.TapeEvents.{Unrefused, AllUnrefused, lines_unrefused}
 use Rattle.srt_gateway.proofs.FirstLine.{IsInside, ended}
 
 abbrev Inside : List ℕ → Type 0
@@ -110,6 +114,17 @@ turn_line Applied = record { line = codes "applied"; text_is = refl; inside = se
 turn_line Blocked = record { line = codes "blocked"; text_is = refl; inside = search rules }
 turn_line Idle = record { line = codes "idle"; text_is = refl; inside = search rules }
 
+-- with memory an opening has a line
+opening_line : (next : ℕ) (named limited : Bool) → IsLine (opened_text (opening_of next false (if named then (if limited then None else Some faults.Limits) else Some faults.Names)))
+opening_line next true true = route_line (codes "opened ") next (search rules)
+opening_line next true false = record { line = codes "open fault 2"; text_is = refl; inside = search rules }
+opening_line next false limited = record { line = codes "open fault 1"; text_is = refl; inside = search rules }
+
+closing_line : (r : ℕ) (c : Closing) → IsLine (closed_text r c)
+closing_line r closings.Accepted = route_line (codes "closing ") r (search rules)
+closing_line r closings.Full = route_line (codes "full ") r (search rules)
+closing_line r closings.Closed = route_line (codes "closed ") r (search rules)
+
 sent_inside : (d : Datagram) → Inside (sent_line d)
 sent_inside d =
     let ip = encode_lower d.peer.ip in
@@ -144,6 +159,11 @@ nothing_offered false item m = refl
 nothing_turned : (t : Bool) (m : Lane) → sends_out (if t then Turn else Nothing) m ≡ []
 nothing_turned true m = refl
 nothing_turned false m = refl
+
+nothing_closed : (t shown : Bool) (item : Item) (m : Lane) → sends_out (if t then offer_if shown item else Nothing) m ≡ []
+nothing_closed true true item m = refl
+nothing_closed true false item m = refl
+nothing_closed false shown item m = refl
 
 -- an event's line, and its `sent` lines for a route
 record Told (class : Sorting) (reply : Meaning) (entries : List Terms) (r : ℕ) (past : List Event) (event : Event) : Type 0 where
@@ -191,8 +211,15 @@ told class reply entries r past (Sends s) u =
     let w = world_after class reply entries past in
     let k = send_line (first (w.lane s).outbox) in
     record { line = k.line; text_is = k.text_is; inside = k.inside; sends = send_told class reply entries r s past (nat_lt r (length w.places)) refl (s == r) (eqb-true s r) }
-told class reply entries r past (Opens e refused) u = absurd u
-told class reply entries r past (Closes s moment) u = absurd u
+told class reply entries r past (Opens e true) u = absurd cc
+told class reply entries r past (Opens e false) u =
+    let w = world_after class reply entries past in
+    let k = opening_line (length w.places) (is_name e.name && not (is_some (index_of (names_in w) e.name))) (nat_lt (length (names_in w)) 511 && in_limits e) in
+    record { line = k.line; text_is = k.text_is; inside = k.inside; sends = ap (map sent_line) (none_sent (nat_lt r (length w.places)) Nothing (w.lane r) refl) }
+told class reply entries r past (Closes s moment) u =
+    let w = world_after class reply entries past in
+    let k = closing_line s (closing w s) in
+    record { line = k.line; text_is = k.text_is; inside = k.inside; sends = ap (map sent_line) (none_sent (nat_lt r (length w.places)) (own_step class w r (Closes s moment)) (w.lane r) (nothing_closed (s == r) (is_shown_in w r) (Close moment) (w.lane r))) }
 
 all_told : (class : Sorting) (reply : Meaning) (entries : List Terms) (r : ℕ) (past coming : List Event) → AllUnrefused coming →
     map sent_line (sent class reply entries r (with_past past coming)) ≡ map sent_line (sent class reply entries r past) ++ sent_at r coming (lines_of (text_after class reply entries past coming))
@@ -212,15 +239,11 @@ all_told class reply entries r past (event ∷ coming) u =
     ∙ ap (λ (ls : List (List ℕ)). before ++ ls) (sym here)
 
 pub lines_tell : SentLinesTell
-lines_tell class reply entries r tape = sym (all_told class reply entries r [] (events_of (length entries) tape) (lines_unrefused (length entries) 1 (lines_of tape)))
+lines_tell class reply entries r tape = sym (all_told class reply entries r [] (events_of class reply entries tape) (lines_unrefused class reply entries [] 1 (lines_of tape)))
 
 pub tapes_isolated : TapesAreIsolated
 tapes_isolated class reply secret entries entries' r tape tape' same took quiet quiet' =
     let sorting = class secret in
-    let entry = tape_entry sorting reply entries r (length entries) 1 (lines_of tape) in
-    let entry' = tape_entry sorting reply entries' r (length entries') 1 (lines_of tape') in
-    let h = gateways_isolated class reply secret entries entries' r (happened (length entries) tape) (happened (length entries') tape') (entry ∙ same ∙ sym entry') took quiet quiet' in
-    let tells = lines_tell sorting reply entries r tape in (
-      tells ∙ ap (map sent_line) h.0 ∙ sym (lines_tell sorting reply entries' r tape'),
-      tells ∙ ap (map sent_line) (h.1 ∙ ap (λ (e : Terms). solo reply e r (accepted sorting reply entries r (happened (length entries) tape))) entry),
-    )
+    let h = gateways_isolated class reply secret entries entries' r (happened sorting reply entries tape) (happened sorting reply entries' tape') same took quiet quiet' in
+    let tells = lines_tell sorting reply entries r tape in
+    (tells ∙ ap (map sent_line) h.0 ∙ sym (lines_tell sorting reply entries' r tape'), tells ∙ ap (map sent_line) h.1)

@@ -1,22 +1,26 @@
 -- Routes that were read can be opened: their names are of the right form and distinct, and their numbers within limits.
-use Rattle.std.proofs.Common.{◌≡◌, ℕ, suc, ◌+◌, ℤ, pos, negsuc, Bool, true, false, not, cond, ◌&&◌, List, [], ◌∷◌, ◌++◌, length, map, None, Result, Ok, Err, IfOk, Vec, Global, refl, sym, ap, subst, ◌∙◌, inl, inr, arith}
+use Rattle.std.proofs.Common.{◌≡◌, ℕ, suc, ◌+◌, ◌<◌, ℤ, pos, negsuc, Bool, true, false, not, cond, ◌&&◌, List, [], ◌∷◌, ◌++◌, length, map, nat_lt, Option, None, Some, Result, Ok, Err, IfOk, refl, sym, ap, subst, ◌∙◌, inl, inr, arith}
 use Rattle.std.specs.List.{list_all}
 use Rattle.std.specs.Str.{bytes_eq}
 use Rattle.std.proofs.lemmas.Bool.{and_parts, or_parts, false_from_ne_true, false≢true}
+use Rattle.std.proofs.lemmas.List.{length-map}
 use Rattle.std.proofs.lemmas.Slice.Eq.{bytes_eq-Decides}
-use Rattle.toml.specs.Data.{Items, no_items, item, Members, as_integer, as_array, as_table}
-use Rattle.srt_seq.specs.declared.shared.Entry.{Entry}
+use Rattle.std.proofs.lemmas.Bool.Decides.{nat_tests}
+use Rattle.toml.specs.Data.{Data, Items, no_items, item, Members, get_member, as_integer, as_array, as_table}
 use Rattle.srt_seq.specs.declared.shared.Mode.{Mode as TheMode}
+use Rattle.srt_seq.specs.declared.shared.Schedule.{Schedule}
 use Rattle.srt_seq.specs.Terms.{Terms, terms_of}
 use Rattle.srt_seq.specs.Entries.{is_between, is_name, in_limits}
 use Rattle.srt_lobby.specs.Opening.{is_taken, is_fresh, are_names, fault_of}
 use Rattle.srt_gateway.specs.declared.config.faults.Key.{Key}
-use Rattle.srt_gateway.specs.declared.config.faults.Key.TheVariants.{Route, Name, LatencyMs, Buffer, Sessions, Inbox, Outbox}
+use Rattle.srt_gateway.specs.declared.config.faults.Key.TheVariants.{Route, Name, LatencyMs, Buffer, Sessions, Inbox, Outbox, OpenRound, CloseRound}
 use Rattle.srt_gateway.specs.declared.config.faults.ConfigFault.{ConfigFault}
+use Rattle.srt_gateway.specs.declared.config.routes.ReadRoutes.{ReadRoutes}
+use Rattle.srt_gateway.specs.Faults.{key_name}
 use Rattle.srt_gateway.specs.FirstFault.{Fault, WrongKind, OutOfRange, BadName, RepeatedName, Gives, ◌>>=◌}
-use Rattle.srt_gateway.specs.Keys.{known, value_at, text_at, within, number_at, of_kind}
-use Rattle.srt_gateway.specs.Routes.{name_in, name_at, mode_at, Numbers, numbers_at, route_keys, terms_with, terms_at, are_tables, count, routes_from, routes_in, routes_at}
-use Rattle.srt_gateway.specs.RouteParts.{entries_seen}
+use Rattle.srt_gateway.specs.Keys.{known, value_at, text_at, within, number_at, optional_in, optional_at, of_kind}
+use Rattle.srt_gateway.specs.Routes.{name_in, name_at, mode_at, Numbers, numbers_at, route_keys, terms_with, round_of, schedule_of, schedule_at, is_later, closes_later, Planned, planned, route_at, Routes, no_routes, with_route, are_tables, count, routes_from, routes_in, routes_at}
+use Rattle.srt_gateway.specs.RouteParts.{routes_seen}
 
 -- steps that gave a value in the end gave one first
 passed : {A B : Type 0} (said : Result A Fault) (next : A → Result B Fault) (b : B) → said >>= next ≡ Ok b → (a : A) × (said ≡ Ok a) × (next a ≡ Ok b)
@@ -71,16 +75,43 @@ record Fits (before : List Terms) (e : Terms) : Type 0 where
   free : is_taken e.name before ≡ false
   limited : in_limits e ≡ true
 
-terms_fit : (before : List Terms) (table : Members) (e : Terms) → terms_at before table ≡ Ok e → Fits before e
-unfolding terms_at
-terms_fit before table e h =
+-- a closing that was read is later than the opening
+optional_fits : (key : Key) (low high : ℕ) (o : Option Data) (n : ℕ) → optional_in key low high o ≡ Ok (Some n) → is_between low high n ≡ true
+optional_fits key low high None n h = absurd cc
+optional_fits key low high (Some value) n h =
+    let z = passed (of_kind key (as_integer value)) _ (Some n) h in
+    let k = passed (within key low high z.0) _ (Some n) z.2 in
+    let same : k.0 ≡ n = cc in
+    within_fits key low high z.0 n (k.1 ∙ ap (λ (m : ℕ). Ok m) same)
+
+is_after : (opens high n : ℕ) → is_between (opens + 1) high n ≡ true → nat_lt opens n ≡ true
+is_after opens high n h = grind (arith, nat_tests)
+
+later_fits : (opens : ℕ) (table : Members) (closes : Option ℕ) → optional_at CloseRound (opens + 1) 1_000_000_000 table ≡ Ok closes → is_later opens closes ≡ true
+unfolding optional_at
+later_fits opens table None h = refl
+later_fits opens table (Some n) h = is_after opens 1_000_000_000 n (optional_fits CloseRound (opens + 1) 1_000_000_000 (get_member (key_name CloseRound) table) n h)
+
+schedule_fits : (table : Members) (s : Schedule) → schedule_at table ≡ Ok s → closes_later s ≡ true
+unfolding schedule_at
+schedule_fits table s h =
+    let o = passed (optional_at OpenRound 0 1_000_000_000 table) _ s h in
+    let c = passed (optional_at CloseRound (round_of o.0 + 1) 1_000_000_000 table) _ s o.2 in
+    let same : schedule_of (round_of o.0) c.0 ≡ s = cc in
+    subst (λ (t : Schedule). closes_later t ≡ true) same (later_fits (round_of o.0) table c.0 c.1)
+
+route_fits : (before : List Terms) (table : Members) (e : Planned) → route_at before table ≡ Ok e → Fits before e.terms × (closes_later e.schedule ≡ true)
+unfolding route_at
+route_fits before table e h =
     let k = passed (known route_keys table) _ e h in
     let n = passed (name_at before table) _ e k.2 in
     let m = passed (mode_at table) _ e n.2 in
     let s = passed (numbers_at table) _ e m.2 in
+    let t = passed (schedule_at table) _ e s.2 in
     let fits = name_fits before table n.0 n.1 in
-    let same : terms_with n.0 m.0 s.0 ≡ e = cc in
-    subst (λ (t : Terms). Fits before t) same (record { named = fits.0; free = fits.1; limited = numbers_fit n.0 m.0 table s.0 s.1 })
+    let same : planned (terms_with n.0 m.0 s.0) t.0 ≡ e = cc in
+    subst (λ (p : Planned). Fits before p.terms × (closes_later p.schedule ≡ true)) same
+    (record { named = fits.0; free = fits.1; limited = numbers_fit n.0 m.0 table s.0 s.1 }, schedule_fits table t.0 t.1)
 
 turned : (a b : List ℕ) → bytes_eq a b ≡ false → bytes_eq b a ≡ false
 turned a b h = false_from_ne_true _ (λ same. false≢true (sym h ∙ (bytes_eq-Decides a b).1 (sym ((bytes_eq-Decides b a).0 same))))
@@ -114,26 +145,40 @@ limits_last (x ∷ es) e h k =
     let p = and_parts (in_limits x) (list_all in_limits es) h in
     rw (p.0, limits_last es e p.1 k) refl
 
-length_last : (es : List Terms) (e : Terms) → length (es ++ e ∷ []) ≡ suc (length es)
+later_last : (ss : List Schedule) (s : Schedule) → list_all closes_later ss ≡ true → closes_later s ≡ true → list_all closes_later (ss ++ s ∷ []) ≡ true
+later_last [] s h k = rw k refl
+later_last (x ∷ ss) s h k =
+    let p = and_parts (closes_later x) (list_all closes_later ss) h in
+    rw (p.0, later_last ss s p.1 k) refl
+
+length_last : {A : Type 0} (es : List A) (e : A) → length (es ++ e ∷ []) ≡ suc (length es)
 length_last [] e = refl
 length_last (x ∷ es) e = ap suc (length_last es e)
 
-record AreSound (es : List Terms) (n : ℕ) : Type 0 where
-  names : are_names es ≡ true
-  limits : list_all in_limits es ≡ true
-  many : length es ≡ n
+record AreSound (all : Routes) (n : ℕ) : Type 0 where
+  names : are_names all.terms ≡ true
+  limits : list_all in_limits all.terms ≡ true
+  later : list_all closes_later all.schedules ≡ true
+  many : length all.terms ≡ n
+  scheduled : length all.schedules ≡ n
 
-from_sound : (before : List Terms) (items : Items) (all : List Terms) (n : ℕ) → routes_from before items ≡ Ok all → AreSound before n → AreSound all (n + count items)
+from_sound : (before : Routes) (items : Items) (all : Routes) (n : ℕ) → routes_from before items ≡ Ok all → AreSound before n → AreSound all (n + count items)
 from_sound before no_items all n h s =
     let same : before ≡ all = cc in
-    subst (λ (es : List Terms). AreSound es (n + 0)) same (record { names = s.names; limits = s.limits; many = omega (arith, s.many) })
+    subst (λ (es : Routes). AreSound es (n + 0)) same (record { names = s.names; limits = s.limits; later = s.later; many = omega (arith, s.many); scheduled = omega (arith, s.scheduled) })
 from_sound before (item value rest) all n h s =
     let t = passed (of_kind Route (as_table value)) _ all h in
-    let e = passed (terms_at before t.0) _ all t.2 in
-    let f = terms_fit before t.0 e.0 e.1 in
-    let more : AreSound (before ++ e.0 ∷ []) (suc n) = record { names = names_last before e.0 s.names f.named f.free; limits = limits_last before e.0 s.limits f.limited; many = length_last before e.0 ∙ ap suc s.many } in
-    let last = from_sound (before ++ e.0 ∷ []) rest all (suc n) e.2 more in
-    record { names = last.names; limits = last.limits; many = omega (arith, last.many) }
+    let e = passed (route_at before.terms t.0) _ all t.2 in
+    let f = route_fits before.terms t.0 e.0 e.1 in
+    let more : AreSound (with_route before e.0) (suc n) = record {
+      names = names_last before.terms e.0.terms s.names f.0.named f.0.free;
+      limits = limits_last before.terms e.0.terms s.limits f.0.limited;
+      later = later_last before.schedules e.0.schedule s.later f.1;
+      many = length_last before.terms e.0.terms ∙ ap suc s.many;
+      scheduled = length_last before.schedules e.0.schedule ∙ ap suc s.scheduled;
+    } in
+    let last = from_sound (with_route before e.0) rest all (suc n) e.2 more in
+    record { names = last.names; limits = last.limits; later = last.later; many = omega (arith, last.many); scheduled = omega (arith, last.scheduled) }
 
 counted : {A : Type 0} (tables counts : Bool) (f g : Fault) (read : Result A Fault) (x : A) → cond (not tables) (Err f) (cond (not counts) (Err g) read) ≡ Ok x → (counts ≡ true) × (read ≡ Ok x)
 counted true true f g read x h = (refl, h)
@@ -143,22 +188,39 @@ counted false counts f g read x h = absurd cc
 no_fault : (es : List Terms) → are_names es ≡ true → list_all in_limits es ≡ true → is_between 1 511 (length es) ≡ true → fault_of es ≡ None
 no_fault es n l b = rw (n, l, b) refl
 
-in_sound : (items : Items) (all : List Terms) → routes_in items ≡ Ok all → fault_of all ≡ None
+-- what holds of all routes that were read
+abbrev pub ReadSoundly : Routes → Type 0
+ReadSoundly all = (fault_of all.terms ≡ None) × (length all.schedules ≡ length all.terms) × (list_all closes_later all.schedules ≡ true)
+
+in_sound : (items : Items) (all : Routes) → routes_in items ≡ Ok all → ReadSoundly all
 unfolding routes_in
 in_sound items all h =
-    let c = counted (are_tables items) (is_between 1 511 (count items)) (WrongKind Route) (OutOfRange Route) (routes_from [] items) all h in
-    let s = from_sound [] items all 0 c.1 (record { names = refl; limits = refl; many = refl }) in
-    let many : length all ≡ count items = omega (arith, s.many) in
-    no_fault all s.names s.limits (ap (is_between 1 511) many ∙ c.0)
+    let c = counted (are_tables items) (is_between 1 511 (count items)) (WrongKind Route) (OutOfRange Route) (routes_from no_routes items) all h in
+    let s = from_sound no_routes items all 0 c.1 (record { names = refl; limits = refl; later = refl; many = refl; scheduled = refl }) in
+    let many : length all.terms ≡ count items = omega (arith, s.many) in
+    (no_fault all.terms s.names s.limits (ap (is_between 1 511) many ∙ c.0), s.scheduled ∙ sym s.many, s.later)
 
-at_sound : (table : Members) (all : List Terms) → routes_at table ≡ Ok all → fault_of all ≡ None
+at_sound : (table : Members) (all : Routes) → routes_at table ≡ Ok all → ReadSoundly all
 unfolding routes_at
 at_sound table all h =
     let v = passed (value_at Route table) _ all h in
     let i = passed (of_kind Route (as_array v.0)) _ all v.2 in
     in_sound i.0 all i.2
 
-pub sound_of : (table : Members) (r : Result (Vec Entry Global) ConfigFault) → Gives entries_seen r (routes_at table) → IfOk r (λ entries. fault_of (map terms_of entries.items) ≡ None)
-sound_of table (Ok entries) (inl m) = absurd cc
-sound_of table (Ok entries) (inr h) = at_sound table (map terms_of entries.items) (sym h)
+pub sound_of : (table : Members) (r : Result ReadRoutes ConfigFault) → Gives routes_seen r (routes_at table) → IfOk r (λ routes. ReadSoundly (routes_seen routes))
+sound_of table (Ok routes) (inl m) = absurd cc
+sound_of table (Ok routes) (inr h) = at_sound table (routes_seen routes) (sym h)
 sound_of table (Err f) g = tt
+
+-- one of these after the other
+pub fault_sound : (r : Result ReadRoutes ConfigFault) → IfOk r (λ routes. ReadSoundly (routes_seen routes)) → IfOk r (λ routes. fault_of (map terms_of routes.entries.items) ≡ None)
+fault_sound (Ok routes) h = h.0
+fault_sound (Err f) h = tt
+
+pub scheduled_sound : (r : Result ReadRoutes ConfigFault) → IfOk r (λ routes. ReadSoundly (routes_seen routes)) → IfOk r (λ routes. length routes.schedules.items ≡ length routes.entries.items)
+scheduled_sound (Ok routes) h = h.1 ∙ length-map routes.entries.items terms_of
+scheduled_sound (Err f) h = tt
+
+pub later_sound : (r : Result ReadRoutes ConfigFault) → IfOk r (λ routes. ReadSoundly (routes_seen routes)) → IfOk r (λ routes. list_all closes_later routes.schedules.items ≡ true)
+later_sound (Ok routes) h = h.2
+later_sound (Err f) h = tt

@@ -5,6 +5,7 @@ use Rattle.hex.specs.Hex.{decode_sized}
 use Rattle.hex.specs.declared.error.FromHexError.{FromHexError}
 use Rattle.srt_cookie.specs.Cookie.{secret_bytes}
 use Rattle.srt_seq.specs.Terms.{Terms, terms_of}
+use Rattle.srt_seq.specs.declared.shared.Schedule.{Schedule}
 use Rattle.srt_gateway.specs.declared.config.Config.{Config}
 use Rattle.srt_gateway.specs.declared.config.faults.Key.{Key}
 use Rattle.srt_gateway.specs.declared.config.faults.Key.TheVariants.{Secret, Bind, Workers, Route}
@@ -38,6 +39,7 @@ pub record Settings : Type 0 where
   pub bind : Address
   pub workers : ℕ
   pub routes : List Terms
+  pub schedules : List Schedule
 
 -- the keys of the table
 abbrev pub top_keys : List Key
@@ -51,7 +53,7 @@ settings_at table =
     bind_at table >>= λ bind.
     number_at Workers 1 16 table >>= λ workers.
     routes_at table >>= λ routes.
-    Ok (record { secret = secret; bind = bind; workers = workers; routes = routes })
+    Ok (record { secret = secret; bind = bind; workers = workers; routes = routes.terms; schedules = routes.schedules })
 
 -- the same of a text: its table, or None if it isn't TOML
 abbrev pub config_in : Option Members → Result Settings Fault
@@ -59,4 +61,4 @@ config_in (Some table) = settings_at table
 config_in None = Err Toml
 
 abbrev pub settings_of : Config → Settings
-settings_of config = record { secret = secret_bytes config.secret; bind = address_of config.bind; workers = config.workers; routes = map terms_of config.entries.items }
+settings_of config = record { secret = secret_bytes config.secret; bind = address_of config.bind; workers = config.workers; routes = map terms_of config.entries.items; schedules = config.schedules.items }

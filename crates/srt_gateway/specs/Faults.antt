@@ -1,7 +1,7 @@
 -- How a configuration's faults are printed (this profile).
 use Rattle.std.specs.Prelude.{ℕ, List, codes, string_bytes}
 use Rattle.srt_gateway.specs.declared.config.faults.Key.{Key}
-use Rattle.srt_gateway.specs.declared.config.faults.Key.TheVariants.{Secret, Bind, Workers, Route, Name, Mode, LatencyMs, Buffer, Sessions, Inbox, Outbox}
+use Rattle.srt_gateway.specs.declared.config.faults.Key.TheVariants.{Secret, Bind, Workers, Route, Name, Mode, LatencyMs, Buffer, Sessions, Inbox, Outbox, OpenRound, CloseRound}
 use Rattle.srt_gateway.specs.declared.config.faults.ConfigFault.{ConfigFault}
 use Rattle.srt_gateway.specs.declared.config.faults.ConfigFault.TheVariants.{Toml, UnknownKey, Missing, WrongKind, OutOfRange, BadName, RepeatedName, BadSecret, BadAddress, OutOfMemory}
 
@@ -17,6 +17,8 @@ key_name Buffer = codes "buffer"
 key_name Sessions = codes "sessions"
 key_name Inbox = codes "inbox"
 key_name Outbox = codes "outbox"
+key_name OpenRound = codes "open_round"
+key_name CloseRound = codes "close_round"
 
 abbrev pub number_of : ConfigFault → ℕ
 number_of Toml = 1

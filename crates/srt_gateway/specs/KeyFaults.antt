@@ -1,5 +1,5 @@
 -- The faults of a configuration, key by key: stated without the functions that read it (this profile).
-use Rattle.std.specs.Prelude.{◌≡◌, ℕ, ℤ, pos, ◌⊎◌, ◌↔◌, true, false, codes, List, [], ◌∷◌, ◌++◌, Option, Some, None, Ok, Err}
+use Rattle.std.specs.Prelude.{◌≡◌, ℕ, ◌+◌, ℤ, pos, negsuc, ◌⊎◌, ◌↔◌, true, false, codes, List, [], ◌∷◌, ◌++◌, Option, Some, None, option_and_then, Ok, Err}
 use Rattle.std.specs.Str.{bytes_eq}
 use Rattle.toml.specs.Data.{Data, Members, Items, no_items, item, get_member, as_str, as_integer, as_array, as_table}
 use Rattle.hex.specs.Hex.{decode_sized}
@@ -7,12 +7,12 @@ use Rattle.srt_seq.specs.Entries.{is_between, is_name}
 use Rattle.srt_seq.specs.Terms.{Terms}
 use Rattle.srt_lobby.specs.Opening.{is_taken}
 use Rattle.srt_gateway.specs.declared.config.faults.Key.{Key}
-use Rattle.srt_gateway.specs.declared.config.faults.Key.TheVariants.{Secret, Bind, Workers, Route, Name, Mode, LatencyMs, Buffer, Sessions, Inbox, Outbox}
+use Rattle.srt_gateway.specs.declared.config.faults.Key.TheVariants.{Secret, Bind, Workers, Route, Name, Mode, LatencyMs, Buffer, Sessions, Inbox, Outbox, OpenRound, CloseRound}
 use Rattle.srt_gateway.specs.Faults.{key_name}
 use Rattle.srt_gateway.specs.FirstFault.{Fault, UnknownKey, Missing, WrongKind, OutOfRange, BadName, RepeatedName, BadSecret, BadAddress}
 use Rattle.srt_gateway.specs.Address.{address_in}
 use Rattle.srt_gateway.specs.Keys.{least_unknown}
-use Rattle.srt_gateway.specs.Routes.{route_keys, terms_at, are_tables, count}
+use Rattle.srt_gateway.specs.Routes.{route_keys, Planned, route_at, are_tables, count}
 use Rattle.srt_gateway.specs.Config.{top_keys, settings_at}
 
 -- a set of faults
@@ -38,6 +38,12 @@ AtKey {A} key kind Own table fault =
     ((value : Data) × (get_member (key_name key) table ≡ Some value) ×
     (((kind value ≡ None) × (fault ≡ WrongKind key)) ⊎ ((x : A) × (kind value ≡ Some x) × Own x fault)))
 
+-- the same of a key that may be missing
+abbrev pub AtOptional : {A : Type 0} → (key : Key) (kind : Data → Option A) (Own : A → Faulty) → Members → Faulty
+AtOptional {A} key kind Own table fault =
+    (value : Data) × (get_member (key_name key) table ≡ Some value) ×
+    (((kind value ≡ None) × (fault ≡ WrongKind key)) ⊎ ((x : A) × (kind value ≡ Some x) × Own x fault))
+
 -- not 64 hexadecimal digits
 abbrev pub NoSecret : List ℕ → Faulty
 NoSecret text fault = (fault ≡ BadSecret) × ((bytes : List ℕ) → decode_sized text 32 ≡ Ok bytes → ⊥)
@@ -58,24 +64,45 @@ NoName before text fault = ((fault ≡ BadName) × (is_name text ≡ false)) ⊎
 abbrev pub NoMode : List ℕ → Faulty
 NoMode text fault = (fault ≡ OutOfRange Mode) × (bytes_eq text (codes "live") ≡ false) × (bytes_eq text (codes "buffer") ≡ false)
 
--- the keys of one route, in their order, after these routes
-abbrev pub InRoute : (before : List Terms) → Members → Faulty
-InRoute before table =
-    Unknown route_keys table ⊳
-    AtKey Name as_str (NoName before) table ⊳
-    AtKey Mode as_str NoMode table ⊳
+-- the keys with a route's limits
+abbrev pub InNumbers : Members → Faulty
+InNumbers table =
     AtKey LatencyMs as_integer (Outside LatencyMs 20 8000) table ⊳
     AtKey Buffer as_integer (Outside Buffer 32 8192) table ⊳
     AtKey Sessions as_integer (Outside Sessions 1 17) table ⊳
     AtKey Inbox as_integer (Outside Inbox 16 4096) table ⊳
     AtKey Outbox as_integer (Outside Outbox 16 4096) table
 
+-- the round in which a route opens, 0 if its key is missing
+abbrev pub number_or_0 : Option ℤ → ℕ
+number_or_0 None = 0
+number_or_0 (Some (pos n)) = n
+number_or_0 (Some (negsuc n)) = 0
+
+abbrev pub opening_in : Members → ℕ
+opening_in table = number_or_0 (option_and_then as_integer (get_member (key_name OpenRound) table))
+
+-- the keys with the rounds in which a route opens and closes: it closes in a later round
+abbrev pub InSchedule : Members → Faulty
+InSchedule table =
+    AtOptional OpenRound as_integer (Outside OpenRound 0 1_000_000_000) table ⊳
+    AtOptional CloseRound as_integer (Outside CloseRound (opening_in table + 1) 1_000_000_000) table
+
+-- the keys of one route, in their order, after these routes
+abbrev pub InRoute : (before : List Terms) → Members → Faulty
+InRoute before table =
+    Unknown route_keys table ⊳
+    AtKey Name as_str (NoName before) table ⊳
+    AtKey Mode as_str NoMode table ⊳
+    InNumbers table ⊳
+    InSchedule table
+
 -- the routes one after the other: the first table has this fault, or it is a route and the others have the fault
 abbrev pub InRoutes : (before : List Terms) → Items → Faulty
 InRoutes before no_items fault = ⊥
 InRoutes before (item value rest) fault =
     (table : Members) × (as_table value ≡ Some table) ×
-    (InRoute before table fault ⊎ ((terms : Terms) × (terms_at before table ≡ Ok terms) × InRoutes (before ++ terms ∷ []) rest fault))
+    (InRoute before table fault ⊎ ((route : Planned) × (route_at before table ≡ Ok route) × InRoutes (before ++ route.terms ∷ []) rest fault))
 
 -- items that aren't tables, or too few or too many
 abbrev pub NoRoutes : Items → Faulty

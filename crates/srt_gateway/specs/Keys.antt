@@ -61,5 +61,13 @@ within key low high (negsuc n) = Err (OutOfRange key)
 unfoldable pub number_at : Key → (low high : ℕ) → Members → Result ℕ Fault
 number_at key low high table = value_at key table >>= λ value. of_kind key (as_integer value) >>= λ n. within key low high n
 
+-- the number at a key that may be missing, which has to be within these limits
+abbrev pub optional_in : Key → (low high : ℕ) → Option Data → Result (Option ℕ) Fault
+optional_in key low high None = Ok None
+optional_in key low high (Some value) = of_kind key (as_integer value) >>= λ n. within key low high n >>= λ k. Ok (Some k)
+
+unfoldable pub optional_at : Key → (low high : ℕ) → Members → Result (Option ℕ) Fault
+optional_at key low high table = optional_in key low high (get_member (key_name key) table)
+
 abbrev pub value_seen : Bor Value → Data
 value_seen value = view value.now

@@ -1,16 +1,17 @@
 -- The routes in a configuration's tables (this profile).
-use Rattle.std.specs.Prelude.{ℕ, suc, Bool, true, not, ◌&&◌, codes, List, [], ◌∷◌, ◌++◌, is_some, Result, Ok, Err, if◌then◌else◌}
+use Rattle.std.specs.Prelude.{ℕ, suc, ◌+◌, nat_lt, Bool, true, not, ◌&&◌, codes, List, [], ◌∷◌, ◌++◌, Option, None, Some, is_some, Result, Ok, Err, if◌then◌else◌}
 use Rattle.std.specs.Str.{bytes_eq}
 use Rattle.toml.specs.Data.{Items, no_items, item, Members, as_array, as_table}
 use Rattle.srt_seq.specs.Terms.{Terms}
 use Rattle.srt_seq.specs.declared.shared.Mode.{Mode as TheMode}
+use Rattle.srt_seq.specs.declared.shared.Schedule.{Schedule}
 use Rattle.srt_seq.specs.declared.shared.Mode.TheVariants as mode
 use Rattle.srt_seq.specs.Entries.{is_between, is_name}
 use Rattle.srt_lobby.specs.Opening.{is_taken}
 use Rattle.srt_gateway.specs.declared.config.faults.Key.{Key}
-use Rattle.srt_gateway.specs.declared.config.faults.Key.TheVariants.{Route, Name, Mode, LatencyMs, Buffer, Sessions, Inbox, Outbox}
+use Rattle.srt_gateway.specs.declared.config.faults.Key.TheVariants.{Route, Name, Mode, LatencyMs, Buffer, Sessions, Inbox, Outbox, OpenRound, CloseRound}
 use Rattle.srt_gateway.specs.FirstFault.{Fault, WrongKind, OutOfRange, BadName, RepeatedName, ◌>>=◌}
-use Rattle.srt_gateway.specs.Keys.{known, value_at, text_at, number_at, of_kind}
+use Rattle.srt_gateway.specs.Keys.{known, value_at, text_at, number_at, optional_at, of_kind}
 
 -- a name of the right form that no earlier route has
 unfoldable pub name_in : (before : List Terms) → List ℕ → Result (List ℕ) Fault
@@ -44,19 +45,62 @@ numbers_at table =
 
 -- the keys of a route
 abbrev pub route_keys : List Key
-route_keys = Name ∷ Mode ∷ LatencyMs ∷ Buffer ∷ Sessions ∷ Inbox ∷ Outbox ∷ []
+route_keys = Name ∷ Mode ∷ LatencyMs ∷ Buffer ∷ Sessions ∷ Inbox ∷ Outbox ∷ OpenRound ∷ CloseRound ∷ []
 
 abbrev pub terms_with : List ℕ → TheMode → Numbers → Terms
 terms_with name mode n = record { name = name; mode = mode; latency_ms = n.latency_ms; buffer = n.buffer; sessions = n.sessions; inbox = n.inbox; outbox = n.outbox }
 
+-- a route opens at once if it has no `open_round`
+abbrev pub round_of : Option ℕ → ℕ
+round_of None = 0
+round_of (Some n) = n
+
+abbrev pub schedule_of : (opens : ℕ) → (closes : Option ℕ) → Schedule
+schedule_of opens closes = record { open_round = opens; close_round = closes }
+
+-- the rounds in which a route opens and closes; it closes in a later round than it opens
+unfoldable pub schedule_at : Members → Result Schedule Fault
+schedule_at table =
+    optional_at OpenRound 0 1_000_000_000 table >>= λ opens.
+    optional_at CloseRound (round_of opens + 1) 1_000_000_000 table >>= λ closes.
+    Ok (schedule_of (round_of opens) closes)
+
+abbrev pub is_later : (opens : ℕ) → (closes : Option ℕ) → Bool
+is_later opens None = true
+is_later opens (Some n) = nat_lt opens n
+
+-- a route that closes opens before
+abbrev pub closes_later : Schedule → Bool
+closes_later s = is_later s.open_round s.close_round
+
+-- a route's entry and its schedule
+pub record Planned : Type 0 where
+  pub terms : Terms
+  pub schedule : Schedule
+
+abbrev pub planned : Terms → Schedule → Planned
+planned terms schedule = record { terms = terms; schedule = schedule }
+
 -- the route in a table, after these routes
-unfoldable pub terms_at : (before : List Terms) → Members → Result Terms Fault
-terms_at before table =
+unfoldable pub route_at : (before : List Terms) → Members → Result Planned Fault
+route_at before table =
     known route_keys table >>= λ _.
     name_at before table >>= λ name.
     mode_at table >>= λ mode.
     numbers_at table >>= λ numbers.
-    Ok (terms_with name mode numbers)
+    schedule_at table >>= λ schedule.
+    Ok (planned (terms_with name mode numbers) schedule)
+
+-- the entries of routes, and as many schedules
+pub record Routes : Type 0 where
+  pub terms : List Terms
+  pub schedules : List Schedule
+
+abbrev pub no_routes : Routes
+no_routes = record { terms = []; schedules = [] }
+
+abbrev pub with_route : Routes → Planned → Routes
+with_route before route = record { terms = before.terms ++ route.terms ∷ []; schedules = before.schedules ++ route.schedule ∷ [] }
 
 -- every item is a table
 abbrev pub are_tables : Items → Bool
@@ -68,18 +112,18 @@ count no_items = 0
 count (item value rest) = suc (count rest)
 
 -- the routes in these tables, after those before
-abbrev pub routes_from : (before : List Terms) → Items → Result (List Terms) Fault
+abbrev pub routes_from : (before : Routes) → Items → Result Routes Fault
 routes_from before no_items = Ok before
 routes_from before (item value rest) =
-    of_kind Route (as_table value) >>= λ table. terms_at before table >>= λ terms. routes_from (before ++ terms ∷ []) rest
+    of_kind Route (as_table value) >>= λ table. route_at before.terms table >>= λ route. routes_from (with_route before route) rest
 
 -- 1 to 511 tables, each of them a route
-unfoldable pub routes_in : Items → Result (List Terms) Fault
+unfoldable pub routes_in : Items → Result Routes Fault
 routes_in items =
     if not (are_tables items) then Err (WrongKind Route)
     else if not (is_between 1 511 (count items)) then Err (OutOfRange Route)
-    else routes_from [] items
+    else routes_from no_routes items
 
 -- the routes of the whole table
-unfoldable pub routes_at : Members → Result (List Terms) Fault
+unfoldable pub routes_at : Members → Result Routes Fault
 routes_at table = value_at Route table >>= λ value. of_kind Route (as_array value) >>= λ items. routes_in items

@@ -3,7 +3,6 @@ use Rattle.std.specs.Prelude.{◌≡◌, ℕ, ◌+◌, List, [], ◌∷◌, ◌+
 use Rattle.srt_hub.specs.declared.answers.OutOfMemory.{OutOfMemory as NoMemory}
 use Rattle.srt_seq.specs.Terms.{Terms}
 use Rattle.srt_hub.specs.World.{Event, Sorting, Meaning}
-use Rattle.srt_lobby.specs.Names.{RouteName}
 use Rattle.srt_hub.specs.Hubs.{names_at, routes_at}
 use Rattle.srt_hub.specs.Calls.{Past, SortingFor}
 use Rattle.srt_gateway.specs.declared.replaying.ReplayFault.{ReplayFault}
@@ -12,7 +11,7 @@ use Rattle.srt_gateway.specs.Tape.{lines_of}
 use Rattle.srt_gateway.specs.Events.{event_of}
 use Rattle.srt_gateway.specs.Texts.{event_text}
 use Rattle.srt_gateway.specs.Known.{TookLine, NoLine, Wrote}
-use Rattle.srt_gateway.specs.Replay.{event_at, events_from, text_of, fault_from, WantsCopy}
+use Rattle.srt_gateway.specs.Replay.{event_at, events_from, text_of, fault_from, with_past, WantsCopy}
 
 -- a gateway's state as a property of its events, the newest first
 abbrev pub History : Type 1
@@ -22,13 +21,12 @@ History = List Event → Type 0
 abbrev pub WasAnswered : Sorting → Meaning → List Terms → (past : List Event) (event : Event) (text : List ℕ) → History → Type 0
 WasAnswered class reply entries past event text After = (text ≡ event_text class reply entries past event) × After (event ∷ past)
 
--- an event's answer is at the front of a buffer, or the memory for the copy of an arrival to a route was refused
+-- an event's answer is at the front of a buffer, or memory was refused that it takes
 abbrev pub EventAnswered : Sorting → Meaning → List Terms → (past : List Event) (event : Event) (buffer : List ℕ) → History → Result ℕ NoMemory → Type 0
 EventAnswered class reply entries past event buffer After (Ok n) = WasAnswered class reply entries past event (take n buffer) After
 EventAnswered class reply entries past event buffer After (Err fault) = WantsCopy class (names_at class reply entries past) event
 
--- a line's answer is at the front of a buffer, or the line isn't an event, or the memory for its arrival's copy was
--- refused
+-- a line's answer is at the front of a buffer, or the line isn't an event, or memory was refused that its event takes
 abbrev pub LineAnswered : Sorting → Meaning → List Terms → (past : List Event) (line buffer : List ℕ) → History → Result (Option ℕ) NoMemory → Type 0
 LineAnswered class reply entries past line buffer After (Ok (Some n)) = (event : Event) × (event_of (routes_at class reply entries past) line ≡ Some event) × WasAnswered class reply entries past event (take n buffer) After
 LineAnswered class reply entries past line buffer After (Ok None) = event_of (routes_at class reply entries past) line ≡ None
@@ -44,15 +42,14 @@ pub record TookEvent (old new : Option (List ℕ)) (routes number : ℕ) (event 
   pub took : TookLine old new line
   pub event_is : event_at routes number line ≡ Some event
 
--- the result of one line, with these names in force and this number of routes: true if it was answered, false if there
--- is none
-abbrev pub Answered : Sorting → Meaning → List Terms → (names : List RouteName) → (routes : ℕ) → (past : List Event) → History → (old new held holds : Option (List ℕ)) (number : ℕ) → Result Bool ReplayFault → Type 0
-Answered class reply entries names routes past After old new held holds number (Ok true) = (event : Event) × TookEvent old new routes number event × Wrote held holds (event_text class reply entries past event) × After (event ∷ past)
-Answered class reply entries names routes past After old new held holds number (Ok false) = NoLine old × (holds ≡ held)
-Answered class reply entries names routes past After old new held holds number (Err (Tape line)) = (line ≡ number) × NoEvent old routes number × (holds ≡ held)
-Answered class reply entries names routes past After old new held holds number (Err OutOfMemory) = (event : Event) × (holds ≡ held) × TookEvent old new routes number event × WantsCopy class names event
-Answered class reply entries names routes past After old new held holds number (Err Read) = holds ≡ held
-Answered class reply entries names routes past After old new held holds number (Err Write) = (event : Event) × TookEvent old new routes number event × ((n : ℕ) × Wrote held holds (take n (event_text class reply entries past event)))
+-- the result of one line: true if it was answered, false if there is none
+abbrev pub Answered : Sorting → Meaning → List Terms → (past : List Event) → History → (old new held holds : Option (List ℕ)) (number : ℕ) → Result Bool ReplayFault → Type 0
+Answered class reply entries past After old new held holds number (Ok true) = (event : Event) × TookEvent old new (routes_at class reply entries past) number event × Wrote held holds (event_text class reply entries past event) × After (event ∷ past)
+Answered class reply entries past After old new held holds number (Ok false) = NoLine old × (holds ≡ held)
+Answered class reply entries past After old new held holds number (Err (Tape line)) = (line ≡ number) × NoEvent old (routes_at class reply entries past) number × (holds ≡ held)
+Answered class reply entries past After old new held holds number (Err OutOfMemory) = (event : Event) × (holds ≡ held) × TookEvent old new (routes_at class reply entries past) number event × WantsCopy class (names_at class reply entries past) event
+Answered class reply entries past After old new held holds number (Err Read) = holds ≡ held
+Answered class reply entries past After old new held holds number (Err Write) = (event : Event) × TookEvent old new (routes_at class reply entries past) number event × ((n : ℕ) × Wrote held holds (take n (event_text class reply entries past event)))
 
 -- the same four over a gateway, whatever it has behind it: an event's answer,
 abbrev pub Answers : {X : Type 0} → (Stands : X → Past) → (old new : X) → SortingFor → Meaning → Event → (text : List ℕ) → Type 0
@@ -76,12 +73,7 @@ TriesLine Stands old new class reply line buffer result =
 abbrev pub TriesNext : {X : Type 0} → (Stands : X → Past) → (old new : X) → SortingFor → Meaning → (left left' held holds : Option (List ℕ)) → (number : ℕ) → Result Bool ReplayFault → Type 0
 TriesNext Stands old new class reply left left' held holds number result =
     (secret : List ℕ) (entries : List Terms) (past : List Event) → Stands old secret entries past →
-    Answered (class secret) reply entries (names_at (class secret) reply entries past) (routes_at (class secret) reply entries past) past (Stands new secret entries) left left' held holds number result
-
--- past events, the newest first, with those that came since, the oldest first
-abbrev pub with_past : (past came : List Event) → List Event
-with_past past [] = past
-with_past past (event ∷ came) = with_past (event ∷ past) came
+    Answered (class secret) reply entries past (Stands new secret entries) left left' held holds number result
 
 -- a replay before the line with this number; the text is known only if the writer's bytes are
 pub record Replayed (class : Sorting) (reply : Meaning) (entries : List Terms) (Now : History) (tape : List ℕ) (held reader writer : Option (List ℕ)) (number : ℕ) : Type 0 where
@@ -90,10 +82,10 @@ pub record Replayed (class : Sorting) (reply : Meaning) (entries : List Terms) (
   pub left : List ℕ
   pub lines_are : lines_of tape ≡ lines ++ lines_of left
   pub number_is : number ≡ 1 + length lines
-  pub no_fault : fault_from (length entries) 1 lines ≡ None
+  pub no_fault : fault_from class reply entries [] 1 lines ≡ None
   pub reader_is : reader ≡ Some left
   pub wrote : Wrote held writer (text_of class reply entries lines)
-  pub stands : Now (with_past [] (events_from (length entries) 1 lines))
+  pub stands : Now (with_past [] (events_from class reply entries [] 1 lines))
 
 abbrev pub IsReplaying : Sorting → Meaning → List Terms → (Now : History) → (old held reader writer : Option (List ℕ)) (number : ℕ) → Type 0
 IsReplaying class reply entries Now old held reader writer number = (tape : List ℕ) → old ≡ Some tape → Replayed class reply entries Now tape held reader writer number

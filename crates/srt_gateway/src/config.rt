@@ -1,9 +1,11 @@
 //! The configuration: a TOML table.
 
-ghost use Rattle.std.specs.Prelude.{◌≡◌, None, map, true};
+ghost use Rattle.std.specs.Prelude.{◌≡◌, None, length, map, true};
+ghost use Rattle.std.specs.List.{list_all};
 ghost use Rattle.srt_seq.specs.Terms.{terms_of};
 ghost use Rattle.srt_seq.specs.Entries.{is_between};
 ghost use Rattle.srt_lobby.specs.Opening.{fault_of};
+ghost use Rattle.srt_gateway.specs.Routes.{closes_later};
 
 mod address;
 mod faults;
@@ -15,8 +17,9 @@ mod values;
 pub use address::BindAddress;
 pub use faults::{ConfigFault, Key};
 pub use reading::read_config;
+pub(crate) use routes::RouteNumbers;
 use srt_cookie::Secret;
-use srt_seq::Entry;
+use srt_seq::{Entry, Schedule};
 
 /// A configuration: everything that the gateway is started with.
 #[derive(Drop)]
@@ -29,6 +32,11 @@ pub struct Config {
     pub workers: u32,
     /// The routes, in the order of their indexes: 1 to 511, with distinct names.
     pub entries: Vec<Entry>,
+    /// The rounds of the poller in which each of them opens and closes, in the same order. A replay has no rounds: it
+    /// opens all of them at its start.
+    pub schedules: Vec<Schedule>,
     pub ghost served: { is_between 1 16 workers ≡ true },
     pub ghost sound: { fault_of (map terms_of entries.items) ≡ None },
+    pub ghost scheduled: { length schedules.items ≡ length entries.items },
+    pub ghost later: { list_all closes_later schedules.items ≡ true },
 }

@@ -1,20 +1,33 @@
 //! The events of a tape's lines (docs/PROTOCOL.md, "Tapes").
 
-ghost use Rattle.std.specs.Prelude.{◌≡◌, ◌≢◌, ◌∷◌, [], ◌≤◌, ◌<◌, ◌^◌, length, option_map, IfSome};
+ghost use Rattle.std.specs.Prelude.{◌≡◌, ◌≢◌, ℕ, List, ◌∷◌, [], ◌≤◌, ◌<◌, ◌^◌, length, option_map, IfSome};
 ghost use Rattle.srt_gateway.specs.Tape.{fields_of};
 ghost use Rattle.srt_gateway.specs.Pieces.{fields_behind, FourOf};
 ghost use Rattle.srt_gateway.specs.Parts.{OneOf, TwoOf};
-ghost use Rattle.srt_gateway.specs.Events.{event_of, event_in, arrival_in, tick_in, turn_in, send_in};
+ghost use Rattle.srt_gateway.specs.Events.{event_of, event_in, text_in, mode_in, numbers_in, arrival_in, tick_in, turn_in, send_in, opening_in, closing_in};
 ghost use Rattle.srt_gateway.specs.Said.{event_said, IsSound};
+ghost use Rattle.srt_gateway.specs.RouteParts.{numbers_of};
 
+use crate::config::RouteNumbers;
 use crate::fields::split_field;
 use crate::lines::LINE_MAX;
 use crate::numbers::{read_address, read_bytes, read_number};
-use srt_seq::{MOMENT_END, Peer};
+use srt_seq::{MOMENT_END, Mode, Peer};
+
+/// A route that is to be opened: the entry of its line, whose name and numbers may be any.
+#[derive(Clone, Copy)]
+pub(crate) struct Opening<'a> {
+    /// The name.
+    pub(crate) name: &'a str,
+    /// The mode.
+    pub(crate) mode: Mode,
+    /// The numbers.
+    pub(crate) numbers: RouteNumbers,
+}
 
 /// An event as it was read. The bytes of an arrival's datagram are at the front of a buffer beside it.
 #[derive(Clone, Copy)]
-pub(crate) enum Said {
+pub(crate) enum Said<'a> {
     /// `A`: a datagram arrives.
     Arrival {
         /// The sender's address.
@@ -40,6 +53,15 @@ pub(crate) enum Said {
     Send {
         /// The route's index.
         route: usize,
+    },
+    /// `O`: a route is opened.
+    Opens(Opening<'a>),
+    /// `C`: a route is closed, at a moment in microseconds, below 2^62.
+    Closes {
+        /// The route's index.
+        route: usize,
+        /// The moment.
+        moment: u64,
     },
 }
 
@@ -107,7 +129,7 @@ fn four_fields(text: &[u8]) -> Option<Four<'_>>
 
 /// Reads an arrival from the fields after the line's letter: moment, address, port and bytes. The datagram is written
 /// to the front of the buffer.
-fn read_arrival(text: &[u8], buffer: &mut [u8; 2048]) -> Option<Said>
+fn read_arrival<'a>(text: &[u8], buffer: &mut [u8; 2048]) -> Option<Said<'a>>
     requires { length text.now ≤ 4096 }
     ensures value { option_map (event_said buffer.new) result ≡ arrival_in (fields_of text.now) }
     ensures sound { IfSome result (IsSound 0) }
@@ -124,7 +146,7 @@ fn read_arrival(text: &[u8], buffer: &mut [u8; 2048]) -> Option<Said>
     Some(Said::Arrival { peer, moment, len })
 }
 
-fn read_tick(text: &[u8], routes: usize) -> Option<Said>
+fn read_tick<'a>(text: &[u8], routes: usize) -> Option<Said<'a>>
     ensures value { option_map (event_said []) result ≡ tick_in routes (fields_of text.now) }
     ensures sound { IfSome result (IsSound routes) }
 {
@@ -137,7 +159,7 @@ fn read_tick(text: &[u8], routes: usize) -> Option<Said>
     })
 }
 
-fn read_turn(text: &[u8], routes: usize) -> Option<Said>
+fn read_turn<'a>(text: &[u8], routes: usize) -> Option<Said<'a>>
     ensures value { option_map (event_said []) result ≡ turn_in routes (fields_of text.now) }
     ensures sound { IfSome result (IsSound routes) }
 {
@@ -147,7 +169,7 @@ fn read_turn(text: &[u8], routes: usize) -> Option<Said>
     })
 }
 
-fn read_send(text: &[u8], routes: usize) -> Option<Said>
+fn read_send<'a>(text: &[u8], routes: usize) -> Option<Said<'a>>
     ensures value { option_map (event_said []) result ≡ send_in routes (fields_of text.now) }
     ensures sound { IfSome result (IsSound routes) }
 {
@@ -157,9 +179,82 @@ fn read_send(text: &[u8], routes: usize) -> Option<Said>
     })
 }
 
+/// A name: any text in UTF-8.
+fn read_text(text: &[u8]) -> Option<&str>
+    ensures { option_map (λ t. t.now) result ≡ text_in text.now }
+{
+    match str::from_utf8(text) {
+        Ok(name) => Some(name),
+        Err(_) => None,
+    }
+}
+
+fn read_mode(text: &[u8]) -> Option<Mode>
+    ensures { result ≡ mode_in text.now }
+{
+    if text == b"live".as_slice() {
+        return Some(Mode::Live);
+    }
+    if text == b"buffer".as_slice() {
+        return Some(Mode::Buffer);
+    }
+    None
+}
+
+/// Reads a route's numbers: latency, buffer, sessions, inbox and outbox.
+#[tactic(auto, unfolding(crate::specs::Events::numbers_in))]
+fn read_numbers(text: &[u8]) -> Option<RouteNumbers>
+    ensures { option_map numbers_of result ≡ numbers_in (fields_of text.now) }
+{
+    let first = split_field(text);
+    let others = four_fields(first.rest?)?;
+    let latency_ms = read_number(first.field, 1 << 32)?;
+    let buffer = read_number(others.first, 1 << 32)?;
+    let sessions = read_number(others.second, 1 << 32)?;
+    let inbox = read_number(others.third, 1 << 32)?;
+    let outbox = read_number(others.fourth, 1 << 32)?;
+    Some(RouteNumbers {
+        latency_ms: latency_ms as u32,
+        buffer: buffer as u32,
+        sessions: sessions as u32,
+        inbox: inbox as u32,
+        outbox: outbox as u32,
+    })
+}
+
+#[tactic(auto, unfolding(crate::specs::Events::opening_in, crate::specs::Events::numbers_in))]
+fn read_opening(text: &[u8]) -> Option<Said<'_>>
+    ensures value { (buffer : List ℕ) → option_map (event_said buffer) result ≡ opening_in (fields_of text.now) }
+    ensures sound { IfSome result (IsSound 0) }
+{
+    let name = split_field(text);
+    let mode = split_field(name.rest?);
+    let name = read_text(name.field)?;
+    let live_or_buffer = read_mode(mode.field)?;
+    let numbers = read_numbers(mode.rest?)?;
+    Some(Said::Opens(Opening {
+        name,
+        mode: live_or_buffer,
+        numbers,
+    }))
+}
+
+fn read_closing<'a>(text: &[u8], routes: usize) -> Option<Said<'a>>
+    ensures value { option_map (event_said []) result ≡ closing_in routes (fields_of text.now) }
+    ensures sound { IfSome result (IsSound routes) }
+{
+    let two = two_fields(text)?;
+    let route = read_number(two.first, routes as u64)?;
+    let moment = read_number(two.second, MOMENT_END)?;
+    Some(Said::Closes {
+        route: route as usize,
+        moment,
+    })
+}
+
 /// Reads the event of a line; None if it isn't one. A datagram is written to the front of the buffer.
-#[tactic(auto, unfolding(crate::specs::Events::event_in))]
-fn read_fields(line: &[u8], routes: usize, buffer: &mut [u8; 2048]) -> Option<Said>
+#[tactic(auto, unfolding(crate::specs::Events::event_in, crate::specs::Events::opening_in))]
+fn read_fields<'a>(line: &'a [u8], routes: usize, buffer: &mut [u8; 2048]) -> Option<Said<'a>>
     requires { length line.now ≤ 4096 }
     ensures value { option_map (event_said buffer.new) result ≡ event_in routes (fields_of line.now) }
     ensures sound { IfSome result (IsSound routes) }
@@ -170,6 +265,8 @@ fn read_fields(line: &[u8], routes: usize, buffer: &mut [u8; 2048]) -> Option<Sa
         [b'T'] => read_tick(letter.rest?, routes),
         [b'U'] => read_turn(letter.rest?, routes),
         [b'S'] => read_send(letter.rest?, routes),
+        [b'O'] => read_opening(letter.rest?),
+        [b'C'] => read_closing(letter.rest?, routes),
         _ => None,
     }
 }
@@ -177,7 +274,11 @@ fn read_fields(line: &[u8], routes: usize, buffer: &mut [u8; 2048]) -> Option<Sa
 /// Reads the event of a line, for a gateway with `routes` routes; None if it isn't one or is longer than 4096 bytes. A
 /// datagram is written to the front of the buffer, whose bytes mean nothing after None.
 #[tactic(auto, unfolding(crate::specs::Events::event_of))]
-pub(crate) fn read_event(line: &[u8], routes: usize, buffer: &mut [u8; 2048]) -> Option<Said>
+pub(crate) fn read_event<'a>(
+    line: &'a [u8],
+    routes: usize,
+    buffer: &mut [u8; 2048],
+) -> Option<Said<'a>>
     ensures value { option_map (event_said buffer.new) result ≡ event_of routes line.now }
     ensures sound { IfSome result (IsSound routes) }
 {

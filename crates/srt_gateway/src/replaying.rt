@@ -1,8 +1,10 @@
 //! Tapes replayed over a hub: the event of each line is run, and its answer is written as a line.
 
-ghost use Rattle.std.specs.Prelude.{◌≡◌, ◌≤◌, ◌<◌, ◌^◌, ◌⊎◌, IfOk, IfSome, take};
-ghost use Rattle.srt_hub.specs.World.{Ticks, Turns, Sends};
-ghost use Rattle.srt_gateway.specs.Said.{arrival, event_said, IsSound};
+ghost use Rattle.std.specs.Prelude.{◌≡◌, ◌≤◌, ◌<◌, ◌^◌, ◌⊎◌, false, IfOk, IfSome, take};
+ghost use Rattle.srt_hub.specs.World.{Ticks, Turns, Sends, Opens, Closes};
+ghost use Rattle.srt_hub.specs.Calls.{wants_memory};
+ghost use Rattle.srt_seq.specs.Terms.{terms_of};
+ghost use Rattle.srt_gateway.specs.Said.{arrival, terms_said, event_said, IsSound};
 ghost use Rattle.srt_gateway.specs.Replay.{WasRefused};
 ghost use Rattle.srt_gateway.specs.Counted.{source, reads_left, last_brought, TurnRead, ReplayRead};
 ghost use Rattle.srt_gateway.specs.Tries.{sink, HasWriteCause, ReplayWritten};
@@ -10,13 +12,16 @@ ghost use Rattle.srt_gateway.specs.Step.{Answers, Tries, TriesLine, TriesNext};
 ghost use Rattle.srt_gateway.specs.ReplayOver.{ReplaysOver, ReplaysOf};
 
 use crate::config::Config;
-use crate::events::{Said, read_event};
+use crate::events::{Opening, Said, read_event};
 use crate::lines::{LINE_MAX, Taken, next_line};
 use crate::reader::CountedReader;
-use crate::texts::{TEXT_MAX, write_arrived, write_none, write_sent, write_ticked, write_turned};
+use crate::texts::{
+    TEXT_MAX, write_arrived, write_closed, write_none, write_opened, write_sent, write_ticked,
+    write_turned,
+};
 use crate::writer::CountedWriter;
-use srt_hub::{Gateway, Hub, Lobby, OutOfMemory, RouteStep, SrtGateway};
-use srt_seq::{OpenFault, Peer};
+use srt_hub::{Doors, Gateway, Hub, Lobby, OutOfMemory, RouteStep, SrtGateway};
+use srt_seq::{Entry, OpenFault, Peer};
 use std::alloc::Global;
 use std::io::{BufRead, Write};
 
@@ -29,7 +34,8 @@ pub enum ReplayFault {
     /// The line with this number, counted from 1, isn't an event, is longer than 4096 bytes, or comes after 1,000,000
     /// lines.
     Tape(u32),
-    /// Memory was refused: for the gateway's routes, or for the copy of a datagram to a route.
+    /// Memory was refused: for the gateway's routes, for the copy of a datagram to a route, or for a route that a line
+    /// opens.
     OutOfMemory,
     /// The reader failed, or its reads were used up before the end of the tape.
     Read,
@@ -109,6 +115,73 @@ fn answer_send<R: RouteStep, L: Lobby>(
     }
 }
 
+/// The entry of a line. Takes memory for a copy of the name.
+fn entry_of(alloc: Global, opening: Opening<'_>) -> Result<Entry, OutOfMemory>
+    ensures { IfOk result (λ entry. terms_of entry ≡ terms_said opening.entry) }
+{
+    match String::from_str(alloc, opening.name) {
+        Ok(name) => Ok(Entry {
+            name,
+            mode: opening.mode,
+            latency_ms: opening.numbers.latency_ms,
+            buffer: opening.numbers.buffer,
+            sessions: opening.numbers.sessions,
+            inbox: opening.numbers.inbox,
+            outbox: opening.numbers.outbox,
+        }),
+        Err(_) => Err(OutOfMemory),
+    }
+}
+
+fn is_refused(opened: Result<usize, OpenFault>) -> bool
+    ensures { result ≡ wants_memory opened }
+{
+    match opened {
+        Ok(_) => false,
+        Err(OpenFault::Names) => false,
+        Err(OpenFault::Limits) => false,
+        Err(OpenFault::OutOfMemory) => true,
+    }
+}
+
+/// Opens a route, and writes the answer as a line to the front of `out`. Returns the line's length. The error is that
+/// memory was refused: for the entry's name, or for the route.
+fn answer_opening<R: RouteStep, L: Doors>(
+    alloc: Global,
+    hub: &mut Hub<R, L>,
+    opening: Opening<'_>,
+    out: &mut [u8; TEXT_MAX],
+) -> Result<usize, OutOfMemory>
+    ensures within { IfOk result (λ n. n ≤ 4096) }
+    ensures answered { Tries ⟦<Hub<R, L> as Gateway>⟧.stands hub.old hub.new L.class R.reply (Opens (terms_said opening.entry) false) out.new result }
+{
+    let entry = match entry_of(alloc, opening) {
+        Ok(entry) => entry,
+        Err(fault) => return Err(fault),
+    };
+    let opened = hub.open_route(alloc, &entry);
+    if is_refused(opened) {
+        return Err(OutOfMemory);
+    }
+    Ok(write_opened(opened, out))
+}
+
+/// Closes a route, and writes the answer as a line to the front of `out`. Returns the line's length.
+fn answer_closing<R: RouteStep, L: Doors>(
+    hub: &mut Hub<R, L>,
+    route: usize,
+    moment: u64,
+    out: &mut [u8; TEXT_MAX],
+) -> usize
+    requires route { route < ⟦<Hub<R, L> as Gateway>⟧.routes hub.old }
+    requires moment { moment < 2 ^ 62 }
+    ensures within { result ≤ 4096 }
+    ensures answered { Answers ⟦<Hub<R, L> as Gateway>⟧.stands hub.old hub.new L.class R.reply (Closes route moment) (take result out.new) }
+{
+    let answer = hub.close_route(route, moment);
+    write_closed(route, answer, out)
+}
+
 /// What a line's answer is made with: the memory for a datagram's copy, and buffers for the line's datagram, a packet to
 /// send, and the answer.
 #[derive(Drop)]
@@ -127,14 +200,14 @@ struct Workspace {
 }
 
 /// Runs an event, and writes its answer as a line to the front of the desk's text. Returns the line's length.
-fn answer_event<R: RouteStep, L: Lobby>(
+fn answer_event<R: RouteStep, L: Doors>(
     hub: &mut Hub<R, L>,
-    event: Said,
+    event: Said<'_>,
     desk: &mut Desk,
 ) -> Result<usize, OutOfMemory>
     requires { IsSound (⟦<Hub<R, L> as Gateway>⟧.routes hub.old) event }
     ensures within { IfOk result (λ n. n ≤ 4096) }
-    ensures answered { Tries ⟦<Hub<R, L> as Gateway>⟧.stands hub.old hub.new L.class R.reply (event_said desk.old.datagram event) desk.new.text result }
+    ensures answered { Tries ⟦<Hub<R, L> as Gateway>⟧.stands hub.old hub.new L.class R.reply (event_said desk.old.datagram event.entry) desk.new.text result }
 {
     match event {
         Said::Arrival { peer, moment, len } => {
@@ -150,12 +223,14 @@ fn answer_event<R: RouteStep, L: Lobby>(
         Said::Tick { route, moment } => Ok(answer_tick(hub, route, moment, &mut desk.text)),
         Said::Turn { route } => Ok(answer_turn(hub, route, &mut desk.text)),
         Said::Send { route } => Ok(answer_send(hub, route, &mut desk.packet, &mut desk.text)),
+        Said::Opens(opening) => answer_opening(desk.alloc, hub, opening, &mut desk.text),
+        Said::Closes { route, moment } => Ok(answer_closing(hub, route, moment, &mut desk.text)),
     }
 }
 
 /// Runs the event of a line, and writes its answer as a line to the front of the desk's text. Returns the line's length;
 /// None if the line isn't an event.
-fn answer_line<R: RouteStep, L: Lobby>(
+fn answer_line<R: RouteStep, L: Doors>(
     hub: &mut Hub<R, L>,
     line: &[u8],
     desk: &mut Desk,
@@ -174,7 +249,7 @@ fn answer_line<R: RouteStep, L: Lobby>(
 
 /// Takes the next line, which has this number, and writes its answer. Returns false if there is no further line.
 #[tactic(auto, unfolding(crate::specs::Replay::event_at))]
-fn answer_next<R: RouteStep, L: Lobby, B: BufRead, W: Write>(
+fn answer_next<R: RouteStep, L: Doors, B: BufRead, W: Write>(
     hub: &mut Hub<R, L>,
     reader: &mut CountedReader<B>,
     writer: &mut CountedWriter<W>,
@@ -208,7 +283,7 @@ fn answer_next<R: RouteStep, L: Lobby, B: BufRead, W: Write>(
 }
 
 /// Runs the lines of a tape one after the other.
-fn answer_lines<R: RouteStep, L: Lobby, B: BufRead, W: Write>(
+fn answer_lines<R: RouteStep, L: Doors, B: BufRead, W: Write>(
     hub: &mut Hub<R, L>,
     reader: &mut CountedReader<B>,
     writer: &mut CountedWriter<W>,
@@ -233,8 +308,8 @@ fn answer_lines<R: RouteStep, L: Lobby, B: BufRead, W: Write>(
 /// Replays a tape over a hub without events so far: runs the event of each line, and writes its answer as a line. Reads
 /// and writes are as large as the reader's and the writer's buffers, so pass ones with buffers. Each call of the reader
 /// counts as a read, also an interrupted one. The writer is flushed at the end, unless it failed. Only copies of
-/// datagrams to routes take memory. Errors: see `ReplayFault`.
-pub fn replay_over<R: RouteStep, L: Lobby, B: BufRead, W: Write>(
+/// datagrams to routes, and routes that are opened, take memory. Errors: see `ReplayFault`.
+pub fn replay_over<R: RouteStep, L: Doors, B: BufRead, W: Write>(
     alloc: Global,
     hub: &mut Hub<R, L>,
     reader: &mut CountedReader<B>,

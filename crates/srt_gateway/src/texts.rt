@@ -2,11 +2,11 @@
 
 ghost use Rattle.std.specs.Prelude.{◌≡◌, ◌+◌, ◌*◌, ◌++◌, ◌∷◌, [], ◌≤◌, None, Some, take, length, decimal};
 ghost use Rattle.hex.specs.Hex.{encode_lower};
-ghost use Rattle.srt_gateway.specs.Texts.{digit_of as the_digit, route_text, arrived_text, ticked_text, turned_text, sent_text};
+ghost use Rattle.srt_gateway.specs.Texts.{digit_of as the_digit, route_text, arrived_text, ticked_text, turned_text, sent_text, opened_text, closed_text};
 
 use itoa::Buffer;
-use srt_hub::{Arrived, Cause, Ticked};
-use srt_seq::{Peer, Turned, write_at};
+use srt_hub::{Arrived, Cause, Closing, Ticked};
+use srt_seq::{OpenFault, Peer, Turned, write_at};
 
 /// The greatest length of an answer's line, in bytes, with its LF.
 pub(crate) const TEXT_MAX: usize = 4096;
@@ -116,4 +116,31 @@ pub(crate) fn write_sent(peer: Peer, bytes: &[u8], out: &mut [u8; TEXT_MAX]) -> 
     let end = write_at(out, end, b" ");
     let end = write_hex(out, end, bytes);
     write_at(out, end, b"\n")
+}
+
+/// Writes the line of an opening's result to the front of `out`: `opened` and the route, or `open fault` and its
+/// number; nothing if memory was refused. Returns its length.
+pub(crate) fn write_opened(opened: Result<usize, OpenFault>, out: &mut [u8; TEXT_MAX]) -> usize
+    ensures within { result ≤ 4096 }
+    ensures text { take result out.new ≡ opened_text opened }
+{
+    match opened {
+        Ok(route) => write_route(out, b"opened ", route),
+        Err(OpenFault::Names) => write_at(out, 0, b"open fault 1\n"),
+        Err(OpenFault::Limits) => write_at(out, 0, b"open fault 2\n"),
+        Err(OpenFault::OutOfMemory) => 0,
+    }
+}
+
+/// Writes the line of a closing's result to the front of `out`: `closing`, `full` or `closed` and the route. Returns
+/// its length.
+pub(crate) fn write_closed(route: usize, closing: Closing, out: &mut [u8; TEXT_MAX]) -> usize
+    ensures within { result ≤ 4096 }
+    ensures text { take result out.new ≡ closed_text route closing }
+{
+    match closing {
+        Closing::Accepted => write_route(out, b"closing ", route),
+        Closing::Full => write_route(out, b"full ", route),
+        Closing::Closed => write_route(out, b"closed ", route),
+    }
 }

@@ -39,3 +39,9 @@ kept_names w r moment is = ap (λ (ps : List Place). map name_at ps) (ap (places
 
 pub fewer_names : (w : World) (r moment : ℕ) → closing w r ≡ closings.Accepted → map name_at (places_after (Closes r moment) w) ≡ changing.hidden_at r (names_in w)
 fewer_names w r moment is = ap (λ (ps : List Place). map name_at ps) (ap (places_closed r w.places) is) ∙ hidden_names w.places r
+
+-- a name that isn't shown stays as it is
+pub hidden_already : (names : List RouteName) (r : ℕ) → is_shown_at names r ≡ false → names ≡ changing.hidden_at r names
+hidden_already [] r h = refl
+hidden_already (n ∷ ns) zero h = ap (λ (b : Bool). record { text = n.text; is_shown = b } ∷ ns) h
+hidden_already (n ∷ ns) (suc r) h = ap (λ (rest : List RouteName). n ∷ rest) (hidden_already ns r h)

@@ -13,16 +13,16 @@ use std::test::Fail;
 /// A caller: its port, the time of its conclusion in microseconds, its conclusion up to the cookie, its cookie of minute
 /// 0, and the answer up to the session's ID.
 #[derive(Clone, Copy)]
-struct Caller {
-    port: u16,
-    micros: u32,
-    conclusion: &'static str,
-    cookie: &'static str,
-    answer: &'static str,
+pub(crate) struct Caller {
+    pub(crate) port: u16,
+    pub(crate) micros: u32,
+    pub(crate) conclusion: &'static str,
+    pub(crate) cookie: &'static str,
+    pub(crate) answer: &'static str,
 }
 
 /// The caller with ID 1 and initial number 5.
-const FIRST: Caller = Caller {
+pub(crate) const FIRST: Caller = Caller {
     port: 5000,
     micros: 1_000_000,
     conclusion: "80000000 00000000 00000000 00000000 00000005 00000005 00000005 000005dc 00002000 ffffffff 00000001",
@@ -52,16 +52,17 @@ const THIRD: Caller = Caller {
 const COOKIE_3: &str = "c3ac78a5";
 
 /// Address and HSREQ.
-const REST: &str = "00000000 00000000 00000000 00000000 00010003 00010500 000000bf 00780078";
+pub(crate) const REST: &str =
+    "00000000 00000000 00000000 00000000 00010003 00010500 000000bf 00780078";
 
 /// The Stream ID `studio`.
-const STUDIO: &str = "00050002 64757473 00006f69";
+pub(crate) const STUDIO: &str = "00050002 64757473 00006f69";
 
 /// The Stream ID `#!::r=studio,m=publish`.
 const PUBLISH_STUDIO: &str = "00050006 3a3a2123 74733d72 6f696475 703d6d2c 696c6275 00006873";
 
 /// An answer after the session's ID.
-const ANSWER_REST: &str =
+pub(crate) const ANSWER_REST: &str =
     "00000000 00000000 00000000 00000000 00000000 00020003 00010500 0000003f 00780078";
 
 /// The answer of 1002 to the third caller.
@@ -84,7 +85,7 @@ const SHUTDOWN: &str = "80050000 00000000 00000000 00100000";
 /// A data packet of one byte for a session of the second route.
 const FLOOD: &str = "00000000 e0000001 00000000 00200000 00";
 
-fn near(port: u16) -> Peer {
+pub(crate) fn near(port: u16) -> Peer {
     Peer {
         ip: [0, 0, 0, 0, 0, 0, 0, 0, 0, 0, 0xff, 0xff, 127, 0, 0, 1],
         port,
@@ -92,7 +93,7 @@ fn near(port: u16) -> Peer {
 }
 
 /// The bytes of these words.
-fn bytes_of(alloc: Global, parts: &[&'static str]) -> Result<Vec<u8>, Fail> {
+pub(crate) fn bytes_of(alloc: Global, parts: &[&'static str]) -> Result<Vec<u8>, Fail> {
     let digits = parts.concat(alloc)?.replace(alloc, ' ', "")?;
     Ok(hex::decode(alloc, digits.as_str())?)
 }
@@ -110,7 +111,7 @@ fn secret() -> Secret {
 }
 
 /// The routes `studio` and `files`.
-fn opened(alloc: Global) -> Result<SrtGateway, Fail> {
+pub(crate) fn opened(alloc: Global) -> Result<SrtGateway, Fail> {
     let entries = vec![in alloc;
         entry(alloc, "studio", Mode::Live, 1024)?,
         entry(alloc, "files", Mode::Buffer, 32)?,
@@ -123,14 +124,14 @@ fn opened(alloc: Global) -> Result<SrtGateway, Fail> {
 
 /// A datagram: the port that it comes from, the time in microseconds, and the words of its bytes.
 #[derive(Clone, Copy)]
-struct Words<'a> {
-    port: u16,
-    micros: u32,
-    parts: &'a [&'static str],
+pub(crate) struct Words<'a> {
+    pub(crate) port: u16,
+    pub(crate) micros: u32,
+    pub(crate) parts: &'a [&'static str],
 }
 
 /// Asserts the result of a datagram.
-fn assert_arrives(
+pub(crate) fn assert_arrives(
     rt: &(impl AllocGlobal + Abort),
     gateway: &mut SrtGateway,
     datagram: &Words<'_>,
@@ -165,7 +166,7 @@ fn assert_answers(
 }
 
 /// Asserts that a caller's conclusion with this Stream ID is answered with these words alone.
-fn assert_concludes(
+pub(crate) fn assert_concludes(
     rt: &(impl AllocGlobal + Abort),
     gateway: &mut SrtGateway,
     caller: &Caller,
@@ -182,7 +183,7 @@ fn assert_concludes(
 }
 
 /// The answer to this caller with this session ID.
-fn opening(caller: &Caller, session: &'static str) -> [&'static str; 3] {
+pub(crate) fn opening(caller: &Caller, session: &'static str) -> [&'static str; 3] {
     [caller.answer, session, ANSWER_REST]
 }
 

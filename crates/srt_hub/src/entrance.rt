@@ -6,7 +6,7 @@ ghost use Rattle.srt_lobby.specs.Names.{names_of};
 ghost use Rattle.srt_lobby.specs.Lobby.{class_of};
 ghost use Rattle.srt_lobby.proofs.Kept.{inside};
 
-use crate::parts::Lobby;
+use crate::parts::{Doors, Lobby};
 use srt_cookie::Secret;
 use srt_lobby::{Class, Names, classify};
 use srt_seq::{Entry, OpenFault, Peer};
@@ -33,5 +33,26 @@ impl Lobby for Entrance {
 
     fn classify(&self, peer: Peer, bytes: &[u8], moment: u64) -> Class {
         classify(&self.secret, &self.names, peer, bytes, moment)
+    }
+}
+
+impl Doors for Entrance {
+    fn shows(&self, r: usize) -> bool {
+        self.names.shows(r)
+    }
+
+    fn fault(&self, entry: &Entry) -> Option<OpenFault> {
+        self.names.fault(entry)
+    }
+
+    fn add(&mut self, alloc: Global, entry: &Entry) -> Result<(), OpenFault> {
+        self.names.add(alloc, entry)?;
+        Ok(())
+    }
+
+    fn hide(&mut self, r: usize) {
+        if self.names.shows(r) {
+            self.names.hide(r);
+        }
     }
 }

@@ -39,4 +39,6 @@ pub use srt_route::Reply;
 #[cfg(test)]
 mod caller_tests;
 #[cfg(test)]
+mod opening_tests;
+#[cfg(test)]
 mod tests;

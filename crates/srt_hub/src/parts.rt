@@ -63,11 +63,11 @@ pub trait Doors: Lobby {
         ensures name { result ≡ None → is_name (terms_of entry.now).name ≡ true }
         ensures limits { result ≡ None → in_limits (terms_of entry.now) ≡ true };
 
-    /// Adds the name of a route, which is shown. Takes memory for a copy of the name. After an error nothing has
-    /// changed.
+    /// Adds the name of a route, which is shown. Takes memory for copies of the name. After an error the
+    /// names are as before.
     fn add(&mut self, alloc: Global, entry: &Entry) -> Result<(), OpenFault>
         ensures added { IfOk result (λ _. (secret : List ℕ) (names : List RouteName) → Self.knows self.old secret names → fault_of_adding names (terms_of entry.now) ≡ None → Self.knows self.new secret (added (terms_of entry.now) names)) }
-        ensures err { OnErr result (self.new ≡ self.old) };
+        ensures err { OnErr result ((secret : List ℕ) (names : List RouteName) → Self.knows self.old secret names → Self.knows self.new secret names) };
 
     /// Hides a route: from now on no datagram is for it, and its name may be used again. Takes no memory.
     fn hide(&mut self, r: usize)

@@ -1,5 +1,5 @@
 -- The names of the routes after one was added, hidden or shown.
-use Rattle.std.proofs.Common.{◌≡◌, ◌≢◌, ℕ, zero, suc, ◌<◌, Bool, true, false, not, ◌&&◌, cond, List, [], ◌∷◌, ◌++◌, length, Option, None, Some, IfSome, is_some, slice_get, get_or, nat_lt, inl, inr, ◌⊎◌, refl, sym, ap, subst, ◌∙◌, arith}
+use Rattle.std.proofs.Common.{◌≡◌, ◌≢◌, ℕ, zero, suc, ◌<◌, Bool, true, false, not, ◌&&◌, cond, List, [], ◌∷◌, ◌++◌, length, map, Option, None, Some, IfSome, is_some, slice_get, get_or, nat_lt, inl, inr, ◌⊎◌, refl, sym, ap, subst, ◌∙◌, arith}
 use Rattle.std.proofs.lemmas.Bool.{cases_eq}
 use Rattle.std.proofs.lemmas.Option.{slice_get-get_or}
 use Rattle.std.proofs.lemmas.Slice.Eq.{bytes_eq-Decides}
@@ -7,29 +7,29 @@ use Rattle.srt_seq.specs.declared.shared.OpenFault.TheVariants as faults
 use Rattle.srt_seq.specs.Terms.{Terms}
 use Rattle.srt_seq.specs.Entries.{is_name, in_limits}
 use Rattle.srt_lobby.specs.Names.{RouteName, shown, is_asked, name_of, index_of, shows, is_shown_at, AreDistinct}
-use Rattle.srt_lobby.specs.Changing.{marked_at, hidden_at, shown_at, added, IsUnused, fault_of_adding, AddingKeepsNames, HidingKeepsNames, ShowingKeepsNames, AreSameFor, AddingKeepsOthers, HidingKeepsOthers, ShowingKeepsOthers, HiddenHasNone}
-use Rattle.srt_lobby.proofs.Finds.{no_name, name_found, found_shown}
+use Rattle.srt_lobby.specs.Changing.{marked_at, hidden_at, shown_at, added, fault_of_adding, AddingKeepsNames, HidingKeepsNames, ShowingKeepsNames, AreSameFor, AddingKeepsOthers, HidingKeepsOthers, ShowingKeepsOthers, HiddenHasNone, DistinctAreUnused}
+use Rattle.srt_lobby.proofs.Finds.{no_name, name_found, found_there}
 use Rattle.srt_lobby.proofs.Kept.{own, is_for_shown}
 
-asked_of : (text : List ℕ) → is_asked text (shown text) ≡ true
+pub asked_of : (text : List ℕ) → is_asked text (shown text) ≡ true
 asked_of text = (bytes_eq-Decides text text).1 refl
 
 -- a shown name is found, so a name that isn't found isn't shown
-not_there : (names : List RouteName) (i : ℕ) (text : List ℕ) → AreDistinct names → slice_get names i ≡ Some (shown text) → index_of names text ≡ None → ⊥
+pub not_there : (names : List RouteName) (i : ℕ) (text : List ℕ) → AreDistinct names → slice_get names i ≡ Some (shown text) → index_of names text ≡ None → ⊥
 not_there names i text distinct there none =
     let found : index_of names text ≡ Some i = name_found names i (shown text) text distinct there (asked_of text) in
     let bad : Some i ≡ None = sym found ∙ none in
     cc
 
 -- what a change leaves as it is
-stays : (b : Bool) (names : List RouteName) (s r : ℕ) → r ≢ s → slice_get (marked_at b s names) r ≡ slice_get names r
+pub stays : (b : Bool) (names : List RouteName) (s r : ℕ) → r ≢ s → slice_get (marked_at b s names) r ≡ slice_get names r
 stays b [] s r apart = refl
 stays b (n ∷ ns) zero zero apart = absurd (apart refl)
 stays b (n ∷ ns) zero (suc r) apart = refl
 stays b (n ∷ ns) (suc s) zero apart = refl
 stays b (n ∷ ns) (suc s) (suc r) apart = stays b ns s r (λ e. apart (ap suc e))
 
-mark_is : (b : Bool) (names : List RouteName) (r : ℕ) → r < length names → is_shown_at (marked_at b r names) r ≡ b
+pub mark_is : (b : Bool) (names : List RouteName) (r : ℕ) → r < length names → is_shown_at (marked_at b r names) r ≡ b
 mark_is b [] r h = absurd (omega (arith, h))
 mark_is b (n ∷ ns) zero h = refl
 mark_is b (n ∷ ns) (suc r) h = mark_is b ns r (omega (arith, h))
@@ -39,7 +39,7 @@ is_hidden [] r = refl
 is_hidden (n ∷ ns) zero = refl
 is_hidden (n ∷ ns) (suc r) = is_hidden ns r
 
-was_shown : (names : List RouteName) (r i : ℕ) (text : List ℕ) → slice_get (hidden_at r names) i ≡ Some (shown text) → slice_get names i ≡ Some (shown text)
+pub was_shown : (names : List RouteName) (r i : ℕ) (text : List ℕ) → slice_get (hidden_at r names) i ≡ Some (shown text) → slice_get names i ≡ Some (shown text)
 was_shown names r i text h = by (cases_eq i r)
   where
     by : (i ≡ r) ⊎ (i ≢ r) → slice_get names i ≡ Some (shown text)
@@ -83,7 +83,7 @@ showing_keeps_names names r within unused distinct i j text p q = by (cases_eq i
     by (inr a) (inr b) = distinct i j text (other i a p) (other j b q)
 
 -- one more route
-before_or_last : (names : List RouteName) (x : RouteName) (i : ℕ) (text : List ℕ) → slice_get (names ++ x ∷ []) i ≡ Some (shown text) → (slice_get names i ≡ Some (shown text)) ⊎ ((i ≡ length names) × (x.text ≡ text))
+pub before_or_last : (names : List RouteName) (x : RouteName) (i : ℕ) (text : List ℕ) → slice_get (names ++ x ∷ []) i ≡ Some (shown text) → (slice_get names i ≡ Some (shown text)) ⊎ ((i ≡ length names) × (x.text ≡ text))
 before_or_last [] x zero text h = inr (refl, ap text_of h)
 before_or_last [] x (suc i) text h = absurd (let bad : None ≡ Some (shown text) = h in cc)
 before_or_last (n ∷ ns) x zero text h = inl h
@@ -137,3 +137,24 @@ pub hidden_has_none : HiddenHasNone
 hidden_has_none secret names r datagram moment h =
     let bad : false ≡ true = sym (is_hidden names r) ∙ is_for_shown secret (hidden_at r names) datagram moment r h in
     cc
+
+-- names that are all distinct
+all_shown : (names : List RouteName) (r : ℕ) (name : RouteName) → slice_get names r ≡ Some name → slice_get (map (λ (name : RouteName). shown name.text) names) r ≡ Some (shown name.text)
+all_shown [] r name h = cc
+all_shown (n ∷ ns) zero name h = let same : n ≡ name = cc in ap (λ (m : RouteName). Some (shown m.text)) same
+all_shown (n ∷ ns) (suc r) name h = all_shown ns r name h
+
+pub distinct_are_unused : DistinctAreUnused
+distinct_are_unused names distinct r = at (slice_get names r) refl
+  where
+    none : (name : RouteName) → slice_get names r ≡ Some name → (o : Option ℕ) → index_of (hidden_at r names) name.text ≡ o → o ≡ None
+    none name h None e = refl
+    none name h (Some k) e =
+        let there : slice_get (hidden_at r names) k ≡ Some (shown name.text) = found_there (hidden_at r names) k name.text e in
+        let same : k ≡ r = distinct k r name.text (all_shown names k (shown name.text) (was_shown names r k name.text there)) (all_shown names r name h) in
+        let bad : false ≡ true = sym (is_hidden names r) ∙ ap (is_shown_at (hidden_at r names)) (sym same) ∙ ap shows there in
+        absurd (let never : ⊥ = cc in never)
+
+    at : (o : Option RouteName) → slice_get names r ≡ o → IfSome o (λ name. index_of (hidden_at r names) name.text ≡ None)
+    at (Some name) h = none name h (index_of (hidden_at r names) name.text) refl
+    at None h = _

@@ -1,17 +1,14 @@
 -- Names of entries that can be opened.
-use Rattle.std.proofs.Common.{◌≡◌, ℕ, zero, suc, Bool, true, false, not, ◌&&◌, ◌||◌, cond, List, [], ◌∷◌, ◌++◌, take, map, None, Some, slice_get, option_map, refl, sym, ap, ◌∙◌}
-use Rattle.std.specs.List.{list_any}
+use Rattle.std.proofs.Common.{◌≡◌, ℕ, zero, suc, ◌<◌, Bool, true, false, not, ◌&&◌, ◌||◌, cond, List, [], ◌∷◌, ◌++◌, take, map, Option, None, Some, slice_get, option_map, refl, sym, ap, ◌∙◌, arith}
 use Rattle.std.specs.Str.{bytes_eq}
-use Rattle.std.proofs.lemmas.Bool.{false_from_ne_true}
-use Rattle.std.proofs.lemmas.List.{map-append}
 use Rattle.std.proofs.lemmas.Slice.Eq.{bytes_eq-Decides}
 use Rattle.srt_seq.specs.declared.shared.OpenFault.TheVariants as faults
 use Rattle.srt_seq.specs.Terms.{Terms}
 use Rattle.srt_seq.specs.Entries.{is_name}
 use Rattle.srt_lobby.specs.Opening.{text_in, is_taken, are_names, are_in_limits, fault_of}
-use Rattle.srt_lobby.specs.Names.{RouteName, shown, name_of}
+use Rattle.srt_lobby.specs.Names.{RouteName, shown, name_of, index_of}
 use Rattle.srt_lobby.specs.Laws.{NamesAreDistinct}
-use Rattle.srt_lobby.proofs.Finds.{any_of, take_next}
+use Rattle.srt_lobby.proofs.Finds.{found_there}
 
 or_true : (b c : Bool) → c ≡ true → (b || c) ≡ true
 or_true true c h = refl
@@ -79,23 +76,27 @@ text_at (e ∷ es) (suc i) text h = text_at es i text h
 pub names_are_distinct : NamesAreDistinct
 names_are_distinct es h i j text p q = distinct es (named es h) i j text (text_at es i text p) (text_at es j text q)
 
--- a name doesn't stand before its index
-pub is_new : (es : List Terms) (i : ℕ) (name : List ℕ) → are_names es ≡ true → slice_get (map text_in es) i ≡ Some name → list_any (λ other. bytes_eq name other) (take i (map text_in es)) ≡ false
-is_new [] i name h p = cc
-is_new (e ∷ es) zero name h p = refl
-is_new (e ∷ es) (suc i) name h p =
-    let both = first_parts e es h in
-    let other : bytes_eq name e.name ≡ false =
-    false_from_ne_true _ (λ same.
-    let there : is_taken e.name es ≡ true = taken e.name es i (p ∙ ap Some ((bytes_eq-Decides name e.name).0 same)) in
-    let never : true ≡ false = sym there ∙ both.new in
-    cc) in
-    or_false (bytes_eq name e.name) (list_any (λ other. bytes_eq name other) (take i (map text_in es))) other (is_new es i name both.more p)
+taken_at : (names : List RouteName) (i k : ℕ) (name : RouteName) → slice_get (take i names) k ≡ Some name → (slice_get names k ≡ Some name) × (k < i)
+taken_at names zero k name h = absurd (let bad : None ≡ Some name = h in cc)
+taken_at [] (suc i) k name h = absurd (let bad : None ≡ Some name = h in cc)
+taken_at (n ∷ ns) (suc i) zero name h = (h, omega arith)
+taken_at (n ∷ ns) (suc i) (suc k) name h =
+    let rest = taken_at ns i k name h in
+    (rest.0, omega (arith, rest.1))
 
--- names, and one more of these entries
-pub one_more : {K : Type 0} (f : K → List ℕ) (keys : List K) (key : K) (es : List Terms) (i : ℕ) → are_names es ≡ true → slice_get (map text_in es) i ≡ Some (f key) → map f keys ≡ take i (map text_in es) →
-    map f (cond (list_any (λ k. bytes_eq (f key) (f k)) keys) keys (keys ++ key ∷ [])) ≡ take (suc i) (map text_in es)
-one_more f keys key es i h p e =
-    let new : list_any (λ k. bytes_eq (f key) (f k)) keys ≡ false =
-    sym (any_of (λ other. bytes_eq (f key) other) f keys) ∙ ap (list_any (λ other. bytes_eq (f key) other)) e ∙ is_new es i (f key) h p in
-    ap (λ b. map f (cond b keys (keys ++ key ∷ []))) new ∙ map-append f keys (key ∷ []) ∙ ap (λ (names : List (List ℕ)). names ++ f key ∷ []) e ∙ sym (take_next (map text_in es) i (f key) p)
+-- the name of an entry isn't found before its index
+pub not_yet : (es : List Terms) (i : ℕ) (name : List ℕ) → are_names es ≡ true → slice_get (map text_in es) i ≡ Some name → index_of (take i (map name_of es)) name ≡ None
+not_yet es i name h p = by (index_of (take i (map name_of es)) name) refl
+  where
+    by : (o : Option ℕ) → index_of (take i (map name_of es)) name ≡ o → o ≡ None
+    by None e = refl
+    by (Some k) e =
+        let before = taken_at (map name_of es) i k (shown name) (found_there (take i (map name_of es)) k name e) in
+        let same : k ≡ i = distinct es h k i name (text_at es k name before.0) p in
+        absurd (omega (arith, same, before.1))
+
+-- one name more
+pub take_name : (es : List Terms) (i : ℕ) (name : List ℕ) → slice_get (map text_in es) i ≡ Some name → take (suc i) (map name_of es) ≡ take i (map name_of es) ++ shown name ∷ []
+take_name [] i name h = cc
+take_name (e ∷ es) zero name h = ap (λ (t : List ℕ). shown t ∷ []) (let same : e.name ≡ name = cc in same)
+take_name (e ∷ es) (suc i) name h = ap (λ (rest : List RouteName). name_of e ∷ rest) (take_name es i name h)

@@ -13,7 +13,7 @@ use Rattle.srt_seq.specs.declared.shared.Entry.{Entry}
 use Rattle.srt_seq.specs.Terms.{Terms, terms_of}
 use Rattle.srt_seq.specs.Entries.{is_between, is_name, in_limits}
 use Rattle.srt_lobby.specs.Opening.{text_in, is_taken, is_fresh, are_names, are_in_limits}
-use Rattle.srt_lobby.specs.Names.{RouteName, AreDistinct, shown, is_asked, index_of, shows, is_shown_at, name_of}
+use Rattle.srt_lobby.specs.Names.{RouteName, AreDistinct, shown, is_asked, index_of, shows, is_shown_at}
 
 same_length : {K X : Type 0} (f : K → X) (ks : List K) → length (map f ks) ≡ length ks
 same_length f [] = refl
@@ -86,22 +86,10 @@ found_shown names r asked e =
     let found = position-Some (is_asked asked) names r no_name e in
     ap shows (slice_get-get_or names r no_name found.0) ∙ asked_is_shown asked (get_or names r no_name) found.1
 
-one_less : (a b : ℕ) → nat_lt (suc a) (suc b) ≡ nat_lt a b
-one_less a b = grind (arith, nat_tests)
-
--- all of these are shown
-pub all_shown : {K : Type 0} (f : K → List ℕ) (keys : List K) (r : ℕ) → nat_lt r (length keys) ≡ is_shown_at (map (λ key. shown (f key)) keys) r
-all_shown f [] zero = refl
-all_shown f [] (suc r) = grind (arith, nat_tests)
-all_shown f (k ∷ keys) zero = grind (arith, nat_tests)
-all_shown f (k ∷ keys) (suc r) = one_less r (length keys) ∙ all_shown f keys r
-
-pub names_shown : {K : Type 0} (f : K → List ℕ) (keys : List K) (es : List Terms) → map f keys ≡ map text_in es → map (λ key. shown (f key)) keys ≡ map name_of es
-names_shown f keys es e = shown_after f keys ∙ ap (map shown) e ∙ sym (shown_after text_in es)
-  where
-    shown_after : {L : Type 0} (g : L → List ℕ) (xs : List L) → map (λ x. shown (g x)) xs ≡ map shown (map g xs)
-    shown_after g [] = refl
-    shown_after g (x ∷ xs) = ap (λ (ys : List RouteName). shown (g x) ∷ ys) (shown_after g xs)
+pub found_there : (names : List RouteName) (r : ℕ) (text : List ℕ) → index_of names text ≡ Some r → slice_get names r ≡ Some (shown text)
+found_there names r text e =
+    let found = position-Some (is_asked text) names r no_name e in
+    slice_get-get_or names r no_name found.0 ∙ ap Some (asked_is text (get_or names r no_name) found.1)
 
 pub any_taken : (name : List ℕ) (es : List Entry) → list_any (λ (e : Entry). bytes_eq (terms_of e).name name) es ≡ is_taken name (map terms_of es)
 any_taken name es = sym (any_of (λ (e : Terms). bytes_eq e.name name) terms_of es)

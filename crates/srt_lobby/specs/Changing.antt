@@ -1,13 +1,13 @@
 -- How the names of the routes change while a gateway runs: a route is added, hidden or shown. An index is never used
 -- again; the name of a hidden route may be.
-use Rattle.std.specs.Prelude.{◌≡◌, ◌≢◌, ◌↔◌, ℕ, zero, suc, ◌<◌, Bool, true, false, not, List, [], ◌∷◌, ◌++◌, length, Option, None, Some, IfSome, is_some, slice_get, nat_lt, ◌&&◌, if◌then◌else◌}
+use Rattle.std.specs.Prelude.{◌≡◌, ◌≢◌, ◌↔◌, ℕ, zero, suc, ◌<◌, Bool, true, false, not, List, [], ◌∷◌, ◌++◌, length, map, Option, None, Some, IfSome, is_some, slice_get, nat_lt, ◌&&◌, if◌then◌else◌}
 use Rattle.srt_seq.specs.declared.shared.OpenFault.{OpenFault}
 use Rattle.srt_seq.specs.declared.shared.OpenFault.TheVariants as faults
 use Rattle.srt_seq.specs.Items.{Datagram}
 use Rattle.srt_seq.specs.Terms.{Terms}
 use Rattle.srt_seq.specs.Entries.{is_name, in_limits}
 use Rattle.srt_lobby.specs.declared.classes.Class.TheVariants.{Route}
-use Rattle.srt_lobby.specs.Names.{RouteName, name_of, index_of, AreDistinct}
+use Rattle.srt_lobby.specs.Names.{RouteName, shown, name_of, index_of, AreDistinct}
 use Rattle.srt_lobby.specs.Lobby.{class_of}
 
 -- the names with the route with this index hidden, or shown
@@ -46,6 +46,10 @@ HidingKeepsNames = (names : List RouteName) (r : ℕ) → AreDistinct names → 
 
 abbrev pub ShowingKeepsNames : Type 0
 ShowingKeepsNames = (names : List RouteName) (r : ℕ) → r < length names → IsUnused r names → AreDistinct names → AreDistinct (shown_at r names)
+
+-- where no two routes have the same name, shown or not, no name is used by another route
+abbrev pub DistinctAreUnused : Type 0
+DistinctAreUnused = (names : List RouteName) → AreDistinct (map (λ (name : RouteName). shown name.text) names) → (r : ℕ) → IsUnused r names
 
 -- a datagram is for a route with some names if it is with others
 abbrev pub AreSameFor : (r : ℕ) → (names others : List RouteName) → Type 0

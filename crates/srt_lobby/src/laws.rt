@@ -1,6 +1,6 @@
 //! Laws of the definitions.
 
-ghost use Rattle.srt_lobby.specs.Changing.{AddingKeepsNames, HidingKeepsNames, ShowingKeepsNames, AddingKeepsOthers, HidingKeepsOthers, ShowingKeepsOthers, HiddenHasNone};
+ghost use Rattle.srt_lobby.specs.Changing.{AddingKeepsNames, HidingKeepsNames, ShowingKeepsNames, AddingKeepsOthers, HidingKeepsOthers, ShowingKeepsOthers, HiddenHasNone, DistinctAreUnused};
 ghost use Rattle.srt_lobby.specs.Laws.{NamesAreDistinct, RouteIsItsOwn, RouteIsNamed, RouteIsShown, RouteHasHeader, AnswerIsPacket};
 
 /// Entries that can be opened have distinct names.
@@ -18,7 +18,7 @@ pub fn routes()
 {}
 
 /// Routes may be added, hidden and shown. No two shown routes ever have the same name, the other routes keep their
-/// datagrams, and a hidden route has none.
+/// datagrams, and a hidden route has none. Where no two routes have the same name, shown or not, each may be shown.
 pub fn changing_names()
     ensures adding { AddingKeepsNames }
     ensures hiding { HidingKeepsNames }
@@ -27,6 +27,7 @@ pub fn changing_names()
     ensures hiding_keeps { HidingKeepsOthers }
     ensures showing_keeps { ShowingKeepsOthers }
     ensures hidden { HiddenHasNone }
+    ensures unused { DistinctAreUnused }
 {}
 
 /// Each answer of the lobby is the encoding of a handshake packet.

@@ -7,12 +7,13 @@
 //! Types: `Names`, the routes' names with their indexes; `Class`, what is done with a datagram; `Cause`, why it is
 //! dropped.
 //!
-//! Calls: `Names::open` once; then `classify` for each datagram. `is_taken` is for readers of configurations.
+//! Calls: `Names::open` once; then `classify` for each datagram, and `add`, `hide` and `show` when routes come and go.
+//! `is_taken` is for readers of configurations.
 //!
 //! Files: `lobby.rt` has the checks in their order (docs/PROTOCOL.md, "Where a datagram goes"): destination, handshake,
 //! cookie, and the refusals 1008, 1004, 1011, 1014, 1015 and 1002. `classes.rt` has the classes and causes, `names.rt`
-//! the look-up, `entry_faults.rt` which entries a gateway can't be opened with, `laws.rt` what is proved of all of it. The
-//! definition is `specs/Lobby.antt`.
+//! the names and their table, `entry_faults.rt` which entries a gateway can't be opened with, `laws.rt` what is proved of
+//! all of it. The definition is `specs/Lobby.antt`.
 #![tactic(auto)]
 
 mod classes;

@@ -517,6 +517,70 @@ fn refused_memory_is_told(rt: HostRuntime) -> Result<(), Fail> {
     }
 }
 
+/// The class of these words with these names, in the first minute and at port 5000.
+fn class_of(alloc: Global, names: &Names, parts: &[&str]) -> Result<Class, Fail> {
+    let bytes = bytes_of(alloc, parts)?;
+    Ok(classify(&secret(), names, near(5000), &bytes, 1_000_000))
+}
+
+/// Adds a route with this name.
+fn added(alloc: Global, names: &mut Names, name: &str) -> Result<Result<usize, OpenFault>, Fail> {
+    let one = entry(alloc, name)?;
+    Ok(names.add(alloc, &one))
+}
+
+/// Hides a route that is shown.
+fn hide(rt: &impl Abort, names: &mut Names, r: usize) {
+    assert!(rt; names.shows(r));
+    names.hide(r);
+}
+
+/// A session of the first route and one of the third.
+const TO_SESSIONS: [&str; 2] = [
+    "80050000 00000000 00000000 00100000",
+    "80050000 00000000 00000000 00300000",
+];
+
+const STUDIO_ASKED: [&str; 6] = [HEADER, CONCLUSION, COOKIE_0, ADDRESS, HSREQ, PUBLISH_STUDIO];
+
+/// A hidden route has no datagrams, its name may be used again, and its index isn't.
+#[test]
+fn routes_are_hidden_and_added(rt: HostRuntime) -> Result<(), Fail> {
+    let alloc = rt.alloc();
+    let dropped = Class::Dropped(Cause::UnknownId);
+    let mut names = opened(alloc, &["studio", "files"])?;
+    assert_eq!(rt; added(alloc, &mut names, "studio")?, Err(OpenFault::Names));
+    assert_eq!(rt; class_of(alloc, &names, &STUDIO_ASKED)?, Class::Route(0));
+    hide(&rt, &mut names, 0);
+    assert_eq!(rt; class_of(alloc, &names, &TO_SESSIONS[..1])?, dropped);
+    assert_refused(&rt, class_of(alloc, &names, &STUDIO_ASKED)?, "000003ea")?;
+    assert_eq!(rt; added(alloc, &mut names, "files")?, Err(OpenFault::Names));
+    assert_eq!(rt; added(alloc, &mut names, "studio")?, Ok(2));
+    assert_eq!(rt; class_of(alloc, &names, &STUDIO_ASKED)?, Class::Route(2));
+    assert_eq!(rt; class_of(alloc, &names, &TO_SESSIONS[..1])?, dropped);
+    assert_eq!(rt;
+        class_of(alloc, &names, &TO_SESSIONS[1..])?,
+        Class::Route(2)
+    );
+    Ok(())
+}
+
+/// If memory is refused, nothing is added, and the next adding is as the first.
+#[test]
+fn refused_adding_changes_nothing(rt: HostRuntime) -> Result<(), Fail> {
+    let alloc = rt.alloc();
+    let mut names = opened(alloc, &["studio"])?;
+    let one = entry(alloc, "files")?;
+    let first = names.add(alloc, &one);
+    if first.is_err() {
+        assert_eq!(rt; first, Err(OpenFault::OutOfMemory));
+        assert!(rt; !names.shows(1));
+        assert_eq!(rt; names.add(alloc, &one), Ok(1));
+    }
+    assert!(rt; names.shows(1));
+    Ok(())
+}
+
 #[test]
 fn causes_have_their_numbers(rt: HostRuntime) -> Result<(), Fail> {
     for (cause, number) in [

@@ -2,3 +2,4 @@ pub mod Steps
 pub mod Origins
 pub mod Sums
 pub mod Scripted
+pub mod Openings

@@ -1,12 +1,13 @@
 -- One event, and one after the other.
 use Rattle.std.proofs.Common.{◌≡◌, ◌≢◌, ℕ, zero, suc, ◌+◌, ◌*◌, ◌<◌, ◌≤◌, ◌==◌, Bool, true, false, Option, None, Some, List, [], ◌∷◌, ◌++◌, length, map, slice_index_or, slice_set, refl, sym, ap, ◌∙◌, subst, append_assoc, append-nil, arith, add-mul}
 use Rattle.std.specs.Prelude.{if◌then◌else◌}
+use Rattle.srt_seq.specs.declared.shared.Schedule.{Schedule}
 use Rattle.std.specs.Option.{is_some}
 use Rattle.std.proofs.lemmas.Grind.{flat_map-append, fold-append}
 use Rattle.std.proofs.lemmas.List.Sums.{sum_by-append}
 use Rattle.std.proofs.lemmas.Bool.Decides.{nat_tests}
 use Rattle.std.proofs.lemmas.List.{map-append, length-append, length-set, get_or-set_same, get_or-set_other, set-get_or}
-use Rattle.srt_seq.specs.Items.{Datagram, Item, Received, told}
+use Rattle.srt_seq.specs.Items.{Datagram, Item, Received, Close, told}
 use Rattle.srt_route.specs.Written.{written}
 use Rattle.srt_route.specs.declared.replies.Reply.{Reply}
 use Rattle.srt_mailbox.specs.Ends.{Producer, Drained, drained as drained_to}
@@ -15,8 +16,9 @@ use Rattle.srt_poller.specs.declared.ends.Ends.{Ends}
 use Rattle.srt_poller.specs.declared.devices.Sent.TheVariants.{Taken, Later, Failed}
 use Rattle.srt_poller.specs.declared.ends.Offered.TheVariants.{Accepted}
 use Rattle.srt_poller.specs.Devices.{Arrival, handed_by_send, joined}
-use Rattle.srt_poller.specs.Pollers.{OfferedAs}
-use Rattle.srt_poller.specs.History.{Sorting, Event, Kept, Fits, Follow, kept_by, kept_after, given_by, given, Handed, handed_by, handed, datagrams, accepted_by, accepted, drained_by, drained, at_route, waits_by, ready_by, reads_by, Waits, WaitFails, ReadsNothing, ReadFails, Answers, Accepts, Overflows, Refuses, Drops, Sends, Resends}
+use Rattle.srt_poller.specs.Pollers.{OfferedAs, ClosedAs}
+use Rattle.srt_poller.specs.Schedules.{CloseOffer, offered}
+use Rattle.srt_poller.specs.History.{Sorting, Event, State, Fits, Follow, state_by, state_after, Begins, closing_by, closings, given_by, given, Handed, handed_by, handed, datagrams, accepted_by, accepted, drained_by, drained, at_route, waits_by, ready_by, reads_by, Waits, WaitFails, ReadsNothing, ReadFails, Answers, Accepts, Overflows, Refuses, Drops, Sends, Resends}
 use Rattle.srt_poller.specs.Reports.{counted_by, counted}
 use Rattle.srt_poller.specs.Rounds.{World, IsLater, AreLater, Happened, Went}
 
@@ -57,33 +59,33 @@ are_later_then us vs x y z h k = record {
 }
 
 -- no event, one event, and events after others
-pub happened_then : {class : Sorting} {m n w v r s : ℕ} (us vs : List Event) (x y z : World) → Happened class m w r us x y → Happened class n v s vs y z → Happened class (m + n) (w + v) (r + s) (us ++ vs) x z
-happened_then {class} {m} {n} {w} {v} {r} {s} us vs x y z h k = record {
-  follow = follow_then x.kept us (subst (λ (o : Option Kept). Follow class o vs) h.kept k.follow) h.follow;
+pub happened_then : {class : Sorting} {schedules : List Schedule} {m n w v r s : ℕ} (us vs : List Event) (x y z : World) → Happened class schedules m w r us x y → Happened class schedules n v s vs y z → Happened class schedules (m + n) (w + v) (r + s) (us ++ vs) x z
+happened_then {class} {schedules} {m} {n} {w} {v} {r} {s} us vs x y z h k = record {
+  follow = follow_then x.state us (subst (λ (o : State). Follow class schedules o vs) h.state k.follow) h.follow;
   gave = k.gave ∙ ap (λ o. joined o (given vs)) h.gave ∙ joined_twice x.gave (given us) (given vs) ∙ ap (joined x.gave) (sym (flat_map-append given_by us vs));
   handed = k.handed ∙ ap (λ o. joined o (datagrams (handed vs))) h.handed ∙ joined_twice x.handed (datagrams (handed us)) (datagrams (handed vs))
       ∙ ap (joined x.handed) (sym (ap datagrams (flat_map-append handed_by us vs) ∙ map-append (λ (d : Handed). d.datagram) (handed us) (handed vs)));
   ends = are_later_then us vs x.ends y.ends z.ends h.ends k.ends;
-  kept = k.kept ∙ ap (λ o. kept_after o vs) h.kept ∙ sym (fold-append kept_by x.kept us vs);
+  state = k.state ∙ ap (λ o. state_after schedules o vs) h.state ∙ sym (fold-append (state_by schedules) x.state us vs);
   report = k.report ∙ ap (λ c. counted c vs) h.report ∙ sym (fold-append counted_by x.report us vs);
   few = let a = h.few in let b = k.few in omega (arith, length-append us vs);
   waited = let a = h.waited in let b = k.waited in omega (arith, sum_by-append waits_by us vs);
   was_read = let a = h.was_read in let b = k.was_read in omega (arith, sum_by-append ready_by us vs, sum_by-append reads_by us vs);
 }
   where
-    follow_then : (o : Option Kept) (es : List Event) → Follow class (kept_after o es) vs → Follow class o es → Follow class o (es ++ vs)
+    follow_then : (o : State) (es : List Event) → Follow class schedules (state_after schedules o es) vs → Follow class schedules o es → Follow class schedules o (es ++ vs)
     follow_then o [] f g = f
-    follow_then o (e ∷ es) f g = (g.0, follow_then (kept_by o e) es f g.1)
+    follow_then o (e ∷ es) f g = (g.0, follow_then (state_by schedules o e) es f g.1)
 
-pub went_none : (class : Sorting) (most : ℕ) (x : World) → Went class most 0 0 x x
-went_none class most x = (
+pub went_none : (class : Sorting) (schedules : List Schedule) (most : ℕ) (x : World) → Went class schedules most 0 0 x x
+went_none class schedules most x = (
   [],
   record {
     follow = tt;
     gave = sym (joined_none x.gave);
     handed = sym (joined_none x.handed);
     ends = are_later_none [] x.ends (λ r. refl) (λ r. refl);
-    kept = refl;
+    state = refl;
     report = refl;
     few = omega arith;
     waited = refl;
@@ -91,10 +93,10 @@ went_none class most x = (
   },
 )
 
-pub went_then : {class : Sorting} {m n w v r s : ℕ} {x y z : World} → Went class m w r x y → Went class n v s y z → Went class (m + n) (w + v) (r + s) x z
-went_then {class} {m} {n} {w} {v} {r} {s} {x} {y} {z} h k = (h.0 ++ k.0, happened_then h.0 k.0 x y z h.1 k.1)
+pub went_then : {class : Sorting} {schedules : List Schedule} {m n w v r s : ℕ} {x y z : World} → Went class schedules m w r x y → Went class schedules n v s y z → Went class schedules (m + n) (w + v) (r + s) x z
+went_then {class} {schedules} {m} {n} {w} {v} {r} {s} {x} {y} {z} h k = (h.0 ++ k.0, happened_then h.0 k.0 x y z h.1 k.1)
 
-pub went_more : {class : Sorting} {m n w r s : ℕ} {x y : World} → m ≤ n → s ≤ r → Went class m w r x y → Went class n w s x y
+pub went_more : {class : Sorting} {schedules : List Schedule} {m n w r s : ℕ} {x y : World} → m ≤ n → s ≤ r → Went class schedules m w r x y → Went class schedules n w s x y
 went_more le less h = (
   h.0,
   record {
@@ -102,7 +104,7 @@ went_more le less h = (
     gave = h.1.gave;
     handed = h.1.handed;
     ends = h.1.ends;
-    kept = h.1.kept;
+    state = h.1.state;
     report = h.1.report;
     few = let a = h.1.few in omega arith;
     waited = h.1.waited;
@@ -110,16 +112,16 @@ went_more le less h = (
   },
 )
 
-pub went_once : (class : Sorting) (event : Event) (w r : ℕ) (x y : World) → waits_by event ≡ w → ready_by event + r ≤ reads_by event + w →
-    Fits class x.kept event → y.gave ≡ joined x.gave (given_by event) → y.handed ≡ joined x.handed (datagrams (handed_by event)) → AreLater (event ∷ []) x.ends y.ends → y.kept ≡ kept_by x.kept event → y.report ≡ counted_by x.report event → Went class 1 w r x y
-went_once class event w r x y waits reads fits gave handed ends kept report = (
+pub went_once : (class : Sorting) (schedules : List Schedule) (event : Event) (w r : ℕ) (x y : World) → waits_by event ≡ w → ready_by event + r ≤ reads_by event + w →
+    Fits class schedules x.state event → y.gave ≡ joined x.gave (given_by event) → y.handed ≡ joined x.handed (datagrams (handed_by event)) → AreLater (event ∷ []) x.ends y.ends → y.state ≡ state_by schedules x.state event → y.report ≡ counted_by x.report event → Went class schedules 1 w r x y
+went_once class schedules event w r x y waits reads fits gave handed ends state report = (
   event ∷ [],
   record {
     follow = (fits, tt);
     gave = gave ∙ ap (joined x.gave) (sym (append-nil (given_by event)));
     handed = handed ∙ ap (λ hs. joined x.handed (datagrams hs)) (sym (append-nil (handed_by event)));
     ends = ends;
-    kept = kept;
+    state = state;
     report = report;
     few = omega arith;
     waited = omega (arith, waits);
@@ -127,10 +129,11 @@ went_once class event w r x y waits reads fits gave handed ends kept report = (
   },
 )
 
-pub went_one : (class : Sorting) (event : Event) (x y : World) → Fits class x.kept event → y.gave ≡ joined x.gave (given_by event) → y.handed ≡ joined x.handed (datagrams (handed_by event)) → AreLater (event ∷ []) x.ends y.ends → y.kept ≡ kept_by x.kept event → y.report ≡ counted_by x.report event → Went class 1 (waits_by event) (reads_by event) x y
-went_one class event x y fits gave handed ends kept report = went_once class event (waits_by event) (reads_by event) x y refl (owed event) fits gave handed ends kept report
+pub went_one : (class : Sorting) (schedules : List Schedule) (event : Event) (x y : World) → Fits class schedules x.state event → y.gave ≡ joined x.gave (given_by event) → y.handed ≡ joined x.handed (datagrams (handed_by event)) → AreLater (event ∷ []) x.ends y.ends → y.state ≡ state_by schedules x.state event → y.report ≡ counted_by x.report event → Went class schedules 1 (waits_by event) (reads_by event) x y
+went_one class schedules event x y fits gave handed ends state report = went_once class schedules event (waits_by event) (reads_by event) x y refl (owed event) fits gave handed ends state report
   where
     owed : (e : Event) → ready_by e + reads_by e ≤ reads_by e + waits_by e
+    owed (Begins m os) = omega arith
     owed Waits = omega arith
     owed WaitFails = omega arith
     owed ReadsNothing = omega arith
@@ -189,6 +192,33 @@ accepted_here a k es d z below h =
     let own : accepted k (Accepts a k ∷ []) ≡ Received a.datagram a.moment ∷ [] = append-nil _ ∙ at_own k _ in
     one_changed (Accepts a k) k es d z below (λ r other. append-nil _ ∙ at_other k r _ other) (λ r other. refl) (rw own h)
 
+-- events that give the inboxes and take from the outboxes the same
+pub are_later_as : (us vs : List Event) (x y : List Ends) → ((r : ℕ) → accepted r us ≡ accepted r vs) → ((r : ℕ) → drained r us ≡ drained r vs) → AreLater us x y → AreLater vs x y
+are_later_as us vs x y a d h = record {
+  as_many = h.as_many;
+  each = λ r e below. rw (sym (a r), sym (d r)) (h.each r e below);
+}
+
+-- one offer after others
+pub closings_then : (moment : ℕ) (us : List CloseOffer) (o : CloseOffer) (x y z : List Ends) → AreLater (Begins moment us ∷ []) x y → AreLater (Begins moment (o ∷ []) ∷ []) y z → AreLater (Begins moment (us ++ o ∷ []) ∷ []) x z
+closings_then moment us o x y z h k =
+    are_later_as (Begins moment us ∷ Begins moment (o ∷ []) ∷ []) (Begins moment (us ++ o ∷ []) ∷ []) x z
+    (λ r. ap (λ (items : List Item). closings moment r us ++ items) (append-nil (closings moment r (o ∷ []))) ∙ sym (flat_map-append (closing_by moment r) us (o ∷ [])) ∙ sym (append-nil (closings moment r (us ++ o ∷ []))))
+    (λ r. refl) (are_later_then (Begins moment us ∷ []) (Begins moment (o ∷ []) ∷ []) x y z h k)
+
+pub closed_here : (moment k : ℕ) (es : List Ends) (d z : Ends) → k < length es →
+    ClosedAs true moment (slice_index_or es k d).ingress z.ingress → z.drain ≡ (slice_index_or es k d).drain → AreLater (Begins moment (offered k true ∷ []) ∷ []) es (slice_set es k z)
+closed_here moment k es d z below h drain =
+    let own : accepted k (Begins moment (offered k true ∷ []) ∷ []) ≡ Close moment ∷ [] = append-nil _ ∙ append-nil _ ∙ at_own k _ in
+    one_changed (Begins moment (offered k true ∷ [])) k es d z below (λ r other. append-nil _ ∙ append-nil _ ∙ at_other k r _ other) (λ r other. refl) (rw own (record {
+      inbox = h.0;
+      inbox_capacity = h.1;
+      offered = h.2;
+      outbox = ap (λ (d : Drained). d.queue) drain;
+      outbox_capacity = ap (λ (d : Drained). d.capacity) drain;
+      through = ap (λ (d : Drained). map written d.through) drain ∙ sym (append-nil _);
+    }))
+
 pub sent_here : (k : ℕ) (reply : Datagram) (sent : Sent) (es : List Ends) (d z : Ends) → k < length es →
     IsLater [] (reply ∷ []) (slice_index_or es k d) z → AreLater (Sends k reply sent ∷ []) es (slice_set es k z)
 sent_here k reply sent es d z below h =
@@ -238,8 +268,8 @@ drained_now reply hand x z h is = record {
 pub unchanged_here : (es : List Ends) (k : ℕ) (d : Ends) (z : Drained) → z ≡ (slice_index_or es k d).drain → slice_set es k (record { ingress = (slice_index_or es k d).ingress; drain = z }) ≡ es
 unchanged_here es k d z h = ap (λ (y : Drained). slice_set es k (record { ingress = (slice_index_or es k d).ingress; drain = y })) h ∙ set-get_or es k d
 
-pub rounds_more : (k a b : ℕ) → b ≡ a → k * (258 + 64 * a) + (258 + 64 * b) ≤ (k + 1) * (258 + 64 * a)
-rounds_more k a b e = rw (e, add-mul k 1 (258 + 64 * a)) (omega arith)
+pub rounds_more : (k a b : ℕ) → b ≡ a → k * (259 + 64 * a) + (259 + 64 * b) ≤ (k + 1) * (259 + 64 * a)
+rounds_more k a b e = rw (e, add-mul k 1 (259 + 64 * a)) (omega arith)
 
 -- what isn't some is none
 pub none_is : {A : Type 0} (o : Option A) → is_some o ≡ false → o ≡ None

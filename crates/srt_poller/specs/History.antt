@@ -1,19 +1,25 @@
 -- The events of a poller, the oldest first, and what follows from them alone.
-use Rattle.std.specs.Prelude.{◌≡◌, ℕ, ◌==◌, Bool, true, false, Option, None, Some, List, [], ◌∷◌, map, filter, if◌then◌else◌}
+use Rattle.std.specs.Prelude.{◌≡◌, ℕ, suc, ◌==◌, Bool, true, false, Option, None, Some, List, [], ◌∷◌, map, max, filter, if◌then◌else◌}
 use Rattle.std.specs.List.{flat_map, fold, sum_by}
-use Rattle.srt_seq.specs.Items.{Datagram, Item, Received}
+use Rattle.srt_seq.specs.declared.shared.Schedule.{Schedule}
+use Rattle.srt_seq.specs.Items.{Datagram, Item, Received, Close}
+use Rattle.srt_lobby.specs.Names.{RouteName}
 use Rattle.srt_lobby.specs.declared.classes.Class.{Class}
 use Rattle.srt_lobby.specs.declared.classes.Class.TheVariants.{Answer, Route, Dropped}
 use Rattle.srt_lobby.specs.declared.classes.Cause.{Cause}
 use Rattle.srt_poller.specs.declared.devices.Sent.{Sent}
 use Rattle.srt_poller.specs.declared.devices.Sent.TheVariants.{Taken, Later, Failed}
 use Rattle.srt_poller.specs.Devices.{Arrival, handed_by_send}
+use Rattle.srt_poller.specs.Schedules.{CloseOffer, offered_routes, opened, due, begun}
 
--- the class that a lobby gives to a datagram that comes at a moment
+-- the class that a lobby with these names gives to a datagram that comes at a moment
 abbrev pub Sorting : Type 0
-Sorting = Datagram → (moment : ℕ) → Class
+Sorting = (names : List RouteName) → Datagram → (moment : ℕ) → Class
 
 pub data Event : Type 0 where
+  -- a round began: the routes that open in it were shown, those to be closed were offered Close of this moment, and those whose inbox
+  -- accepted it were hidden
+  Begins : (moment : ℕ) (offers : List CloseOffer) → Event
   -- the source waited, and didn't fail
   Waits : Event
   -- a wait of the source failed
@@ -60,21 +66,82 @@ kept_by k _ = k
 abbrev pub kept_after : Option Kept → List Event → Option Kept
 kept_after k events = fold kept_by k events
 
--- What happens to a datagram is what its class says. A reply is taken only if none is kept, and only the kept one is sent again
-abbrev pub Fits : Sorting → Option Kept → Event → Type 0
-Fits class k (Answers arrival bytes sent) = class arrival.datagram arrival.moment ≡ Answer bytes
-Fits class k (Accepts arrival route) = class arrival.datagram arrival.moment ≡ Route route
-Fits class k (Overflows arrival route) = class arrival.datagram arrival.moment ≡ Route route
-Fits class k (Refuses arrival route) = class arrival.datagram arrival.moment ≡ Route route
-Fits class k (Drops arrival cause) = class arrival.datagram arrival.moment ≡ Dropped cause
-Fits class k (Sends route reply sent) = k ≡ None
-Fits class k (Resends route reply sent) = k ≡ Some (kept route reply)
-Fits class k _ = Unit {0}
+-- what the next event depends on
+pub record State : Type 0 where
+  -- the names in force
+  pub names : List RouteName
+  -- the reply that is kept
+  pub kept : Option Kept
+  -- the number of the source's waits so far: that of the round that began last until its wait, and of the next round after it
+  pub round : ℕ
+  -- whether a round began whose wait is still to come
+  pub has_begun : Bool
+  -- the greatest moment that the source has given in these rounds, 0 if it has given none
+  pub latest : ℕ
 
--- each event fits the reply that is kept when it happens; before the first event that is k
-abbrev pub Follow : Sorting → Option Kept → List Event → Type 0
-Follow class k [] = Unit {0}
-Follow class k (event ∷ events) = Fits class k event × Follow class (kept_by k event) events
+abbrev pub state : List RouteName → Option Kept → (round : ℕ) → (has_begun : Bool) → (latest : ℕ) → State
+state names k round has_begun latest = record { names = names; kept = k; round = round; has_begun = has_begun; latest = latest }
+
+-- before the first event of a poller
+abbrev pub at_first : List RouteName → State
+at_first names = state names None 0 false 0
+
+abbrev pub names_by : List Schedule → State → Event → List RouteName
+names_by schedules s (Begins moment offers) = begun s.round schedules offers s.names
+names_by schedules s _ = s.names
+
+abbrev pub round_by : (round : ℕ) → Event → ℕ
+round_by round Waits = suc round
+round_by round WaitFails = suc round
+round_by round _ = round
+
+abbrev pub has_begun_by : (has_begun : Bool) → Event → Bool
+has_begun_by has_begun (Begins moment offers) = true
+has_begun_by has_begun Waits = false
+has_begun_by has_begun WaitFails = false
+has_begun_by has_begun _ = has_begun
+
+abbrev pub latest_by : (latest : ℕ) → Event → ℕ
+latest_by latest (Answers arrival bytes sent) = max latest arrival.moment
+latest_by latest (Accepts arrival route) = max latest arrival.moment
+latest_by latest (Overflows arrival route) = max latest arrival.moment
+latest_by latest (Refuses arrival route) = max latest arrival.moment
+latest_by latest (Drops arrival cause) = max latest arrival.moment
+latest_by latest _ = latest
+
+-- the state after an event
+abbrev pub state_by : List Schedule → State → Event → State
+state_by schedules s event =
+    state (names_by schedules s event) (kept_by s.kept event) (round_by s.round event) (has_begun_by s.has_begun event) (latest_by s.latest event)
+
+abbrev pub state_after : List Schedule → State → List Event → State
+state_after schedules s events = fold (state_by schedules) s events
+
+-- the class of a datagram with the names in force
+abbrev pub class_in : Sorting → State → Arrival → Class
+class_in class s arrival = class s.names arrival.datagram arrival.moment
+
+-- A round begins once, before its wait. It shows the routes that open in it, and then offers Close, of the greatest moment that the source has
+-- given, once in each round to each shown route whose round of closing has come, in the order of their indexes. What happens to a datagram is what its class
+-- says. A reply is taken only if none is kept, and only the kept one is sent again
+abbrev pub Fits : Sorting → List Schedule → State → Event → Type 0
+Fits class schedules s (Begins moment offers) =
+    (s.has_begun ≡ false) × (moment ≡ s.latest) × (offered_routes offers ≡ due s.round schedules (opened s.round schedules s.names))
+Fits class schedules s Waits = s.has_begun ≡ true
+Fits class schedules s WaitFails = s.has_begun ≡ true
+Fits class schedules s (Answers arrival bytes sent) = class_in class s arrival ≡ Answer bytes
+Fits class schedules s (Accepts arrival route) = class_in class s arrival ≡ Route route
+Fits class schedules s (Overflows arrival route) = class_in class s arrival ≡ Route route
+Fits class schedules s (Refuses arrival route) = class_in class s arrival ≡ Route route
+Fits class schedules s (Drops arrival cause) = class_in class s arrival ≡ Dropped cause
+Fits class schedules s (Sends route reply sent) = s.kept ≡ None
+Fits class schedules s (Resends route reply sent) = s.kept ≡ Some (kept route reply)
+Fits class schedules s _ = Unit {0}
+
+-- each event fits the state in which it happens
+abbrev pub Follow : Sorting → List Schedule → State → List Event → Type 0
+Follow class schedules s [] = Unit {0}
+Follow class schedules s (event ∷ events) = Fits class schedules s event × Follow class schedules (state_by schedules s event) events
 
 -- the datagrams that the source gave
 abbrev pub given_by : Event → List Arrival
@@ -88,11 +155,20 @@ given_by _ = []
 abbrev pub given : List Event → List Arrival
 given events = flat_map given_by events
 
--- the items that this route's inbox accepted
+-- this alone, if the two routes are the same
 abbrev pub at_route : {A : Type 0} → (route r : ℕ) → A → List A
 at_route route r x = if route == r then x ∷ [] else []
 
+-- the Close that this route's inbox accepted, if this offer was one
+abbrev pub closing_by : (moment r : ℕ) → CloseOffer → List Item
+closing_by moment r o = if o.is_accepted then at_route o.route r (Close moment) else []
+
+abbrev pub closings : (moment r : ℕ) → List CloseOffer → List Item
+closings moment r offers = flat_map (closing_by moment r) offers
+
+-- the items that this route's inbox accepted: datagrams and Close
 abbrev pub accepted_by : (r : ℕ) → Event → List Item
+accepted_by r (Begins moment offers) = closings moment r offers
 accepted_by r (Accepts arrival route) = at_route route r (Received arrival.datagram arrival.moment)
 accepted_by r _ = []
 

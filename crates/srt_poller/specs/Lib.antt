@@ -1,8 +1,10 @@
 pub mod Devices
+pub mod Schedules
 pub mod History
 pub mod Reports
 pub mod Rounds
 pub mod Pollers
+pub mod Doors
 pub mod Pumped
 pub mod Scripts
 pub mod Sockets

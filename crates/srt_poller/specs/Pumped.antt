@@ -1,10 +1,12 @@
 -- The contract of a poller's rounds.
-use Rattle.std.specs.Prelude.{◌≡◌, ℕ, ◌+◌, ◌*◌, ◌≤◌, Option, None, List, ◌++◌, length}
+use Rattle.std.specs.Prelude.{◌≡◌, ℕ, ◌+◌, ◌*◌, ◌≤◌, false, Option, None, List, ◌++◌, length}
+use Rattle.srt_seq.specs.declared.shared.Schedule.{Schedule}
 use Rattle.srt_seq.specs.Items.{Datagram}
+use Rattle.srt_lobby.specs.Names.{RouteName}
 use Rattle.srt_poller.specs.declared.ends.Ends.{Ends}
 use Rattle.srt_poller.specs.declared.report.Report.{Report}
 use Rattle.srt_poller.specs.Devices.{Arrival, joined}
-use Rattle.srt_poller.specs.History.{Sorting, Event, Follow, kept_after, kept_of, given, handed, datagrams, of_lobby, of_route, answered, drained, waits_in, ready_in, reads_in}
+use Rattle.srt_poller.specs.History.{Sorting, Event, Follow, at_first, state_after, kept_after, kept_of, given, handed, datagrams, of_lobby, of_route, answered, drained, waits_in, ready_in, reads_in}
 use Rattle.srt_poller.specs.Reports.{nothing, counted, with_kept, total}
 use Rattle.srt_poller.specs.Rounds.{AreLater}
 
@@ -14,31 +16,36 @@ pub record HaveOrigins (events : List Event) : Type 0 where
   pub lobby : of_lobby (handed events) ≡ answered events
   pub route : (r : ℕ) → of_route r (handed events) ++ kept_of r (kept_after None events) ≡ drained r events
 
--- what the source recorded as given, what the wire recorded as handed to it, and the ends of all routes
+-- the names in force, what the source recorded as given, what the wire recorded as handed to it, and the ends of all routes
 pub record Before : Type 0 where
+  pub names : List RouteName
   pub gave : Option (List Arrival)
   pub handed : Option (List Datagram)
   pub ends : List Ends
 
-abbrev pub before : Option (List Arrival) → Option (List Datagram) → List Ends → Before
-before gave handed ends = record { gave = gave; handed = handed; ends = ends }
+abbrev pub before : List RouteName → Option (List Arrival) → Option (List Datagram) → List Ends → Before
+before names gave handed ends = record { names = names; gave = gave; handed = handed; ends = ends }
 
 -- the same afterwards, and the report
 pub record After : Type 0 where
+  pub names : List RouteName
   pub gave : Option (List Arrival)
   pub handed : Option (List Datagram)
   pub ends : List Ends
   pub report : Report
 
-abbrev pub after : Option (List Arrival) → Option (List Datagram) → List Ends → Report → After
-after gave handed ends report = record { gave = gave; handed = handed; ends = ends; report = report }
+abbrev pub after : List RouteName → Option (List Arrival) → Option (List Datagram) → List Ends → Report → After
+after names gave handed ends report = record { names = names; gave = gave; handed = handed; ends = ends; report = report }
 
--- These events happened, the oldest first. The source gave the datagrams of the events, and what happened to each is what its class says.
--- The wire was handed the datagrams of the events. Each route's inbox accepted the items, and each outbox gave the replies, of the events.
--- The report counts them; with at most 511 routes no count reaches its limit. The source waited once a round, and was read at least as
--- often as it waited without a failure
-pub record PumpedBy (class : Sorting) (rounds : ℕ) (before : Before) (after : After) (events : List Event) : Type 0 where
-  pub follow : Follow class None events
+-- These events happened, the oldest first: each round began once, before its wait, and showed and hid routes as its schedule says, and what
+-- happened to each datagram is what its class says, with the names then in force; `names` are those after the last round. The source gave the datagrams of the events, and the wire was handed theirs. Each route's inbox
+-- accepted the items, and each outbox gave the replies, of the events. The report counts them; with at most 511 routes no count reaches its
+-- limit. The source waited once in each round, and was read at least as often as it waited without a failure. No record tells the waits, or
+-- that an inbox was full: in which round a datagram came, and that a Close was refused, the events alone say
+pub record PumpedBy (class : Sorting) (schedules : List Schedule) (rounds : ℕ) (before : Before) (after : After) (events : List Event) : Type 0 where
+  pub follow : Follow class schedules (at_first before.names) events
+  pub names : after.names ≡ (state_after schedules (at_first before.names) events).names
+  pub over : (state_after schedules (at_first before.names) events).has_begun ≡ false
   pub gave : after.gave ≡ joined before.gave (given events)
   pub handed : after.handed ≡ joined before.handed (datagrams (handed events))
   pub ends : AreLater events before.ends after.ends
@@ -47,8 +54,8 @@ pub record PumpedBy (class : Sorting) (rounds : ℕ) (before : Before) (after : 
   pub sums : length before.ends ≤ 511 → after.report ≡ total events (kept_after None events)
   pub waits : waits_in events ≡ rounds
   pub reads : ready_in events ≤ reads_in events
-  pub few : length events ≤ rounds * (258 + 64 * length before.ends)
+  pub few : length events ≤ rounds * (259 + 64 * length before.ends)
 
 -- some events happened, and this is what they did
-abbrev pub Pumped : Sorting → (rounds : ℕ) → Before → After → Type 0
-Pumped class rounds before after = (events : List Event) × PumpedBy class rounds before after events
+abbrev pub Pumped : Sorting → List Schedule → (rounds : ℕ) → Before → After → Type 0
+Pumped class schedules rounds before after = (events : List Event) × PumpedBy class schedules rounds before after events

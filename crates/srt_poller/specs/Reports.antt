@@ -4,7 +4,7 @@ use Rattle.std.specs.List.{fold}
 use Rattle.srt_poller.specs.declared.devices.Sent.{Sent}
 use Rattle.srt_poller.specs.declared.devices.Sent.TheVariants.{Taken, Later, Failed}
 use Rattle.srt_poller.specs.declared.report.Report.{Report}
-use Rattle.srt_poller.specs.History.{Event, Waits, WaitFails, ReadsNothing, ReadFails, Answers, Accepts, Overflows, Refuses, Drops, Sends, Resends, Kept}
+use Rattle.srt_poller.specs.History.{Event, Begins, Waits, WaitFails, ReadsNothing, ReadFails, Answers, Accepts, Overflows, Refuses, Drops, Sends, Resends, Kept}
 
 -- one more, or 2^64 - 1 if that is the count already
 abbrev pub one_more : ℕ → ℕ
@@ -42,6 +42,7 @@ with_dropped n = record n { read = one_more n.read; dropped = one_more n.dropped
 
 -- the counts after an event
 abbrev pub counted_by : Report → Event → Report
+counted_by n (Begins moment offers) = n
 counted_by n Waits = n
 counted_by n WaitFails = with_fault n
 counted_by n ReadsNothing = n
@@ -79,6 +80,7 @@ part_of_reply Failed = record nothing { lost = 1; faults = 1 }
 
 -- an event's part of the report
 abbrev pub part : Event → Report
+part (Begins moment offers) = nothing
 part Waits = nothing
 part WaitFails = record nothing { faults = 1 }
 part ReadsNothing = nothing

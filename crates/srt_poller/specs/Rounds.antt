@@ -1,23 +1,25 @@
 -- All that a poller touches, before and after some events.
 use Rattle.std.specs.Prelude.{◌≡◌, ℕ, ◌+◌, ◌<◌, ◌≤◌, Option, List, ◌++◌, length, map, slice_index_or}
+use Rattle.srt_seq.specs.declared.shared.Schedule.{Schedule}
 use Rattle.srt_seq.specs.Items.{Datagram, Item, told}
 use Rattle.srt_route.specs.Written.{written}
 use Rattle.srt_poller.specs.declared.ends.Ends.{Ends}
 use Rattle.srt_poller.specs.declared.report.Report.{Report}
 use Rattle.srt_poller.specs.Devices.{Arrival, joined}
-use Rattle.srt_poller.specs.History.{Sorting, Event, Kept, Follow, kept_after, given, handed, datagrams, accepted, drained, waits_in, ready_in, reads_in}
+use Rattle.srt_poller.specs.History.{Sorting, Event, State, Follow, state_after, given, handed, datagrams, accepted, drained, waits_in, ready_in, reads_in}
 use Rattle.srt_poller.specs.Reports.{counted}
 
--- what the source recorded as given, what the wire recorded as handed to it, the ends of all routes, the kept reply, and the report
+-- what the source recorded as given, what the wire recorded as handed to it, the ends of all routes, what the next event depends on,
+-- and the report
 pub record World : Type 0 where
   pub gave : Option (List Arrival)
   pub handed : Option (List Datagram)
   pub ends : List Ends
-  pub kept : Option Kept
+  pub state : State
   pub report : Report
 
-abbrev pub world : Option (List Arrival) → Option (List Datagram) → List Ends → Option Kept → Report → World
-world gave handed ends kept report = record { gave = gave; handed = handed; ends = ends; kept = kept; report = report }
+abbrev pub world : Option (List Arrival) → Option (List Datagram) → List Ends → State → Report → World
+world gave handed ends state report = record { gave = gave; handed = handed; ends = ends; state = state; report = report }
 
 -- the ends of a route are of the same queues; the inbox accepted these items in addition, and the outbox gave these replies
 pub record IsLater (accepted : List Item) (drained : List Datagram) (old new : Ends) : Type 0 where
@@ -34,17 +36,17 @@ pub record AreLater (events : List Event) (old new : List Ends) : Type 0 where
 
 -- These events lead from the old world to the new one. They are at most `most`, and `waits` of them are waits. The number of reads plus
 -- `waits` is at least the number of waits without a failure plus `reads`
-pub record Happened (class : Sorting) (most waits reads : ℕ) (events : List Event) (old new : World) : Type 0 where
-  pub follow : Follow class old.kept events
+pub record Happened (class : Sorting) (schedules : List Schedule) (most waits reads : ℕ) (events : List Event) (old new : World) : Type 0 where
+  pub follow : Follow class schedules old.state events
   pub gave : new.gave ≡ joined old.gave (given events)
   pub handed : new.handed ≡ joined old.handed (datagrams (handed events))
   pub ends : AreLater events old.ends new.ends
-  pub kept : new.kept ≡ kept_after old.kept events
+  pub state : new.state ≡ state_after schedules old.state events
   pub report : new.report ≡ counted old.report events
   pub few : length events ≤ most
   pub waited : waits_in events ≡ waits
   pub was_read : ready_in events + reads ≤ reads_in events + waits
 
 -- some events lead from the old world to the new one
-abbrev pub Went : Sorting → (most waits reads : ℕ) → World → World → Type 0
-Went class most waits reads old new = (events : List Event) × Happened class most waits reads events old new
+abbrev pub Went : Sorting → List Schedule → (most waits reads : ℕ) → World → World → Type 0
+Went class schedules most waits reads old new = (events : List Event) × Happened class schedules most waits reads events old new

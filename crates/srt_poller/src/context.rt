@@ -9,29 +9,29 @@ use std::alloc::Global;
 
 /// What the lobby sorts datagrams by.
 #[derive(Clone, Copy)]
-pub(crate) struct Lobby<'a> {
+pub(crate) struct Lobby<'a, 'b> {
     /// The secret of its cookies.
     pub(crate) secret: &'a Secret,
     /// The names of the routes, in the order of their indexes.
-    pub(crate) names: &'a Names,
+    pub(crate) names: &'b Names,
 }
 
 /// What a round uses besides its devices and the ends of the routes.
 #[derive(Drop)]
-pub(crate) struct Context<'a, R, G> {
+pub(crate) struct Context<'a, 'b, R, G> {
     /// The host, whose locks the queues use.
     pub(crate) rt: &'a R,
     /// Gives the memory for copies of datagrams.
     pub(crate) alloc: Global,
     /// Sorts datagrams.
-    pub(crate) lobby: Lobby<'a>,
+    pub(crate) lobby: Lobby<'a, 'b>,
     /// The hints.
     pub(crate) signals: &'a G,
     /// The round looks at all outboxes, whatever their hints are.
     pub(crate) all: bool,
 }
 
-impl<R, G: Signals> Context<'_, R, G> {
+impl<R, G: Signals> Context<'_, '_, R, G> {
     /// The first route from this one on to take replies from: this one if the round looks at all, else the first one
     /// with a hint.
     pub(crate) fn next_route(&self, route: usize) -> usize

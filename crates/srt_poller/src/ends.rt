@@ -2,6 +2,7 @@
 
 ghost use Rattle.std.specs.Prelude.{◌≡◌, ◌<◌, ◌≤◌, ◌^◌, length};
 
+use crate::beginning::Latest;
 use crate::context::Context;
 use srt_mailbox::{Drain, Ingress};
 use srt_seq::{Item, Peer};
@@ -29,7 +30,7 @@ pub(crate) enum Offered {
 
 impl Ends {
     ghost use Rattle.srt_poller.specs.Devices.{arrival};
-    ghost use Rattle.srt_poller.specs.Pollers.{OfferedAs};
+    ghost use Rattle.srt_poller.specs.Pollers.{OfferedAs, ClosedAs};
 
     /// Offers a copy of a datagram of 16 bytes or more to the route. The moment is in microseconds. Takes memory for
     /// the bytes after the first 16; this is the only memory that a poller takes.
@@ -60,5 +61,17 @@ impl Ends {
             Ok(()) => Offered::Accepted,
             Err(_) => Offered::Full,
         }
+    }
+
+    /// Offers Close to the route. Returns whether the inbox accepted it; if it was full, nothing changed. Takes no
+    /// memory.
+    pub(crate) fn offer_close<R: Wait>(&mut self, rt: &R, latest: Latest) -> bool
+        ensures offered { ClosedAs result latest.moment self.old.ingress self.new.ingress }
+        ensures drain { self.new.drain ≡ self.old.drain }
+    {
+        let item = Item::Close {
+            moment: latest.moment,
+        };
+        self.ingress.offer(rt, item).is_ok()
     }
 }

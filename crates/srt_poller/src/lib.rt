@@ -7,14 +7,16 @@
 //! `Report` has the counts; `Signals` are hints that save looks at empty outboxes. Devices in memory are
 //! `SourceScript`, `WireScript` and `ClockScript`; `MioSource` and `MioWire` share one UDP socket.
 //!
-//! Calls: open the routes (`srt_mailbox::open_route`), bind or make the devices, then `pump` once for n rounds; or
-//! `pump_under`, with hints.
+//! Calls: open the routes (`srt_mailbox::open_route`), hide those that open later (`srt_lobby::Names::hide`), bind or
+//! make the devices, then `pump` once for n rounds; or `pump_under`, with hints. Routes are shown and closed at the
+//! beginning of the rounds that their `srt_seq::Schedule` names.
 //!
-//! Files: the steps of a round are in `poller.rt` (limits, the reply that is kept), what they use in `context.rt`, the
-//! rounds in `pumping.rt`, what is counted in `report.rt`, how long a socket's source waits in `pace.rt`.
+//! Files: the beginning of a round is in `beginning.rt`, its other steps are in `poller.rt` (limits, the reply that is
+//! kept), what they use in `context.rt`, the rounds in `pumping.rt`, what is counted in `report.rt`, how long a socket's source waits in `pace.rt`.
 //! `specs/History.antt` has the events of a poller.
 #![tactic(auto)]
 
+mod beginning;
 mod context;
 mod devices;
 mod ends;

@@ -1,9 +1,11 @@
-//! The steps of a poller's round: `resend`, then `listen`, then `drain`.
+//! The steps of a poller's round after its beginning: `resend`, then `listen`, then `drain`.
 
 ghost use Rattle.std.specs.Prelude.{◌≡◌, ◌<◌, ◌≤◌, ◌+◌, ◌*◌, ◌^◌, true, false, None, Option, List, length};
 ghost use Rattle.srt_seq.specs.Items.{Datagram};
+ghost use Rattle.srt_lobby.specs.Names.{RouteName};
 ghost use Rattle.srt_poller.specs.History.{Sorting};
 
+use crate::beginning::Latest;
 use crate::context::{Context, Lobby};
 use crate::devices::{Polled, Read, Sent, Source, Wire};
 use crate::ends::{Ends, Offered};
@@ -68,8 +70,7 @@ impl Poller {
     ghost use Rattle.srt_poller.specs.declared.ends.Ends.{Ends as TheEnds};
     ghost use Rattle.srt_poller.specs.declared.poller.Drained.TheVariants.{Empty, Gone};
     ghost use Rattle.srt_poller.specs.Reports.{nothing, with_kept};
-    ghost use Rattle.srt_poller.specs.Rounds.{Went};
-    ghost use Rattle.srt_poller.specs.Pollers.{sorted_by, named_in, came, kept_in, world_of, reading, sending, Waited, WaitFailed, Came, Replies};
+    ghost use Rattle.srt_poller.specs.Pollers.{sorted_by, named_in, came, kept_in, reading, sending, listening, Waited, WaitFailed, Came, Listened, Replies};
 
     /// A poller with no reply kept and all counts 0. Takes no memory.
     pub(crate) fn new() -> Poller
@@ -132,9 +133,9 @@ impl Poller {
     )
         requires header { 16 ≤ incoming.len }
         requires route { route < length ends.old }
-        ensures { (class : Sorting) (handed : Option (List Datagram)) → let arrival = came incoming self.old in
-            class arrival.datagram arrival.moment ≡ Route route →
-            Came class arrival (sending handed ends.old self.old) (sending handed ends.new self.new) }
+        ensures { (class : Sorting) (names : List RouteName) (handed : Option (List Datagram)) → let arrival = came incoming self.old in
+            class names arrival.datagram arrival.moment ≡ Route route →
+            Came class names arrival (sending handed ends.old self.old) (sending handed ends.new self.new) }
     {
         let bytes = &self.datagram[..incoming.len];
         match ends[route].offer(context, incoming.peer, bytes, incoming.moment) {
@@ -156,7 +157,7 @@ impl Poller {
         incoming: Incoming,
     )
         requires { length ends.old ≡ length (named_in context.now.lobby) }
-        ensures { Came (sorted_by context.now.lobby) (came incoming self.old)
+        ensures { Came (sorted_by context.now.lobby) (named_in context.now.lobby) (came incoming self.old)
             (sending (W.handed wire.old) ends.old self.old) (sending (W.handed wire.new) ends.new self.new) }
     {
         let Lobby { secret, names } = context.lobby;
@@ -172,17 +173,20 @@ impl Poller {
     }
 
     /// Waits, and reads at most 256 datagrams unless the wait failed. A read that finds none or fails is the last one.
+    /// `latest` sees the moment of each datagram.
     pub(crate) fn listen<R: Wait, S: Source, W: Wire, G: Signals>(
         &mut self,
         context: &Context<R, G>,
         source: &mut S,
         wire: &mut W,
         ends: &mut [Ends],
+        latest: &mut Latest,
     )
         requires { length ends.old ≡ length (named_in context.now.lobby) }
-        ensures { Went (sorted_by context.now.lobby) 257 1 1
-            (world_of (S.gave source.old) (W.handed wire.old) ends.old self.old)
-            (world_of (S.gave source.new) (W.handed wire.new) ends.new self.new) }
+        ensures { Listened (sorted_by context.now.lobby) (named_in context.now.lobby) 257
+            (listening (S.gave source.old) (W.handed wire.old) ends.old self.old)
+            (listening (S.gave source.new) (W.handed wire.new) ends.new self.new)
+            latest.old.moment latest.new.moment }
     {
         if !self.wait(source) {
             return;
@@ -192,6 +196,7 @@ impl Poller {
                 Read::Datagram(peer, len, moment) => {
                     let incoming = Incoming { peer, len, moment };
                     self.arrive(context, wire, ends, incoming);
+                    latest.see(moment);
                 }
                 Read::Empty => {
                     context.signals.read_ended(came);

@@ -1,10 +1,12 @@
 //! The poller's rounds.
 
 ghost use Rattle.std.specs.Prelude.{◌≡◌, length};
+ghost use Rattle.srt_poller.specs.Schedules.{AllDiffer};
 ghost use Rattle.srt_lobby.specs.Names.{names_of};
 ghost use Rattle.srt_poller.specs.Pollers.{sorting};
 ghost use Rattle.srt_poller.specs.Pumped.{Pumped, before, after};
 
+use crate::beginning::Doors;
 use crate::context::{Context, Lobby};
 use crate::devices::{Source, Wire};
 use crate::ends::Ends;
@@ -13,13 +15,19 @@ use crate::report::Report;
 use crate::signals::{Signals, Unsignalled};
 use srt_cookie::Secret;
 use srt_lobby::Names;
+use srt_seq::Schedule;
 use std::alloc::Global;
 use std::sync::Wait;
 
-/// Does `rounds` rounds and returns the counts. `ends` are those of the routes of `names`, in the order of their
-/// indexes.
+/// Does `rounds` rounds and returns the counts. `schedules` and `ends` are those of the routes of `names`, in the order
+/// of their indexes, hidden routes included.
 ///
-/// A round first sends the kept reply again, if there is one. Then the source waits, and at most 256 datagrams are
+/// A round, the first of which has number 0, begins with the routes that open in it: they are shown. Then `Close` is
+/// offered to each shown route whose round of closing has come, with the greatest moment that the source has given (0
+/// for none). A route whose inbox accepts it is hidden; one whose inbox is full is offered it again in the next round.
+/// The report doesn't count this.
+///
+/// Then the kept reply is sent again, if there is one. Then the source waits, and at most 256 datagrams are
 /// read; each is answered by the lobby, offered to its route or dropped. Then at most 64 replies of each route are
 /// sent.
 ///
@@ -31,22 +39,26 @@ pub fn pump<R: Wait, S: Source, W: Wire>(
     rt: &R,
     alloc: Global,
     secret: &Secret,
-    names: &Names,
+    names: &mut Names,
+    schedules: &[Schedule],
     source: &mut S,
     wire: &mut W,
     ends: &mut [Ends],
     rounds: u32,
 ) -> Report
-    requires { length ends.old ≡ length (names_of names.now) }
-    ensures { Pumped (sorting secret.now names.now) rounds
-        (before (S.gave source.old) (W.handed wire.old) ends.old)
-        (after (S.gave source.new) (W.handed wire.new) ends.new result) }
+    requires ends { length ends.old ≡ length (names_of names.old) }
+    requires schedules { length schedules.now ≡ length (names_of names.old) }
+    requires differ { AllDiffer (names_of names.old) }
+    ensures { Pumped (sorting secret.now) schedules.now rounds
+        (before (names_of names.old) (S.gave source.old) (W.handed wire.old) ends.old)
+        (after (names_of names.new) (S.gave source.new) (W.handed wire.new) ends.new result) }
 {
     pump_under(
         rt,
         alloc,
         secret,
         names,
+        schedules,
         source,
         wire,
         ends,
@@ -61,30 +73,38 @@ pub fn pump_under<R: Wait, S: Source, W: Wire, G: Signals>(
     rt: &R,
     alloc: Global,
     secret: &Secret,
-    names: &Names,
+    names: &mut Names,
+    schedules: &[Schedule],
     source: &mut S,
     wire: &mut W,
     ends: &mut [Ends],
     rounds: u32,
     signals: &G,
 ) -> Report
-    requires { length ends.old ≡ length (names_of names.now) }
-    ensures { Pumped (sorting secret.now names.now) rounds
-        (before (S.gave source.old) (W.handed wire.old) ends.old)
-        (after (S.gave source.new) (W.handed wire.new) ends.new result) }
+    requires ends { length ends.old ≡ length (names_of names.old) }
+    requires schedules { length schedules.now ≡ length (names_of names.old) }
+    requires differ { AllDiffer (names_of names.old) }
+    ensures { Pumped (sorting secret.now) schedules.now rounds
+        (before (names_of names.old) (S.gave source.old) (W.handed wire.old) ends.old)
+        (after (names_of names.new) (S.gave source.new) (W.handed wire.new) ends.new result) }
 {
     let mut poller = Poller::new();
+    let mut doors = Doors::new(schedules);
     for round in 0..rounds {
+        doors.begin(rt, signals, names, ends, round);
         let due = round % 64 == 0;
         let context = Context {
             rt,
             alloc,
-            lobby: Lobby { secret, names },
+            lobby: Lobby {
+                secret,
+                names: &*names,
+            },
             signals,
             all: due | poller.looks_at_all(),
         };
         poller.resend(wire);
-        poller.listen(&context, source, wire, ends);
+        poller.listen(&context, source, wire, ends, &mut doors.latest);
         poller.drain(&context, wire, ends);
     }
     poller.report()

@@ -3,8 +3,10 @@
 
 ghost use Rattle.std.specs.Prelude.{◌≡◌, ◌<◌, ◌≤◌, ◌^◌, IfOk, length};
 ghost use Rattle.srt_lobby.specs.Names.{names_of};
+ghost use Rattle.srt_poller.specs.Schedules.{AllDiffer};
 
 mod faults;
+mod rounds;
 
 use crate::{
     BindFault, ClockScript, Ends, MioSource, MioWire, Polled, Read, Report, ScriptDatagram, Sent,
@@ -14,7 +16,7 @@ use mio::net::UdpSocket;
 use srt_cookie::Secret;
 use srt_lobby::Names;
 use srt_mailbox::{RouteCell, Serve, Served, Ungated, open_route};
-use srt_seq::{Entry, Mode, Peer, Turned};
+use srt_seq::{Entry, Mode, Peer, Schedule, Turned};
 use std::alloc::Global;
 use std::net::{Ipv4Addr, Net, SocketAddr, SocketAddrV4};
 use std::process::Abort;
@@ -84,65 +86,84 @@ fn entry(alloc: Global, route: &(&str, Mode, u32)) -> Result<Entry, Fail> {
     })
 }
 
-/// What a poller is given besides its devices.
-#[derive(Drop)]
-struct Lobby {
-    secret: Secret,
-    names: Names,
-    ends: Vec<Ends>,
-    ghost paired: { length ends.items ≡ length (names_of names) },
-}
-
-/// Two routes: what the poller is given of them, and their cells.
+/// Two routes, of which the first has this schedule and the second is always open: the poller's ends, and the first
+/// route's cell.
 #[derive(Drop)]
 struct Routes {
-    lobby: Lobby,
-    cells: Vec<RouteCell>,
+    first: Schedule,
+    ends: [Ends; 2],
+    cell: RouteCell,
 }
 
-/// The routes `studio` and `files`.
-fn open_routes<R: Wait>(rt: &R, alloc: Global) -> Result<Routes, Fail> {
-    let entries = vec![in alloc; entry(alloc, &ROUTES[0])?, entry(alloc, &ROUTES[1])?]?;
-    let Ok(names) = Names::open(alloc, &entries) else {
+/// The schedule of a route that is always open.
+const ALWAYS: Schedule = Schedule {
+    open_round: 0,
+    close_round: None,
+};
+
+/// The names of these routes. The first is hidden if it opens in a later round than the first.
+fn named(alloc: Global, entries: &[Entry], first: Schedule) -> Result<Names, Fail>
+    ensures { IfOk result (λ names. (length (names_of names) ≡ length entries.now) × AllDiffer (names_of names)) }
+{
+    let Ok(mut names) = Names::open(alloc, entries) else {
         return Err(Fail::from("the names open"));
     };
-    let mut ends = Vec::new(alloc);
-    let mut cells = Vec::new(alloc);
-    let mut r = 0;
-    for entry in &entries {
-        let Ok((ingress, _, cell, drain)) = open_route(rt, alloc, entry, r) else {
-            return Err(Fail::from("the route opens"));
-        };
-        ends.push(Ends { ingress, drain })?;
-        cells.push(cell)?;
-        r += 1;
+    if first.open_round > 0 && !entries.is_empty() {
+        names.hide(0);
     }
-    let lobby = Lobby {
-        secret: Secret::new(SECRET),
-        names,
-        ends,
+    Ok(names)
+}
+
+/// The poller's ends and the cell of a route.
+fn opened<R: Wait>(rt: &R, alloc: Global, r: usize) -> Result<(Ends, RouteCell), Fail> {
+    let Some(route) = ROUTES.get(r) else {
+        return Err(Fail::from("a route"));
     };
-    Ok(Routes { lobby, cells })
+    let Ok((ingress, _, cell, drain)) = open_route(rt, alloc, &entry(alloc, route)?, r) else {
+        return Err(Fail::from("the route opens"));
+    };
+    Ok((Ends { ingress, drain }, cell))
+}
+
+/// The routes `studio`, with this schedule, and `files`, which is always open.
+fn scheduled<R: Wait>(rt: &R, alloc: Global, first: Schedule) -> Result<Routes, Fail> {
+    let (studio, cell) = opened(rt, alloc, 0)?;
+    let (files, _) = opened(rt, alloc, 1)?;
+    Ok(Routes {
+        first,
+        ends: [studio, files],
+        cell,
+    })
+}
+
+/// The routes `studio` and `files`, always open.
+fn open_routes<R: Wait>(rt: &R, alloc: Global) -> Result<Routes, Fail> {
+    scheduled(rt, alloc, ALWAYS)
 }
 
 /// The report of this many rounds over these devices.
 fn pumped<S: Source, W: Wire>(
     rt: &(impl AllocGlobal + Wait),
-    lobby: &mut Lobby,
+    first: Schedule,
+    ends: &mut [Ends; 2],
     source: &mut S,
     wire: &mut W,
     rounds: u32,
-) -> Report {
-    pump(
+) -> Result<Report, Fail> {
+    let alloc = rt.alloc();
+    let entries = [entry(alloc, &ROUTES[0])?, entry(alloc, &ROUTES[1])?];
+    let mut names = named(alloc, &entries, first)?;
+    Ok(pump(
         rt,
-        rt.alloc(),
-        &lobby.secret,
-        &lobby.names,
+        alloc,
+        &Secret::new(SECRET),
+        &mut names,
+        &[first, ALWAYS],
         source,
         wire,
-        lobby.ends.as_mut_slice(),
+        ends,
         rounds,
-    )
+    ))
 }
 
 /// The report of this many rounds in which the source does these steps.
@@ -152,11 +173,13 @@ fn reported(
     steps: Vec<SourceStep>,
     wire: &mut WireScript,
     rounds: u32,
-) -> Report {
+) -> Result<Report, Fail> {
+    let mut source = SourceScript::new(steps);
     pumped(
         rt,
-        &mut routes.lobby,
-        &mut SourceScript::new(steps),
+        routes.first,
+        &mut routes.ends,
+        &mut source,
         wire,
         rounds,
     )
@@ -165,10 +188,8 @@ fn reported(
 /// Serves the first route this many times.
 fn serve(rt: &impl Wait, routes: &Routes, times: u32) {
     let mut gate = Ungated;
-    if let Some(cell) = routes.cells.first() {
-        for _ in 0..times {
-            let _ = cell.serve(rt, &mut gate);
-        }
+    for _ in 0..times {
+        let _ = routes.cell.serve(rt, &mut gate);
     }
 }
 
@@ -192,7 +213,7 @@ fn an_induction_is_answered_and_a_failed_read_is_counted(rt: HostRuntime) -> Res
     let mut routes = open_routes(&rt, alloc)?;
     let mut wire = WireScript::new(alloc, Vec::new(alloc));
     let steps = vec![in alloc; comes(alloc, INDUCTION)?, SourceStep::ReadFails]?;
-    let report = reported(&rt, &mut routes, steps, &mut wire, 2);
+    let report = reported(&rt, &mut routes, steps, &mut wire, 2)?;
     assert_eq!(&rt;
         report,
         Report {
@@ -213,7 +234,7 @@ fn induction_with(
     let mut routes = open_routes(rt, alloc)?;
     let mut wire = WireScript::new(alloc, vec![in alloc; sent]?);
     let steps = vec![in alloc; wait, comes(alloc, INDUCTION)?]?;
-    Ok(reported(rt, &mut routes, steps, &mut wire, 1))
+    reported(rt, &mut routes, steps, &mut wire, 1)
 }
 
 #[test]
@@ -253,7 +274,7 @@ fn what_comes_is_answered_offered_or_dropped_and_a_full_inbox_loses_it(
     for _ in 0..17 {
         steps.push(comes(alloc, CONCLUSION)?)?;
     }
-    let report = reported(&rt, &mut routes, steps, &mut wire, 1);
+    let report = reported(&rt, &mut routes, steps, &mut wire, 1)?;
     assert_eq!(&rt;
         report,
         Report {
@@ -279,7 +300,7 @@ fn with_replies(rt: &(impl AllocGlobal + Wait), count: u32) -> Result<Routes, Fa
         steps.push(comes(alloc, CONCLUSION)?)?;
     }
     // No reply waits before the route is served.
-    let _ = reported(rt, &mut routes, steps, &mut wire, 1);
+    let _ = reported(rt, &mut routes, steps, &mut wire, 1)?;
     serve(rt, &routes, count.saturating_mul(2));
     Ok(routes)
 }
@@ -289,7 +310,7 @@ fn a_reply_that_is_put_off_goes_first_and_once(rt: HostRuntime) -> Result<(), Fa
     let alloc = rt.alloc();
     let mut routes = with_replies(&rt, 3)?;
     let mut wire = WireScript::new(alloc, vec![in alloc; Sent::Later; 10_000]?);
-    let report = reported(&rt, &mut routes, Vec::new(alloc), &mut wire, 10_001);
+    let report = reported(&rt, &mut routes, Vec::new(alloc), &mut wire, 10_001)?;
     assert_eq!(&rt;
         report,
         Report {
@@ -309,7 +330,7 @@ fn a_reply_that_is_kept_at_the_end_is_lost(rt: HostRuntime) -> Result<(), Fail> 
     let alloc = rt.alloc();
     let mut routes = with_replies(&rt, 2)?;
     let mut wire = WireScript::new(alloc, vec![in alloc; Sent::Later, Sent::Later]?);
-    let report = reported(&rt, &mut routes, Vec::new(alloc), &mut wire, 2);
+    let report = reported(&rt, &mut routes, Vec::new(alloc), &mut wire, 2)?;
     assert_eq!(&rt;
         report,
         Report {
@@ -319,7 +340,7 @@ fn a_reply_that_is_kept_at_the_end_is_lost(rt: HostRuntime) -> Result<(), Fail> 
     );
     assert_handed(&rt, &wire, &[])?;
     // The other one was not taken.
-    let report = reported(&rt, &mut routes, Vec::new(alloc), &mut wire, 1);
+    let report = reported(&rt, &mut routes, Vec::new(alloc), &mut wire, 1)?;
     assert_eq!(&rt;
         report,
         Report {
@@ -335,7 +356,7 @@ fn a_reply_that_meets_a_failure_is_lost(rt: HostRuntime) -> Result<(), Fail> {
     let alloc = rt.alloc();
     let mut routes = with_replies(&rt, 2)?;
     let mut wire = WireScript::new(alloc, vec![in alloc; Sent::Failed]?);
-    let report = reported(&rt, &mut routes, Vec::new(alloc), &mut wire, 1);
+    let report = reported(&rt, &mut routes, Vec::new(alloc), &mut wire, 1)?;
     assert_eq!(&rt;
         report,
         Report {
@@ -349,12 +370,14 @@ fn a_reply_that_meets_a_failure_is_lost(rt: HostRuntime) -> Result<(), Fail> {
     Ok(())
 }
 
-/// Serves a route until it has nothing to do or is blocked, and returns whether it is blocked.
-fn serve_all<R: Wait>(rt: &R, cell: &RouteCell) -> bool {
+/// Serves a route until it has nothing to do or is blocked, and returns whether it is blocked. Counts the items that
+/// were applied.
+fn serve_all<R: Wait>(rt: &R, cell: &RouteCell, applied: &mut u32) -> bool {
     let mut gate = Ungated;
     for _ in 0..64u32 {
         match cell.serve(rt, &mut gate) {
-            Served::Turned(Turned::Applied) | Served::Turned(Turned::Moved) => {}
+            Served::Turned(Turned::Applied) => *applied = applied.saturating_add(1),
+            Served::Turned(Turned::Moved) => {}
             Served::Turned(Turned::Blocked) => return true,
             _ => return false,
         }
@@ -369,23 +392,18 @@ struct Serving<'a, R: Wait> {
     cell: &'a RouteCell,
     script: SourceScript,
     blocked: u32,
+    applied: u32,
 }
 
 impl<'a, R: Wait> Serving<'a, R> {
-    /// A source that does these steps, and serves the first of these routes.
-    fn first(
-        rt: &'a R,
-        cells: &'a [RouteCell],
-        steps: Vec<SourceStep>,
-    ) -> Result<Serving<'a, R>, Fail> {
-        match cells.first() {
-            Some(cell) => Ok(Serving {
-                rt,
-                cell,
-                script: SourceScript::new(steps),
-                blocked: 0,
-            }),
-            None => Err(Fail::from("a first route")),
+    /// A source that does these steps, and serves this route.
+    fn new(rt: &'a R, cell: &'a RouteCell, steps: Vec<SourceStep>) -> Serving<'a, R> {
+        Serving {
+            rt,
+            cell,
+            script: SourceScript::new(steps),
+            blocked: 0,
+            applied: 0,
         }
     }
 }
@@ -396,7 +414,7 @@ impl<'a, R: Wait> Source for Serving<'a, R> {
     ghost gave = { λ s. ⟦<SourceScript as Source>⟧.gave s.script };
 
     fn wait(&mut self) -> Polled {
-        if serve_all(self.rt, self.cell) {
+        if serve_all(self.rt, self.cell, &mut self.applied) {
             self.blocked = self.blocked.saturating_add(1);
         }
         self.script.wait()
@@ -416,15 +434,22 @@ impl<'a, R: Wait> Source for Serving<'a, R> {
 #[test]
 fn a_wire_that_puts_off_blocks_turns_and_fills_inboxes(rt: HostRuntime) -> Result<(), Fail> {
     let alloc = rt.alloc();
-    let Routes { mut lobby, cells } = open_routes(&rt, alloc)?;
+    let mut routes = open_routes(&rt, alloc)?;
     let mut wire = WireScript::new(alloc, vec![in alloc; Sent::Later; 10_000]?);
     let mut steps = Vec::new(alloc);
     for _ in 0..60 {
         steps.push(comes(alloc, CONCLUSION)?)?;
         steps.push(SourceStep::Empty)?;
     }
-    let mut source = Serving::first(&rt, &cells, steps)?;
-    let report = pumped(&rt, &mut lobby, &mut source, &mut wire, 10_100);
+    let mut source = Serving::new(&rt, &routes.cell, steps);
+    let report = pumped(
+        &rt,
+        ALWAYS,
+        &mut routes.ends,
+        &mut source,
+        &mut wire,
+        10_100,
+    )?;
     assert!(&rt; source.blocked > 9_000);
     assert_eq!(&rt;
         report,
@@ -522,14 +547,14 @@ fn a_socket_reads_datagrams_of_several_peers(rt: HostRuntime) -> Result<(), Fail
 /// A client sends an induction to this source, and gets the answer from its address.
 fn assert_answers(
     rt: &(impl AllocGlobal + Net + Wait + Abort),
-    lobby: &mut Lobby,
+    ends: &mut [Ends; 2],
     source: &mut MioSource<ClockScript>,
     wire: &mut MioWire,
 ) -> Result<(), Fail> {
     let target = address(source)?;
     let client = UdpSocket::bind(rt, SocketAddr::V4(local(0)))?;
     client.send_to(&hex::decode(rt.alloc(), INDUCTION)?, target)?;
-    assert_eq!(rt; pumped(rt, lobby, source, wire, 10), ANSWERED);
+    assert_eq!(rt; pumped(rt, ALWAYS, ends, source, wire, 10)?, ANSWERED);
     let mut answer = [0u8; 100];
     let (len, from) = client.recv_from(&mut answer)?;
     assert_eq!(rt; len, 64);
@@ -540,9 +565,9 @@ fn assert_answers(
 #[test]
 fn a_socket_answers_an_induction(rt: HostRuntime) -> Result<(), Fail> {
     let alloc = rt.alloc();
-    let mut lobby = open_routes(&rt, alloc)?.lobby;
+    let mut routes = open_routes(&rt, alloc)?;
     let (mut source, mut wire) = bound(&rt, alloc, 0)?;
-    assert_answers(&rt, &mut lobby, &mut source, &mut wire)
+    assert_answers(&rt, &mut routes.ends, &mut source, &mut wire)
 }
 
 /// A client gets what this wire sends to it.

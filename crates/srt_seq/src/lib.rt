@@ -9,8 +9,9 @@
 //! them, first choose a reference: `Seq31::offset_in` a window, or `Stamp32::lift` near a time.
 //!
 //! Shared types, in `shared.rt`: [`Peer`], [`Item`] (the input of a route), [`Payload`] and [`PayloadRef`], [`Entry`]
-//! (a route's configuration), [`Mode`], [`Role`], [`Turned`], [`OpenFault`]. An `Entry` is checked in `entries.rt`; words
-//! in network byte order are in `words.rt`, and all limits and intervals in `limits.rt`.
+//! (a route's configuration), [`Schedule`] (when it opens and closes), [`Mode`], [`Role`], [`Turned`], [`OpenFault`]. An
+//! `Entry` is checked in `entries.rt`; words in network byte order are in `words.rt`, and all limits and intervals in
+//! `limits.rt`.
 #![tactic(auto)]
 
 mod entries;
@@ -24,7 +25,7 @@ mod words;
 pub use entries::{is_between, is_name};
 pub use limits::MOMENT_END;
 pub use numbers::{Msg26, Seq31};
-pub use shared::{Entry, Item, Mode, OpenFault, Payload, PayloadRef, Peer, Role, Turned};
+pub use shared::{Entry, Item, Mode, OpenFault, Payload, PayloadRef, Peer, Role, Schedule, Turned};
 pub use stamps::Stamp32;
 pub use words::{read_word, write_at, write_words};
 

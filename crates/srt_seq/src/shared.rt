@@ -64,6 +64,16 @@ pub struct Entry {
     pub outbox: u32,
 }
 
+/// When a route opens and closes in a run, in rounds of its poller, counted from 0. The type doesn't enforce that it
+/// closes after it opened: readers of configurations check it.
+#[derive(Clone, Copy, Debug, PartialEq, Eq)]
+pub struct Schedule {
+    /// The round at whose beginning the route opens; 0 if it is open from the start.
+    pub open_round: u32,
+    /// The round at whose beginning the route closes; `None` if it stays open.
+    pub close_round: Option<u32>,
+}
+
 /// One input of a route.
 #[derive(Debug, Drop)]
 pub enum Item {

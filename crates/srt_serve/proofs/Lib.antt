@@ -2,6 +2,7 @@ pub mod Within
 pub mod Moments
 pub mod Told
 pub mod Openings
+pub mod Later
 pub mod Settlings
 pub mod Routes
 pub mod Ends

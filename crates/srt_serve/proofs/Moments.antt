@@ -1,9 +1,9 @@
 -- Inboxes that were ticked, and ticked again.
-use Rattle.std.proofs.Common.{◌≡◌, ◌⊎◌, inl, inr, ℕ, zero, suc, ◌+◌, ◌<◌, ◌≤◌, List, [], ◌∷◌, ◌++◌, map, length, take, drop, slice_set, slice_index_or, refl, sym, ap, subst, ◌∙◌, append_assoc, append-nil, arith}
+use Rattle.std.proofs.Common.{◌≡◌, ◌⊎◌, inl, inr, ℕ, zero, suc, ◌+◌, ◌≤◌, List, [], ◌∷◌, ◌++◌, map, length, take, drop, slice_set, slice_index_or, refl, sym, ap, subst, ◌∙◌, append_assoc, append-nil, arith}
 use Rattle.std.proofs.lemmas.List.{map-append}
 use Rattle.std.proofs.Math.Seq.{take-append_seam}
 use Rattle.srt_mailbox.specs.Ends.{Producer, producer}
-use Rattle.srt_serve.specs.Ticks.{IsWithin, tick, WasTicked, WereTicked}
+use Rattle.srt_serve.specs.Ticks.{tick, WasTicked, WereTicked}
 use Rattle.srt_serve.proofs.Within.{within_append}
 
 pub was_not : (ms : List ℕ) (a : Producer) → WasTicked ms a a

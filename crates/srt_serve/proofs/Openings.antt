@@ -1,6 +1,6 @@
 -- Routes are opened one after another.
 use Rattle.std.proofs.Common.{◌≡◌, ◌⊎◌, inl, inr, ℕ, ◌+◌, ◌<◌, ◌≤◌, List, [], ◌∷◌, ◌++◌, length, map, take, get_or, refl, sym, subst, ◌∙◌, arith}
-use Rattle.std.proofs.lemmas.List.{take_more, map-append, length-take, length-map, get_or_append_left, get_or-append_right, length-append}
+use Rattle.std.proofs.lemmas.List.{take_more, map-append, length-take, length-map, get_or_append_left, length-append}
 use Rattle.srt_seq.specs.declared.shared.Entry.{Entry}
 use Rattle.srt_seq.specs.Terms.{Terms, terms_of}
 use Rattle.srt_mailbox.specs.Ends.{Producer}

@@ -3,30 +3,32 @@ use Rattle.std.proofs.Common.{◌≡◌, ℕ, zero, suc, ◌<◌, ◌≤◌, ◌
 use Rattle.std.proofs.lemmas.List.{map-append, length-map}
 use Rattle.std.proofs.lemmas.Bool.Decides.{nat_tests}
 use Rattle.std.specs.List.{list_all}
+use Rattle.srt_seq.specs.declared.shared.Schedule.{Schedule}
 use Rattle.srt_seq.specs.Entries.{is_between, in_limits}
 use Rattle.srt_seq.specs.Items.{Datagram, told}
 use Rattle.srt_seq.specs.Terms.{Terms}
 use Rattle.srt_seq.specs.declared.shared.OpenFault.TheVariants.{Names, Limits}
+use Rattle.srt_lobby.specs.Names.{RouteName}
 use Rattle.srt_lobby.specs.Opening.{fault_of, are_names, are_in_limits}
-use Rattle.srt_route.specs.declared.replies.Reply.{Reply}
 use Rattle.srt_route.specs.Route.{solo}
 use Rattle.srt_route.specs.Written.{written}
 use Rattle.srt_mailbox.specs.declared.accounts.Account.{Account}
 use Rattle.srt_mailbox.specs.declared.cells.RouteCell.{RouteCell}
 use Rattle.srt_mailbox.specs.Cells.{AreEndsOf}
 use Rattle.srt_mailbox.specs.Counts.{counted}
-use Rattle.srt_mailbox.specs.Ends.{Producer, producer}
+use Rattle.srt_mailbox.specs.Ends.{Producer}
 use Rattle.srt_mailbox.specs.Inbox.{applied}
 use Rattle.srt_mailbox.specs.Names.{name_in}
 use Rattle.srt_mailbox.specs.Settled.{Settles}
 use Rattle.srt_poller.specs.declared.ends.Ends.{Ends}
 use Rattle.srt_poller.specs.declared.report.Report.{Report}
 use Rattle.srt_poller.specs.Devices.{Arrival}
-use Rattle.srt_poller.specs.History.{Sorting, Event, handed, of_route, kept_of, kept_after, accepted, drained}
-use Rattle.srt_poller.specs.Pumped.{HaveOrigins, PumpedBy, Pumped, before, after}
+use Rattle.srt_poller.specs.History.{Sorting, Event, Follow, at_first, state_after, handed, of_route, kept_of, kept_after, accepted, drained}
+use Rattle.srt_poller.specs.Pumped.{HaveOrigins, Pumped, before, after}
 use Rattle.srt_poller.specs.Rounds.{IsLater, AreLater}
+use Rattle.srt_serve.specs.Later.{first_names}
 use Rattle.srt_serve.specs.Opened.{IsOpened, AreOpened}
-use Rattle.srt_serve.specs.Ran.{RouteRan, RanBy, Ran, told_by}
+use Rattle.srt_serve.specs.Ran.{RouteRan, Ran, told_by}
 use Rattle.srt_serve.specs.Settled.{AreJoined, AreSettled}
 use Rattle.srt_serve.specs.Ticks.{tick, WasTicked, WereTicked, Ticked}
 
@@ -148,15 +150,16 @@ few n h = grind (arith, nat_tests, both)
 pub few_routes : (entries : List Terms) → fault_of entries ≡ None → length entries ≤ 511
 few_routes entries sound = few (length entries) (both (is_between 1 511 (length entries)) (list_all in_limits entries) (limited (are_names entries) (are_in_limits entries) sound)).0
 
-pub all_ran : (class : Sorting) (entries : List Terms) (rounds : ℕ) (gave gave' : Option (List Arrival)) (to to' : Option (List Datagram)) (told_before told_after : Option (List ℕ)) (ends ends' : List Ends) (clocks clocks' : List Producer) (cells : List RouteCell) (report : Report) (accounts : List Account) →
-    fault_of entries ≡ None → AreOpened entries ends clocks cells → Pumped class rounds (before gave to ends) (after gave' to' ends' report) → Ticked told_before told_after clocks clocks' → AreSettled accounts ends' clocks' cells →
-    Ran class entries rounds (told_by gave to told_before) (told_by gave' to' told_after) report accounts
-all_ran class entries rounds gave gave' to to' told_before told_after ends ends' clocks clocks' cells report accounts sound opened pumped ticked settled =
+pub all_ran : (class : Sorting) (schedules : List Schedule) (entries : List Terms) (rounds : ℕ) (names names' : List RouteName) (gave gave' : Option (List Arrival)) (to to' : Option (List Datagram)) (told_before told_after : Option (List ℕ)) (ends ends' : List Ends) (clocks clocks' : List Producer) (cells : List RouteCell) (report : Report) (accounts : List Account) →
+    fault_of entries ≡ None → names ≡ first_names schedules entries → AreOpened entries ends clocks cells → Pumped class schedules rounds (before names gave to ends) (after names' gave' to' ends' report) → Ticked told_before told_after clocks clocks' → AreSettled accounts ends' clocks' cells →
+    Ran class schedules entries rounds (told_by gave to told_before) (told_by gave' to' told_after) report accounts
+all_ran class schedules entries rounds names names' gave gave' to to' told_before told_after ends ends' clocks clocks' cells report accounts sound named opened pumped ticked settled =
     let p = pumped.1 in (
       pumped.0,
       ticked.0,
       record {
-        follow = p.follow;
+        follow = subst (λ (ns : List RouteName). Follow class schedules (at_first ns) pumped.0) named p.follow;
+        over = subst (λ (ns : List RouteName). (state_after schedules (at_first ns) pumped.0).has_begun ≡ false) named p.over;
         gave = p.gave;
         handed_are = p.handed;
         moments_are = ticked.1;
@@ -164,7 +167,7 @@ all_ran class entries rounds gave gave' to to' told_before told_after ends ends'
         report_is = p.sums (omega (arith, few_routes entries sound, opened.as_many_ends));
         waits = p.waits;
         reads = p.reads;
-        few = subst (λ (n : ℕ). length pumped.0 ≤ rounds * (258 + 64 * n)) opened.as_many_ends p.few;
+        few = subst (λ (n : ℕ). length pumped.0 ≤ rounds * (259 + 64 * n)) opened.as_many_ends p.few;
         as_many = settled_length accounts ends' clocks' cells settled ∙ opened.as_many_cells;
         each = λ r terms a below.
             let e = some_of ends r (omega (arith, below, opened.as_many_ends)) in

@@ -1,5 +1,5 @@
 -- Routes are settled one after another.
-use Rattle.std.proofs.Common.{◌≡◌, true, false, ◌↔◌, ℕ, ◌+◌, ◌<◌, ◌≤◌, Option, None, Some, IsSome, List, [], ◌∷◌, ◌++◌, length, refl, sym, subst, append_assoc, append-nil, arith}
+use Rattle.std.proofs.Common.{◌≡◌, true, false, ◌↔◌, ℕ, ◌<◌, Option, None, Some, IsSome, List, [], ◌∷◌, ◌++◌, length, refl, append_assoc, append-nil, arith}
 use Rattle.srt_mailbox.specs.declared.accounts.Account.{Account}
 use Rattle.srt_mailbox.specs.declared.cells.RouteCell.{RouteCell}
 use Rattle.srt_mailbox.specs.Ends.{Producer}

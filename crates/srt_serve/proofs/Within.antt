@@ -1,5 +1,5 @@
 -- Lists with some elements left out.
-use Rattle.std.proofs.Common.{◌≡◌, ◌⊎◌, inl, inr, List, [], ◌∷◌, ◌++◌, refl}
+use Rattle.std.proofs.Common.{inl, inr, List, [], ◌∷◌, ◌++◌}
 use Rattle.srt_serve.specs.Ticks.{IsWithin}
 
 pub within_later : {A : Type 0} (us ys vs : List A) → IsWithin us vs → IsWithin us (ys ++ vs)

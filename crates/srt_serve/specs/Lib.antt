@@ -1,4 +1,5 @@
 pub mod Ticks
+pub mod Later
 pub mod Opened
 pub mod Polled
 pub mod Settled

@@ -1,10 +1,8 @@
 -- The ends of all routes, as they are opened.
 use Rattle.std.specs.Prelude.{◌≡◌, ℕ, ◌<◌, List, [], length, slice_index_or}
 use Rattle.srt_seq.specs.Terms.{Terms}
-use Rattle.srt_lobby.specs.Names.{name_of}
 use Rattle.srt_mailbox.specs.Ends.{Producer, producer, drained}
 use Rattle.srt_mailbox.specs.declared.cells.RouteCell.{RouteCell}
-use Rattle.srt_mailbox.specs.Cells.{Name}
 use Rattle.srt_mailbox.specs.Names.{name_in}
 use Rattle.srt_poller.specs.declared.ends.Ends.{Ends}
 

@@ -1,5 +1,6 @@
 -- What a run did.
-use Rattle.std.specs.Prelude.{◌≡◌, ℕ, ◌+◌, ◌*◌, ◌<◌, ◌≤◌, Option, None, List, [], ◌∷◌, ◌++◌, map, length, slice_index_or}
+use Rattle.std.specs.Prelude.{◌≡◌, ℕ, ◌+◌, ◌*◌, ◌<◌, ◌≤◌, false, Option, None, List, ◌++◌, map, length, slice_index_or}
+use Rattle.srt_seq.specs.declared.shared.Schedule.{Schedule}
 use Rattle.srt_seq.specs.Items.{Datagram, told}
 use Rattle.srt_seq.specs.Terms.{Terms}
 use Rattle.srt_route.specs.declared.replies.Reply.{Reply}
@@ -11,13 +12,14 @@ use Rattle.srt_mailbox.specs.Inbox.{polled_of, ticked_of, applied}
 use Rattle.srt_mailbox.specs.Counts.{counted}
 use Rattle.srt_poller.specs.declared.report.Report.{Report}
 use Rattle.srt_poller.specs.Devices.{Arrival, joined}
-use Rattle.srt_poller.specs.History.{Sorting, Event, Follow, kept_after, kept_of, given, handed, datagrams, of_lobby, of_route, answered, accepted, drained, waits_in, reads_in, ready_in}
+use Rattle.srt_poller.specs.History.{Sorting, Event, Follow, at_first, state_after, kept_after, kept_of, given, handed, datagrams, of_lobby, of_route, answered, accepted, drained, waits_in, reads_in, ready_in}
 use Rattle.srt_poller.specs.Reports.{total}
+use Rattle.srt_serve.specs.Later.{first_names}
 use Rattle.srt_serve.specs.Ticks.{IsWithin, tick}
 
 -- One route, if these events happened at the poller and the ticker gave these moments. The items taken, followed by those left, are, by
--- their marks, the datagrams that the inbox accepted from the poller and ticks of some of the moments, each in order. The replies of this
--- route that were sent, then the kept one, those queued and those that wait are all that the route, alone, replies to the items taken. The
+-- their marks, the datagrams and the closing that the inbox accepted from the poller and ticks of some of the moments, each in order. The
+-- replies of this route that were sent, then the kept one, those queued and those that wait are all that the route, alone, replies to the items taken. The
 -- account has their numbers
 pub record RouteRan (terms : Terms) (index : ℕ) (events : List Event) (moments : List ℕ) (a : Account) : Type 0 where
   pub taken : List Marked
@@ -44,12 +46,13 @@ pub record Told : Type 0 where
 abbrev pub told_by : Option (List Arrival) → Option (List Datagram) → Option (List ℕ) → Told
 told_by gave handed moments = record { gave = gave; handed = handed; moments = moments }
 
--- These events happened at the poller, the oldest first, and the ticker gave these moments. The source gave the datagrams of the events,
--- and what happened to each is what its class says; the wire was handed the datagrams of the events; the report counts them. The source
--- waited once a round, and was read at least as often as it waited without a failure. There is an account of each route, in the order of
--- their indexes
-pub record RanBy (class : Sorting) (entries : List Terms) (rounds : ℕ) (old new : Told) (report : Report) (accounts : List Account) (events : List Event) (moments : List ℕ) : Type 0 where
-  pub follow : Follow class None events
+-- These events happened at the poller, the oldest first, and the ticker gave these moments. In each round the routes of its schedules opened
+-- and closed; at first those that open later were hidden. The source gave the datagrams of the events, and what happened to each is what its
+-- class says, with the names then in force; the wire was handed the datagrams of the events; the report counts them. The source waited once
+-- a round, and was read at least as often as it waited without a failure. There is an account of each route, in the order of their indexes
+pub record RanBy (class : Sorting) (schedules : List Schedule) (entries : List Terms) (rounds : ℕ) (old new : Told) (report : Report) (accounts : List Account) (events : List Event) (moments : List ℕ) : Type 0 where
+  pub follow : Follow class schedules (at_first (first_names schedules entries)) events
+  pub over : (state_after schedules (at_first (first_names schedules entries)) events).has_begun ≡ false
   pub gave : new.gave ≡ joined old.gave (given events)
   pub handed_are : new.handed ≡ joined old.handed (datagrams (handed events))
   pub moments_are : new.moments ≡ joined old.moments moments
@@ -57,9 +60,9 @@ pub record RanBy (class : Sorting) (entries : List Terms) (rounds : ℕ) (old ne
   pub report_is : report ≡ total events (kept_after None events)
   pub waits : waits_in events ≡ rounds
   pub reads : ready_in events ≤ reads_in events
-  pub few : length events ≤ rounds * (258 + 64 * length entries)
+  pub few : length events ≤ rounds * (259 + 64 * length entries)
   pub as_many : length accounts ≡ length entries
   pub each : (r : ℕ) (terms : Terms) (a : Account) → r < length entries → RouteRan (slice_index_or entries r terms) r events moments (slice_index_or accounts r a)
 
-abbrev pub Ran : Sorting → List Terms → (rounds : ℕ) → (old new : Told) → Report → List Account → Type 0
-Ran class entries rounds old new report accounts = (events : List Event) × (moments : List ℕ) × RanBy class entries rounds old new report accounts events moments
+abbrev pub Ran : Sorting → List Schedule → List Terms → (rounds : ℕ) → (old new : Told) → Report → List Account → Type 0
+Ran class schedules entries rounds old new report accounts = (events : List Event) × (moments : List ℕ) × RanBy class schedules entries rounds old new report accounts events moments

@@ -1,5 +1,5 @@
 -- What a ticking thread offers.
-use Rattle.std.specs.Prelude.{◌≡◌, ◌⊎◌, ℕ, zero, suc, Option, List, [], ◌∷◌, ◌++◌, map}
+use Rattle.std.specs.Prelude.{◌≡◌, ◌⊎◌, ℕ, Option, List, [], ◌∷◌, ◌++◌, map}
 use Rattle.srt_seq.specs.declared.shared.Item.{Item}
 use Rattle.srt_seq.specs.declared.shared.Item.TheVariants.{Tick}
 use Rattle.srt_mailbox.specs.Ends.{Producer, producer}

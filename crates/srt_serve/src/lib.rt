@@ -6,11 +6,13 @@
 //! Types: a `Ticker` gives the moments at which all routes are ticked; `Ran` is the outcome of a run, a report of the
 //! poller and an account of each route; `RunFault` says why there is none.
 //!
-//! Calls: `run`, once. It returns when the given number of rounds is over and all its threads have ended.
+//! Calls: `run`, once. It returns when the given number of rounds is over and all its threads have ended. Each route has
+//! a `srt_seq::Schedule`: the rounds in which callers begin to find it and in which it closes.
 //!
-//! Files, in the order of a run: `opening.rt` opens all routes; `serving.rt` starts and joins the threads, which are
-//! `ticking.rt`, `working.rt` and `srt_poller::pump_under`; `settling.rt` settles the routes. How threads wake each
-//! other is `hall.rt`, with `bell.rt` and `marks.rt`; no contract depends on it. `specs/Ran.antt` says what a run did.
+//! Files, in the order of a run: `running.rt` has the whole of it, and hides routes that open later; `opening.rt` opens
+//! all routes; `serving.rt` starts and joins the threads, which are `ticking.rt`, `working.rt` and
+//! `srt_poller::pump_under`; `settling.rt` settles the routes. How threads wake each other is `hall.rt`, with `bell.rt`
+//! and `marks.rt`; no contract depends on it. `specs/Ran.antt` says what a run did.
 #![tactic(auto)]
 
 mod bell;

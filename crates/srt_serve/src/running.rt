@@ -5,21 +5,22 @@ ghost use Rattle.std.specs.Vec.{vec_len, vec_capacity};
 ghost use Rattle.srt_seq.specs.Terms.{terms_of};
 ghost use Rattle.srt_cookie.specs.Cookie.{secret_bytes};
 ghost use Rattle.srt_lobby.specs.Lobby.{class_of};
-ghost use Rattle.srt_lobby.specs.Names.{name_of, names_of};
+ghost use Rattle.srt_lobby.specs.Names.{names_of};
 ghost use Rattle.srt_lobby.specs.Opening.{fault_of};
+ghost use Rattle.srt_serve.specs.Later.{later_hidden, first_names};
 ghost use Rattle.srt_serve.specs.Opened.{AreOpened};
 ghost use Rattle.srt_serve.specs.Ran.{told_by, Ran as TheRan};
 
 use crate::hall::Hall;
 use crate::opening::{Opened, open_routes};
-use crate::serving::{Context, Crew, serve_routes};
+use crate::serving::{Context, Crew, Front, serve_routes};
 use crate::settling::settle_routes;
 use crate::ticking::{Clocks, Ticker};
 use srt_cookie::Secret;
 use srt_lobby::Names;
 use srt_mailbox::{Account, Gate};
 use srt_poller::{Report, Source, Wire};
-use srt_seq::Entry;
+use srt_seq::{Entry, Schedule};
 use std::alloc::{AllocError, Global};
 use std::sync::Wait;
 use std::thread::Threads;
@@ -57,20 +58,35 @@ struct Stage {
     accounts: Vec<Account>,
 }
 
+// Hides the routes that open later than in the first round.
+fn hide_later(names: &mut Names, schedules: &[Schedule])
+    requires { length schedules.now ≡ length (names_of names.old) }
+    ensures { names_of names.new ≡ later_hidden schedules.now (names_of names.old) }
+{
+    for r in 0..schedules.len() {
+        if schedules[r].open_round != 0 {
+            names.hide(r);
+        }
+    }
+}
+
 fn open_stage<R: Wait>(
     rt: &R,
     alloc: Global,
     entries: &[Entry],
+    schedules: &[Schedule],
     workers: usize,
 ) -> Result<Stage, AllocError>
-    ensures names { IfOk result (λ s. names_of s.names ≡ map name_of (map terms_of entries.now)) }
+    requires { length schedules.now ≡ length entries.now }
+    ensures names { IfOk result (λ s. names_of s.names ≡ first_names schedules.now (map terms_of entries.now)) }
     ensures routes { IfOk result (λ s. AreOpened (map terms_of entries.now)
         s.routes.ends.items s.routes.clocks.items s.routes.cells.items) }
     ensures accounts { IfOk result (λ s. (s.accounts.items ≡ []) × (length entries.now ≤ vec_capacity s.accounts)) }
 {
-    let Ok(names) = Names::open(alloc, entries) else {
+    let Ok(mut names) = Names::open(alloc, entries) else {
         return Err(AllocError);
     };
+    hide_later(&mut names, schedules);
     Ok(Stage {
         names,
         routes: open_routes(rt, alloc, entries)?,
@@ -80,19 +96,22 @@ fn open_stage<R: Wait>(
 }
 
 /// Runs the gateway of these entries for `rounds` rounds of its poller, and returns the poller's report and an account
-/// of each route. The entries must be right as a whole: names distinct, numbers within their limits. `workers` has a
-/// gate for each worker, 1 to 16.
+/// of each route. The entries must be right as a whole: names distinct, numbers within their limits. `schedules` has a
+/// schedule for each entry, and `workers` a gate for each worker, 1 to 16.
 ///
-/// First all routes are opened, which takes all memory but that of threads and of arriving datagrams. Then one thread
-/// for each worker and one ticking thread are started. Once all of them run, the calling thread polls the source and
-/// the wire, the ticking thread ticks all routes at each moment that the ticker gives, and the workers serve the
-/// routes. After the rounds all threads end, and each route is settled. A ticker that waits delays that end.
+/// First all routes are opened, those that callers find in a later round too, which takes all memory but that of
+/// threads and of arriving datagrams. The names of later routes are hidden until their round. Then one thread for each
+/// worker and one ticking thread are started. Once all of them run, the calling thread polls the source and the wire,
+/// and opens and closes routes at the beginning of each round; the ticking thread ticks all routes, hidden ones too, at
+/// each moment that the ticker gives; and the workers serve all of them. After the rounds all threads end, and each
+/// route is settled. A ticker that waits delays that end.
 #[tactic(auto, unfolding(crate::specs::Polled::AreUntouched))]
 pub fn run<R, S: Source, W: Wire, K, G>(
     rt: &R,
     alloc: Global,
     secret: &Secret,
     entries: &[Entry],
+    schedules: &[Schedule],
     source: &mut S,
     wire: &mut W,
     ticker: K,
@@ -104,14 +123,14 @@ where
     K: Ticker + Send + Drop,
     G: Gate + Send + Drop,
     requires entries { fault_of (map terms_of entries.now) ≡ None }
+    requires schedules { length schedules.now ≡ length entries.now }
     requires workers { (1 ≤ vec_len workers) × (vec_len workers ≤ 16) }
-    ensures ran { IfOk result (λ r. let entries = map terms_of entries.now in
-        TheRan (class_of (secret_bytes secret.now) (map name_of entries)) entries rounds
+    ensures ran { IfOk result (λ r. TheRan (class_of (secret_bytes secret.now)) schedules.now (map terms_of entries.now) rounds
         (told_by (S.gave source.old) (W.handed wire.old) (K.gave ticker))
         (told_by (S.gave source.new) (W.handed wire.new) (K.gave r.ticker)) r.report r.accounts.items) }
     ensures unread { (result ≡ Err RunFault.OutOfMemory) ⊎ (result ≡ Err RunFault.Thread) → (source.new ≡ source.old) × (wire.new ≡ wire.old) }
 {
-    let Ok(stage) = open_stage(rt, alloc, entries, workers.len()) else {
+    let Ok(stage) = open_stage(rt, alloc, entries, schedules, workers.len()) else {
         return Err(RunFault::OutOfMemory);
     };
     let Stage {
@@ -121,7 +140,7 @@ where
         accounts,
     } = stage;
     let Opened {
-        mut ends,
+        ends,
         clocks,
         cells,
     } = routes;
@@ -129,11 +148,12 @@ where
         rt,
         alloc,
         secret,
-        names: &names,
+        schedules,
         cells: cells.as_slice(),
         hall: &hall,
         rounds,
     };
+    let mut front = Front { names, ends };
     let mut crew = Crew {
         clocks: Clocks {
             ends: clocks,
@@ -141,13 +161,14 @@ where
         },
         gates: workers,
     };
-    let Some(report) = serve_routes(&context, source, wire, &mut ends, &mut crew) else {
+    let Some(report) = serve_routes(&context, source, wire, &mut front, &mut crew) else {
         return Err(RunFault::Thread);
     };
     let Clocks {
         ends: clocks,
         ticker,
     } = crew.clocks;
+    let Front { ends, .. } = front;
     let Ok(accounts) = settle_routes(rt, ends, clocks, cells, accounts) else {
         return Err(RunFault::Busy);
     };

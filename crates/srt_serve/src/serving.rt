@@ -1,10 +1,11 @@
 //! Starts the threads of a run, and joins them.
 
-ghost use Rattle.std.specs.Prelude.{◌≡◌, IfSome, IfNone, length};
+ghost use Rattle.std.specs.Prelude.{◌≡◌, IfSome, IfNone};
+ghost use Rattle.srt_cookie.specs.Cookie.{secret_bytes};
+ghost use Rattle.srt_lobby.specs.Lobby.{class_of};
 ghost use Rattle.srt_lobby.specs.Names.{names_of};
-ghost use Rattle.srt_poller.specs.Pollers.{sorting};
 ghost use Rattle.srt_poller.specs.Pumped.{before, after};
-ghost use Rattle.srt_serve.specs.Polled.{Polled, AreUntouched};
+ghost use Rattle.srt_serve.specs.Polled.{AreReady, Polled, AreUntouched};
 ghost use Rattle.srt_serve.specs.Ticks.{Ticked};
 
 use crate::hall::Hall;
@@ -14,6 +15,7 @@ use srt_cookie::Secret;
 use srt_lobby::Names;
 use srt_mailbox::{Gate, Serve};
 use srt_poller::{Ends, Report, Source, Wire, pump_under};
+use srt_seq::Schedule;
 use std::alloc::Global;
 use std::sync::Wait;
 use std::thread::{Threads, join_mut};
@@ -28,14 +30,23 @@ pub struct Context<'a, R, C> {
     pub alloc: Global,
     /// The secret of the lobby's cookies.
     pub secret: &'a Secret,
-    /// The names of the routes, in the order of their indexes.
-    pub names: &'a Names,
+    /// The rounds in which each route opens and closes, in the order of their indexes.
+    pub schedules: &'a [Schedule],
     /// The routes, which all workers serve.
     pub cells: &'a [C],
     /// The hints, and whether the run is over.
     pub hall: &'a Hall,
     /// The number of the poller's rounds.
     pub rounds: u32,
+}
+
+/// What the polling thread has for itself: the routes as callers find them.
+#[derive(Drop)]
+pub struct Front {
+    /// The names of the routes, in the order of their indexes. A round shows and hides them.
+    pub names: Names,
+    /// The poller's ends of all routes, in the same order.
+    pub ends: Vec<Ends>,
 }
 
 /// What the threads besides the polling one have for themselves.
@@ -78,24 +89,25 @@ where
 
 // Waits until all threads have arrived, polls for `rounds` rounds, and ends the run. `None` if they don't arrive; then
 // nothing was read.
-#[tactic(auto, unfolding(crate::specs::Polled::Polled, crate::specs::Polled::AreUntouched))]
+#[tactic(auto, unfolding(crate::specs::Polled::AreReady, crate::specs::Polled::Polled, crate::specs::Polled::AreUntouched))]
 fn poll<R: Wait, S: Source, W: Wire, C>(
     context: &Context<R, C>,
     source: &mut S,
     wire: &mut W,
-    ends: &mut [Ends],
+    front: &mut Front,
 ) -> Option<Report>
-    requires { length ends.old ≡ length (names_of context.now.names.now) }
-    ensures pumped { IfSome result (λ report. Polled (sorting context.now.secret.now context.now.names.now) context.now.rounds
-        (before (S.gave source.old) (W.handed wire.old) ends.old)
-        (after (S.gave source.new) (W.handed wire.new) ends.new report)) }
+    requires { AreReady context.now.schedules.now (names_of front.old.names) front.old.ends.items }
+    ensures pumped { IfSome result (λ report.
+        Polled (class_of (secret_bytes context.now.secret.now)) context.now.schedules.now context.now.rounds
+        (before (names_of front.old.names) (S.gave source.old) (W.handed wire.old) front.old.ends.items)
+        (after (names_of front.new.names) (S.gave source.new) (W.handed wire.new) front.new.ends.items report)) }
     ensures unread { IfNone result (AreUntouched source.old source.new wire.old wire.new) }
 {
     let Context {
         rt,
         alloc,
         secret,
-        names,
+        schedules,
         hall,
         rounds,
         ..
@@ -104,7 +116,11 @@ fn poll<R: Wait, S: Source, W: Wire, C>(
         hall.finish();
         return None;
     }
-    let report = pump_under(rt, alloc, secret, names, source, wire, ends, rounds, hall);
+    let names = &mut front.names;
+    let ends = &mut front.ends;
+    let report = pump_under(
+        rt, alloc, secret, names, schedules, source, wire, ends, rounds, hall,
+    );
     hall.finish();
     Some(report)
 }
@@ -114,24 +130,25 @@ fn tick_and_poll<R, S: Source, W: Wire, K, C>(
     context: &Context<R, C>,
     source: &mut S,
     wire: &mut W,
-    ends: &mut [Ends],
+    front: &mut Front,
     clocks: &mut Clocks<K>,
 ) -> Option<Report>
 where
     R: Threads + Wait + Sync,
     K: Ticker + Send + Drop,
     C: Sync,
-    requires { length ends.old ≡ length (names_of context.now.names.now) }
-    ensures pumped { IfSome result (λ report. Polled (sorting context.now.secret.now context.now.names.now) context.now.rounds
-        (before (S.gave source.old) (W.handed wire.old) ends.old)
-        (after (S.gave source.new) (W.handed wire.new) ends.new report)) }
+    requires { AreReady context.now.schedules.now (names_of front.old.names) front.old.ends.items }
+    ensures pumped { IfSome result (λ report.
+        Polled (class_of (secret_bytes context.now.secret.now)) context.now.schedules.now context.now.rounds
+        (before (names_of front.old.names) (S.gave source.old) (W.handed wire.old) front.old.ends.items)
+        (after (names_of front.new.names) (S.gave source.new) (W.handed wire.new) front.new.ends.items report)) }
     ensures ticked { Ticked (K.gave clocks.old.ticker) (K.gave clocks.new.ticker) clocks.old.ends.items clocks.new.ends.items }
     ensures unread { IfNone result (AreUntouched source.old source.new wire.old wire.new) }
 {
     let (_, report) = join_mut(
         context.rt,
         &mut || tick(context.rt, clocks, context.hall),
-        &mut || poll(context, source, wire, ends),
+        &mut || poll(context, source, wire, front),
     );
     report
 }
@@ -142,7 +159,7 @@ pub fn serve_routes<R, S: Source, W: Wire, K, G, C>(
     context: &Context<R, C>,
     source: &mut S,
     wire: &mut W,
-    ends: &mut [Ends],
+    front: &mut Front,
     crew: &mut Crew<K, G>,
 ) -> Option<Report>
 where
@@ -150,10 +167,11 @@ where
     K: Ticker + Send + Drop,
     G: Gate + Send + Drop,
     C: Serve + Sync,
-    requires { length ends.old ≡ length (names_of context.now.names.now) }
-    ensures pumped { IfSome result (λ report. Polled (sorting context.now.secret.now context.now.names.now) context.now.rounds
-        (before (S.gave source.old) (W.handed wire.old) ends.old)
-        (after (S.gave source.new) (W.handed wire.new) ends.new report)) }
+    requires { AreReady context.now.schedules.now (names_of front.old.names) front.old.ends.items }
+    ensures pumped { IfSome result (λ report.
+        Polled (class_of (secret_bytes context.now.secret.now)) context.now.schedules.now context.now.rounds
+        (before (names_of front.old.names) (S.gave source.old) (W.handed wire.old) front.old.ends.items)
+        (after (names_of front.new.names) (S.gave source.new) (W.handed wire.new) front.new.ends.items report)) }
     ensures ticked { Ticked (K.gave crew.old.clocks.ticker) (K.gave crew.new.clocks.ticker)
         crew.old.clocks.ends.items crew.new.clocks.ends.items }
     ensures unread { IfNone result (AreUntouched source.old source.new wire.old wire.new) }
@@ -164,8 +182,8 @@ where
         context.rt,
         &mut || start_workers(context, gates),
         &mut ||
-            requires { length ends.now ≡ length (names_of context.now.names.now) }
-        { tick_and_poll(context, source, wire, ends, clocks) },
+            requires { AreReady context.now.schedules.now (names_of front.now.names) front.now.ends.items }
+        { tick_and_poll(context, source, wire, front, clocks) },
     );
     report
 }

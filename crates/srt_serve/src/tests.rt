@@ -1,7 +1,7 @@
 //! Runs of the gateway over devices in memory. The cookie in the conclusions was computed by Python's hashlib; the other
 //! bytes are worked out from the rules by hand.
 
-ghost use Rattle.std.specs.Prelude.{◌≡◌, ◌<◌, ◌≤◌, ◌^◌, None, map};
+ghost use Rattle.std.specs.Prelude.{◌≡◌, ◌<◌, ◌≤◌, ◌^◌, None, map, length};
 ghost use Rattle.std.specs.Vec.{vec_len};
 ghost use Rattle.srt_seq.specs.Terms.{terms_of};
 ghost use Rattle.srt_lobby.specs.Opening.{fault_of};
@@ -9,9 +9,9 @@ ghost use Rattle.srt_lobby.specs.Opening.{fault_of};
 use crate::{Ran, RunFault, Ticker, run};
 use srt_cookie::Secret;
 use srt_lobby::Names;
-use srt_mailbox::{Account, Gate, Ungated};
+use srt_mailbox::{Gate, Ungated};
 use srt_poller::{Polled, Read, Report, Sent, Source, Wire};
-use srt_seq::{Entry, Mode, Peer};
+use srt_seq::{Entry, Mode, Peer, Schedule};
 use std::alloc::Global;
 use std::process::Abort;
 use std::sync::atomic::{AtomicBool, AtomicU64, Ordering};
@@ -27,6 +27,17 @@ const STUDIO: &str =
 /// The same with caller ID 2, on the route `studia`.
 const STUDIA: &str =
     "80000000000000000000000000000000000000050000000500000005000005dc00002000ffffffff00000002ecc958a6000000000000000000000000000000000001000300010500000000bf00780078000500063a3a212374733d7261696475703d6d2c696c627500006873";
+
+/// The answer to the first one, from the route `studio` with a window of 1024 packets.
+const ANSWER: &str =
+    "80000000000000000000000000000001000000050000000100000005000005dc00000400ffffffff00100000000000000000000000000000000000000000000000020003000105000000003f00780078";
+
+/// The lobby's answer to the first one while there is no route `studio`: 1002.
+const REFUSAL: &str =
+    "80000000000000000000000000000001000000050000000000000005000005dc00002000000003ea000000010000000000000000000000000000000000000000";
+
+/// The SHUTDOWN that the first caller gets at its own moment.
+const SHUTDOWN: &str = "80050000000000000000000000000001";
 
 /// When all datagrams and ticks come, in microseconds.
 const MOMENT: u64 = 1_000_000;
@@ -93,8 +104,18 @@ impl Meeting {
     }
 }
 
-/// A source whose waits yield. In its first round it gives one datagram of each of these texts. Then it gives the first
-/// again after each answer that the wire took, and after a pause without one, until the wire took `ANSWERS` answers.
+/// When callers call again after the first round.
+#[derive(Clone, Copy)]
+enum Again {
+    Never,
+    /// In the round of this wait, counted from 1; no tick comes before the round after it.
+    InWait(u64),
+    /// After each answer that the wire took, and after a pause without one, until the wire took `ANSWERS` answers.
+    Answered,
+}
+
+/// A source whose waits yield. In its first round it gives one datagram of each of these texts, and later the first of
+/// them again.
 #[derive(Drop)]
 struct Callers {
     meeting: Arc<Meeting>,
@@ -103,11 +124,11 @@ struct Callers {
     given: usize,
     seen: u64,
     quiet: u64,
-    repeats: bool,
+    again: Again,
 }
 
 impl Callers {
-    fn new(meeting: Arc<Meeting>, texts: Vec<Vec<u8>>, repeats: bool) -> Callers {
+    fn new(meeting: Arc<Meeting>, texts: Vec<Vec<u8>>, again: Again) -> Callers {
         Callers {
             meeting,
             texts,
@@ -115,14 +136,23 @@ impl Callers {
             given: 0,
             seen: 0,
             quiet: 0,
-            repeats,
+            again,
         }
     }
 
     /// Whether the first datagram comes again now.
     fn is_time(&mut self) -> bool {
+        match self.again {
+            Again::Never => false,
+            Again::InWait(wait) => self.waits == wait,
+            Again::Answered => self.is_answered(),
+        }
+    }
+
+    /// Whether an answer was taken since the first datagram came, or a pause is over.
+    fn is_answered(&mut self) -> bool {
         let taken = self.meeting.taken.load(Ordering::SeqCst);
-        if !self.repeats || taken >= ANSWERS {
+        if taken >= ANSWERS {
             return false;
         }
         self.quiet = self.quiet.saturating_add(1);
@@ -142,11 +172,15 @@ impl Source for Callers {
 
     fn wait(&mut self) -> Polled {
         self.waits = self.waits.saturating_add(1);
-        if self.waits >= 2 {
+        let last = match self.again {
+            Again::InWait(wait) => wait,
+            _ => 1,
+        };
+        if self.waits > last {
             self.meeting.waited.store(true, Ordering::SeqCst);
-            if self.is_time() {
-                self.given = 0;
-            }
+        }
+        if self.waits > 1 && self.is_time() {
+            self.given = 0;
         }
         thread::yield_now();
         Polled::Ready
@@ -167,7 +201,7 @@ impl Source for Callers {
     }
 }
 
-/// A wire, a ticker or a gate that takes part in a meeting.
+/// A ticker or a gate that takes part in a meeting.
 #[derive(Drop)]
 struct Member {
     meeting: Arc<Meeting>,
@@ -181,8 +215,36 @@ impl Member {
     }
 }
 
-/// It takes everything.
-impl Wire for Member {
+/// A wire that takes everything.
+#[derive(Drop)]
+struct Listener {
+    meeting: Arc<Meeting>,
+    refusal: Vec<u8>,
+    answer: Vec<u8>,
+    shutdown: Vec<u8>,
+    /// The number of times that it took `refusal`.
+    refusals: u64,
+    /// The number of times that it took `answer`.
+    answers: u64,
+    /// It took `shutdown`, after at least `ANSWERS` answers.
+    is_closed: bool,
+}
+
+impl Listener {
+    fn open(alloc: Global, meeting: &Arc<Meeting>) -> Result<Listener, Fail> {
+        Ok(Listener {
+            meeting: Arc::try_clone(meeting)?,
+            refusal: hex::decode(alloc, REFUSAL)?,
+            answer: hex::decode(alloc, ANSWER)?,
+            shutdown: hex::decode(alloc, SHUTDOWN)?,
+            refusals: 0,
+            answers: 0,
+            is_closed: false,
+        })
+    }
+}
+
+impl Wire for Listener {
     ghost failures = { λ wire. 0 };
 
     ghost handed = { λ wire. None };
@@ -191,6 +253,15 @@ impl Wire for Member {
         self.meeting.taken.fetch_add(1, Ordering::SeqCst);
         if bytes.len() >= 16 && bytes[15] == 2 {
             self.meeting.answered.store(true, Ordering::SeqCst);
+        }
+        if bytes == self.refusal.as_slice() {
+            self.refusals = self.refusals.saturating_add(1);
+        }
+        if bytes == self.answer.as_slice() {
+            self.answers = self.answers.saturating_add(1);
+        }
+        if bytes == self.shutdown.as_slice() {
+            self.is_closed = self.answers >= ANSWERS;
         }
         Sent::Taken
     }
@@ -244,69 +315,108 @@ fn peer() -> Peer {
     }
 }
 
-fn entry(alloc: Global, name: &str) -> Result<Entry, Fail> {
-    Ok(Entry {
-        name: String::from_str(alloc, name)?,
-        mode: Mode::Live,
-        latency_ms: 120,
-        buffer: 32,
-        sessions: 1,
-        inbox: 16,
-        outbox: 16,
-    })
+/// The routes of a run: the entry and the schedule of each.
+#[derive(Drop)]
+struct Routes {
+    entries: Vec<Entry>,
+    schedules: Vec<Schedule>,
 }
 
-/// The entries of the routes `studio` and `studia`.
-fn two_entries(alloc: Global) -> Result<Vec<Entry>, Fail> {
-    Ok(vec![in alloc; entry(alloc, "studio")?, entry(alloc, "studia")?]?)
+/// A route that is open all the time.
+const ALWAYS: Schedule = Schedule {
+    open_round: 0,
+    close_round: None,
+};
+
+impl Routes {
+    fn none(alloc: Global) -> Routes {
+        Routes {
+            entries: Vec::new(alloc),
+            schedules: Vec::new(alloc),
+        }
+    }
+
+    fn add(
+        &mut self,
+        alloc: Global,
+        name: &str,
+        buffer: u32,
+        schedule: Schedule,
+    ) -> Result<(), Fail> {
+        self.entries.push(Entry {
+            name: String::from_str(alloc, name)?,
+            mode: Mode::Live,
+            latency_ms: 120,
+            buffer,
+            sessions: 1,
+            inbox: 16,
+            outbox: 16,
+        })?;
+        self.schedules.push(schedule)?;
+        Ok(())
+    }
+
+    /// The routes `studio`, with this schedule, and `studia`.
+    fn two(alloc: Global, schedule: Schedule) -> Result<Routes, Fail> {
+        let mut routes = Routes::none(alloc);
+        routes.add(alloc, "studio", 1024, schedule)?;
+        routes.add(alloc, "studia", 32, ALWAYS)?;
+        Ok(routes)
+    }
 }
 
-/// What the threads of a run share, and its source.
+/// What the threads of a run share, its source and its wire.
 #[derive(Drop)]
 struct Scene {
     meeting: Arc<Meeting>,
     source: Callers,
+    wire: Listener,
 }
 
-impl Scene {
-    /// Callers that send these texts.
-    fn open(alloc: Global, texts: &[&str], repeats: bool) -> Result<Scene, Fail> {
-        let meeting = Meeting::open(alloc)?;
-        let mut datagrams = Vec::new(alloc);
-        for text in texts {
-            datagrams.push(hex::decode(alloc, text)?)?;
-        }
-        let source = Callers::new(Arc::try_clone(&meeting)?, datagrams, repeats);
-        Ok(Scene { meeting, source })
+/// Callers that send these texts.
+fn scene_of(alloc: Global, texts: &[&str], again: Again) -> Result<Scene, Fail> {
+    let meeting = Meeting::open(alloc)?;
+    let mut datagrams = Vec::new(alloc);
+    for text in texts {
+        datagrams.push(hex::decode(alloc, text)?)?;
     }
+    let source = Callers::new(Arc::try_clone(&meeting)?, datagrams, again);
+    let wire = Listener::open(alloc, &meeting)?;
+    Ok(Scene {
+        meeting,
+        source,
+        wire,
+    })
 }
 
-/// A run of these entries, which must be right.
+/// A run of these routes, which must be right.
 fn run_of<R, G>(
     rt: &R,
-    alloc: Global,
-    entries: &[Entry],
+    routes: &Routes,
     scene: &mut Scene,
     workers: Vec<G>,
     rounds: u32,
 ) -> Result<Ran<Member>, Fail>
 where
-    R: Threads + Wait + Sync,
+    R: AllocGlobal + Threads + Wait + Sync,
     G: Gate + Send + Drop,
     requires { (1 ≤ vec_len workers) × (vec_len workers ≤ 16) }
 {
-    let Ok(_names) = Names::open(alloc, entries) else {
+    let Ok(_names) = Names::open(rt.alloc(), &routes.entries) else {
         return Err(Fail::from("the entries are right"));
     };
-    let mut wire = Member::of(&scene.meeting)?;
+    if routes.schedules.len() != routes.entries.len() {
+        return Err(Fail::from("there is a schedule for each entry"));
+    }
     let ticker = Member::of(&scene.meeting)?;
     match run(
         rt,
-        alloc,
+        rt.alloc(),
         &Secret::new(SECRET),
-        entries,
+        &routes.entries,
+        &routes.schedules,
         &mut scene.source,
-        &mut wire,
+        &mut scene.wire,
         ticker,
         workers,
         rounds,
@@ -321,10 +431,10 @@ where
 #[test]
 fn with_nobody_calling_nothing_is_counted(rt: HostRuntime) -> Result<(), Fail> {
     let alloc = rt.alloc();
-    let entries = two_entries(alloc)?;
-    let mut scene = Scene::open(alloc, &[], false)?;
+    let routes = Routes::two(alloc, ALWAYS)?;
+    let mut scene = scene_of(alloc, &[], Again::Never)?;
     let workers = vec![in alloc; Ungated]?;
-    let ran = run_of(&rt, alloc, &entries, &mut scene, workers, 3)?;
+    let ran = run_of(&rt, &routes, &mut scene, workers, 3)?;
     assert_eq!(rt; ran.report, Report::NOTHING);
     assert_eq!(rt; ran.accounts.len(), 2);
     assert_eq!(rt; scene.source.waits, 3);
@@ -338,10 +448,10 @@ fn with_nobody_calling_nothing_is_counted(rt: HostRuntime) -> Result<(), Fail> {
 #[test]
 fn two_routes_are_served_at_once(rt: HostRuntime) -> Result<(), Fail> {
     let alloc = rt.alloc();
-    let entries = two_entries(alloc)?;
-    let mut scene = Scene::open(alloc, &[STUDIO, STUDIA], false)?;
+    let routes = Routes::two(alloc, ALWAYS)?;
+    let mut scene = scene_of(alloc, &[STUDIO, STUDIA], Again::Never)?;
     let workers = vec![in alloc; Member::of(&scene.meeting)?, Member::of(&scene.meeting)?]?;
-    let ran = run_of(&rt, alloc, &entries, &mut scene, workers, LIMIT)?;
+    let ran = run_of(&rt, &routes, &mut scene, workers, LIMIT)?;
     assert!(rt; !scene.meeting.is_late.load(Ordering::SeqCst));
     assert_eq!(rt;
         ran.report,
@@ -359,21 +469,43 @@ fn two_routes_are_served_at_once(rt: HostRuntime) -> Result<(), Fail> {
     Ok(())
 }
 
-/// A hundred answers go out while the source yields a million times.
+/// A hundred answers go out while the source yields half a million times; then the route closes, and its caller gets a
+/// SHUTDOWN.
 #[test]
-fn a_hundred_answers_are_sent(rt: HostRuntime) -> Result<(), Fail> {
+fn a_hundred_answers_are_sent_and_then_the_route_closes(rt: HostRuntime) -> Result<(), Fail> {
     let alloc = rt.alloc();
-    let entries = two_entries(alloc)?;
-    let mut scene = Scene::open(alloc, &[STUDIO], true)?;
+    let closes = Schedule {
+        open_round: 0,
+        close_round: Some(LIMIT / 2),
+    };
+    let routes = Routes::two(alloc, closes)?;
+    let mut scene = scene_of(alloc, &[STUDIO], Again::Answered)?;
     let workers = vec![in alloc; Ungated, Ungated]?;
-    let ran = run_of(&rt, alloc, &entries, &mut scene, workers, LIMIT)?;
-    assert!(rt; ran.report.sent >= ANSWERS);
+    let ran = run_of(&rt, &routes, &mut scene, workers, LIMIT)?;
+    assert!(rt; scene.wire.answers >= ANSWERS && scene.wire.is_closed);
     assert_eq!(rt; ran.report.faults, 0);
     let (Some(studio), Some(studia)) = (ran.accounts.get(0), ran.accounts.get(1)) else {
         return Err(Fail::from("two accounts"));
     };
-    assert!(rt; studio.drained >= ANSWERS);
+    assert!(rt; studio.drained > scene.wire.answers);
     assert_eq!(rt; studia.drained, 0);
+    Ok(())
+}
+
+/// A caller that calls in the first round and in the third, at whose beginning its route opens.
+#[test]
+fn a_route_is_found_from_its_round_on(rt: HostRuntime) -> Result<(), Fail> {
+    let alloc = rt.alloc();
+    let opens = Schedule {
+        open_round: 2,
+        close_round: None,
+    };
+    let routes = Routes::two(alloc, opens)?;
+    let mut scene = scene_of(alloc, &[STUDIO], Again::InWait(3))?;
+    let workers = vec![in alloc; Ungated]?;
+    let ran = run_of(&rt, &routes, &mut scene, workers, 4)?;
+    assert_eq!(rt; scene.wire.refusals, 1);
+    assert!(rt; ran.report.read == 2 && ran.report.answered == 1 && ran.report.accepted == 1);
     Ok(())
 }
 
@@ -381,15 +513,15 @@ fn a_hundred_answers_are_sent(rt: HostRuntime) -> Result<(), Fail> {
 #[test]
 fn as_many_routes_and_workers_as_there_can_be_run(rt: HostRuntime) -> Result<(), Fail> {
     let alloc = rt.alloc();
-    let mut entries = Vec::new(alloc);
+    let mut routes = Routes::none(alloc);
     for index in 0..510u32 {
         let name = format!(in alloc; "r{index}")?;
-        entries.push(entry(alloc, &name)?)?;
+        routes.add(alloc, &name, 32, ALWAYS)?;
     }
-    entries.push(entry(alloc, "studio")?)?;
-    let mut scene = Scene::open(alloc, &[STUDIO], false)?;
+    routes.add(alloc, "studio", 32, ALWAYS)?;
+    let mut scene = scene_of(alloc, &[STUDIO], Again::Never)?;
     let workers = vec![in alloc; Ungated; 16]?;
-    let ran = run_of(&rt, alloc, &entries, &mut scene, workers, 2_000)?;
+    let ran = run_of(&rt, &routes, &mut scene, workers, 2_000)?;
     assert_eq!(rt; scene.source.waits, 2_000);
     assert_eq!(rt; ran.accounts.len(), 511);
     assert!(rt; ran.report.read == 1 && ran.report.accepted == 1 && ran.report.sent <= 1);

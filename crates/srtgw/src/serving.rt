@@ -81,9 +81,10 @@ fn gates(alloc: Global, count: u32) -> Result<Vec<Ungated>, AllocError>
     vec![in alloc; Ungated; count as usize]
 }
 
-/// Serves the routes of a configuration for this number of rounds of the poller, and returns its report. Binds the UDP
-/// socket; starts a ticking thread and `workers` worker threads; the calling thread polls the socket. Errors: `Socket`,
-/// `Memory` and `Thread` before anything was read, `Busy` at the end. docs/OPERATING.md says how long a round is.
+/// Serves the routes of a configuration for this number of rounds of the poller, and returns its report. Routes open
+/// and close in the rounds of their schedules. Binds the UDP socket; starts a ticking thread and `workers` worker
+/// threads; the calling thread polls the socket. Errors: `Socket`, `Memory` and `Thread` before anything was read,
+/// `Busy` at the end. docs/OPERATING.md says how long a round is.
 pub fn serve<R: AllocGlobal + Net + Clock + Threads + Wait + Sync>(
     rt: &R,
     config: &Config,
@@ -113,6 +114,7 @@ pub fn serve<R: AllocGlobal + Net + Clock + Threads + Wait + Sync>(
         rt.alloc(),
         &config.secret,
         config.entries.as_slice(),
+        config.schedules.as_slice(),
         &mut source,
         &mut wire,
         clock,

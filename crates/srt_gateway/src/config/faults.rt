@@ -28,6 +28,11 @@ pub enum Key {
     Inbox,
     /// `outbox`: the greatest number of replies that wait to be sent, 16 to 4096.
     Outbox,
+    /// `open_round`: the poller's round in which the route opens, 0 to 1,000,000,000; 0 if it is missing.
+    OpenRound,
+    /// `close_round`: the poller's round in which the route closes, after `open_round` and at most 1,000,000,000; it
+    /// stays open if it is missing.
+    CloseRound,
 }
 
 impl Key {
@@ -47,6 +52,8 @@ impl Key {
             Key::Sessions => "sessions",
             Key::Inbox => "inbox",
             Key::Outbox => "outbox",
+            Key::OpenRound => "open_round",
+            Key::CloseRound => "close_round",
         }
     }
 }
@@ -63,7 +70,7 @@ pub enum ConfigFault {
     /// The key's value has the wrong type.
     WrongKind(Key),
     /// The key's value is outside its limits; for `route` the number of routes, for `mode` a text other than `live` and
-    /// `buffer`.
+    /// `buffer`, for `close_round` also a round that isn't after `open_round`.
     OutOfRange(Key),
     /// A route's name has a wrong form.
     BadName,

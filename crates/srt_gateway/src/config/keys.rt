@@ -1,10 +1,12 @@
 //! The keys of a table and their values.
 
-ghost use Rattle.std.specs.Prelude.{◌≡◌, ◌<◌, ◌^◌, option_map, true, IfOk};
-ghost use Rattle.toml.specs.View.{table_view};
+ghost use Rattle.std.specs.Prelude.{◌≡◌, ◌<◌, ◌^◌, option_map, true, Some, IfOk, IfSome};
+ghost use Rattle.toml.specs.Data.{get_member};
+ghost use Rattle.toml.specs.View.{view, table_view};
 ghost use Rattle.srt_seq.specs.Entries.{is_between};
+ghost use Rattle.srt_gateway.specs.Faults.{key_name};
 ghost use Rattle.srt_gateway.specs.FirstFault.{seen, Gives};
-ghost use Rattle.srt_gateway.specs.Keys.{is_key, least_unknown, known, value_at, value_seen, text_at, within, number_at};
+ghost use Rattle.srt_gateway.specs.Keys.{is_key, least_unknown, known, value_at, value_seen, text_at, within, number_at, optional_in, optional_at};
 
 use super::faults::{ConfigFault, Key};
 use std::alloc::Global;
@@ -43,12 +45,18 @@ pub(crate) fn only_known(alloc: Global, keys: &[Key], table: &Table) -> Result<(
     }
 }
 
+fn found_at(table: &Table, key: Key) -> Option<&Value>
+    ensures { option_map value_seen result ≡ get_member (key_name key) (table_view table.now) }
+{
+    table.get(key.name())
+}
+
 /// The value at a key, or `Missing`.
 #[tactic(auto, unfolding(crate::specs::Keys::value_at))]
 pub(crate) fn value_at(table: &Table, key: Key) -> Result<&Value, ConfigFault>
     ensures { seen value_seen result ≡ value_at key (table_view table.now) }
 {
-    match table.get(key.name()) {
+    match found_at(table, key) {
         Some(value) => Ok(value),
         None => Err(ConfigFault::Missing(key)),
     }
@@ -84,5 +92,35 @@ pub(crate) fn number_at(table: &Table, key: Key, low: u32, high: u32) -> Result<
     match value_at(table, key)?.as_integer() {
         Some(number) => within(key, low, high, number),
         None => Err(ConfigFault::WrongKind(key)),
+    }
+}
+
+fn optional_in(value: &Value, key: Key, low: u32, high: u32) -> Result<Option<u32>, ConfigFault>
+    ensures value { seen (λ n. n) result ≡ optional_in key low high (Some (view value.now)) }
+    ensures inside { IfOk result (λ found. IfSome found (λ n. is_between low high n ≡ true)) }
+{
+    let Some(number) = value.as_integer() else {
+        return Err(ConfigFault::WrongKind(key));
+    };
+    match within(key, low, high, number) {
+        Ok(number) => Ok(Some(number)),
+        Err(fault) => Err(fault),
+    }
+}
+
+/// The number at a key that may be missing, from `low` to `high`, or `WrongKind` or `OutOfRange`.
+#[tactic(auto, unfolding(crate::specs::Keys::optional_at))]
+pub(crate) fn optional_at(
+    table: &Table,
+    key: Key,
+    low: u32,
+    high: u32,
+) -> Result<Option<u32>, ConfigFault>
+    ensures value { seen (λ n. n) result ≡ optional_at key low high (table_view table.now) }
+    ensures inside { IfOk result (λ found. IfSome found (λ n. is_between low high n ≡ true)) }
+{
+    match found_at(table, key) {
+        Some(value) => optional_in(value, key, low, high),
+        None => Ok(None),
     }
 }

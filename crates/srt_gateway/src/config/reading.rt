@@ -26,12 +26,13 @@ fn settings_at(alloc: Global, table: &Table) -> Result<Config, ConfigFault>
     let secret = secret_at(table)?;
     let bind = bind_at(table)?;
     let workers = number_at(table, Key::Workers, 1, 16)?;
-    let entries = routes_at(alloc, table)?;
+    let routes = routes_at(alloc, table)?;
     Ok(Config {
         secret,
         bind,
         workers,
-        entries,
+        entries: routes.entries,
+        schedules: routes.schedules,
     })
 }
 

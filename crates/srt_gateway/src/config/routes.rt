@@ -1,24 +1,25 @@
 //! The routes of a configuration.
 
-ghost use Rattle.std.specs.Prelude.{◌≡◌, [], map, None, Ok, IfOk};
+ghost use Rattle.std.specs.Prelude.{◌≡◌, length, map, true, None, Ok, IfOk};
+ghost use Rattle.std.specs.List.{list_all};
 ghost use Rattle.toml.specs.View.{table_view, items_view};
 ghost use Rattle.srt_seq.specs.Terms.{terms_of};
 ghost use Rattle.srt_seq.specs.Entries.{is_between};
 ghost use Rattle.srt_lobby.specs.Opening.{fault_of};
 ghost use Rattle.srt_gateway.specs.FirstFault.{seen, Gives};
-ghost use Rattle.srt_gateway.specs.Routes.{name_in, name_at, mode_in, mode_at, numbers_at, terms_with, terms_at, are_tables, count, routes_from, routes_in, routes_at};
-ghost use Rattle.srt_gateway.specs.RouteParts.{numbers_of, entries_seen};
+ghost use Rattle.srt_gateway.specs.Routes.{name_in, name_at, mode_in, mode_at, numbers_at, schedule_at, closes_later, terms_with, route_at, no_routes, are_tables, count, routes_from, routes_in, routes_at};
+ghost use Rattle.srt_gateway.specs.RouteParts.{numbers_of, route_seen, routes_seen};
 
 use super::faults::{ConfigFault, Key};
-use super::keys::{number_at, only_known, text_at, value_at};
+use super::keys::{number_at, only_known, optional_at, text_at, value_at};
 use srt_lobby::is_taken;
 use srt_seq::limits::MAX_ROUTES;
-use srt_seq::{Entry, Mode, is_between, is_name};
+use srt_seq::{Entry, Mode, Schedule, is_between, is_name};
 use std::alloc::Global;
 use toml::{Table, Value};
 
 /// The keys of a route.
-const ROUTE_KEYS: [Key; 7] = [
+const ROUTE_KEYS: [Key; 9] = [
     Key::Name,
     Key::Mode,
     Key::LatencyMs,
@@ -26,7 +27,12 @@ const ROUTE_KEYS: [Key; 7] = [
     Key::Sessions,
     Key::Inbox,
     Key::Outbox,
+    Key::OpenRound,
+    Key::CloseRound,
 ];
+
+/// The last round in which a route may open or close.
+const ROUND_MAX: u32 = 1_000_000_000;
 
 /// Checks a name: `BadName` if it has a wrong form, else `RepeatedName` if an earlier route has it.
 #[tactic(auto, unfolding(crate::specs::Routes::name_in))]
@@ -69,18 +75,18 @@ fn mode_at(table: &Table) -> Result<Mode, ConfigFault>
     read_mode(text_at(table, Key::Mode)?)
 }
 
-/// The numbers of a route, within their limits.
+/// The numbers of a route.
 #[derive(Clone, Copy)]
 pub(crate) struct RouteNumbers {
-    /// The least delay of a live session, in milliseconds: 20 to 8000.
+    /// The least delay of a live session, in milliseconds.
     pub(crate) latency_ms: u32,
-    /// The size of each session's window, in packets: 32 to 8192.
+    /// The size of each session's window, in packets.
     pub(crate) buffer: u32,
-    /// The greatest number of sessions at a time: 1 to 17.
+    /// The greatest number of sessions at a time.
     pub(crate) sessions: u32,
-    /// The capacity of the inbox, in items: 16 to 4096.
+    /// The capacity of the inbox, in items.
     pub(crate) inbox: u32,
-    /// The capacity of the outbox, in replies: 16 to 4096.
+    /// The capacity of the outbox, in replies.
     pub(crate) outbox: u32,
 }
 
@@ -120,16 +126,39 @@ fn entry_with(
     }
 }
 
+#[tactic(auto, unfolding(crate::specs::Routes::schedule_at))]
+fn schedule_at(table: &Table) -> Result<Schedule, ConfigFault>
+    ensures { seen (λ s. s) result ≡ schedule_at (table_view table.now) }
+{
+    let open_round = optional_at(table, Key::OpenRound, 0, ROUND_MAX)?.unwrap_or(0);
+    let close_round = optional_at(table, Key::CloseRound, open_round + 1, ROUND_MAX)?;
+    Ok(Schedule {
+        open_round,
+        close_round,
+    })
+}
+
+/// A route's entry and its schedule.
+#[derive(Drop)]
+pub(crate) struct ReadRoute {
+    /// The entry.
+    pub(crate) entry: Entry,
+    /// The rounds in which it opens and closes.
+    pub(crate) schedule: Schedule,
+}
+
 /// Reads a route's table, after the routes `before` it.
-#[tactic(auto, unfolding(crate::specs::Routes::terms_at))]
-fn entry_at(alloc: Global, before: &[Entry], table: &Table) -> Result<Entry, ConfigFault>
-    ensures { Gives terms_of result (terms_at (map terms_of before.now) (table_view table.now)) }
+#[tactic(auto, unfolding(crate::specs::Routes::route_at))]
+fn route_at(alloc: Global, before: &[Entry], table: &Table) -> Result<ReadRoute, ConfigFault>
+    ensures { Gives route_seen result (route_at (map terms_of before.now) (table_view table.now)) }
 {
     only_known(alloc, &ROUTE_KEYS, table)?;
     let name = name_at(before, table)?;
     let mode = mode_at(table)?;
     let numbers = numbers_at(table)?;
-    entry_with(alloc, name, mode, numbers)
+    let schedule = schedule_at(table)?;
+    let entry = entry_with(alloc, name, mode, numbers)?;
+    Ok(ReadRoute { entry, schedule })
 }
 
 #[tactic(auto, using(crate::proofs::RouteItems::items_step))]
@@ -152,11 +181,20 @@ fn is_count(values: &[Value]) -> bool
     is_between(1, MAX_ROUTES, values.len())
 }
 
+/// The routes of a configuration, in the order of their indexes.
+#[derive(Drop)]
+pub(crate) struct ReadRoutes {
+    /// The entries.
+    pub(crate) entries: Vec<Entry>,
+    /// The schedules, one for each entry.
+    pub(crate) schedules: Vec<Schedule>,
+}
+
 /// Reads these values as routes; `WrongKind` if one isn't a table, else `OutOfRange` if there are none or more than
 /// `MAX_ROUTES`.
 #[tactic(auto, unfolding(crate::specs::Routes::routes_in))]
-fn read_routes(alloc: Global, values: &[Value]) -> Result<Vec<Entry>, ConfigFault>
-    ensures { Gives entries_seen result (routes_in (items_view values.now)) }
+fn read_routes(alloc: Global, values: &[Value]) -> Result<ReadRoutes, ConfigFault>
+    ensures { Gives routes_seen result (routes_in (items_view values.now)) }
 {
     if !are_tables(values) {
         return Err(ConfigFault::WrongKind(Key::Route));
@@ -168,27 +206,31 @@ fn read_routes(alloc: Global, values: &[Value]) -> Result<Vec<Entry>, ConfigFaul
 }
 
 /// Reads these values, which are tables, as routes.
-fn routes_from(alloc: Global, values: &[Value]) -> Result<Vec<Entry>, ConfigFault>
-    ensures { Gives entries_seen result (routes_from [] (items_view values.now)) }
+fn routes_from(alloc: Global, values: &[Value]) -> Result<ReadRoutes, ConfigFault>
+    ensures { Gives routes_seen result (routes_from no_routes (items_view values.now)) }
 {
     let mut entries = Vec::new(alloc);
+    let mut schedules = Vec::new(alloc);
     let mut rest = values;
     while !rest.is_empty() {
         let Some(table) = rest[0].as_table() else {
             return Err(ConfigFault::WrongKind(Key::Route));
         };
-        let entry = entry_at(alloc, entries.as_slice(), table)?;
-        if entries.push(entry).is_err() {
+        let route = route_at(alloc, entries.as_slice(), table)?;
+        if entries.push(route.entry).is_err() {
+            return Err(ConfigFault::OutOfMemory);
+        }
+        if schedules.push(route.schedule).is_err() {
             return Err(ConfigFault::OutOfMemory);
         }
         rest = &rest[1..];
     }
-    Ok(entries)
+    Ok(ReadRoutes { entries, schedules })
 }
 
 #[tactic(auto, unfolding(crate::specs::Routes::routes_at))]
-fn all_routes(alloc: Global, table: &Table) -> Result<Vec<Entry>, ConfigFault>
-    ensures { Gives entries_seen result (routes_at (table_view table.now)) }
+fn all_routes(alloc: Global, table: &Table) -> Result<ReadRoutes, ConfigFault>
+    ensures { Gives routes_seen result (routes_at (table_view table.now)) }
 {
     match value_at(table, Key::Route)?.as_array() {
         Some(values) => read_routes(alloc, values.as_slice()),
@@ -197,9 +239,11 @@ fn all_routes(alloc: Global, table: &Table) -> Result<Vec<Entry>, ConfigFault>
 }
 
 /// The routes of a configuration's table.
-pub(crate) fn routes_at(alloc: Global, table: &Table) -> Result<Vec<Entry>, ConfigFault>
-    ensures gives { Gives entries_seen result (routes_at (table_view table.now)) }
-    ensures sound { IfOk result (λ entries. fault_of (map terms_of entries.items) ≡ None) }
+pub(crate) fn routes_at(alloc: Global, table: &Table) -> Result<ReadRoutes, ConfigFault>
+    ensures gives { Gives routes_seen result (routes_at (table_view table.now)) }
+    ensures sound { IfOk result (λ routes. fault_of (map terms_of routes.entries.items) ≡ None) }
+    ensures scheduled { IfOk result (λ routes. length routes.schedules.items ≡ length routes.entries.items) }
+    ensures later { IfOk result (λ routes. list_all closes_later routes.schedules.items ≡ true) }
 {
     all_routes(alloc, table)
 }

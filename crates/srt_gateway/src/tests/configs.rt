@@ -3,7 +3,7 @@
 use super::{RIGHT, config_of};
 use crate::{Config, ConfigFault, Key, read_config};
 use srt_cookie::{Secret, cookie};
-use srt_seq::{Entry, Mode, Peer};
+use srt_seq::{Entry, Mode, Peer, Schedule};
 use std::process::Abort;
 use std::test::Fail;
 
@@ -415,7 +415,7 @@ fn faults_of_the_number_and_types_of_routes(rt: HostRuntime) -> Result<(), Fail>
 
 const ROUTE_FAULTS: [FaultRow; 8] = [
     ("name = \"studio\"", "nam = 5\n\"a b\" = 1", 2, "a b"),
-    ("name = \"studio\"", "close_round = 1", 2, "close_round"),
+    ("name = \"studio\"", "closes = 1", 2, "closes"),
     ("name = \"studio\"", "", 3, "name"),
     ("\"studio\"", "5", 4, "name"),
     ("mode = \"live\"", "", 3, "mode"),
@@ -423,6 +423,75 @@ const ROUTE_FAULTS: [FaultRow; 8] = [
     ("\"live\"", "\"file\"", 5, "mode"),
     ("\"live\"", "\"Live\"", 5, "mode"),
 ];
+
+/// What may stand after the first route's outbox, and the route's schedule.
+type ScheduleRow = (&'static str, u32, Option<u32>);
+
+const SCHEDULES: [ScheduleRow; 5] = [
+    ("", 0, None),
+    ("open_round = 3\nclose_round = 4\n", 3, Some(4)),
+    ("close_round = 1\n", 0, Some(1)),
+    ("open_round = 1_000_000_000\n", 1_000_000_000, None),
+    (
+        "close_round = 1000000000\nopen_round = 0\n",
+        0,
+        Some(1_000_000_000),
+    ),
+];
+
+/// Asserts the schedules of the right configuration with this text after the first route's outbox.
+fn assert_schedules(rt: &(impl AllocGlobal + Abort), row: &ScheduleRow) -> Result<(), Fail> {
+    let both = format!(in rt.alloc(); "outbox = 16\n{}", row.0)?;
+    let text = changed(rt, RIGHT, "outbox = 16\n", both.as_str())?;
+    let config = config_of(rt, text.as_str())?;
+    let first = Schedule {
+        open_round: row.1,
+        close_round: row.2,
+    };
+    let second = Schedule {
+        open_round: 0,
+        close_round: None,
+    };
+    assert_eq!(rt; config.schedules.as_slice().first(), Some(&first));
+    assert_eq!(rt; config.schedules.as_slice().last(), Some(&second));
+    assert_eq!(rt; config.schedules.len(), 2);
+    Ok(())
+}
+
+const WRONG_SCHEDULES: [(&str, u8, &str); 10] = [
+    ("close_round = 5\nopen_round = 5\n", 5, "close_round"),
+    ("open_round = 1000000001\n", 5, "open_round"),
+    ("open_round = -1\n", 5, "open_round"),
+    ("open_round = 1.0\n", 4, "open_round"),
+    ("close_round = \"x\"\n", 4, "close_round"),
+    ("close_round = 0\n", 5, "close_round"),
+    ("close_round = 1000000001\n", 5, "close_round"),
+    ("close_round = -1\n", 5, "close_round"),
+    ("close_round = 0\nopen_round = []\n", 4, "open_round"),
+    (
+        "open_round = 1000000000\nclose_round = 1000000000\n",
+        5,
+        "close_round",
+    ),
+];
+
+#[test]
+fn routes_may_open_and_close_in_rounds(rt: HostRuntime) -> Result<(), Fail> {
+    for row in &SCHEDULES {
+        assert_schedules(&rt, row)?;
+    }
+    for (more, number, key) in &WRONG_SCHEDULES {
+        let both = format!(in rt.alloc(); "outbox = 16\n{more}")?;
+        assert_changed(&rt, "outbox = 16\n", both.as_str(), *number, key)?;
+    }
+    assert_changed(
+        &rt,
+        "outbox = 16\n",
+        "outbox = 15\nopen_round = []\n",
+        5,
+        "outbox",
+    )
+}
 
 const WRONG_NAMES: [&str; 4] = [
     "\"a b\"",

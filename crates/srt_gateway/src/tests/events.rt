@@ -118,69 +118,87 @@ fn an_empty_line_is_a_fault(rt: HostRuntime) {
     assert_replayed(&rt, b"\n", "", Err(ReplayFault::Tape(1)));
 }
 
+/// An unknown letter, or a route that isn't there.
+const OTHER_LETTERS: [&str; 8] = [
+    "",
+    "B 0 00000000000000000000ffff7f000001 5000 ",
+    "a 0 00000000000000000000ffff7f000001 5000 ",
+    "AA 0 00000000000000000000ffff7f000001 5000 ",
+    "T 2 5",
+    "U 2",
+    "S 2",
+    "C 2 5",
+];
+
+/// Another number of fields.
+const OTHER_FIELDS: [&str; 14] = [
+    "A",
+    " A 0 00000000000000000000ffff7f000001 5000 ",
+    "A 0 00000000000000000000ffff7f000001 5000",
+    "A 0 00000000000000000000ffff7f000001 5000 00 00",
+    "A 0 00000000000000000000ffff7f000001 5000  ",
+    "A  0 00000000000000000000ffff7f000001 5000 ",
+    "C",
+    "C 0",
+    "C 0 5 ",
+    "O",
+    "O a",
+    "O a live",
+    "O a live 120 32 2 16",
+    "O a live 120 32 2 16 16 ",
+];
+
+/// A number of another form.
+const OTHER_NUMBERS: [&str; 17] = [
+    "A  00000000000000000000ffff7f000001 5000 ",
+    "A 00 00000000000000000000ffff7f000001 5000 ",
+    "A 0x1 00000000000000000000ffff7f000001 5000 ",
+    "A +1 00000000000000000000ffff7f000001 5000 ",
+    "A -1 00000000000000000000ffff7f000001 5000 ",
+    "A 18446744073709551616 00000000000000000000ffff7f000001 5000 ",
+    "A 340282366920938463463374607431768211456 00000000000000000000ffff7f000001 5000 ",
+    "A 0 00000000000000000000ffff7f000001 65536 ",
+    "A 0 00000000000000000000ffff7f000001 05000 ",
+    "A 0 00000000000000000000ffff7f000001  ",
+    "C 00 5",
+    "C 0 4611686018427387904",
+    "O a live 4294967296 32 2 16 16",
+    "O a live 120 032 2 16 16",
+    "O a live 120 32 +2 16 16",
+    "O a live 120 32 2  16",
+    "O a live 120 32 2 16 4294967296",
+];
+
+/// Digits that are no bytes, or a mode of another text.
+const OTHER_TEXTS: [&str; 11] = [
+    "A 0 00000000000000000000ffff7f00001 5000 ",
+    "A 0 00000000000000000000ffff7f0000001 5000 ",
+    "A 0 00000000000000000000ffff7f00000001 5000 ",
+    "A 0 00000000000000000000ffff7g000001 5000 ",
+    "A 0 00000000000000000000ffff7f000001 5000 0",
+    "A 0 00000000000000000000ffff7f000001 5000 0g",
+    "A 0 00000000000000000000ffff7f000001 5000 00\r",
+    "A 0 00000000000000000000ffff7f000001 5000 \r",
+    "O a Live 120 32 2 16 16",
+    "O a  120 32 2 16 16",
+    "O a buffered 120 32 2 16 16",
+];
+
 #[test]
-fn an_unknown_letter_is_a_fault(rt: HostRuntime) -> Result<(), Fail> {
-    assert_no_events(
-        &rt,
-        &[
-            "",
-            "B 0 00000000000000000000ffff7f000001 5000 ",
-            "a 0 00000000000000000000ffff7f000001 5000 ",
-            "AA 0 00000000000000000000ffff7f000001 5000 ",
-            "T 2 5",
-            "U 2",
-            "S 2",
-        ],
-    )
+fn lines_of_another_form_are_faults(rt: HostRuntime) -> Result<(), Fail> {
+    assert_no_events(&rt, &OTHER_LETTERS)?;
+    assert_no_events(&rt, &OTHER_FIELDS)?;
+    assert_no_events(&rt, &OTHER_NUMBERS)?;
+    assert_no_events(&rt, &OTHER_TEXTS)
 }
 
 #[test]
-fn another_number_of_fields_is_a_fault(rt: HostRuntime) -> Result<(), Fail> {
-    assert_no_events(
+fn routes_are_opened_and_closed(rt: HostRuntime) {
+    assert_replayed(
         &rt,
-        &[
-            "A",
-            " A 0 00000000000000000000ffff7f000001 5000 ",
-            "A 0 00000000000000000000ffff7f000001 5000",
-            "A 0 00000000000000000000ffff7f000001 5000 00 00",
-            "A 0 00000000000000000000ffff7f000001 5000  ",
-            "A  0 00000000000000000000ffff7f000001 5000 ",
-        ],
-    )
-}
-
-#[test]
-fn a_number_of_another_form_is_a_fault(rt: HostRuntime) -> Result<(), Fail> {
-    assert_no_events(
-        &rt,
-        &[
-            "A  00000000000000000000ffff7f000001 5000 ",
-            "A 00 00000000000000000000ffff7f000001 5000 ",
-            "A 0x1 00000000000000000000ffff7f000001 5000 ",
-            "A +1 00000000000000000000ffff7f000001 5000 ",
-            "A -1 00000000000000000000ffff7f000001 5000 ",
-            "A 18446744073709551616 00000000000000000000ffff7f000001 5000 ",
-            "A 340282366920938463463374607431768211456 00000000000000000000ffff7f000001 5000 ",
-            "A 0 00000000000000000000ffff7f000001 65536 ",
-            "A 0 00000000000000000000ffff7f000001 05000 ",
-            "A 0 00000000000000000000ffff7f000001  ",
-        ],
-    )
-}
-
-#[test]
-fn digits_that_are_no_bytes_are_a_fault(rt: HostRuntime) -> Result<(), Fail> {
-    assert_no_events(
-        &rt,
-        &[
-            "A 0 00000000000000000000ffff7f00001 5000 ",
-            "A 0 00000000000000000000ffff7f0000001 5000 ",
-            "A 0 00000000000000000000ffff7f00000001 5000 ",
-            "A 0 00000000000000000000ffff7g000001 5000 ",
-            "A 0 00000000000000000000ffff7f000001 5000 0",
-            "A 0 00000000000000000000ffff7f000001 5000 0g",
-            "A 0 00000000000000000000ffff7f000001 5000 00\r",
-            "A 0 00000000000000000000ffff7f000001 5000 \r",
-        ],
-    )
+        b"C 0 1500000\nU 0\nC 0 1600000\nO files live 120 32 2 16 16\nO x live 10 32 2 16 16\n\
+O studio live 120 32 2 16 16\nT 2 5\nC 3 5\n",
+        "closing 0\napplied\nclosed 0\nopen fault 1\nopen fault 2\nopened 2\naccepted 2\n",
+        Err(ReplayFault::Tape(8)),
+    );
 }

@@ -3,7 +3,7 @@
 //! send loses that datagram alone. A send that returns Later loses an answer, and delays a reply by a round.
 
 use super::{
-    CONCLUSION, CONCLUSION_ANSWER, INDUCTION, INDUCTION_ANSWER, Routes, STRAY, Serving, comes,
+    ALWAYS, CONCLUSION, CONCLUSION_ANSWER, INDUCTION, INDUCTION_ANSWER, STRAY, Serving, comes,
     open_routes, pumped,
 };
 use crate::{Report, Sent, Source, SourceStep, Wire, WireScript};
@@ -130,10 +130,10 @@ fn digit(alloc: Global, bytes: &Vec<u8>) -> Result<u32, Fail> {
 /// The outcome of six rounds, in which the first route is served at each wait.
 fn played(rt: &(impl AllocGlobal + Wait), fault: Fault) -> Result<Outcome, Fail> {
     let alloc = rt.alloc();
-    let Routes { mut lobby, cells } = open_routes(rt, alloc)?;
+    let mut routes = open_routes(rt, alloc)?;
     let mut wire = WireScript::new(alloc, answers(alloc, fault)?);
-    let mut source = Serving::first(rt, &cells, script(alloc, fault)?)?;
-    let report = pumped(rt, &mut lobby, &mut source, &mut wire, 6);
+    let mut source = Serving::new(rt, &routes.cell, script(alloc, fault)?);
+    let report = pumped(rt, ALWAYS, &mut routes.ends, &mut source, &mut wire, 6)?;
     let mut handed = 0u32;
     for sent in wire.handed() {
         handed = handed

@@ -11,3 +11,9 @@ returns-in-Turn-clause-answered g c secret entries past h = rw c.in-Turn.is (c.a
 
 pub returns-in-Send-clause-answered : goal.returns-in-Send-clause-answered
 returns-in-Send-clause-answered g c secret entries past h = rw c.in-Send.is (c.answer_send.ensures.answered secret entries past h)
+
+pub returns-in-Opens-clause-answered : goal.returns-in-Opens-clause-answered
+returns-in-Opens-clause-answered g c secret entries past h = rw c.in-Opens.is (c.answer_opening.ensures.answered secret entries past h)
+
+pub returns-in-Closes-clause-answered : goal.returns-in-Closes-clause-answered
+returns-in-Closes-clause-answered g c secret entries past h = rw c.in-Closes.is (c.answer_closing.ensures.answered secret entries past h)

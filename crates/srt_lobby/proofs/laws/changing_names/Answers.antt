@@ -1,4 +1,4 @@
-use Rattle.srt_lobby.proofs.Changing.{adding_keeps_names, hiding_keeps_names, showing_keeps_names, adding_keeps_others, hiding_keeps_others, showing_keeps_others, hidden_has_none}
+use Rattle.srt_lobby.proofs.Changing.{adding_keeps_names, hiding_keeps_names, showing_keeps_names, adding_keeps_others, hiding_keeps_others, showing_keeps_others, hidden_has_none, distinct_are_unused}
 use Rattle.srt_lobby.proofs.laws.changing_names.Goals as goal
 
 pub returns : goal.returns
@@ -11,4 +11,5 @@ returns c =
       hiding_keeps = hiding_keeps_others;
       showing_keeps = showing_keeps_others;
       hidden = hidden_has_none;
+      unused = distinct_are_unused;
     }

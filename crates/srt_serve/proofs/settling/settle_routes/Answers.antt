@@ -1,8 +1,5 @@
-use Rattle.std.proofs.Common.{◌≡◌, ◌∷◌, [], ◌++◌, List, ap, arith, length}
+use Rattle.std.proofs.Common.{◌∷◌, [], ap, arith, length}
 use Rattle.std.proofs.lemmas.List.{length-append}
-use Rattle.std.specs.Vec.Iter.{into_iter_items}
-use Rattle.srt_mailbox.specs.declared.cells.RouteCell.{RouteCell}
-use Rattle.srt_serve.specs.Settled.{AreJoined, AreSettled}
 use Rattle.srt_serve.proofs.Settlings.{joined_first, one_settled, all_settled, none_given}
 use Rattle.srt_serve.proofs.settling.settle_routes.Goals as goal
 

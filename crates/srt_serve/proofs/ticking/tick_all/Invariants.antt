@@ -1,4 +1,4 @@
-use Rattle.std.proofs.Common.{[], ◌∷◌, ◌≡◌, length}
+use Rattle.std.proofs.Common.{[], ◌∷◌}
 use Rattle.srt_serve.proofs.Moments.{FirstTicked}
 use Rattle.srt_serve.proofs.ticking.tick_all.Given as goal
 

@@ -17,16 +17,16 @@ offer-requires g c =
     }
 
 pub returns-in-Answer : goal.returns-in-Answer
-returns-in-Answer g c gave =
+returns-in-Answer g c schedules round latest gave =
     let a = came c.args.incoming c.args.self.now in
-    went_one _ (Answers a c.in-Answer.answer c.send-sent.result) _ _ (sym c.classify.ensures.class ∙ c.in-Answer.is) refl
+    went_one _ schedules (Answers a c.in-Answer.answer c.send-sent.result) _ _ (sym c.classify.ensures.class ∙ c.in-Answer.is) refl
     (c.send-sent.ensures.tells ∙ ap (joined (g.W.Wire.handed c.args.wire.now)) (sent_as c.send-sent.result (from FromLobby (record { peer = c.args.incoming.peer; bytes = c.in-Answer.answer }))))
     (are_later_none _ _ (λ r. refl) (λ r. refl)) refl c.count_answer.ensures
 
 pub returns-in-Dropped : goal.returns-in-Dropped
-returns-in-Dropped g c gave =
+returns-in-Dropped g c schedules round latest gave =
     let a = came c.args.incoming c.args.self.now in
-    went_one _ (Drops a c.in-Dropped.field-0) _ _ (sym c.classify.ensures.class ∙ c.in-Dropped.is) refl (sym (joined_none _)) (are_later_none _ _ (λ r. refl) (λ r. refl)) refl c.count_dropped.ensures
+    went_one _ schedules (Drops a c.in-Dropped.field-0) _ _ (sym c.classify.ensures.class ∙ c.in-Dropped.is) refl (sym (joined_none _)) (are_later_none _ _ (λ r. refl) (λ r. refl)) refl c.count_dropped.ensures
 
 pub returns-in-Route : goal.returns-in-Route
-returns-in-Route g c gave = c.offer.ensures _ _ (sym c.classify.ensures.class ∙ c.in-Route.is) gave
+returns-in-Route g c schedules round latest gave = c.offer.ensures _ _ _ (sym c.classify.ensures.class ∙ c.in-Route.is) schedules round latest gave

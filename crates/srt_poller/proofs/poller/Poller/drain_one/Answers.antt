@@ -1,42 +1,43 @@
-use Rattle.std.proofs.Common.{refl, sym, ◌∙◌, ◌≡◌, ℕ, List, ap, inl, inr, None, take}
+use Rattle.std.proofs.Common.{refl, sym, ◌∙◌, ◌≡◌, ℕ, List, Option, Some, ap, inl, inr, None, take}
 use Rattle.std.specs.Prelude.{option_map}
 use Rattle.srt_seq.specs.Items.{Datagram}
 use Rattle.srt_route.specs.Written.{written}
 use Rattle.srt_poller.specs.declared.poller.KeptReply.{KeptReply}
 use Rattle.srt_poller.specs.Devices.{joined}
-use Rattle.srt_poller.specs.History.{Sends, FromRoute, from, kept, kept_if}
+use Rattle.srt_poller.specs.History.{Sends, Kept, FromRoute, from, kept, kept_if, state}
 use Rattle.srt_poller.proofs.Steps.{joined_none, sent_as, went_none, went_one, unchanged_here, drained_now, sent_here}
 use Rattle.srt_poller.proofs.poller.Poller.drain_one.Goals as goal
 
 pub returns-then-not-take-clause-went : goal.returns-then-not-take-clause-went
-returns-then-not-take-clause-went g c class gave =
-    rw (unchanged_here c.args.ends.now c.args.route _ c.take.new.self (c.if-not-take.ensures.none refl).0) (went_none class 1 _)
+returns-then-not-take-clause-went g c class schedules t gave =
+    rw (unchanged_here c.args.ends.now c.args.route _ c.take.new.self (c.if-not-take.ensures.none refl).0) (went_none class schedules 1 _)
 
 pub returns-in-Taken : goal.returns-in-Taken
 returns-in-Taken g c = record {
-  went = λ class gave.
+  went = λ class schedules t gave.
       let reply : Datagram = record { peer = c.reply-reply.result.now.peer; bytes = take c.encode-len.result c.encode-len.new.out } in
       let here : written c.take.new.self.hand ≡ reply = ap written (sym c.reply-reply.ensures) ∙ ap (λ (bytes : List ℕ). record { peer = c.reply-reply.result.now.peer; bytes = bytes }) (sym c.encode-len.ensures.written) in
       let gone : None ≡ kept_if c.send-sent.result (kept c.args.route reply) = elim c.in-Taken.is [ inl e ↦ rw e refl | inr e ↦ rw e refl ] in
-      went_one class (Sends c.args.route reply c.send-sent.result) _ _
+      went_one class schedules (Sends c.args.route reply c.send-sent.result) _ _
       (ap (option_map (λ (k : KeptReply). kept k.route (record { peer = k.peer; bytes = take k.len c.args.self.now.text }))) c.requires.kept)
       (sym (joined_none _))
       (c.send-sent.ensures.tells ∙ ap (joined (g.W.Wire.handed c.args.wire.now)) (sent_as c.send-sent.result (from (FromRoute c.args.route) reply)))
       (sent_here c.args.route reply c.send-sent.result c.args.ends.now _ _ c.requires.route (drained_now reply c.take.new.self.hand _ c.take.new.self (c.if-not-take.ensures.some refl) here))
-      (ap (option_map (λ (k : KeptReply). kept k.route (record { peer = k.peer; bytes = take k.len c.encode-len.new.out }))) c.requires.kept ∙ gone)
+      (ap (λ (o : Option Kept). state t.names o t.round t.has_begun t.latest) (ap (option_map (λ (k : KeptReply). kept k.route (record { peer = k.peer; bytes = take k.len c.encode-len.new.out }))) c.requires.kept ∙ gone))
       c.count_reply.ensures;
   more = λ same. c.requires.kept;
   none = λ same. c.requires.kept;
 }
 
 pub returns-in-Later-clause-went : goal.returns-in-Later-clause-went
-returns-in-Later-clause-went g c class gave =
+returns-in-Later-clause-went g c class schedules t gave =
     let reply : Datagram = record { peer = c.reply-reply.result.now.peer; bytes = take c.encode-len.result c.encode-len.new.out } in
     let here : written c.take.new.self.hand ≡ reply = ap written (sym c.reply-reply.ensures) ∙ ap (λ (bytes : List ℕ). record { peer = c.reply-reply.result.now.peer; bytes = bytes }) (sym c.encode-len.ensures.written) in
-    went_one class (Sends c.args.route reply c.send-sent.result) _ _
+    let there : Some (kept c.args.route reply) ≡ kept_if c.send-sent.result (kept c.args.route reply) = rw c.in-Later.is refl in
+    went_one class schedules (Sends c.args.route reply c.send-sent.result) _ _
     (ap (option_map (λ (k : KeptReply). kept k.route (record { peer = k.peer; bytes = take k.len c.args.self.now.text }))) c.requires.kept)
     (sym (joined_none _))
     (c.send-sent.ensures.tells ∙ ap (joined (g.W.Wire.handed c.args.wire.now)) (sent_as c.send-sent.result (from (FromRoute c.args.route) reply)))
     (sent_here c.args.route reply c.send-sent.result c.args.ends.now _ _ c.requires.route (drained_now reply c.take.new.self.hand _ c.take.new.self (c.if-not-take.ensures.some refl) here))
-    (rw c.in-Later.is refl)
+    (ap (λ (o : Option Kept). state t.names o t.round t.has_begun t.latest) there)
     c.count_reply.ensures

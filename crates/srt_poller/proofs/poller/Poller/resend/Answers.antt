@@ -1,29 +1,30 @@
-use Rattle.std.proofs.Common.{refl, sym, ◌∙◌, ◌≡◌, ap, inl, inr, None, take}
+use Rattle.std.proofs.Common.{refl, sym, ◌∙◌, ◌≡◌, ap, inl, inr, Option, None, Some, take}
 use Rattle.std.specs.Prelude.{option_map}
 use Rattle.srt_poller.specs.declared.poller.KeptReply.{KeptReply}
 use Rattle.srt_poller.specs.Devices.{joined}
-use Rattle.srt_poller.specs.History.{Resends, FromRoute, from, kept, kept_if}
+use Rattle.srt_poller.specs.History.{Resends, Kept, state, FromRoute, from, kept, kept_if}
 use Rattle.srt_poller.proofs.Steps.{joined_none, sent_as, are_later_none, went_none, went_one}
 use Rattle.srt_poller.proofs.poller.Poller.resend.Goals as goal
 
 pub returns-in-Taken : goal.returns-in-Taken
-returns-in-Taken g c ends class gave =
+returns-in-Taken g c ends class schedules t gave =
     let k = kept c.in-Some.kept.route (record { peer = c.in-Some.kept.peer; bytes = take c.in-Some.kept.len c.args.self.now.text }) in
     let gone : None ≡ kept_if c.send-sent.result k = elim c.in-Taken.is [ inl e ↦ rw e refl | inr e ↦ rw e refl ] in
-    went_one class (Resends k.route k.reply c.send-sent.result) _ _
+    went_one class schedules (Resends k.route k.reply c.send-sent.result) _ _
     (ap (option_map (λ (x : KeptReply). kept x.route (record { peer = x.peer; bytes = take x.len c.args.self.now.text }))) c.in-Some.is)
     (sym (joined_none _))
     (c.send-sent.ensures.tells ∙ ap (joined (g.W.Wire.handed c.args.wire.now)) (sent_as c.send-sent.result (from (FromRoute k.route) k.reply)))
-    (are_later_none _ _ (λ r. refl) (λ r. refl)) gone c.count_reply.ensures
+    (are_later_none _ _ (λ r. refl) (λ r. refl)) (ap (λ (o : Option Kept). state t.names o t.round t.has_begun t.latest) gone) c.count_reply.ensures
 
 pub returns-in-Later : goal.returns-in-Later
-returns-in-Later g c ends class gave =
+returns-in-Later g c ends class schedules t gave =
     let k = kept c.in-Some.kept.route (record { peer = c.in-Some.kept.peer; bytes = take c.in-Some.kept.len c.args.self.now.text }) in
     let here = ap (option_map (λ (x : KeptReply). kept x.route (record { peer = x.peer; bytes = take x.len c.args.self.now.text }))) c.in-Some.is in
-    went_one class (Resends k.route k.reply c.send-sent.result) _ _ here
+    let there : Some k ≡ kept_if c.send-sent.result k = rw c.in-Later.is refl in
+    went_one class schedules (Resends k.route k.reply c.send-sent.result) _ _ here
     (sym (joined_none _))
     (c.send-sent.ensures.tells ∙ ap (joined (g.W.Wire.handed c.args.wire.now)) (sent_as c.send-sent.result (from (FromRoute k.route) k.reply)))
-    (are_later_none _ _ (λ r. refl) (λ r. refl)) (here ∙ rw c.in-Later.is refl) c.count_reply.ensures
+    (are_later_none _ _ (λ r. refl) (λ r. refl)) (ap (λ (o : Option Kept). state t.names o t.round t.has_begun t.latest) (here ∙ there)) c.count_reply.ensures
 
 pub returns-in_default : goal.returns-in_default
-returns-in_default g c ends class gave = went_none class 1 _
+returns-in_default g c ends class schedules t gave = went_none class schedules 1 _

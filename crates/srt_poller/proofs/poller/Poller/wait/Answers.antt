@@ -4,9 +4,9 @@ use Rattle.srt_poller.proofs.Steps.{joined_none, are_later_none, went_one, went_
 use Rattle.srt_poller.proofs.poller.Poller.wait.Goals as goal
 
 pub returns-in-Ready-clause-ready : goal.returns-in-Ready-clause-ready
-returns-in-Ready-clause-ready g c is class handed ends =
-    went_one class Waits _ _ tt (c.wait.ensures.tells ∙ sym (joined_none _)) (sym (joined_none _)) (are_later_none _ _ (λ r. refl) (λ r. refl)) refl refl
+returns-in-Ready-clause-ready g c is class schedules names round latest handed ends =
+    went_one class schedules Waits _ _ refl (c.wait.ensures.tells ∙ sym (joined_none _)) (sym (joined_none _)) (are_later_none _ _ (λ r. refl) (λ r. refl)) refl refl
 
 pub returns-in-Failed-clause-failed : goal.returns-in-Failed-clause-failed
-returns-in-Failed-clause-failed g c is class handed ends =
-    went_once class WaitFails 1 1 _ _ refl (omega arith) tt (c.wait.ensures.tells ∙ sym (joined_none _)) (sym (joined_none _)) (are_later_none _ _ (λ r. refl) (λ r. refl)) refl c.count_fault.ensures
+returns-in-Failed-clause-failed g c is class schedules names round latest handed ends =
+    went_once class schedules WaitFails 1 1 _ _ refl (omega arith) refl (c.wait.ensures.tells ∙ sym (joined_none _)) (sym (joined_none _)) (are_later_none _ _ (λ r. refl) (λ r. refl)) refl c.count_fault.ensures

@@ -1,0 +1,31 @@
+-- A table that finds a shown route by its name: for each name it has the route that was shown last with it.
+use Rattle.std.specs.Prelude.{◌≡◌, ℕ, true, List, Option, Some, is_some, slice_get}
+use Rattle.std.specs.Option.{option_map}
+use Rattle.std.specs.Map.{lookup}
+use Rattle.std.specs.Str.{bytes_eq}
+use Rattle.srt_lobby.specs.declared.names.NamedRoute.{NamedRoute}
+use Rattle.srt_lobby.specs.RouteNames.{RouteName, shown}
+
+-- the name of a route of the code
+abbrev pub name_in : NamedRoute → RouteName
+name_in route = record { text = route.text.items; is_shown = route.is_shown }
+
+-- the text of the route with this index, shown or not
+abbrev pub text_at : List RouteName → (r : ℕ) → Option (List ℕ)
+text_at names r = option_map (λ (name : RouteName). name.text) (slice_get names r)
+
+-- the index that a table has for this text
+abbrev pub index_in : {K : Type 0} → (text_of : K → List ℕ) → List (K × ℕ) → (text : List ℕ) → Option ℕ
+index_in text_of entries text = lookup (λ key. bytes_eq text (text_of key)) entries
+
+-- the table has each shown route
+abbrev pub HasShown : List RouteName → (latest : List ℕ → Option ℕ) → Type 0
+HasShown names latest = (r : ℕ) (text : List ℕ) → slice_get names r ≡ Some (shown text) → latest text ≡ Some r
+
+-- what the table has for a text is a route with this text
+abbrev pub HasNamed : List RouteName → (latest : List ℕ → Option ℕ) → Type 0
+HasNamed names latest = (r : ℕ) (text : List ℕ) → latest text ≡ Some r → text_at names r ≡ Some text
+
+-- the table has each text of a route
+abbrev pub HasTexts : List RouteName → (latest : List ℕ → Option ℕ) → Type 0
+HasTexts names latest = (r : ℕ) (text : List ℕ) → text_at names r ≡ Some text → is_some (latest text) ≡ true

@@ -1,0 +1,50 @@
+use Rattle.std.proofs.Common.{◌≡◌, ◌∙◌, ◌≤◌, true, refl, sym, ap, List, [], length, take, arith}
+use Rattle.srt_seq.specs.declared.shared.Schedule.{Schedule}
+use Rattle.srt_lobby.specs.Names.{RouteName, names_of}
+use Rattle.srt_poller.specs.Schedules.{opened, due, closed, begun}
+use Rattle.srt_poller.specs.History.{Begins, state}
+use Rattle.srt_poller.specs.Pollers.{kept_in}
+use Rattle.srt_poller.specs.Doors.{all_shown}
+use Rattle.srt_poller.proofs.Openings.{texts_opened, texts_closed, as_many}
+use Rattle.srt_poller.proofs.Steps.{joined_none, are_later_none, went_once}
+use Rattle.srt_poller.proofs.beginning.Doors.begin.Goals as goal
+
+pub returns-then-round-self-clause-began : goal.returns-then-round-self-clause-began
+returns-then-round-self-clause-began g c class gave handed p =
+    let rests = c.requires.rest c.args.round (omega arith) c.if-round-self.true in
+    let schedules = c.args.self.now.schedules.now in
+    let names = names_of c.args.names.now in
+    went_once class schedules (Begins c.args.self.now.latest.moment []) 0 0 _ _ refl (omega arith)
+    (refl, refl, sym (ap (λ (l : List RouteName). due c.args.round schedules l) rests.0 ∙ rests.1))
+    (sym (joined_none _)) (sym (joined_none _)) (are_later_none _ _ (λ r. refl) (λ r. refl))
+    (ap (λ (l : List RouteName). state l (kept_in p) c.args.round true c.args.self.now.latest.moment) (sym rests.0)) refl
+
+pub close-requires-clause-known : goal.close-requires-clause-known
+close-requires-clause-known g c =
+    c.requires.known ∙ as_many (names_of c.args.names.now) (names_of c.open.new.names) (sym (ap all_shown c.open.ensures ∙ texts_opened c.args.round c.args.self.now.schedules.now (names_of c.args.names.now)))
+
+pub close-requires-clause-ends : goal.close-requires-clause-ends
+close-requires-clause-ends g c =
+    c.requires.ends ∙ as_many (names_of c.args.names.now) (names_of c.open.new.names) (sym (ap all_shown c.open.ensures ∙ texts_opened c.args.round c.args.self.now.schedules.now (names_of c.args.names.now)))
+
+pub next_due-self-requires : goal.next_due-self-requires
+next_due-self-requires g c =
+    c.requires.known ∙ as_many (names_of c.args.names.now) (names_of c.close.new.names) (sym (
+    ap all_shown c.close.ensures.1.names ∙ texts_closed c.close.ensures.0 (names_of c.open.new.names)
+    ∙ ap all_shown c.open.ensures ∙ texts_opened c.args.round c.args.self.now.schedules.now (names_of c.args.names.now)))
+
+pub returns-clause-texts : goal.returns-clause-texts
+returns-clause-texts g c =
+    ap all_shown c.close.ensures.1.names ∙ texts_closed c.close.ensures.0 (names_of c.open.new.names)
+    ∙ ap all_shown c.open.ensures ∙ texts_opened c.args.round c.args.self.now.schedules.now (names_of c.args.names.now)
+
+pub returns-clause-began : goal.returns-clause-began
+returns-clause-began g c class gave handed p =
+    let schedules = c.args.self.now.schedules.now in
+    let names = names_of c.args.names.now in
+    let offers = c.close.ensures.0 in
+    let done = c.close.ensures.1 in
+    went_once class schedules (Begins c.args.self.now.latest.moment offers) 0 0 _ _ refl (omega arith)
+    (refl, refl, done.routes ∙ ap (λ (l : List RouteName). due c.args.round schedules l) c.open.ensures)
+    (sym (joined_none _)) (sym (joined_none _)) done.ends
+    (ap (λ (l : List RouteName). state l (kept_in p) c.args.round true c.args.self.now.latest.moment) (done.names ∙ ap (closed offers) c.open.ensures)) refl

@@ -1,0 +1,47 @@
+-- The beginning of a round.
+use Rattle.std.specs.Prelude.{◌≡◌, ℕ, suc, ◌<◌, ◌≤◌, ◌==◌, Bool, true, false, Option, List, [], ◌∷◌, ◌&&◌, length, map}
+use Rattle.srt_seq.specs.declared.shared.Schedule.{Schedule}
+use Rattle.srt_seq.specs.Items.{Datagram}
+use Rattle.srt_lobby.specs.Names.{RouteName, shown}
+use Rattle.srt_poller.specs.declared.ends.Ends.{Ends}
+use Rattle.srt_poller.specs.declared.poller.Poller.{Poller}
+use Rattle.srt_poller.specs.Devices.{Arrival}
+use Rattle.srt_poller.specs.Schedules.{CloseOffer, offered, offered_routes, opened, due, has_come, hidden_by, closed}
+use Rattle.srt_poller.specs.History.{Sorting, Begins}
+use Rattle.srt_poller.specs.Pollers.{begun_turn, next_turn, world_of}
+use Rattle.srt_poller.specs.Rounds.{AreLater, Went}
+
+-- the names as if all routes were shown
+abbrev pub all_shown : List RouteName → List RouteName
+all_shown names = map (λ name. shown name.text) names
+
+-- in this round nothing opens, and no closing is due
+abbrev pub Rests : (round : ℕ) → List Schedule → List RouteName → Type 0
+Rests round schedules names = (opened round schedules names ≡ names) × (due round schedules names ≡ [])
+
+-- the same of one route
+abbrev pub RouteRests : (round : ℕ) → Schedule → (is_shown : Bool) → Type 0
+RouteRests round s is_shown = ((s.open_round == round) ≡ false) × ((has_come round s.close_round && is_shown) ≡ false)
+
+-- nothing happens in the rounds from one on and before another
+abbrev pub RestBetween : (from until : ℕ) → List Schedule → List RouteName → Type 0
+RestBetween from until schedules names = (round : ℕ) → from ≤ round → round < until → Rests round schedules names
+
+-- a route was offered Close, and is hidden if its inbox accepted it
+abbrev pub Closes : (moment : ℕ) → CloseOffer → (old new : List RouteName) → (before after : List Ends) → Type 0
+Closes moment o old new before after = (new ≡ hidden_by old o) × AreLater (Begins moment (o ∷ []) ∷ []) before after
+
+-- these offers were made to the routes whose round of closing has come, among those of the schedules; the names of the others stay
+pub record ClosedBy (moment round : ℕ) (schedules : List Schedule) (offers : List CloseOffer) (old new : List RouteName) (before after : List Ends) : Type 0 where
+  pub routes : offered_routes offers ≡ due round schedules old
+  pub names : new ≡ closed offers old
+  pub ends : AreLater (Begins moment offers ∷ []) before after
+
+abbrev pub AreClosed : (moment round : ℕ) → List Schedule → (old new : List RouteName) → (before after : List Ends) → Type 0
+AreClosed moment round schedules old new before after = (offers : List CloseOffer) × ClosedBy moment round schedules offers old new before after
+
+-- the round began
+abbrev pub Began : (round latest : ℕ) → List Schedule → (old new : List RouteName) → (before after : List Ends) → Type 0
+Began round latest schedules old new before after =
+    (class : Sorting) (gave : Option (List Arrival)) (handed : Option (List Datagram)) (p : Poller) →
+    Went class schedules 1 0 0 (world_of gave handed before (next_turn old round latest) p) (world_of gave handed after (begun_turn new round latest) p)

@@ -1,0 +1,55 @@
+-- Which routes open and close at the beginning of a poller's round.
+use Rattle.std.specs.Prelude.{ℕ, suc, Bool, true, false, Option, None, Some, List, [], ◌∷◌, nat_le, ◌==◌, ◌&&◌, if◌then◌else◌, map}
+use Rattle.std.specs.List.{fold}
+use Rattle.srt_seq.specs.declared.shared.Schedule.{Schedule}
+use Rattle.srt_lobby.specs.Names.{RouteName, AreDistinct, shown}
+use Rattle.srt_lobby.specs.Changing.{hidden_at}
+
+-- the names, with those of the routes that open in this round shown; there is a schedule for each name
+abbrev pub opened : (round : ℕ) → List Schedule → List RouteName → List RouteName
+opened round [] names = names
+opened round (s ∷ schedules) [] = []
+opened round (s ∷ schedules) (name ∷ names) = (if s.open_round == round then shown name.text else name) ∷ opened round schedules names
+
+-- whether the round of a route's closing has come
+abbrev pub has_come : (round : ℕ) → Option ℕ → Bool
+has_come round (Some close_round) = nat_le close_round round
+has_come round None = false
+
+-- the indexes of the shown routes whose round of closing has come; the first name has this index
+abbrev pub due_from : (index round : ℕ) → List Schedule → List RouteName → List ℕ
+due_from index round [] names = []
+due_from index round (s ∷ schedules) [] = []
+due_from index round (s ∷ schedules) (name ∷ names) =
+    if has_come round s.close_round && name.is_shown
+    then index ∷ due_from (suc index) round schedules names else due_from (suc index) round schedules names
+
+-- the routes that are offered Close in this round
+abbrev pub due : (round : ℕ) → List Schedule → List RouteName → List ℕ
+due round schedules names = due_from 0 round schedules names
+
+-- a route that was offered Close, and whether its inbox accepted it
+pub record CloseOffer : Type 0 where
+  pub route : ℕ
+  pub is_accepted : Bool
+
+abbrev pub offered : (route : ℕ) → (is_accepted : Bool) → CloseOffer
+offered route is_accepted = record { route = route; is_accepted = is_accepted }
+
+abbrev pub offered_routes : List CloseOffer → List ℕ
+offered_routes offers = map (λ o. o.route) offers
+
+-- the names, with those of the routes whose inbox accepted Close hidden
+abbrev pub hidden_by : List RouteName → CloseOffer → List RouteName
+hidden_by names o = if o.is_accepted then hidden_at o.route names else names
+
+abbrev pub closed : List CloseOffer → List RouteName → List RouteName
+closed offers names = fold hidden_by names offers
+
+-- the names as they are after the beginning of a round
+abbrev pub begun : (round : ℕ) → List Schedule → List CloseOffer → List RouteName → List RouteName
+begun round schedules offers names = closed offers (opened round schedules names)
+
+-- no two routes have the same name, whether they are shown or not
+abbrev pub AllDiffer : List RouteName → Type 0
+AllDiffer names = AreDistinct (map (λ name. shown name.text) names)
