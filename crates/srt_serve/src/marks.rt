@@ -1,28 +1,56 @@
-//! Marks of routes: flags that any thread sets and clears.
+//! Marks of routes: flags that any thread sets and clears, 64 in a word.
 
 use std::alloc::{AllocError, Global};
-use std::sync::atomic::{AtomicBool, Ordering};
+use std::sync::atomic::{AtomicU64, Ordering};
 
 /// A flag for each route. An index that is no route's counts as never set.
 #[derive(Drop)]
 pub struct Marks {
-    marks: Vec<AtomicBool>,
+    // the mark of route r is bit r % 64 of word r / 64; bits past the last route are never set
+    words: Vec<AtomicU64>,
+    routes: usize,
+}
+
+/// The bit of a route's mark in its word.
+fn bit_of(route: usize) -> u64 {
+    1u64.wrapping_shl((route % 64) as u32)
+}
+
+/// A word with the marks of this many routes set, 64 at most.
+fn all_of(routes: usize) -> u64 {
+    if routes < 64 {
+        bit_of(routes).wrapping_sub(1)
+    } else {
+        u64::MAX
+    }
+}
+
+/// The route of the lowest bit of a word that isn't 0, the word with this index.
+fn lowest_of(word: u64, at: usize) -> usize {
+    at.wrapping_mul(64)
+        .wrapping_add(word.trailing_zeros() as usize)
 }
 
 impl Marks {
-    /// Marks for this many routes, none of them set. Takes a byte a route; an error means that it was refused.
+    /// Marks for this many routes, none of them set. Takes a bit a route; an error means that it was refused.
     pub fn open(alloc: Global, routes: usize) -> Result<Marks, AllocError> {
-        let mut marks = Vec::with_capacity(alloc, routes)?;
-        for _ in 0..routes {
-            marks.push(AtomicBool::new(false))?;
+        let count = routes.div_ceil(64);
+        let mut words = Vec::with_capacity(alloc, count)?;
+        for _ in 0..count {
+            words.push(AtomicU64::new(0))?;
         }
-        Ok(Marks { marks })
+        Ok(Marks { words, routes })
+    }
+
+    /// The number of routes.
+    pub fn routes(&self) -> usize {
+        self.routes
     }
 
     /// Whether the route's mark is set.
     pub fn is_set(&self, route: usize) -> bool {
-        match self.marks.get(route) {
-            Some(mark) => mark.load(Ordering::SeqCst),
+        match self.words.get(route / 64) {
+            Some(word) => word.load(Ordering::SeqCst) & bit_of(route) != 0,
             None => false,
         }
     }
@@ -30,43 +58,57 @@ impl Marks {
     /// Sets the route's mark. True if it was clear and this call set it. A mark that is set already is only read, so
     /// that its cache line isn't taken from other processors.
     pub fn set(&self, route: usize) -> bool {
-        match self.marks.get(route) {
-            Some(mark) => !mark.load(Ordering::SeqCst) && !mark.swap(true, Ordering::SeqCst),
+        if route >= self.routes {
+            return false;
+        }
+        let bit = bit_of(route);
+        match self.words.get(route / 64) {
+            Some(word) => {
+                word.load(Ordering::SeqCst) & bit == 0
+                    && word.fetch_or(bit, Ordering::SeqCst) & bit == 0
+            }
             None => false,
         }
     }
 
     /// Clears the route's mark.
     pub fn clear(&self, route: usize) {
-        if let Some(mark) = self.marks.get(route) {
-            mark.store(false, Ordering::SeqCst);
+        if let Some(word) = self.words.get(route / 64) {
+            word.fetch_and(!bit_of(route), Ordering::SeqCst);
         }
     }
 
-    /// Sets all marks. Linear in the number of routes.
+    /// Sets all marks. Costs a store for each 64 routes.
     pub fn set_all(&self) {
-        for mark in &self.marks {
-            if !mark.load(Ordering::SeqCst) {
-                mark.store(true, Ordering::SeqCst);
-            }
+        let mut left = self.routes;
+        for word in &self.words {
+            word.store(all_of(left), Ordering::SeqCst);
+            left = left.saturating_sub(64);
         }
     }
 
-    /// The first mark from this one on that is set; the number of routes if there is none. Linear in the routes that it
-    /// passes over.
+    /// The first mark from this one on that is set; the number of routes if there is none. Costs a load for each 64
+    /// routes that it passes over.
     pub fn next_from(&self, route: usize) -> usize {
-        for at in route..self.marks.len() {
-            if self.is_set(at) {
-                return at;
+        let first = route / 64;
+        // the bits from the route's on
+        let mut kept = u64::MAX.wrapping_shl((route % 64) as u32);
+        for at in first..self.words.len() {
+            if let Some(word) = self.words.get(at) {
+                let found = word.load(Ordering::SeqCst) & kept;
+                if found != 0 {
+                    return lowest_of(found, at);
+                }
             }
+            kept = u64::MAX;
         }
-        self.marks.len()
+        self.routes
     }
 
-    /// Whether any mark is set. Linear in the number of routes.
+    /// Whether any mark is set. Costs a load for each 64 routes.
     pub fn any(&self) -> bool {
-        for mark in &self.marks {
-            if mark.load(Ordering::SeqCst) {
+        for word in &self.words {
+            if word.load(Ordering::SeqCst) != 0 {
                 return true;
             }
         }

@@ -73,16 +73,16 @@ where
     } = *context;
     let gates = mem::replace(gates, Vec::new(context.alloc));
     thread::scope(thread::scope_env(), rt, |scope| {
-        let mut first = 0usize;
+        let mut worker = 0usize;
         for gate in gates {
             if scope
-                .spawn(move || work(rt, cells, gate, first, hall))
+                .spawn(move || work(rt, cells, gate, worker, hall))
                 .is_err()
             {
                 hall.finish();
                 return;
             }
-            first = first.wrapping_add(1);
+            worker = worker.wrapping_add(1);
         }
     });
 }

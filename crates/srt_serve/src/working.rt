@@ -77,23 +77,31 @@ fn go_round<R: Wait, C: Serve, G: Gate>(
     let mut is_served = false;
     let mut is_shared = false;
     let mut moved = 0u32;
+    let mut is_past_the_end = false;
     let mut route = first;
+    // no route is visited twice
     for _ in 0..cells.len() {
+        route = hall.next_that_asks(route);
         if route >= cells.len() {
-            route = 0;
-        }
-        if hall.asks(route) {
-            if moved >= MANY && !is_shared {
-                is_shared = true;
-                hall.share();
+            if is_past_the_end {
+                return is_served;
             }
-            if let Some(cell) = cells.get(route) {
-                if hall.enter(route) {
-                    let visit = serve_route(rt, cell, route, gate, hall);
-                    hall.leave(route, visit.is_left);
-                    is_served |= visit.is_served;
-                    moved = moved.wrapping_add(visit.moved);
-                }
+            is_past_the_end = true;
+            route = hall.next_that_asks(0);
+        }
+        if is_past_the_end && route >= first {
+            return is_served;
+        }
+        if moved >= MANY && !is_shared {
+            is_shared = true;
+            hall.share();
+        }
+        if let Some(cell) = cells.get(route) {
+            if hall.enter(route) {
+                let visit = serve_route(rt, cell, route, gate, hall);
+                hall.leave(route, visit.is_left);
+                is_served |= visit.is_served;
+                moved = moved.wrapping_add(visit.moved);
             }
         }
         route = route.wrapping_add(1);
@@ -101,33 +109,30 @@ fn go_round<R: Wait, C: Serve, G: Gate>(
     is_served
 }
 
-/// Serves the routes that ask, round after round from the route `first` on, until the run is over. After a round that
-/// found nothing to do it sleeps for at most 500 microseconds, and after each further one until the bell is called.
+/// Serves the routes that ask, round after round, until the run is over; `worker` is the number of this worker among
+/// all. After a round that found nothing to do it sleeps for at most 500 microseconds, and after each further one until
+/// it is called.
 pub fn work<R: Wait, C: Serve, G: Gate + Drop>(
     rt: &R,
     cells: &[C],
     mut gate: G,
-    first: usize,
+    worker: usize,
     hall: &Hall,
 ) {
     hall.arrive();
-    let first = if cells.is_empty() {
-        0
-    } else {
-        first % cells.len()
-    };
+    let first = hall.first_of(worker);
     let mut napped = false;
     for _ in rt.forever() {
         if hall.is_done() {
             return;
         }
-        let heard = hall.heard();
+        let heard = hall.heard(worker);
         if go_round(rt, cells, first, &mut gate, hall) {
             napped = false;
         } else if napped {
-            hall.rest(rt, heard);
+            hall.rest(rt, worker, heard);
         } else {
-            hall.nap(rt, heard);
+            hall.nap(rt, worker, heard);
             napped = true;
         }
     }

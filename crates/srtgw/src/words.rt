@@ -32,7 +32,7 @@ pub enum Task<'a> {
 }
 
 /// The version, as CHANGELOG.md has it.
-const VERSION: &str = "0.4";
+const VERSION: &str = "0.5";
 
 fn path<'a>(alloc: Global, name: &'a str, help: &'a str) -> Arg<'a> {
     Arg::new(alloc, name)
