@@ -32,15 +32,13 @@ pub struct Hall {
     visited: Marks,
     // the route's outbox may have a reply
     told: Marks,
-    // wakes a worker: a bell for each
-    bells: Vec<Bell>,
+    // wakes workers
+    bell: Bell,
     // wakes the polling thread while it waits in `gather` for the others
     door: Bell,
     // the number of workers, without the ticking thread
     workers: u64,
-    // the workers in `nap` or `rest`: bit w for worker w, and none for worker 64 and those after it
-    asleep: AtomicU64,
-    // of these, the workers in `rest`
+    // the number of workers in `rest`
     resting: AtomicU64,
     // the number of threads that have arrived: the ticking thread and the workers
     here: AtomicU64,
@@ -48,31 +46,17 @@ pub struct Hall {
     done: AtomicBool,
 }
 
-/// The bit of a worker among the sleepers; 0 if it has none.
-fn bit_of(worker: usize) -> u64 {
-    if worker < 64 {
-        1u64.wrapping_shl(worker as u32)
-    } else {
-        0
-    }
-}
-
 impl Hall {
-    /// A hall for this many routes and workers. Takes memory for three marks a route and a bell a worker; an error means
-    /// that it was refused.
+    /// A hall for this many routes and workers. Takes memory for three marks a route; an error means that it was
+    /// refused.
     pub fn open(alloc: Global, routes: usize, workers: usize) -> Result<Hall, AllocError> {
-        let mut bells = Vec::with_capacity(alloc, workers)?;
-        for _ in 0..workers {
-            bells.push(Bell::new())?;
-        }
         Ok(Hall {
             asked: Marks::open(alloc, routes)?,
             visited: Marks::open(alloc, routes)?,
             told: Marks::open(alloc, routes)?,
-            bells,
+            bell: Bell::new(),
             door: Bell::new(),
             workers: workers as u64,
-            asleep: AtomicU64::new(0),
             resting: AtomicU64::new(0),
             here: AtomicU64::new(0),
             done: AtomicBool::new(false),
@@ -104,9 +88,7 @@ impl Hall {
     /// Ends the run: all threads see it at their next look, and those that sleep are woken.
     pub fn finish(&self) {
         self.done.store(true, Ordering::SeqCst);
-        for bell in &self.bells {
-            bell.call_all();
-        }
+        self.bell.call_all();
         self.door.call_all();
     }
 
@@ -115,24 +97,9 @@ impl Hall {
         self.done.load(Ordering::SeqCst)
     }
 
-    /// The route at which a worker begins its rounds: the workers begin as far apart as they can, so that each finds
-    /// most of its routes in its own processor's caches.
-    pub fn first_of(&self, worker: usize) -> usize {
-        let routes = self.asked.routes();
-        worker
-            .wrapping_mul(routes)
-            .checked_div(self.bells.len())
-            .unwrap_or(0)
-    }
-
-    /// The bell of a worker.
-    fn bell_of(&self, worker: usize) -> &Bell {
-        self.bells.get(worker).unwrap_or(&self.door)
-    }
-
-    /// The number of the worker's calls. A worker reads it before it looks for work, and hands it to `nap` or `rest`.
-    pub fn heard(&self, worker: usize) -> u64 {
-        self.bell_of(worker).heard()
+    /// The number of the bell's calls. A worker reads it before it looks for work, and hands it to `nap` or `rest`.
+    pub fn heard(&self) -> u64 {
+        self.bell.heard()
     }
 
     /// The first route from this one on that may have an item to apply, or more to do; the number of routes if there is
@@ -164,49 +131,33 @@ impl Hall {
         self.told.set(route);
     }
 
-    /// Wakes the first of these workers, a bit each; nobody if there is none. So the same few workers do the work of a
-    /// gateway that isn't busy, and the routes stay in their processors' caches.
-    fn wake(&self, workers: u64) {
-        if let Some(bell) = self.bells.get(workers.trailing_zeros() as usize) {
-            bell.call_one();
-        }
-    }
-
     /// Wakes a worker, if one is in `rest`.
     pub fn share(&self) {
-        self.wake(self.resting.load(Ordering::SeqCst));
+        if self.resting.load(Ordering::SeqCst) > 0 {
+            self.bell.call_one();
+        }
     }
 
-    /// All routes were ticked: each asks for a worker, and a worker that sleeps is woken.
+    /// All routes were ticked: each asks for a worker, and one worker is woken.
     pub fn ticked(&self) {
         self.asked.set_all();
-        self.wake(self.asleep.load(Ordering::SeqCst));
+        self.bell.call_one();
     }
 
-    /// Sleeps for at most this many microseconds, or until the worker is called.
-    fn sleep<R: Wait>(&self, rt: &R, worker: usize, heard: u64, most: u64) {
-        let own = bit_of(worker);
-        self.asleep.fetch_or(own, Ordering::SeqCst);
-        if !self.is_done() {
-            self.bell_of(worker)
-                .rest(rt, heard, Duration::from_micros(most));
-        }
-        self.asleep.fetch_and(!own, Ordering::SeqCst);
+    /// Sleeps for at most 500 microseconds, or until the bell is called.
+    pub fn nap<R: Wait>(&self, rt: &R, heard: u64) {
+        self.bell.rest(rt, heard, Duration::from_micros(NAP));
     }
 
-    /// Sleeps for at most 500 microseconds, or until the worker is called.
-    pub fn nap<R: Wait>(&self, rt: &R, worker: usize, heard: u64) {
-        self.sleep(rt, worker, heard, NAP);
-    }
-
-    /// Sleeps until the worker is called, for at most 100 milliseconds; at most 500 microseconds if a route still asks
+    /// Sleeps until the bell is called, for at most 100 milliseconds; at most 500 microseconds if a route still asks
     /// that this worker could not serve.
-    pub fn rest<R: Wait>(&self, rt: &R, worker: usize, heard: u64) {
-        let own = bit_of(worker);
-        self.resting.fetch_or(own, Ordering::SeqCst);
+    pub fn rest<R: Wait>(&self, rt: &R, heard: u64) {
+        self.resting.fetch_add(1, Ordering::SeqCst);
         let most = if self.asked.any() { NAP } else { SLEEP };
-        self.sleep(rt, worker, heard, most);
-        self.resting.fetch_and(!own, Ordering::SeqCst);
+        if !self.is_done() {
+            self.bell.rest(rt, heard, Duration::from_micros(most));
+        }
+        self.resting.fetch_sub(1, Ordering::SeqCst);
     }
 }
 
@@ -216,13 +167,9 @@ impl Signals for Hall {
     }
 
     fn read_ended(&self, datagrams: u32) {
-        if datagrams >= MANY {
-            self.wake(self.asleep.load(Ordering::SeqCst));
-        } else if datagrams > 0 {
-            let resting = self.resting.load(Ordering::SeqCst);
-            if u64::from(resting.count_ones()) >= self.workers {
-                self.wake(resting);
-            }
+        let all_rest = self.resting.load(Ordering::SeqCst) >= self.workers;
+        if datagrams >= MANY || (datagrams > 0 && all_rest) {
+            self.bell.call_one();
         }
     }
 

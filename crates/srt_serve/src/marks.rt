@@ -42,11 +42,6 @@ impl Marks {
         Ok(Marks { words, routes })
     }
 
-    /// The number of routes.
-    pub fn routes(&self) -> usize {
-        self.routes
-    }
-
     /// Whether the route's mark is set.
     pub fn is_set(&self, route: usize) -> bool {
         match self.words.get(route / 64) {

@@ -73,16 +73,16 @@ where
     } = *context;
     let gates = mem::replace(gates, Vec::new(context.alloc));
     thread::scope(thread::scope_env(), rt, |scope| {
-        let mut worker = 0usize;
+        let mut first = 0usize;
         for gate in gates {
             if scope
-                .spawn(move || work(rt, cells, gate, worker, hall))
+                .spawn(move || work(rt, cells, gate, first, hall))
                 .is_err()
             {
                 hall.finish();
                 return;
             }
-            worker = worker.wrapping_add(1);
+            first = first.wrapping_add(1);
         }
     });
 }

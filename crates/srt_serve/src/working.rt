@@ -109,30 +109,33 @@ fn go_round<R: Wait, C: Serve, G: Gate>(
     is_served
 }
 
-/// Serves the routes that ask, round after round, until the run is over; `worker` is the number of this worker among
-/// all. After a round that found nothing to do it sleeps for at most 500 microseconds, and after each further one until
-/// it is called.
+/// Serves the routes that ask, round after round from the route `first` on, until the run is over. After a round that
+/// found nothing to do it sleeps for at most 500 microseconds, and after each further one until the bell is called.
 pub fn work<R: Wait, C: Serve, G: Gate + Drop>(
     rt: &R,
     cells: &[C],
     mut gate: G,
-    worker: usize,
+    first: usize,
     hall: &Hall,
 ) {
     hall.arrive();
-    let first = hall.first_of(worker);
+    let first = if cells.is_empty() {
+        0
+    } else {
+        first % cells.len()
+    };
     let mut napped = false;
     for _ in rt.forever() {
         if hall.is_done() {
             return;
         }
-        let heard = hall.heard(worker);
+        let heard = hall.heard();
         if go_round(rt, cells, first, &mut gate, hall) {
             napped = false;
         } else if napped {
-            hall.rest(rt, worker, heard);
+            hall.rest(rt, heard);
         } else {
-            hall.nap(rt, worker, heard);
+            hall.nap(rt, heard);
             napped = true;
         }
     }
