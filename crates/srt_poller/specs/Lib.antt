@@ -7,4 +7,5 @@ pub mod Pollers
 pub mod Doors
 pub mod Pumped
 pub mod Scripts
+pub mod Pauses
 pub mod Sockets

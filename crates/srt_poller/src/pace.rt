@@ -1,19 +1,45 @@
-//! How long a socket's source waits.
+//! How a socket's source waits.
 
-ghost use Rattle.std.specs.Prelude.{◌≡◌, ◌-◌, true, false};
-ghost use Rattle.srt_poller.specs.Sockets.{pause};
+ghost use Rattle.std.specs.Prelude.{◌≡◌, true, false};
+ghost use Rattle.srt_poller.specs.Pauses.{pause, after_datagram};
+
+use crate::density::Density;
 
 // The number of short waits after a datagram came or a send returned Later.
 const SHORT_WAITS: u32 = 100;
 
-/// The limit of the next wait: 0 ms while there may be more to read, 1 ms for the 100 waits after a datagram came or a
-/// send returned Later, else 10 ms.
+// After a round that read or sent this many datagrams there may be more to do at once.
+const MANY: u32 = 64;
+
+// Datagrams come densely if a millisecond had this many, and too densely for naps if it had `TOO_DENSE`: then many are
+// there at each wait without them.
+const DENSE: u32 = 20;
+
+const TOO_DENSE: u32 = 100;
+
+/// A wait.
+#[derive(Clone, Copy, Debug, PartialEq, Eq)]
+pub(crate) enum Pause {
+    /// Until the socket has a datagram, for at most this many milliseconds.
+    Poll(u64),
+    /// A tenth of a millisecond, whatever comes meanwhile.
+    Nap,
+}
+
+/// Which wait is next. One that ends with a datagram lasts at most 0 ms while there may be more to read, 1 ms for the
+/// 100 waits after a datagram came or a send returned Later, else 10 ms. In place of one of 1 ms the source naps, if 20
+/// to 99 datagrams come in a millisecond and the round before had some to read, but few to read and to send: then a nap
+/// costs less than the waits for each of the next datagrams.
 #[derive(Clone, Copy)]
 pub(crate) struct Pace {
     /// The last read gave a datagram, so there may be more.
     pub(crate) more: bool,
     /// The number of short waits left.
     pub(crate) warm: u32,
+    /// The number of datagrams that came since the last wait; stops at 64.
+    pub(crate) read: u32,
+    /// How densely datagrams come.
+    pub(crate) density: Density,
 }
 
 impl Pace {
@@ -25,42 +51,60 @@ impl Pace {
         Pace {
             more: false,
             warm: 0,
+            read: 0,
+            density: Density::new(),
         }
     }
 
-    /// The limit of the wait that begins now, in milliseconds.
-    pub(crate) fn wait(&mut self) -> u64
-        ensures { result ≡ pause self.old }
+    /// The wait that begins now. `sent` is the number of datagrams that were sent since the last one.
+    pub(crate) fn wait(&mut self, sent: u32) -> Pause
+        ensures pause { result ≡ pause sent self.old }
+        ensures read { self.new.read ≡ 0 }
     {
+        let read = self.read;
+        self.read = 0;
         if self.more {
-            return 0;
+            return Pause::Poll(0);
         }
-        if self.warm > 0 {
-            self.warm -= 1;
-            return 1;
+        if self.warm == 0 {
+            return Pause::Poll(10);
         }
-        10
+        self.warm -= 1;
+        let is_dense = DENSE <= self.density.last && self.density.last < TOO_DENSE;
+        if is_dense && 0 < read && read < MANY && sent < MANY {
+            Pause::Nap
+        } else {
+            Pause::Poll(1)
+        }
     }
 
-    /// A datagram came, so there may be more.
-    pub(crate) fn came(&mut self)
-        ensures { self.new.more ≡ true }
+    /// A datagram came at this moment, in microseconds, so there may be more.
+    pub(crate) fn came(&mut self, moment: u64)
+        ensures { self.new ≡ after_datagram moment self.old }
     {
         self.more = true;
         self.warm = SHORT_WAITS;
+        if self.read < MANY {
+            self.read += 1;
+        }
+        self.density.came(moment);
     }
 
     /// A read found no datagram, or failed.
     pub(crate) fn ended(&mut self)
         ensures more { self.new.more ≡ false }
         ensures warm { self.new.warm ≡ self.old.warm }
+        ensures read { self.new.read ≡ self.old.read }
+        ensures density { self.new.density ≡ self.old.density }
     {
         self.more = false;
     }
 
     /// A send returned Later, and is to be tried again soon.
     pub(crate) fn put_off(&mut self)
-        ensures { self.new.more ≡ self.old.more }
+        ensures more { self.new.more ≡ self.old.more }
+        ensures read { self.new.read ≡ self.old.read }
+        ensures density { self.new.density ≡ self.old.density }
     {
         self.warm = SHORT_WAITS;
     }

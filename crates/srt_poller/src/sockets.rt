@@ -5,8 +5,9 @@ ghost use Rattle.std.specs.Net.Addr.{ipv4_octets};
 ghost use Rattle.srt_poller.specs.Sockets.{mapped};
 
 use crate::devices::{Clock, Polled, Read, Sent, Source, Wire};
-use crate::pace::Pace;
+use crate::pace::{Pace, Pause};
 use libc::net;
+use libc::types::timespec;
 use mio::net::UdpSocket;
 use mio::{Events, Interest, Poll, Token};
 use srt_seq::Peer;
@@ -15,11 +16,14 @@ use std::io::ErrorKind;
 use std::net::{IpAddr, Ipv4Addr, Net, SocketAddr, SocketAddrV4};
 use std::os::fd::AsRawFd;
 use std::sync::Arc;
-use std::sync::atomic::{AtomicBool, Ordering};
+use std::sync::atomic::{AtomicBool, AtomicU32, Ordering};
 use std::time::Duration;
 
 // The receive buffer that is asked of the system, in bytes (SO_RCVBUF).
 const RECEIVE_BUFFER: u32 = 4_194_304;
+
+// A nap, in nanoseconds.
+const NAP: i64 = 100_000;
 
 /// Why a socket could not be bound. Nothing is kept then.
 #[derive(Clone, Copy, Debug, PartialEq, Eq)]
@@ -35,6 +39,9 @@ struct Shared {
     socket: UdpSocket,
     // A send returned Later since the source last waited.
     put_off: AtomicBool,
+    // The number of datagrams sent since the source last waited, modulo 2^32. A hint: sends by another thread than the
+    // source's may be counted short.
+    sent: AtomicU32,
 }
 
 /// A source over a UDP socket. It doesn't record its datagrams, so `gave` is `None`.
@@ -68,6 +75,19 @@ fn ask_for_room(socket: &UdpSocket) {
             4,
         )
     };
+}
+
+/// Sleeps for a tenth of a millisecond, or until a signal.
+fn nap() {
+    let asked = timespec {
+        tv_sec: 0,
+        tv_nsec: NAP,
+    };
+    let mut left = timespec {
+        tv_sec: 0,
+        tv_nsec: 0,
+    };
+    let _ = libc::nanosleep(&asked, &mut left);
 }
 
 /// The peer with this IPv4 address, which becomes `::ffff:a.b.c.d`.
@@ -109,14 +129,30 @@ impl Shared {
             Shared {
                 socket,
                 put_off: AtomicBool::new(false),
+                sent: AtomicU32::new(0),
             },
         )?;
         let theirs = Arc::try_clone(&ours)?;
         Ok((ours, theirs))
     }
+
+    fn count_sent(&self) {
+        let sent = self.sent.load(Ordering::Relaxed);
+        self.sent.store(sent.wrapping_add(1), Ordering::Relaxed);
+    }
+
+    /// The number of datagrams sent since the last call, modulo 2^32.
+    fn take_sent(&self) -> u32 {
+        let sent = self.sent.load(Ordering::Relaxed);
+        self.sent.store(0, Ordering::Relaxed);
+        sent
+    }
 }
 
 impl<C: Clock> MioSource<C> {
+    ghost use Rattle.srt_mailbox.specs.Counts.{Grew};
+    ghost use Rattle.srt_poller.specs.declared.devices.Polled.TheVariants.{Failed as PollFailed};
+
     /// Binds a UDP socket at this address and returns a source and a wire over it. With port 0 the system chooses the
     /// port. The clock gives the moment of each datagram as it is read. The system is asked for a receive buffer of 4
     /// MiB; whether it gives that isn't checked. Takes memory.
@@ -166,6 +202,19 @@ impl<C: Clock> MioSource<C> {
         Ok((source, wire))
     }
 
+    // Waits for a datagram, for at most this time.
+    fn poll(&mut self, most: Duration) -> Polled
+        ensures failed { result ≡ PollFailed → Grew self.old.failures self.new.failures }
+    {
+        match self.poll.poll(&mut self.events, Some(most)) {
+            Ok(()) => Polled::Ready,
+            Err(_) => {
+                self.failures = self.failures.saturating_add(1);
+                Polled::Failed
+            }
+        }
+    }
+
     /// The socket's own address, with the port that the system chose. `None` if the system doesn't give it.
     pub fn address(&self) -> Option<SocketAddr> {
         self.shared.socket.local_addr().ok()
@@ -179,26 +228,26 @@ impl<C: Clock> Source for MioSource<C> {
 
     ghost gave = { λ s. None };
 
-    /// Waits at most 0, 1 or 10 ms, as `Pace` decides.
+    /// Waits for a datagram, at most 0, 1 or 10 ms, or sleeps for a tenth of a millisecond, as `Pace` decides.
     fn wait(&mut self) -> Polled {
         if self.shared.put_off.swap(false, Ordering::SeqCst) {
             self.pace.put_off();
         }
-        let most = Duration::from_millis(self.pace.wait());
-        match self.poll.poll(&mut self.events, Some(most)) {
-            Ok(()) => Polled::Ready,
-            Err(_) => {
-                self.failures = self.failures.saturating_add(1);
-                Polled::Failed
+        match self.pace.wait(self.shared.take_sent()) {
+            Pause::Nap => {
+                nap();
+                Polled::Ready
             }
+            Pause::Poll(millis) => self.poll(Duration::from_millis(millis)),
         }
     }
 
     fn next(&mut self, buffer: &mut [u8; 2048]) -> Read {
         match self.shared.socket.recv_from(buffer.as_mut_slice()) {
             Ok((len, from)) => {
-                self.pace.came();
-                Read::Datagram(peer_of(from), len, self.clock.next())
+                let moment = self.clock.next();
+                self.pace.came(moment);
+                Read::Datagram(peer_of(from), len, moment)
             }
             Err(error) => {
                 self.pace.ended();
@@ -242,7 +291,10 @@ impl Wire for MioWire {
             return self.fail();
         };
         match self.shared.socket.send_to(bytes, target) {
-            Ok(_) => Sent::Taken,
+            Ok(_) => {
+                self.shared.count_sent();
+                Sent::Taken
+            }
             Err(error) => {
                 if error.kind() == ErrorKind::WouldBlock {
                     self.shared.put_off.store(true, Ordering::SeqCst);

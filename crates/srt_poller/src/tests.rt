@@ -7,6 +7,7 @@ ghost use Rattle.srt_poller.specs.Schedules.{AllDiffer};
 
 mod faults;
 mod rounds;
+mod waits;
 
 use crate::{
     BindFault, ClockScript, Ends, MioSource, MioWire, Polled, Read, Report, ScriptDatagram, Sent,

@@ -1,0 +1,57 @@
+//! How densely datagrams come.
+
+ghost use Rattle.std.specs.Prelude.{◌≡◌};
+ghost use Rattle.srt_poller.specs.Pauses.{counted};
+
+// A millisecond, in microseconds.
+const MILLISECOND: u64 = 1000;
+
+// Counts stop here.
+const MOST: u32 = 100;
+
+/// A count of datagrams by the millisecond. Counts stop at 100.
+#[derive(Clone, Copy)]
+pub(crate) struct Density {
+    /// When the millisecond that is counted began, in microseconds.
+    pub(crate) began: u64,
+    /// The number of datagrams in it.
+    pub(crate) count: u32,
+    /// The number of datagrams in the millisecond just before.
+    pub(crate) last: u32,
+}
+
+impl Density {
+    /// No datagram came yet.
+    pub(crate) fn new() -> Density
+        ensures { result.last ≡ 0 }
+    {
+        Density {
+            began: 0,
+            count: 0,
+            last: 0,
+        }
+    }
+
+    /// A datagram came at this moment, in microseconds.
+    pub(crate) fn came(&mut self, moment: u64)
+        ensures { self.new ≡ counted moment self.old }
+    {
+        let passed = moment.saturating_sub(self.began);
+        if passed < MILLISECOND {
+            if self.count < MOST {
+                self.count += 1;
+            }
+            return;
+        }
+        let last = if passed < 2 * MILLISECOND {
+            self.count
+        } else {
+            0
+        };
+        *self = Density {
+            began: moment,
+            count: 1,
+            last,
+        };
+    }
+}
