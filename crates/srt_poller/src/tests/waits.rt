@@ -4,7 +4,7 @@ use crate::pace::{Pace, Pause};
 use std::process::Abort;
 use std::test::Fail;
 
-/// A pace after this many datagrams, so many microseconds apart; then a read found none.
+/// A pace after this many datagrams, `apart` microseconds apart; then a read found none.
 fn after_apart(datagrams: u64, apart: u64) -> Pace {
     let mut pace = Pace::new();
     let mut moment = 1_000_000u64;
