@@ -15,8 +15,21 @@ counted moment d = if nat_lt (moment - d.began) 1000
     then record { began = d.began; count = one_more 100 d.count; last = d.last }
     else record { began = moment; count = 1; last = if nat_lt (moment - d.began) 2000 then d.count else 0 }
 
+-- after a datagram at a moment: there may be more
 abbrev pub after_datagram : (moment : ℕ) → Pace → Pace
 after_datagram moment p = record { more = true; warm = 100; read = one_more 64 p.read; density = counted moment p.density }
+
+-- after a read that found none, or failed
+abbrev pub after_end : Pace → Pace
+after_end p = record { more = false; warm = p.warm; read = p.read; density = p.density }
+
+-- after a send that is to be tried again
+abbrev pub after_put_off : Pace → Pace
+after_put_off p = record { more = p.more; warm = 100; read = p.read; density = p.density }
+
+-- after a wait: one short wait less is left, unless there may be more to read
+abbrev pub after_wait : Pace → Pace
+after_wait p = record { more = p.more; warm = if p.more then p.warm else p.warm - 1; read = 0; density = p.density }
 
 -- whether a nap takes the place of a short wait: 20 to 99 datagrams come in a millisecond, and the last round had some to
 -- read, but few to read and few to send

@@ -1,7 +1,7 @@
 //! How a socket's source waits.
 
 ghost use Rattle.std.specs.Prelude.{◌≡◌, true, false};
-ghost use Rattle.srt_poller.specs.Pauses.{pause, after_datagram};
+ghost use Rattle.srt_poller.specs.Pauses.{pause, after_wait, after_datagram, after_end, after_put_off};
 
 use crate::density::Density;
 
@@ -59,7 +59,7 @@ impl Pace {
     /// The wait that begins now. `sent` is the number of datagrams that were sent since the last one.
     pub(crate) fn wait(&mut self, sent: u32) -> Pause
         ensures pause { result ≡ pause sent self.old }
-        ensures read { self.new.read ≡ 0 }
+        ensures pace { self.new ≡ after_wait self.old }
     {
         let read = self.read;
         self.read = 0;
@@ -92,19 +92,14 @@ impl Pace {
 
     /// A read found no datagram, or failed.
     pub(crate) fn ended(&mut self)
-        ensures more { self.new.more ≡ false }
-        ensures warm { self.new.warm ≡ self.old.warm }
-        ensures read { self.new.read ≡ self.old.read }
-        ensures density { self.new.density ≡ self.old.density }
+        ensures { self.new ≡ after_end self.old }
     {
         self.more = false;
     }
 
     /// A send returned Later, and is to be tried again soon.
     pub(crate) fn put_off(&mut self)
-        ensures more { self.new.more ≡ self.old.more }
-        ensures read { self.new.read ≡ self.old.read }
-        ensures density { self.new.density ≡ self.old.density }
+        ensures { self.new ≡ after_put_off self.old }
     {
         self.warm = SHORT_WAITS;
     }
