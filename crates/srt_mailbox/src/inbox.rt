@@ -118,6 +118,15 @@ impl ClockEnd {
             }),
         }
     }
+
+    /// True only if the inbox was full at some moment of the call. Changes nothing. It only reads, so calls at several
+    /// inboxes one after the other wait for memory at the same time, where one `offer` waits for the one before it.
+    pub fn is_full(&mut self) -> bool
+        ensures same { self.new ≡ self.old }
+        ensures full { result ≡ true → Held self.old.capacity (StoodAsTicked self.old.offered) }
+    {
+        self.queue.is_full_as::<Ticks>(&mut self.pass)
+    }
 }
 
 impl Taker {

@@ -41,6 +41,9 @@ pub struct Running {
     waiting: usize,
     // the number of items taken; saturates at 2^64 - 1
     taken: u64,
+    // the route's clock and its publishers when the inbox was last looked at; see `apply_item`
+    clock: u64,
+    publishers: usize,
     // the entry and the index that the route was opened with, for contracts alone: no bytes at run time
     entry: Snapshot<Entry>,
     index: Snapshot<usize>,
@@ -103,6 +106,8 @@ impl Running {
             held: None,
             waiting: 0,
             taken: 0,
+            clock: 0,
+            publishers: 0,
             entry: Snapshot::of(entry),
             index: Snapshot::of(&index),
         }
@@ -131,6 +136,11 @@ impl Running {
         requires { self.old.waiting ≡ [] }
         ensures { TurnedAs result self.old self.new }
     {
+        // What an item reads first of its route is read here already, so that the processor fetches it from memory while
+        // it fetches the inbox: a take makes locked operations, and no read behind one begins before it is over. The two
+        // values are kept so that the reads are made; nothing uses them.
+        self.clock = self.route.clock();
+        self.publishers = self.route.publishers();
         match self.taker.take(rt) {
             Some(marked) => {
                 self.waiting = self.route.step(marked.into_item());
@@ -176,6 +186,8 @@ impl Running {
             held: _,
             waiting,
             taken,
+            clock: _,
+            publishers: _,
             entry: _,
             index: _,
         } = self;

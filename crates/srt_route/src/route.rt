@@ -7,8 +7,8 @@ ghost use Rattle.srt_seq.specs.Terms.{Terms, terms_of};
 ghost use Rattle.srt_seq.specs.Items.{Item as TheItem, told, moment_of};
 ghost use Rattle.srt_route.specs.Opening.{fault_of};
 ghost use Rattle.srt_route.specs.Written.{written};
-ghost use Rattle.srt_route.specs.Sessions.{Session as TheSession, is_publisher, is_subscriber, reported};
-ghost use Rattle.srt_route.specs.Route.{Route as TheRoute, sent, taken_by, delivered, packets_where, closes, reply};
+ghost use Rattle.srt_route.specs.Sessions.{Session as TheSession, is_publisher, is_subscriber, open_publishers, reported};
+ghost use Rattle.srt_route.specs.Route.{Route as TheRoute, sent, after, taken_by, delivered, packets_where, closes, reply};
 ghost use Rattle.srt_route.specs.Tables.{written_of};
 ghost use Rattle.srt_route.specs.Waits.{replies_of, places_of};
 ghost use Rattle.srt_route.specs.Reports.{AreSaid};
@@ -20,6 +20,7 @@ use crate::idle::end_idle;
 use crate::opening::check_entry;
 use crate::replies::Reply;
 use crate::reply_queue::{ReplyQueue, ScratchBoxes};
+use crate::seat::count_publishers;
 use crate::state::Route;
 use crate::table::Table;
 use crate::transmit::{transmit_publishers, transmit_subscribers};
@@ -133,6 +134,21 @@ impl Route {
             &mut self.waiting,
         );
         self.waiting.len()
+    }
+
+    /// The greatest moment of any item so far, in microseconds; 0 before the first item.
+    pub fn clock(&self) -> u64
+        ensures { (e : Terms) (index : ℕ) (items : List TheItem) → stands self.now e index items → result ≡ (after e index items).clock }
+    {
+        let Route { clock, .. } = self;
+        *clock
+    }
+
+    /// The number of open publishers, 2 at most. Looks at each seat.
+    pub fn publishers(&self) -> usize
+        ensures { (e : Terms) (index : ℕ) (items : List TheItem) → stands self.now e index items → result ≡ open_publishers (after e index items).sessions }
+    {
+        count_publishers(&self.table.seats)
     }
 
     /// Whether a reply waits.

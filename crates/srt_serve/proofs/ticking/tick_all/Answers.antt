@@ -1,9 +1,9 @@
-use Rattle.std.proofs.Common.{arith}
-use Rattle.srt_serve.proofs.Moments.{was_one, first_more, all_first}
+use Rattle.std.proofs.Common.{[], ◌∷◌}
+use Rattle.srt_serve.proofs.Moments.{were_again, none_ticked}
 use Rattle.srt_serve.proofs.ticking.tick_all.Goals as goal
 
-pub loop-end-preserved : goal.loop-end-preserved
-loop-end-preserved g c = first_more c.loop-end.end-index _ _ _ c.end-item.result _ c.loop-end.invariant (was_one _ _ _ c.tick_one.ensures)
+pub returns-then-not-all_full : goal.returns-then-not-all_full
+returns-then-not-all_full g c = were_again [] (c.args.moment ∷ []) _ _ _ c.all_full.ensures c.tick_each.ensures
 
-pub returns : goal.returns
-returns g c = all_first c.loop-end.end-index _ _ _ c.loop-end.invariant (omega (arith, c.loop-end-test.false, c.loop-end.auto))
+pub returns-else-not-all_full : goal.returns-else-not-all_full
+returns-else-not-all_full g c = none_ticked (c.args.moment ∷ []) _ _ c.all_full.ensures

@@ -1,6 +1,6 @@
 use Rattle.std.proofs.Common.{[], ◌∷◌}
 use Rattle.srt_serve.proofs.Moments.{FirstTicked}
-use Rattle.srt_serve.proofs.ticking.tick_all.Given as goal
+use Rattle.srt_serve.proofs.ticking.tick_each.Given as goal
 
 abbrev pub invariant-loop-end : goal.invariant-loop-end
 invariant-loop-end g l = FirstTicked l.end-index (l.moment ∷ []) l.fn.ends l.ends

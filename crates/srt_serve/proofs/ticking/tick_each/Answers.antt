@@ -1,0 +1,9 @@
+use Rattle.std.proofs.Common.{arith}
+use Rattle.srt_serve.proofs.Moments.{was_one, first_more, all_first}
+use Rattle.srt_serve.proofs.ticking.tick_each.Goals as goal
+
+pub loop-end-preserved : goal.loop-end-preserved
+loop-end-preserved g c = first_more c.loop-end.end-index _ _ _ c.end-item.result _ c.loop-end.invariant (was_one _ _ _ c.tick_one.ensures)
+
+pub returns : goal.returns
+returns g c = all_first c.loop-end.end-index _ _ _ c.loop-end.invariant (omega (arith, c.loop-end-test.false, c.loop-end.auto))
