@@ -42,7 +42,6 @@ fn joined<R: Wait>(
         entry: Snapshot::of(entry),
         index: Snapshot::of(&index),
     };
-    let route = Box::new(alloc, route)?;
     let ends = Ends {
         taker,
         putter,

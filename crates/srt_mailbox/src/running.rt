@@ -34,7 +34,6 @@ pub struct Running {
     taker: Taker,
     putter: Putter,
     boxes: Boxes,
-    route: Box<Route>,
     // a reply that a full outbox handed back; it is the oldest that waits
     held: Option<Box<Reply>>,
     // the number of replies that wait, `held` included
@@ -44,6 +43,8 @@ pub struct Running {
     // the route's clock and its publishers when the inbox was last looked at; see `apply_item`
     clock: u64,
     publishers: usize,
+    // not in a box of its own, whose address an event would have to read first
+    route: Route,
     // the entry and the index that the route was opened with, for contracts alone: no bytes at run time
     entry: Snapshot<Entry>,
     index: Snapshot<usize>,
@@ -59,10 +60,10 @@ impl Model for Running {
 
     ghost Value = { Run };
 
-    ghost view = { λ s. run (terms_of s.entry.value) s.index.value s.taker s.putter (waiting_at s.held s.route.value) };
+    ghost view = { λ s. run (terms_of s.entry.value) s.index.value s.taker s.putter (waiting_at s.held s.route) };
 
     // The route is in the state that the taken items lead to, and what it replied is what it would reply alone.
-    ghost invariant = { λ s. stands s.route.value (terms_of s.entry.value) s.index.value (applied s.taker.taken) × Replays (run (terms_of s.entry.value) s.index.value s.taker s.putter (waiting_at s.held s.route.value)) × (s.waiting ≡ length (waiting_at s.held s.route.value)) × (s.taken ≡ counted (length s.taker.taken)) };
+    ghost invariant = { λ s. stands s.route (terms_of s.entry.value) s.index.value (applied s.taker.taken) × Replays (run (terms_of s.entry.value) s.index.value s.taker s.putter (waiting_at s.held s.route)) × (s.waiting ≡ length (waiting_at s.held s.route)) × (s.taken ≡ counted (length s.taker.taken)) };
 }
 
 // Takes the oldest reply that waits, in its box. There must be one.
@@ -87,9 +88,9 @@ fn next_waiting<R: Wait>(
 
 impl Running {
     /// A route that has applied no item, with ends that nothing has passed through.
-    pub(crate) fn new(ends: Ends, route: Box<Route>, entry: &Entry, index: usize) -> Running
-        requires fresh { stands route.value (terms_of entry.now) index [] }
-        requires none_waits { waiting route.value ≡ [] }
+    pub(crate) fn new(ends: Ends, route: Route, entry: &Entry, index: usize) -> Running
+        requires fresh { stands route (terms_of entry.now) index [] }
+        requires none_waits { waiting route ≡ [] }
         requires empty { (ends.taker.taken ≡ []) × (ends.putter.put ≡ []) }
         ensures { result ≡ run (terms_of entry.now) index ends.taker ends.putter [] }
     {

@@ -12,9 +12,9 @@ invariant_of-self g c =
     let inside = c.self.inside in
     let y = c.next_waiting-reply.result.value in
     let rest = waiting c.next_waiting-reply.new.route in
-    let first = ap (waiting_at inside.held) (sym c.deref_mut.ensures.value) ∙ c.next_waiting-reply.ensures.first in
+    let first = c.next_waiting-reply.ensures.first in
     let put = ap (λ (p : Pipe). p.put) c.in-Ok.ensures.ok in (
-      c.next_waiting-reply.ensures.stands _ _ _ (rw c.deref_mut.ensures.value c.self.invariant.0),
+      c.next_waiting-reply.ensures.stands _ _ _ c.self.invariant.0,
       rw (put, c.next_waiting-reply.ensures.held) (moved_replays inside.putter.put y rest _ (ap (λ l. map written inside.putter.put ++ l) (sym first) ∙ c.self.invariant.1)),
       rw c.next_waiting-reply.ensures.held (omega (arith, c.self.invariant.2, ap length first)),
       c.self.invariant.3,
@@ -24,10 +24,10 @@ pub invariant_of-self-in-Err : goal.invariant_of-self-in-Err
 invariant_of-self-in-Err g c =
     let inside = c.self.inside in
     let full = c.in-Err.ensures.full in
-    let first = ap (waiting_at inside.held) (sym c.deref_mut.ensures.value) ∙ c.next_waiting-reply.ensures.first in
+    let first = c.next_waiting-reply.ensures.first in
     let same = (λ i. written (full.0 i).value ∷ waiting c.next_waiting-reply.new.route) ∙ sym first in
     let put = ap (λ (p : Pipe). map written p.put) full.1 in (
-      c.next_waiting-reply.ensures.stands _ _ _ (rw c.deref_mut.ensures.value c.self.invariant.0),
+      c.next_waiting-reply.ensures.stands _ _ _ c.self.invariant.0,
       (λ i. put i ++ same i) ∙ c.self.invariant.1,
       c.self.invariant.2 ∙ ap length (sym same),
       c.self.invariant.3,
@@ -40,7 +40,7 @@ returns-in-Ok g c =
     let route = c.next_waiting-reply.new.route in (
       y,
       waiting route,
-      ap (λ (w : Run). w.waiting) (sym c.self.view_is) ∙ ap (waiting_at inside.held) (sym c.deref_mut.ensures.value) ∙ c.next_waiting-reply.ensures.first,
+      ap (λ (w : Run). w.waiting) (sym c.self.view_is) ∙ c.next_waiting-reply.ensures.first,
       subst
           (λ (w : Run). run (terms_of inside.entry.value) inside.index.value inside.taker c.put.new.self (waiting_at c.next_waiting-reply.new.held route) ≡ run w.terms w.index w.inbox (pipe w.outbox.queue w.outbox.capacity (w.outbox.put ++ y ∷ [])) (waiting route))
           c.self.view_is
