@@ -17,17 +17,20 @@ was_again ms ns a b c h k = (
       ∙ ap (producer a.queue a.capacity) (append_assoc a.offered (map tick h.0) (map tick k.0) ∙ ap (λ more. a.offered ++ more) (sym (map-append tick h.0 k.0))),
 )
 
-pub was_one : (m : ℕ) (a b : Producer) → (b ≡ a) ⊎ (b ≡ producer a.queue a.capacity (a.offered ++ tick m ∷ [])) → WasTicked (m ∷ []) a b
-was_one m a b (inl h) = subst (λ (x : Producer). WasTicked (m ∷ []) a x) (sym h) (was_not (m ∷ []) a)
-was_one m a b (inr h) = (m ∷ [], inl (refl, tt), h)
-
 -- nothing was offered
 pub was_same : (ms : List ℕ) (a b : Producer) → b ≡ a → WasTicked ms a b
 was_same ms a b h = subst (λ (x : Producer). WasTicked ms a x) (sym h) (was_not ms a)
 
+pub was_one : (m : ℕ) (a b : Producer) → (b ≡ a) ⊎ (b ≡ producer a.queue a.capacity (a.offered ++ tick m ∷ [])) → WasTicked (m ∷ []) a b
+was_one m a b (inl h) = was_same (m ∷ []) a b h
+was_one m a b (inr h) = (m ∷ [], inl (refl, tt), h)
+
+all_same : (ms : List ℕ) (was : List Producer) → WereTicked ms was was
+all_same ms [] = tt
+all_same ms (a ∷ was) = (was_not ms a, all_same ms was)
+
 pub were_not : (was : List Producer) → WereTicked [] was was
-were_not [] = tt
-were_not (a ∷ was) = (was_not [] a, were_not was)
+were_not was = all_same [] was
 
 pub were_again : (ms ns : List ℕ) (was bs cs : List Producer) → WereTicked ms was bs → WereTicked ns bs cs → WereTicked (ms ++ ns) was cs
 were_again ms ns [] [] [] h k = tt
@@ -36,10 +39,6 @@ were_again ms ns [] (b ∷ bs) cs h k = absurd h
 were_again ms ns (a ∷ was) [] cs h k = absurd h
 were_again ms ns (a ∷ was) (b ∷ bs) [] h k = absurd k
 were_again ms ns (a ∷ was) (b ∷ bs) (c ∷ cs) h k = (was_again ms ns a b c h.0 k.0, were_again ms ns was bs cs h.1 k.1)
-
-all_same : (ms : List ℕ) (was : List Producer) → WereTicked ms was was
-all_same ms [] = tt
-all_same ms (a ∷ was) = (was_not ms a, all_same ms was)
 
 pub none_ticked : (ms : List ℕ) (was bs : List Producer) → WereTicked [] was bs → WereTicked ms was bs
 none_ticked ms was bs h = were_again [] ms was bs bs h (all_same ms bs)
