@@ -10,13 +10,19 @@ use std::sync::Wait;
 use std::sync::atomic::{AtomicBool, AtomicU64, Ordering};
 use std::time::Duration;
 
-// A round that read at least this many datagrams wakes a worker, even if another is awake.
+// A round that read at least this many datagrams wakes a worker, even if another is awake, if they are for few routes.
 const MANY: u32 = 64;
+
+// They are for few routes if at most one of this many datagrams was the first for its route since a worker served it.
+const SHARE: u64 = 8;
 
 // How long a worker that found nothing to do sleeps at most before it looks again, in microseconds.
 const NAP: u64 = 500;
 
-// How long it sleeps at most if it found nothing again, in microseconds.
+// How long a worker that found a little to do at each of many routes sleeps at most, in microseconds.
+const DOZE: u64 = 2000;
+
+// How long a worker that found nothing again sleeps at most, in microseconds.
 const SLEEP: u64 = 100_000;
 
 // How many sleeps of `SLEEP` `gather` makes at most. Each of at most 17 threads that arrives ends one early, so it
@@ -32,6 +38,8 @@ pub struct Hall {
     visited: Marks,
     // the route's outbox may have a reply
     told: Marks,
+    // the number of routes that an offer made ask, since the poller's last round
+    begun: AtomicU64,
     // wakes workers
     bell: Bell,
     // wakes the polling thread while it waits in `gather` for the others
@@ -54,6 +62,7 @@ impl Hall {
             asked: Marks::open(alloc, routes)?,
             visited: Marks::open(alloc, routes)?,
             told: Marks::open(alloc, routes)?,
+            begun: AtomicU64::new(0),
             bell: Bell::new(),
             door: Bell::new(),
             workers: workers as u64,
@@ -149,6 +158,11 @@ impl Hall {
         self.bell.rest(rt, heard, Duration::from_micros(NAP));
     }
 
+    /// Sleeps for at most 2 milliseconds, or until the bell is called.
+    pub fn doze<R: Wait>(&self, rt: &R, heard: u64) {
+        self.bell.rest(rt, heard, Duration::from_micros(DOZE));
+    }
+
     /// Sleeps until the bell is called, for at most 100 milliseconds; at most 500 microseconds if a route still asks
     /// that this worker could not serve.
     pub fn rest<R: Wait>(&self, rt: &R, heard: u64) {
@@ -163,12 +177,18 @@ impl Hall {
 
 impl Signals for Hall {
     fn offered(&self, route: usize) {
-        self.asked.set(route);
+        if self.asked.set(route) {
+            let begun = self.begun.load(Ordering::Relaxed);
+            self.begun.store(begun.wrapping_add(1), Ordering::Relaxed);
+        }
     }
 
     fn read_ended(&self, datagrams: u32) {
+        let begun = self.begun.load(Ordering::Relaxed);
+        self.begun.store(0, Ordering::Relaxed);
+        let are_for_few = begun.saturating_mul(SHARE) <= u64::from(datagrams);
         let all_rest = self.resting.load(Ordering::SeqCst) >= self.workers;
-        if datagrams >= MANY || (datagrams > 0 && all_rest) {
+        if (datagrams >= MANY && are_for_few) || (datagrams > 0 && all_rest) {
             self.bell.call_one();
         }
     }

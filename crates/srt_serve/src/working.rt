@@ -12,15 +12,54 @@ const TURNS: u32 = 64;
 // only apply a tick move none, so one worker serves them all: for so little work the caches of one processor do best.
 const MANY: u32 = 32;
 
+// Work is spread thinly if a round served at least `MANY_ROUTES` routes and made at most `FEW_TURNS` turns at each.
+const MANY_ROUTES: u32 = 32;
+
+const FEW_TURNS: u32 = 16;
+
 // The outcome of a visit to a route.
 #[derive(Clone, Copy)]
 struct Visit {
-    // at least one turn was made that applied an item or moved a reply
-    is_served: bool,
+    // the number of turns that applied an item or moved a reply
+    turns: u32,
     // the number of replies that were moved
     moved: u32,
     // more may be left to do, so the route is to ask again
     is_left: bool,
+}
+
+// What a worker did in a round.
+#[derive(Clone, Copy)]
+struct Round {
+    // the number of routes at which a turn applied an item or moved a reply
+    served: u32,
+    // the most such turns at one route
+    most: u32,
+    // the number of replies that were moved
+    moved: u32,
+}
+
+impl Round {
+    const fn new() -> Round {
+        Round {
+            served: 0,
+            most: 0,
+            moved: 0,
+        }
+    }
+
+    fn count(&mut self, visit: Visit) {
+        if visit.turns > 0 {
+            self.served = self.served.wrapping_add(1);
+        }
+        self.most = self.most.max(visit.turns);
+        self.moved = self.moved.wrapping_add(visit.moved);
+    }
+
+    // Whether there was a little to do at each of many routes.
+    fn is_thin(&self) -> bool {
+        self.served >= MANY_ROUTES && self.most <= FEW_TURNS
+    }
 }
 
 // Serves a route until it is idle, blocked by a full outbox, held by the gate or claimed by another call, and for at
@@ -32,26 +71,24 @@ fn serve_route<R: Wait, C: Serve, G: Gate>(
     gate: &mut G,
     hall: &Hall,
 ) -> Visit {
-    let mut is_served = false;
     let mut moved = 0u32;
-    for _ in 0..TURNS {
+    for turns in 0..TURNS {
         match cell.serve(rt, gate) {
-            Served::Turned(Turned::Applied) => is_served = true,
+            Served::Turned(Turned::Applied) => {}
             Served::Turned(Turned::Moved) => {
-                is_served = true;
                 moved = moved.wrapping_add(1);
                 hall.moved(route);
             }
             Served::Turned(Turned::Idle) | Served::Held => {
                 return Visit {
-                    is_served,
+                    turns,
                     moved,
                     is_left: false,
                 };
             }
             Served::Turned(Turned::Blocked) | Served::Busy => {
                 return Visit {
-                    is_served,
+                    turns,
                     moved,
                     is_left: true,
                 };
@@ -59,24 +96,23 @@ fn serve_route<R: Wait, C: Serve, G: Gate>(
         }
     }
     Visit {
-        is_served,
+        turns: TURNS,
         moved,
         is_left: true,
     }
 }
 
 // Goes once round the routes, from the route `first`, and serves each that asks and has no visitor. If there is much to
-// do, it wakes another worker. True if it applied an item or moved a reply.
+// do, it wakes another worker.
 fn go_round<R: Wait, C: Serve, G: Gate>(
     rt: &R,
     cells: &[C],
     first: usize,
     gate: &mut G,
     hall: &Hall,
-) -> bool {
-    let mut is_served = false;
+) -> Round {
+    let mut round = Round::new();
     let mut is_shared = false;
-    let mut moved = 0u32;
     let mut is_past_the_end = false;
     let mut route = first;
     // no route is visited twice
@@ -84,15 +120,15 @@ fn go_round<R: Wait, C: Serve, G: Gate>(
         route = hall.next_that_asks(route);
         if route >= cells.len() {
             if is_past_the_end {
-                return is_served;
+                return round;
             }
             is_past_the_end = true;
             route = hall.next_that_asks(0);
         }
         if is_past_the_end && route >= first {
-            return is_served;
+            return round;
         }
-        if moved >= MANY && !is_shared {
+        if round.moved >= MANY && !is_shared {
             is_shared = true;
             hall.share();
         }
@@ -100,17 +136,18 @@ fn go_round<R: Wait, C: Serve, G: Gate>(
             if hall.enter(route) {
                 let visit = serve_route(rt, cell, route, gate, hall);
                 hall.leave(route, visit.is_left);
-                is_served |= visit.is_served;
-                moved = moved.wrapping_add(visit.moved);
+                round.count(visit);
             }
         }
         route = route.wrapping_add(1);
     }
-    is_served
+    round
 }
 
 /// Serves the routes that ask, round after round from the route `first` on, until the run is over. After a round that
 /// found nothing to do it sleeps for at most 500 microseconds, and after each further one until the bell is called.
+/// After a round that found a little to do at each of many routes it sleeps for at most 2 milliseconds, so that more
+/// gathers at each: a visit costs nearly the same for one item as for several.
 pub fn work<R: Wait, C: Serve, G: Gate + Drop>(
     rt: &R,
     cells: &[C],
@@ -130,7 +167,11 @@ pub fn work<R: Wait, C: Serve, G: Gate + Drop>(
             return;
         }
         let heard = hall.heard();
-        if go_round(rt, cells, first, &mut gate, hall) {
+        let round = go_round(rt, cells, first, &mut gate, hall);
+        if round.is_thin() {
+            hall.doze(rt, heard);
+            napped = true;
+        } else if round.served > 0 {
             napped = false;
         } else if napped {
             hall.rest(rt, heard);
