@@ -38,7 +38,6 @@ use Rattle.srt_mailbox.specs.contracts.outbox.Putter.TheInside as putter_in
 use Rattle.srt_mailbox.specs.contracts.running.Running as running
 use Rattle.srt_mailbox.specs.contracts.running.Running.TheInside as running_in
 use Rattle.std.specs.contracts.snapshot.Snapshot as snapshot
-use Rattle.srt_route.specs.contracts.state.Route as route
 use Rattle.srt_route.proofs.state.Route.TheSendSync as route_is
 use Rattle.srt_mailbox.proofs.inbox.Taker.TheSendSync as taker_is
 use Rattle.srt_mailbox.proofs.outbox.Putter.TheSendSync as putter_is

@@ -1,9 +1,11 @@
 -- What a turn adds to what was taken and to what was put.
-use Rattle.std.proofs.Common.{◌≡◌, ℕ, ◌+◌, ◌-◌, ◌^◌, min, arith, Option, None, Some, List, [], ◌∷◌, ◌++◌, map, option_to_list, refl, sym, ap, ◌∙◌, append_assoc, append-nil}
+use Rattle.std.proofs.Common.{◌≡◌, ℕ, ◌+◌, ◌-◌, ◌^◌, min, arith, Option, None, Some, List, [], ◌∷◌, ◌++◌, map, option_to_list, refl, sym, ap, ◌∙◌, append_assoc, append-nil, subst}
 use Rattle.std.proofs.lemmas.List.{map-append}
 use Rattle.std.specs.Global.{Box}
 use Rattle.srt_seq.specs.declared.shared.Item.{Item as TheItem}
 use Rattle.srt_seq.specs.Items.{Datagram, Item, told}
+use Rattle.srt_seq.specs.declared.shared.Turned.{Turned}
+use Rattle.srt_seq.specs.declared.shared.Turned.TheVariants.{Moved, Applied, Blocked, Idle}
 use Rattle.srt_seq.specs.Terms.{Terms}
 use Rattle.srt_route.specs.declared.replies.Reply.{Reply}
 use Rattle.srt_route.specs.declared.state.Route.{Route}
@@ -14,7 +16,8 @@ use Rattle.srt_mailbox.specs.declared.inbox_rule.Marked.{Marked}
 use Rattle.srt_mailbox.specs.Counts.{counted}
 use Rattle.srt_mailbox.specs.Inbox.{told_before}
 use Rattle.srt_mailbox.specs.Outbox.{replies_in}
-use Rattle.srt_mailbox.specs.Runs.{waiting_at}
+use Rattle.srt_mailbox.specs.Cells.{Name, Bears}
+use Rattle.srt_mailbox.specs.Runs.{Run, waiting_at, TurnedAs}
 
 pub told_last : (earlier : List Item) (taken : List Marked) (x : Marked) → told_before earlier (taken ++ x ∷ []) ≡ told x.item ∷ told_before earlier taken
 told_last earlier [] x = refl
@@ -38,3 +41,10 @@ moved_replays put y rest all so_far = ap (λ l. l ++ rest) (map-append written p
 
 pub counted_more : (n m : ℕ) → m ≡ counted n → min (m + 1) (2 ^ 64 - 1) ≡ counted (n + 1)
 counted_more n m is = omega (arith, is)
+
+-- a turn is of the same route, at the same queues
+pub still_bears : (t : Turned) (a b : Run) → TurnedAs t a b → (n : Name) → Bears n a → Bears n b
+still_bears Applied a b turned n bears = subst (λ (r : Run). Bears n r) (sym turned.2) bears
+still_bears Moved a b turned n bears = subst (λ (r : Run). Bears n r) (sym turned.3) bears
+still_bears Blocked a b turned n bears = subst (λ (r : Run). Bears n r) (sym turned.3) bears
+still_bears Idle a b turned n bears = subst (λ (r : Run). Bears n r) (sym turned.1) bears

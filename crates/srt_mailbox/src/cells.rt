@@ -1,19 +1,19 @@
 //! The cell in which workers find a route: the route and a claim word. A worker that finds the route claimed doesn't
 //! wait for it.
 
-ghost use Rattle.std.specs.Prelude.{◌≡◌, IfSome};
+ghost use Rattle.std.specs.Prelude.{◌≡◌, ◌≢◌, ◌≤◌, Some, None, IfSome};
 ghost use Rattle.srt_seq.specs.Terms.{terms_of};
 ghost use Rattle.srt_mailbox.specs.Counts.{Grew};
-ghost use Rattle.srt_mailbox.specs.Cells.{Bears};
+ghost use Rattle.srt_mailbox.specs.Cells.{Name, Bears};
 ghost use Rattle.srt_mailbox.specs.Names.{name_in};
-ghost use Rattle.srt_mailbox.specs.declared.gates.Served.TheVariants.{Held};
+ghost use Rattle.srt_mailbox.specs.declared.gates.Served.TheVariants.{Held, Busy};
 
-use crate::gates::{Gate, Served};
+use crate::gates::{Gate, Served, Visit};
 use crate::inbox_rule::Inbox;
 use crate::outbox_rule::Outbox;
 use crate::running::Running;
 use counted_slot::{Counted, FREE, Fits, PRESENT, TAKEN};
-use srt_seq::Entry;
+use srt_seq::{Entry, Turned};
 use std::marker::Model;
 use std::snapshot::Snapshot;
 use std::sync::{Arc, Wait};
@@ -49,6 +49,57 @@ impl Fits for Boxed {
     type Tag = Label;
 
     ghost fits = { λ label boxed. Bears label boxed.running.value };
+}
+
+// Makes turns, at most `most`, until one finds nothing to do or a full outbox, or the gate refuses.
+fn make_turns<R: Wait, G: Gate>(
+    rt: &R,
+    running: &mut Running,
+    route: usize,
+    gate: &mut G,
+    most: u32,
+) -> Visit
+    ensures bears { (n : Name) → Bears n running.old → Bears n running.new }
+    ensures most { result.turns ≤ most }
+    ensures moved { result.moved ≤ result.turns }
+    ensures all { result.end ≡ None → result.turns ≡ most }
+    ensures held { result.end ≡ Some Held → Grew (G.held gate.old) (G.held gate.new) }
+    ensures passed { result.end ≢ Some Held → G.held gate.new ≡ G.held gate.old }
+    ensures claimed { result.end ≢ Some Busy }
+{
+    let mut moved = 0;
+    for turns in 0..most {
+        if !gate.pass(route) {
+            return Visit {
+                turns,
+                moved,
+                end: Some(Served::Held),
+            };
+        }
+        match running.turn(rt) {
+            Turned::Applied => {}
+            Turned::Moved => moved += 1,
+            Turned::Idle => {
+                return Visit {
+                    turns,
+                    moved,
+                    end: Some(Served::Turned(Turned::Idle)),
+                };
+            }
+            Turned::Blocked => {
+                return Visit {
+                    turns,
+                    moved,
+                    end: Some(Served::Turned(Turned::Blocked)),
+                };
+            }
+        }
+    }
+    Visit {
+        turns: most,
+        moved,
+        end: None,
+    }
 }
 
 /// A route that workers share. At most one call has the route at a time; the slot is empty meanwhile.
@@ -117,17 +168,53 @@ impl RouteCell {
         self.give_back(rt, boxed);
         served
     }
+
+    /// Makes turns of the route, at most `most`, if no other call has it, until one finds nothing to do or a full
+    /// outbox. The gate is asked before each turn. The route is claimed once for all of them. Takes no memory and
+    /// doesn't wait for the route.
+    pub fn visit<R: Wait, G: Gate>(&self, rt: &R, gate: &mut G, most: u32) -> Visit
+        ensures most { result.turns ≤ most }
+        ensures moved { result.moved ≤ result.turns }
+        ensures all { result.end ≡ None → result.turns ≡ most }
+        ensures held { result.end ≡ Some Held → Grew (G.held gate.old) (G.held gate.new) }
+        ensures passed { result.end ≢ Some Held → G.held gate.new ≡ G.held gate.old }
+        ensures busy { result.end ≡ Some Busy → (result.turns ≡ 0) × (gate.new ≡ gate.old) }
+    {
+        let Some(mut boxed) = self.claim() else {
+            return Visit {
+                turns: 0,
+                moved: 0,
+                end: Some(Served::Busy),
+            };
+        };
+        let visit = make_turns(rt, &mut boxed.running, self.index, gate, most);
+        self.give_back(rt, boxed);
+        visit
+    }
 }
 
 /// A route that can be served: what `RouteCell` does for workers. Code that hands cells to threads is generic over this
 /// trait, so that it can ask for `Sync` by a bound.
 pub trait Serve {
+    /// Makes turns of the route, as `RouteCell::visit` does.
+    fn visit<R: Wait, G: Gate>(&self, rt: &R, gate: &mut G, most: u32) -> Visit
+        ensures most { result.turns ≤ most }
+        ensures moved { result.moved ≤ result.turns }
+        ensures all { result.end ≡ None → result.turns ≡ most }
+        ensures held { result.end ≡ Some Held → Grew (G.held gate.old) (G.held gate.new) }
+        ensures passed { result.end ≢ Some Held → G.held gate.new ≡ G.held gate.old }
+        ensures busy { result.end ≡ Some Busy → (result.turns ≡ 0) × (gate.new ≡ gate.old) };
+
     /// Makes one turn of the route, as `RouteCell::serve` does.
     fn serve<R: Wait, G: Gate>(&self, rt: &R, gate: &mut G) -> Served
         ensures held { result ≡ Held → Grew (G.held gate.old) (G.held gate.new) };
 }
 
 impl Serve for RouteCell {
+    fn visit<R: Wait, G: Gate>(&self, rt: &R, gate: &mut G, most: u32) -> Visit {
+        RouteCell::visit(self, rt, gate, most)
+    }
+
     fn serve<R: Wait, G: Gate>(&self, rt: &R, gate: &mut G) -> Served {
         RouteCell::serve(self, rt, gate)
     }

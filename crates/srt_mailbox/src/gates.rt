@@ -1,6 +1,6 @@
 //! Whether a turn may be made, and the outcome of serving a route.
 
-ghost use Rattle.std.specs.Prelude.{◌≡◌, ℕ, IsFalse};
+ghost use Rattle.std.specs.Prelude.{◌≡◌, ℕ, IsTrue, IsFalse};
 ghost use Rattle.srt_mailbox.specs.Counts.{Grew};
 
 use srt_seq::Turned;
@@ -13,7 +13,8 @@ pub trait Gate {
 
     /// Whether a turn of the route with this index may be made now. If not, the refusals grow by one.
     fn pass(&mut self, route: usize) -> bool
-        ensures { IsFalse result → Grew (held self.old) (held self.new) };
+        ensures refused { IsFalse result → Grew (held self.old) (held self.new) }
+        ensures passed { IsTrue result → held self.new ≡ held self.old };
 
     /// The number of refusals. Saturates at 2^64 - 1.
     fn held(&self) -> u64
@@ -45,4 +46,16 @@ pub enum Served {
     Held,
     /// Another call had the route; no turn was made.
     Busy,
+}
+
+/// What `RouteCell::visit` did.
+#[derive(Clone, Copy, Debug, PartialEq, Eq)]
+pub struct Visit {
+    /// The number of turns that applied an item or moved a reply.
+    pub turns: u32,
+    /// The number of replies that were moved to the outbox.
+    pub moved: u32,
+    /// What ended the visit: a turn that found nothing to do (`Idle`) or a full outbox (`Blocked`), the gate, or another
+    /// call that had the route. `None` if it made all the turns that it might.
+    pub end: Option<Served>,
 }

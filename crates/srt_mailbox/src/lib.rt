@@ -5,11 +5,12 @@
 //!
 //! Types: the four ends of a route, which are `Ingress` (the poller offers datagrams), `ClockEnd` (the ticking thread
 //! offers ticks), `RouteCell` (workers serve the route) and `Drain` (the poller takes replies). A `Gate` may refuse a
-//! turn (`Ungated` never does), `Served` is the outcome of `serve`, and `Account` has the counts of a route that has
-//! ended.
+//! turn (`Ungated` never does), `Served` is the outcome of a turn that was asked for, `Visit` that of several, and
+//! `Account` has the counts of a route that has ended.
 //!
-//! Calls: `open_route`; then, each from its own thread, `offer` on `Ingress` and `ClockEnd`, `RouteCell::serve` (any
-//! number of workers), and `Drain::take` with `Drain::reply`; last `settle`, which takes all four ends.
+//! Calls: `open_route`; then, each from its own thread, `offer` on `Ingress` and `ClockEnd`, `RouteCell::visit` or
+//! `RouteCell::serve` (any number of workers), and `Drain::take` with `Drain::reply`; last `settle`, which takes all
+//! four ends.
 //!
 //! Files: the claim word is in `cells.rt`, one turn of a route in `running.rt`, the queues in `inbox.rt` and
 //! `outbox.rt`, what passes through them in `inbox_rule.rt` and `outbox_rule.rt` (`specs/Inbox.antt`,
@@ -29,7 +30,7 @@ mod spares;
 
 pub use accounts::{Account, Unsettled, settle};
 pub use cells::{RouteCell, Serve};
-pub use gates::{Gate, Served, Ungated};
+pub use gates::{Gate, Served, Ungated, Visit};
 pub use inbox::{ClockEnd, Full, Ingress};
 pub use openings::open_route;
 pub use outbox::Drain;

@@ -6,7 +6,7 @@ ghost use Rattle.srt_seq.specs.Items.{told, moment_of};
 ghost use Rattle.srt_mailbox.specs.Cells.{AreEndsOf};
 ghost use Rattle.srt_mailbox.specs.Names.{name_in};
 
-use crate::gates::{Gate, Served};
+use crate::gates::{Gate, Served, Visit};
 use crate::{Account, ClockEnd, Drain, Ingress, RouteCell, Serve, open_route, settle};
 use srt_packet::encode;
 use srt_seq::{Entry, Item, MOMENT_END, Mode, OpenFault, Peer, Turned};
@@ -276,6 +276,42 @@ fn a_held_route_makes_no_turn(rt: HostRuntime) -> Result<(), Fail> {
     assert_eq!(rt; cell.serve(&rt, &mut shut), Served::Held);
     assert_eq!(rt; shut.held(), 1);
     assert_served(&rt, &cell, &[APPLIED, IDLE]);
+    assert!(rt; !drain.take(&rt));
+    Ok(())
+}
+
+/// Visits the route with an open gate, for at most this many turns, and asserts the turns, the replies that were moved
+/// and the end.
+fn assert_visited<C: Serve>(
+    rt: &(impl Wait + Abort),
+    cell: &C,
+    most: u32,
+    wanted: (u32, u32, Option<Served>),
+) {
+    let (turns, moved, end) = wanted;
+    let visit = cell.visit(rt, &mut Fixed::open(), most);
+    assert_eq!(rt; visit, Visit { turns, moved, end });
+}
+
+/// A visit ends where there is nothing to do, at a full outbox of 16 places, at a shut gate, or after the most turns.
+#[test]
+fn a_visit_makes_the_turns_that_it_may(rt: HostRuntime) -> Result<(), Fail> {
+    let (mut ingress, _clock, cell, mut drain) = studio(&rt, rt.alloc())?;
+    let mut shut = Fixed::shut();
+    offer_times(&rt, &mut ingress, PUBLISHER, 2)?;
+    let held = cell.visit(&rt, &mut shut, 64);
+    assert!(rt; held.turns == 0 && held.end == Some(Served::Held) && shut.held() == 1);
+    assert_visited(&rt, &cell, 0, (0, 0, None));
+    assert_visited(&rt, &cell, 3, (3, 1, None));
+    assert_visited(&rt, &cell, 64, (1, 1, Some(IDLE)));
+    drain_times(&rt, &mut drain, ANSWER, 2)?;
+    offer_times(&rt, &mut ingress, PUBLISHER, 16)?;
+    assert_visited(&rt, &cell, 64, (32, 16, Some(IDLE)));
+    offer_times(&rt, &mut ingress, PUBLISHER, 1)?;
+    assert_visited(&rt, &cell, 64, (1, 0, Some(BLOCKED)));
+    drain_times(&rt, &mut drain, ANSWER, 16)?;
+    assert_visited(&rt, &cell, 1, (1, 1, None));
+    drain_times(&rt, &mut drain, ANSWER, 1)?;
     assert!(rt; !drain.take(&rt));
     Ok(())
 }
@@ -599,28 +635,29 @@ impl Gate for Staying<'_> {
     }
 }
 
-/// The outcome of a worker that waits in its gate, and those of another worker meanwhile, at the same route and at
-/// another one.
+/// The outcome of a worker that waits in its gate, and those of another worker meanwhile: a turn and a visit at the same
+/// route, and a turn at another one.
 fn serve_beside<C: Serve + Sync, R: Threads + Wait + Sync>(
     rt: &R,
     cell: &C,
     other: &C,
-) -> (Served, Served, Served) {
+) -> (Served, Served, Visit, Served) {
     let inside = AtomicBool::new(false);
     let done = AtomicBool::new(false);
     let (entered, answered) = (&inside, &done);
-    let (stayed, (busy, free)) = join(
+    let (stayed, (busy, visit, free)) = join(
         rt,
         || cell.serve(rt, &mut Staying { entered, answered }),
         || {
             wait_for(entered);
             let busy = cell.serve(rt, &mut Fixed::open());
+            let visit = cell.visit(rt, &mut Fixed::open(), 64);
             let free = other.serve(rt, &mut Fixed::open());
             answered.store(true, Ordering::SeqCst);
-            (busy, free)
+            (busy, visit, free)
         },
     );
-    (stayed, busy, free)
+    (stayed, busy, visit, free)
 }
 
 /// A route that only one thread serves is never busy. One that another thread has claimed is, and a worker can go on
@@ -636,7 +673,12 @@ fn nobody_waits_for_a_route(rt: HostRuntime) -> Result<(), Fail> {
     assert!(rt; tick(&rt, &mut clock, 5));
     assert!(rt; tick(&rt, &mut other_clock, 5));
     let served = serve_beside(&rt, &cell, &other);
-    assert!(rt; served == (APPLIED, Served::Busy, APPLIED));
+    let passed_over = Visit {
+        turns: 0,
+        moved: 0,
+        end: Some(Served::Busy),
+    };
+    assert!(rt; served == (APPLIED, Served::Busy, passed_over, APPLIED));
     assert_served(&rt, &cell, &[IDLE]);
     assert_served(&rt, &other, &[IDLE]);
     Ok(())

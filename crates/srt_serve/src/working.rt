@@ -1,7 +1,7 @@
 //! A worker thread: it goes round the routes and serves those that may have work.
 
 use crate::hall::Hall;
-use srt_mailbox::{Gate, Serve, Served};
+use srt_mailbox::{Gate, Serve, Served, Visit};
 use srt_seq::Turned;
 use std::sync::Wait;
 
@@ -16,17 +16,6 @@ const MANY: u32 = 32;
 const MANY_ROUTES: u32 = 32;
 
 const FEW_TURNS: u32 = 16;
-
-// The outcome of a visit to a route.
-#[derive(Clone, Copy)]
-struct Visit {
-    // the number of turns that applied an item or moved a reply
-    turns: u32,
-    // the number of replies that were moved
-    moved: u32,
-    // more may be left to do, so the route is to ask again
-    is_left: bool,
-}
 
 // What a worker did in a round.
 #[derive(Clone, Copy)]
@@ -71,34 +60,18 @@ fn serve_route<R: Wait, C: Serve, G: Gate>(
     gate: &mut G,
     hall: &Hall,
 ) -> Visit {
-    let mut moved = 0u32;
-    for turns in 0..TURNS {
-        match cell.serve(rt, gate) {
-            Served::Turned(Turned::Applied) => {}
-            Served::Turned(Turned::Moved) => {
-                moved = moved.wrapping_add(1);
-                hall.moved(route);
-            }
-            Served::Turned(Turned::Idle) | Served::Held => {
-                return Visit {
-                    turns,
-                    moved,
-                    is_left: false,
-                };
-            }
-            Served::Turned(Turned::Blocked) | Served::Busy => {
-                return Visit {
-                    turns,
-                    moved,
-                    is_left: true,
-                };
-            }
-        }
+    let visit = cell.visit(rt, gate, TURNS);
+    if visit.moved > 0 {
+        hall.moved(route);
     }
-    Visit {
-        turns: TURNS,
-        moved,
-        is_left: true,
+    visit
+}
+
+// Whether more may be left to do after a visit, so that the route is to ask again.
+fn is_left(visit: Visit) -> bool {
+    match visit.end {
+        Some(Served::Turned(Turned::Idle)) | Some(Served::Held) => false,
+        _ => true,
     }
 }
 
@@ -135,7 +108,7 @@ fn go_round<R: Wait, C: Serve, G: Gate>(
         if let Some(cell) = cells.get(route) {
             if hall.enter(route) {
                 let visit = serve_route(rt, cell, route, gate, hall);
-                hall.leave(route, visit.is_left);
+                hall.leave(route, is_left(visit));
                 round.count(visit);
             }
         }

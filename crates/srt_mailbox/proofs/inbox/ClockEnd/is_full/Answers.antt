@@ -1,9 +1,3 @@
-use Rattle.std.proofs.Common.{◌≡◌, true, subst, ◌∙◌}
-use Rattle.std.specs.Arc.{arc_value}
-use Rattle.crossbeam_queue.specs.Fifo.{Held}
-use Rattle.crossbeam_queue.specs.Passes.{ruled_capacity}
-use Rattle.srt_mailbox.specs.Ends.{Producer, producer}
-use Rattle.srt_mailbox.specs.Inbox.{StoodAsTicked}
 use Rattle.srt_mailbox.proofs.Offers.{learns_ticked}
 use Rattle.srt_mailbox.proofs.inbox.ClockEnd.is_full.Goals as goal
 
