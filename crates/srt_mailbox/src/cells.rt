@@ -170,8 +170,8 @@ impl RouteCell {
     }
 
     /// Makes turns of the route, at most `most`, if no other call has it, until one finds nothing to do or a full
-    /// outbox. The gate is asked before each turn. The route is claimed once for all of them. Takes no memory and
-    /// doesn't wait for the route.
+    /// outbox, or the gate refuses one; it is asked before each. The route is claimed once for all of them. Takes no
+    /// memory and doesn't wait for the route.
     pub fn visit<R: Wait, G: Gate>(&self, rt: &R, gate: &mut G, most: u32) -> Visit
         ensures most { result.turns ≤ most }
         ensures moved { result.moved ≤ result.turns }
