@@ -7,7 +7,6 @@ ghost use Rattle.std.specs.VecDeque.{deque_capacity};
 use crate::boxes::blank_boxes;
 use crate::items::Timely;
 use crate::parts::RouteStep;
-use srt_packet::encode;
 use srt_route::Reply;
 use srt_seq::{Entry, OpenFault, Peer, Turned};
 use std::alloc::Global;
@@ -127,7 +126,7 @@ impl<R: RouteStep> Lane<R> {
     {
         let reply = self.outbox.pop_front()?;
         let peer = reply.peer;
-        let len = encode(&reply.packet, out);
+        let len = reply.packet.copy_to(out);
         let _ = self.spare.push(reply);
         Some((peer, len))
     }

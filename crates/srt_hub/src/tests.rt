@@ -62,14 +62,14 @@ const CALLER: Peer = Peer {
 fn keep_alive(stamp: u32) -> Reply
     ensures { written result ≡ datagram (record { ip = replicate 16 9; port = 7 }) (text (record { stamp = stamp; dest = 5; body = KeepAlive })) }
 {
-    Reply {
-        peer: CALLER,
-        packet: Packet {
-            stamp,
-            dest: 5,
-            body: Body::KeepAlive,
-        },
-    }
+    let mut reply = Reply::blank();
+    reply.peer = CALLER;
+    reply.packet.write(&Packet {
+        stamp,
+        dest: 5,
+        body: Body::KeepAlive,
+    });
+    reply
 }
 
 /// Sends two packets for each item.

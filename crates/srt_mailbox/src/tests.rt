@@ -8,7 +8,6 @@ ghost use Rattle.srt_mailbox.specs.Names.{name_in};
 
 use crate::gates::{Gate, Served, Visit};
 use crate::{Account, ClockEnd, Drain, Ingress, RouteCell, Serve, open_route, settle};
-use srt_packet::encode;
 use srt_seq::{Entry, Item, MOMENT_END, Mode, OpenFault, Peer, Turned};
 use std::alloc::Global;
 use std::process::Abort;
@@ -204,11 +203,10 @@ fn assert_at_hand(
     drain: &Drain,
     wanted: Expected,
 ) -> Result<(), Fail> {
-    let mut out = [0u8; 1472];
     let reply = drain.reply();
-    let len = encode(&reply.packet, &mut out);
+    let bytes = reply.packet.bytes();
     assert!(rt; reply.peer == peer(wanted.0));
-    assert_eq!(rt; &out[..len], hex::decode(rt.alloc(), wanted.1)?.as_slice());
+    assert_eq!(rt; bytes, hex::decode(rt.alloc(), wanted.1)?.as_slice());
     Ok(())
 }
 

@@ -3,3 +3,4 @@ pub mod Reading
 pub mod View
 pub mod Text
 pub mod Sent
+pub mod Encoded

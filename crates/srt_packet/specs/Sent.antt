@@ -11,7 +11,7 @@ use Rattle.srt_packet.specs.Reading.{packet_in}
 
 -- a written packet as a reader sees it
 abbrev pub sent_body : Body → grammar.Body
-sent_body (out.Media number message again payload) = grammar.Data (word_of number) 0 payload.items
+sent_body (out.Media number message again payload) = grammar.Data (word_of number) 0 payload.bytes.now
 sent_body (out.Handshake info) = grammar.Handshake info.items
 sent_body out.KeepAlive = grammar.KeepAlive
 sent_body (out.FullAck number point round_trip variance available) = grammar.Ack number (rest_of (out.FullAck number point round_trip variance available))

@@ -34,7 +34,7 @@ word1_of (DropRequest message first last) = message_of message
 
 -- what follows the header. The last three words of a Full ACK are 0 (section 3.2.4; the value 0 is this profile's)
 abbrev pub rest_of : Body → List ℕ
-rest_of (Media number message again payload) = payload.items
+rest_of (Media number message again payload) = payload.bytes.now
 rest_of (Handshake info) = info.items
 rest_of KeepAlive = []
 rest_of (FullAck number point round_trip variance available) = words (word_of point ∷ round_trip ∷ variance ∷ available ∷ 0 ∷ 0 ∷ 0 ∷ [])
@@ -49,6 +49,6 @@ text p = word (word0_of p.body) ++ word (word1_of p.body) ++ word p.stamp ++ wor
 
 -- what may be written: a payload has 1 to 1456 bytes, and a NAK at least one word. The types ensure the rest
 abbrev pub IsWritable : Body → Type 0
-IsWritable (Media number message again payload) = (0 < length payload.items) × (length payload.items ≤ 1456)
+IsWritable (Media number message again payload) = (0 < length payload.bytes.now) × (length payload.bytes.now ≤ 1456)
 IsWritable (Nak losses) = 0 < length losses.items
 IsWritable _ = Unit {0}

@@ -7,16 +7,19 @@
 //! bytes after them. Both return a [`PacketRef`], whose [`Kind`] borrows the bytes, or the first [`PacketFault`].
 //! Subtypes, and bytes after the end of a control packet's information, are ignored.
 //!
-//! Writing, in `writing.rt`: fill a [`Packet`] with a [`Body`], and [`encode`] it. Each packet has one spelling.
+//! Writing, in `writing.rt`: fill a [`Packet`] with a [`Body`], and [`encode`] it. Each packet has one spelling. An
+//! [`EncodedPacket`], in `encoded.rt`, holds the bytes of a packet until they are sent.
 //!
 //! `specs/Grammar.antt` defines which bytes are which packet, `specs/Reading.antt` the faults and their order, and
 //! `specs/Text.antt` what is written. `laws.rt` ties the three: what is written reads back as the same packet.
 #![tactic(auto)]
 
+mod encoded;
 pub mod laws;
 mod reading;
 mod writing;
 
+pub use encoded::EncodedPacket;
 pub use reading::{Kind, PacketFault, PacketRef, decode, decode_parts};
 pub use writing::{Body, Packet, encode};
 

@@ -3,9 +3,9 @@
 ghost use Rattle.std.specs.Prelude.{◌≡◌};
 ghost use Rattle.srt_packet.specs.Text.{IsWritable};
 
-use crate::{Body, Kind, Packet, PacketFault, decode, decode_parts, encode};
+use crate::{Body, EncodedPacket, Kind, Packet, PacketFault, decode, decode_parts, encode};
 use arrayvec::ArrayVec;
-use srt_seq::{Msg26, Payload, Seq31};
+use srt_seq::{Msg26, PayloadRef, Seq31};
 use std::process::Abort;
 use std::test::Fail;
 
@@ -16,14 +16,33 @@ fn number(word: u32) -> Result<Seq31, Fail> {
     }
 }
 
-/// Asserts that `encode` writes these bytes.
-fn assert_written(rt: &(impl AllocGlobal + Abort), packet: &Packet, text: &str) -> Result<(), Fail>
+/// Asserts that `encode` writes these bytes, and an `EncodedPacket` likewise, which is longer before.
+fn assert_written(rt: &(impl AllocGlobal + Abort), packet: &Packet<'_>, text: &str) -> Result<(), Fail>
     requires { IsWritable packet.now.body }
 {
     let wanted = hex::decode(rt.alloc(), text)?;
     let mut out = [0xaau8; 1472];
     let len = encode(packet, &mut out);
     assert_eq!(rt; &out[..len], wanted.as_slice());
+    let mut encoded = EncodedPacket::new();
+    assert!(rt; encoded.bytes().is_empty());
+    let payload = PayloadRef { bytes: &[7; 1456] };
+    encoded.write(&Packet {
+        stamp: 1,
+        dest: 2,
+        body: Body::Media {
+            number: number(3)?,
+            message: Msg26::first(),
+            again: true,
+            payload,
+        },
+    });
+    assert_eq!(rt; encoded.bytes().len(), 1472);
+    encoded.write(packet);
+    assert_eq!(rt; encoded.bytes(), wanted.as_slice());
+    let mut copy = [0xaau8; 1472];
+    assert_eq!(rt; encoded.copy_to(&mut copy), len);
+    assert!(rt; copy == out);
     Ok(())
 }
 
@@ -37,8 +56,8 @@ fn split(bytes: &[u8]) -> Option<([u8; 16], &[u8])> {
     Some((head, &bytes[16..]))
 }
 
-fn to(stamp: u32, dest: u32, body: Body) -> Packet
-    ensures { result.body ≡ body }
+fn to(stamp: u32, dest: u32, body: Body<'_>) -> Packet<'_>
+    ensures { result.body ≡ body.entry }
 {
     Packet { stamp, dest, body }
 }
@@ -49,14 +68,11 @@ fn data_is_written(rt: HostRuntime) -> Result<(), Fail> {
         (false, "00000009e00000010001b198000000026869"),
         (true, "00000009e40000010001b198000000026869"),
     ] {
-        let mut payload = Payload::new();
-        payload.push(b'h');
-        payload.push(b'i');
         let body = Body::Media {
             number: number(9)?,
             message: Msg26::first(),
             again,
-            payload,
+            payload: PayloadRef { bytes: b"hi" },
         };
         assert_written(&rt, &to(111_000, 2, body), text)?;
     }

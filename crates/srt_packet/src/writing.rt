@@ -3,15 +3,16 @@
 ghost use Rattle.std.specs.Prelude.{◌≡◌, ℕ, ◌+◌, ◌*◌, ◌≤◌, ◌++◌, length, take, drop};
 ghost use Rattle.srt_packet.specs.Grammar.{Spells};
 ghost use Rattle.srt_packet.specs.Reading.{packet_in};
-ghost use Rattle.srt_packet.specs.Sent.{sent};
+ghost use Rattle.srt_packet.specs.Sent.{sent, CanBeSent};
 ghost use Rattle.srt_packet.specs.Text.{text, word0_of, word1_of, rest_of, IsWritable};
 
 use arrayvec::ArrayVec;
-use srt_seq::{Msg26, Payload, Seq31, write_at, write_words};
+use srt_seq::{Msg26, PayloadRef, Seq31, write_at, write_words};
 
-/// The kind of a packet to be sent, and its content apart from timestamp and destination.
+/// The kind of a packet to be sent, and its content apart from timestamp and destination. It borrows a payload, so that
+/// making one copies no payload.
 #[derive(Drop)]
-pub enum Body {
+pub enum Body<'a> {
     /// A data packet: a whole message in one packet, in order, unencrypted (section 3.1).
     Media {
         /// The packet sequence number.
@@ -20,8 +21,8 @@ pub enum Body {
         message: Msg26,
         /// The field R: whether this is a retransmission.
         again: bool,
-        /// The bytes that it carries: 1 to 1456. An empty payload can't be encoded.
-        payload: Payload,
+        /// The bytes that it carries: 1 to 1456.
+        payload: PayloadRef<'a>,
     },
     /// A handshake: all bytes after the header, at most 84 (section 3.2.1).
     Handshake(ArrayVec<u8, 84>),
@@ -68,18 +69,18 @@ pub enum Body {
     Shutdown,
 }
 
-/// A packet to be sent. It owns its content and takes no memory.
+/// A packet to be sent. It takes no memory.
 #[derive(Drop)]
-pub struct Packet {
+pub struct Packet<'a> {
     /// The timestamp, in microseconds modulo 2^32.
     pub stamp: u32,
     /// The receiver's socket ID.
     pub dest: u32,
     /// The rest of the packet.
-    pub body: Body,
+    pub body: Body<'a>,
 }
 
-fn first_words(body: &Body) -> (u32, u32)
+fn first_words(body: &Body<'_>) -> (u32, u32)
     ensures first { result.0 ≡ word0_of body.now }
     ensures second { result.1 ≡ word1_of body.now }
 {
@@ -106,7 +107,7 @@ fn first_words(body: &Body) -> (u32, u32)
 
 /// Writes what follows the header from the offset `at` on, and returns the offset of its end.
 #[tactic(auto, using(srt_seq::proofs::WordBytes::length_of_words))]
-fn write_rest(body: &Body, out: &mut [u8], at: usize) -> usize
+fn write_rest(body: &Body<'_>, out: &mut [u8], at: usize) -> usize
     requires room { at + 1456 ≤ length out.old }
     ensures fits { length (rest_of body.now) ≤ 1456 }
     ensures end { result ≡ at + length (rest_of body.now) }
@@ -114,7 +115,7 @@ fn write_rest(body: &Body, out: &mut [u8], at: usize) -> usize
     ensures kept { (k : ℕ) → result ≤ k → drop k out.new ≡ drop k out.old }
 {
     match body {
-        Body::Media { payload, .. } => write_at(out, at, payload.as_slice()),
+        Body::Media { payload, .. } => write_at(out, at, payload.bytes),
         Body::Handshake(info) => write_at(out, at, info.as_slice()),
         Body::FullAck {
             number: _,
@@ -140,7 +141,7 @@ fn write_rest(body: &Body, out: &mut [u8], at: usize) -> usize
 
 /// Writes a packet to the front of the buffer, and returns its length in bytes: 16 to 1472. The rest of the buffer
 /// doesn't change. Linear in the length; it takes no memory. The subtype of a control packet is written as 0.
-pub fn encode(packet: &Packet, out: &mut [u8; 1472]) -> usize
+pub fn encode(packet: &Packet<'_>, out: &mut [u8; 1472]) -> usize
     requires { IsWritable packet.now.body }
     ensures within { result ≤ 1472 }
     ensures len { result ≡ length (text packet.now) }
@@ -149,6 +150,7 @@ pub fn encode(packet: &Packet, out: &mut [u8; 1472]) -> usize
     // What is written is in the grammar, and reading it gives the packet back.
     ensures spelled { Spells (take result out.new) (sent packet.now) }
     ensures read { packet_in (take result out.new) ≡ Ok (sent packet.now) }
+    ensures can_be_sent { CanBeSent packet.now }
 {
     let (word0, word1) = first_words(&packet.body);
     let stamp = packet.stamp;

@@ -12,7 +12,6 @@ use crate::ends::{Ends, Offered};
 use crate::report::Report;
 use crate::signals::Signals;
 use srt_lobby::{Class, classify};
-use srt_packet::encode;
 use srt_seq::Peer;
 use std::sync::Wait;
 
@@ -57,7 +56,7 @@ enum Drained {
 pub(crate) struct Poller {
     // the last datagram that was read
     datagram: [u8; 2048],
-    // the last reply that was encoded, which is the kept one if there is one
+    // the bytes of the kept reply, if there is one
     text: [u8; 1472],
     kept: Option<KeptReply>,
     report: Report,
@@ -232,12 +231,12 @@ impl Poller {
         }
         let reply = end.drain.reply();
         let peer = reply.peer;
-        let len = encode(&reply.packet, &mut self.text);
-        let sent = wire.send(peer, &self.text[..len]);
+        let sent = wire.send(peer, reply.packet.bytes());
         self.report.count_reply(sent);
         match sent {
             Sent::Taken | Sent::Failed => Drained::Gone,
             Sent::Later => {
+                let len = reply.packet.copy_to(&mut self.text);
                 self.kept = Some(KeptReply { route, peer, len });
                 Drained::Kept
             }

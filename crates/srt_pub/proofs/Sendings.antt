@@ -7,8 +7,8 @@ use Rattle.std.proofs.lemmas.List.{map-append}
 use Rattle.srt_seq.specs.Given.{given}
 use Rattle.srt_seq.specs.declared.numbers.Seq31.{Seq31}
 use Rattle.srt_loss.specs.Text.{range_of, loss_words}
-use Rattle.srt_packet.specs.declared.writing.Packet.{Packet}
-use Rattle.srt_packet.specs.Text.{text}
+use Rattle.srt_packet.specs.declared.encoded.EncodedPacket.{EncodedPacket}
+use Rattle.srt_packet.specs.Encoded.{bytes_of}
 use Rattle.srt_recvbuf.specs.Receiving.{end_of, ack_point}
 use Rattle.srt_recvbuf.proofs.Points.{no_gaps}
 use Rattle.srt_rtt.specs.RoundTrip.{after_samples, nak_interval}
@@ -60,7 +60,7 @@ pub noted_append : (time : ℕ) (xs ys : List Report) (notes : List Note) → no
 noted_append time [] ys notes = refl
 noted_append time (x ∷ xs) ys notes = noted_append time xs ys (Sent time x ∷ notes)
 
-pub alive_same : (caller initial time : ℕ) (ack nak : Bool) (p q : Packet) (xs ys : List Report) (notes : List Note) → texts (listed (given ack p)) ≡ map (says caller initial time) xs → texts (listed (given nak q)) ≡ map (says caller initial time) ys → keep_alive_after ack nak time (noted time ys (noted time xs notes)) ≡ keep_alives time (xs ++ ys) notes
+pub alive_same : (caller initial time : ℕ) (ack nak : Bool) (p q : EncodedPacket) (xs ys : List Report) (notes : List Note) → texts (listed (given ack p)) ≡ map (says caller initial time) xs → texts (listed (given nak q)) ≡ map (says caller initial time) ys → keep_alive_after ack nak time (noted time ys (noted time xs notes)) ≡ keep_alives time (xs ++ ys) notes
 alive_same caller initial time false nak p q (x ∷ xs) ys notes e f = cc
 alive_same caller initial time true nak p q [] ys notes e f = cc
 alive_same caller initial time true nak p q (x ∷ xs) ys notes e f = refl
@@ -76,11 +76,11 @@ reports_are terms time m xs ys zs a n k =
     ∙ ap (λ (w : List Report). (w ++ ys) ++ keep_alives time (w ++ ys) m.notes) a
     ∙ ap (λ (w : List Report). (acks terms time m ++ w) ++ keep_alives time (acks terms time m ++ w) m.notes) n
 
-texts_append : (u v : List Packet) → texts (u ++ v) ≡ texts u ++ texts v
+texts_append : (u v : List EncodedPacket) → texts (u ++ v) ≡ texts u ++ texts v
 texts_append [] v = refl
-texts_append (x ∷ u) v = ap (λ (w : List (List ℕ)). text x ∷ w) (texts_append u v)
+texts_append (x ∷ u) v = ap (λ (w : List (List ℕ)). bytes_of x ∷ w) (texts_append u v)
 
-pub all_texts : (f : Report → List ℕ) (p q r : Option Packet) (xs ys zs : List Report) → texts (listed p) ≡ map f xs → texts (listed q) ≡ map f ys → texts (listed r) ≡ map f zs → texts ((listed p ++ listed q) ++ listed r) ≡ map f ((xs ++ ys) ++ zs)
+pub all_texts : (f : Report → List ℕ) (p q r : Option EncodedPacket) (xs ys zs : List Report) → texts (listed p) ≡ map f xs → texts (listed q) ≡ map f ys → texts (listed r) ≡ map f zs → texts ((listed p ++ listed q) ++ listed r) ≡ map f ((xs ++ ys) ++ zs)
 all_texts f p q r xs ys zs a b c =
     texts_append (listed p ++ listed q) (listed r) ∙ ap (λ (w : List (List ℕ)). w ++ texts (listed r)) (texts_append (listed p) (listed q))
     ∙ ap (λ (w : List (List ℕ)). (w ++ texts (listed q)) ++ texts (listed r)) a ∙ ap (λ (w : List (List ℕ)). (map f xs ++ w) ++ texts (listed r)) b ∙ ap (λ (w : List (List ℕ)). (map f xs ++ map f ys) ++ w) c

@@ -4,8 +4,8 @@ use Rattle.srt_seq.specs.Limits.{keep_alive_after_us}
 use Rattle.srt_seq.specs.declared.shared.Mode.{Mode}
 use Rattle.srt_seq.specs.declared.shared.Mode.TheVariants.{Live, Buffer}
 use Rattle.srt_packet.specs.Grammar.{Body, Shutdown}
-use Rattle.srt_packet.specs.declared.writing.Packet.{Packet}
-use Rattle.srt_packet.specs.Text.{text}
+use Rattle.srt_packet.specs.declared.encoded.EncodedPacket.{EncodedPacket}
+use Rattle.srt_packet.specs.Encoded.{bytes_of}
 use Rattle.srt_recvbuf.specs.Receiving.{Arrival, passed}
 use Rattle.srt_pub.specs.Heard.{heard_from}
 use Rattle.srt_pub.specs.Publishing.{Terms, Publishing, deliveries, loses_window, Note, Report, keep_alive_if, last_sent}
@@ -58,8 +58,8 @@ leaves terms time room (suc calls) p = elim (next_delivery terms time room p) [
 ]
 
 -- the bytes of each packet
-abbrev pub texts : List Packet → List (List ℕ)
-texts packets = map text packets
+abbrev pub texts : List EncodedPacket → List (List ℕ)
+texts packets = map bytes_of packets
 
 -- a list of the value, or an empty one
 abbrev pub listed : {A : Type 0} → Option A → List A

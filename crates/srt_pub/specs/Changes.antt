@@ -7,8 +7,8 @@ use Rattle.srt_seq.specs.Lift.{stamped_from}
 use Rattle.srt_seq.specs.declared.shared.Mode.TheVariants.{Live, Buffer}
 use Rattle.srt_seq.specs.declared.numbers.Seq31.{Seq31}
 use Rattle.srt_seq.specs.Runs.{Range, range_from}
-use Rattle.srt_packet.specs.declared.writing.Packet.{Packet}
-use Rattle.srt_packet.specs.Text.{IsWritable}
+use Rattle.srt_packet.specs.declared.encoded.EncodedPacket.{EncodedPacket}
+use Rattle.srt_packet.specs.Encoded.{bytes_of, IsPacketText}
 use Rattle.srt_recvbuf.specs.Receiving.{Receiving, ack_point, requested}
 use Rattle.srt_recvbuf.specs.Changes.{payload_in}
 use Rattle.srt_recvbuf.specs.Stands.{run_words}
@@ -62,13 +62,13 @@ HoldsOfAt now p fact =
     → fact terms time m
 
 -- these packets are the session's reports at a time after its opening
-abbrev pub Writes : (time : ℕ) → Publisher → List Packet → (due : (terms : Terms) (time : ℕ) → Publishing → List Report) → Type 0
+abbrev pub Writes : (time : ℕ) → Publisher → List EncodedPacket → (due : (terms : Terms) (time : ℕ) → Publishing → List Report) → Type 0
 Writes time p packets due =
     (terms : Terms) (initial opening stamp caller : ℕ) (m : Publishing) → StandsFor terms initial opening stamp caller p m
     → texts packets ≡ map (says caller initial time) (due terms time m)
 
 -- these packets are the session's reports at a moment
-abbrev pub WritesAt : (now : ℕ) → Publisher → List Packet → (due : (terms : Terms) (time : ℕ) → Publishing → List Report) → Type 0
+abbrev pub WritesAt : (now : ℕ) → Publisher → List EncodedPacket → (due : (terms : Terms) (time : ℕ) → Publishing → List Report) → Type 0
 WritesAt now p packets due =
     (terms : Terms) (initial opening stamp caller time : ℕ) (m : Publishing) → now ≡ opening + time → StandsFor terms initial opening stamp caller p m
     → texts packets ≡ map (says caller initial time) (due terms time m)
@@ -116,11 +116,11 @@ abbrev pub nak_words : (all : Bool) → Terms → (initial : ℕ) → Publishing
 nak_words all terms initial m = map (run_words initial) (runs_said (gaps_told all terms.width m.seen m.receiving))
 
 -- a packet that was written can be sent
-abbrev pub IsWritableIf : (written : Bool) → Packet → Type 0
-IsWritableIf written packet = written ≡ true → IsWritable packet.body
+abbrev pub IsPacketIf : (written : Bool) → EncodedPacket → Type 0
+IsPacketIf written packet = written ≡ true → IsPacketText (bytes_of packet)
 
 -- a packet that wasn't written is as it was
-abbrev pub KeptIfNot : (written : Bool) → (old new : Packet) → Type 0
+abbrev pub KeptIfNot : (written : Bool) → (old new : EncodedPacket) → Type 0
 KeptIfNot written old new = written ≡ false → new ≡ old
 
 -- the moment at which a packet with this timestamp that comes at a moment is due

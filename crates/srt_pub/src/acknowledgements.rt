@@ -120,7 +120,7 @@ impl Acks {
     }
 
     /// Writes a Full ACK and notes that it is sent.
-    fn full(&mut self, time: u64, state: State, rtt: Rtt, body: &mut Body)
+    fn full(&mut self, time: u64, state: State, rtt: Rtt, body: &mut Body<'_>)
         ensures stands { NotesFullAck time state.available rtt self.old self.new }
         ensures bytes { WritesFullAck time state.point state.available rtt self.old body.new }
         ensures writable { IsWritable body.new }
@@ -138,7 +138,7 @@ impl Acks {
     }
 
     /// Writes a Light ACK and notes that it is sent.
-    fn light(&mut self, time: u64, point: Seq31, body: &mut Body)
+    fn light(&mut self, time: u64, point: Seq31, body: &mut Body<'_>)
         ensures stands { AcksBecome self.old self.new (λ a notes. noted time (TheLightAck a ∷ []) notes) }
         ensures bytes { WritesLightAck time point body.new }
         ensures writable { IsWritable body.new }
@@ -149,7 +149,7 @@ impl Acks {
 
     /// Writes the body of the ACK that is due at a time in microseconds since the opening: a Full ACK, or else a
     /// Light one. Returns whether one is due; if not, `body` is unchanged and nothing is noted. O(1).
-    pub fn report(&mut self, time: u64, state: State, rtt: Rtt, body: &mut Body) -> bool
+    pub fn report(&mut self, time: u64, state: State, rtt: Rtt, body: &mut Body<'_>) -> bool
         ensures stands { NotesAck time state.available rtt self.old self.new }
         ensures bytes { WritesAck time state.point state.available rtt self.old (listed (given result body.new)) }
         ensures count { CountsAcks time state.available self.old (listed (given result body.new)) }

@@ -2,7 +2,7 @@
 
 ghost use Rattle.std.specs.Prelude.{◌≡◌, ◌-◌, ◌∷◌, true, false, nat_le};
 ghost use Rattle.srt_seq.specs.Given.{given};
-ghost use Rattle.srt_packet.specs.Text.{IsWritable};
+ghost use Rattle.srt_packet.specs.Encoded.{bytes_of, IsPacketText};
 ghost use Rattle.srt_pub.specs.Publishing.{last_sent};
 ghost use Rattle.srt_pub.specs.Calls.{keep_alive_after, listed};
 ghost use Rattle.srt_seq.specs.Limits.{keep_alive_after_us};
@@ -11,7 +11,7 @@ ghost use Rattle.srt_pub.specs.Publishing.Report.{KeepAlive as TheKeepAlive};
 
 use crate::log::Log;
 use crate::session::Publisher;
-use srt_packet::{Body, Packet};
+use srt_packet::{Body, EncodedPacket};
 use srt_seq::limits::KEEP_ALIVE_AFTER_US;
 
 impl Publisher {
@@ -25,12 +25,12 @@ impl Publisher {
         time: u64,
         ack: bool,
         nak: bool,
-        packet: &mut Packet,
+        packet: &mut EncodedPacket,
     ) -> bool
         ensures stands { Becomes self.old self.new (λ terms initial m. with_sent time (keep_alive_after ack nak time m.notes) m) }
         ensures opening { opening_of self.new ≡ opening_of self.old }
         ensures bytes { Writes time self.old (listed (given result packet.new)) (λ terms time m. keep_alive_after ack nak time m.notes) }
-        ensures writable { result ≡ true → IsWritable packet.new.body }
+        ensures packet { result ≡ true → IsPacketText (bytes_of packet.new) }
         ensures kept { result ≡ false → packet.new ≡ packet.old }
     {
         if ack {
@@ -41,8 +41,7 @@ impl Publisher {
         }
         if self.log.keep_alive_due(time) {
             self.log.keep_alive(time);
-            packet.body = Body::KeepAlive;
-            self.address(time, packet);
+            self.encode(time, Body::KeepAlive, packet);
             return true;
         }
         false

@@ -85,7 +85,7 @@ impl Log {
 
     /// Writes the body of the ACK that is due, Full or Light. Returns whether one is due; if not, `body` is
     /// unchanged.
-    pub fn ack(&mut self, time: u64, state: State, body: &mut Body) -> bool
+    pub fn ack(&mut self, time: u64, state: State, body: &mut Body<'_>) -> bool
         ensures stands { LogNotesAck time state.available self.old self.new }
         ensures bytes { LogWritesAck time state.point state.available self.old (listed (given result body.new)) }
         ensures writable { result ≡ true → IsWritable body.new }

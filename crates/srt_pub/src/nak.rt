@@ -3,7 +3,7 @@
 
 ghost use Rattle.std.specs.Prelude.{◌≡◌, List, ◌∷◌, true, false, if◌then◌else◌};
 ghost use Rattle.srt_seq.specs.Given.{given};
-ghost use Rattle.srt_packet.specs.Text.{IsWritable};
+ghost use Rattle.srt_packet.specs.Encoded.{bytes_of, IsPacketText};
 ghost use Rattle.srt_recvbuf.specs.Receiving.{end_of};
 ghost use Rattle.srt_recvbuf.specs.Stands.{words_of};
 ghost use Rattle.srt_seq.specs.Runs.{Run};
@@ -15,7 +15,7 @@ use crate::log::Log;
 use crate::session::{Publisher, steps};
 use arrayvec::ArrayVec;
 use srt_loss::write;
-use srt_packet::{Body, Packet};
+use srt_packet::{Body, EncodedPacket};
 use srt_seq::Seq31;
 
 impl Publisher {
@@ -24,11 +24,11 @@ impl Publisher {
 
     /// Writes the NAK that is due: of all gaps at each NAK interval, else of the new gaps (section 4.8.2). Returns
     /// whether one is; if not, `packet` is unchanged.
-    pub(crate) fn nak(&mut self, time: u64, packet: &mut Packet) -> bool
+    pub(crate) fn nak(&mut self, time: u64, packet: &mut EncodedPacket) -> bool
         ensures stands { Becomes self.old self.new (λ terms initial m. with_sent time (naks terms time m) m) }
         ensures opening { opening_of self.new ≡ opening_of self.old }
         ensures bytes { Writes time self.old (listed (given result packet.new)) naks }
-        ensures writable { result ≡ true → IsWritable packet.new.body }
+        ensures packet { result ≡ true → IsPacketText (bytes_of packet.new) }
         ensures kept { result ≡ false → packet.new ≡ packet.old }
     {
         if !self.buffer.has_gaps() {
@@ -40,10 +40,10 @@ impl Publisher {
             return false;
         }
         self.log.nak(time, all);
-        packet.body = Body::Nak {
+        let body = Body::Nak {
             losses: write(&runs),
         };
-        self.address(time, packet);
+        self.encode(time, body, packet);
         true
     }
 

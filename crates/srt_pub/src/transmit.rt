@@ -4,7 +4,8 @@
 
 ghost use Rattle.std.specs.Prelude.{◌≡◌, ℕ, ◌+◌, ◌^◌, ◌<◌, true, false};
 ghost use Rattle.srt_seq.specs.Given.{given};
-ghost use Rattle.srt_packet.specs.Text.{text, IsWritable};
+ghost use Rattle.srt_packet.specs.Encoded.{bytes_of, IsPacketText};
+ghost use Rattle.srt_packet.specs.Text.{IsWritable};
 ghost use Rattle.srt_pub.specs.Publishing.{acks, reports, reported};
 ghost use Rattle.srt_pub.specs.Says.{body_bytes};
 ghost use Rattle.srt_pub.specs.Calls.{listed};
@@ -12,12 +13,12 @@ ghost use Rattle.srt_pub.specs.Calls.{listed};
 use crate::acknowledgements::State;
 use crate::reports::Reports;
 use crate::session::Publisher;
-use srt_packet::Packet;
+use srt_packet::{Body, EncodedPacket, Packet};
 
 impl Publisher {
     ghost use Rattle.srt_pub.specs.Stands.{opening_of};
     ghost use Rattle.srt_pub.specs.Sent.{packets_of};
-    ghost use Rattle.srt_pub.specs.Changes.{Becomes, BecomesAt, Writes, WritesAt, IsWritableIf, KeptIfNot, with_sent};
+    ghost use Rattle.srt_pub.specs.Changes.{Becomes, BecomesAt, Writes, WritesAt, IsPacketIf, KeptIfNot, with_sent};
 
     /// Ends an event. Writes the ACK, the NAK and the KEEPALIVE that are due at `now`, each into its place, and
     /// returns which were written. They are sent in this order, and the other places are unchanged. Linear in the
@@ -25,15 +26,15 @@ impl Publisher {
     pub fn transmit(
         &mut self,
         now: u64,
-        ack: &mut Packet,
-        nak: &mut Packet,
-        keep_alive: &mut Packet,
+        ack: &mut EncodedPacket,
+        nak: &mut EncodedPacket,
+        keep_alive: &mut EncodedPacket,
     ) -> Reports
         requires early { now < 2 ^ 62 }
         ensures stands { BecomesAt now self.old self.new reported }
         ensures opening { opening_of self.new ≡ opening_of self.old }
         ensures bytes { WritesAt now self.old (packets_of result ack.new nak.new keep_alive.new) reports }
-        ensures each { IsWritableIf result.ack ack.new × IsWritableIf result.nak nak.new × IsWritableIf result.keep_alive keep_alive.new }
+        ensures each { IsPacketIf result.ack ack.new × IsPacketIf result.nak nak.new × IsPacketIf result.keep_alive keep_alive.new }
         ensures kept { KeptIfNot result.ack ack.old ack.new × KeptIfNot result.nak nak.old nak.new × KeptIfNot result.keep_alive keep_alive.old keep_alive.new }
     {
         let time = now.saturating_sub(self.agreed.opening);
@@ -49,29 +50,34 @@ impl Publisher {
     }
 
     /// Writes the ACK that is due. Returns whether one is; if not, `packet` is unchanged.
-    fn ack(&mut self, time: u64, packet: &mut Packet) -> bool
+    fn ack(&mut self, time: u64, packet: &mut EncodedPacket) -> bool
         ensures stands { Becomes self.old self.new (λ terms initial m. with_sent time (acks terms time m) m) }
         ensures opening { opening_of self.new ≡ opening_of self.old }
         ensures bytes { Writes time self.old (listed (given result packet.new)) acks }
-        ensures writable { result ≡ true → IsWritable packet.new.body }
+        ensures packet { result ≡ true → IsPacketText (bytes_of packet.new) }
         ensures kept { result ≡ false → packet.new ≡ packet.old }
     {
         let point = self.buffer.ack_point();
         let available = self.buffer.available();
         let state = State { point, available };
-        if self.log.ack(time, state, &mut packet.body) {
-            self.address(time, packet);
+        let mut body = Body::KeepAlive;
+        if self.log.ack(time, state, &mut body) {
+            self.encode(time, body, packet);
             return true;
         }
         false
     }
 
-    /// Gives a packet with this body its timestamp, modulo 2^32, and its destination.
-    pub(crate) fn address(&self, time: u64, packet: &mut Packet)
-        ensures bytes { (caller : ℕ) → self.now.agreed.caller ≡ caller → text packet.new ≡ body_bytes caller time packet.old.body }
-        ensures body { packet.new.body ≡ packet.old.body }
+    /// Writes a packet with this body. Its timestamp is the session's time, modulo 2^32.
+    pub(crate) fn encode(&self, time: u64, body: Body<'_>, packet: &mut EncodedPacket)
+        requires { IsWritable body }
+        ensures bytes { (caller : ℕ) → self.now.agreed.caller ≡ caller → bytes_of packet.new ≡ body_bytes caller time body.entry }
+        ensures packet { IsPacketText (bytes_of packet.new) }
     {
-        packet.stamp = (time % (1 << 32)) as u32;
-        packet.dest = self.agreed.caller;
+        packet.write(&Packet {
+            stamp: (time % (1 << 32)) as u32,
+            dest: self.agreed.caller,
+            body,
+        });
     }
 }

@@ -52,6 +52,14 @@ impl PayloadBuffer {
         self.len = bytes.len();
     }
 
+    /// The payload's bytes.
+    pub fn bytes(&self) -> &[u8]
+        ensures value { result.now ≡ bytes_of self.now }
+        ensures fits { length result.now ≤ 1456 }
+    {
+        &self.block.xs[..self.len]
+    }
+
     /// Replaces the bytes of `payload` by this buffer's. One copy, and the fastest if both have the same length.
     pub fn copy_to(&self, payload: &mut Payload)
         ensures { payload.new.items ≡ bytes_of self.now }

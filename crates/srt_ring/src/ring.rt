@@ -86,6 +86,16 @@ impl PayloadRing {
         }
     }
 
+    /// The bytes of a place's payload.
+    pub fn payload(&self, at: usize) -> &[u8]
+        requires { at < width_of self.now }
+        ensures value { result.now ≡ payload_at self.now at }
+        ensures fits { length result.now ≤ 1456 }
+    {
+        let index = self.order.buffer(self.slot(at));
+        self.buffers[index].bytes()
+    }
+
     /// Replaces the bytes of `payload` by those of a place. One copy.
     pub fn copy_to(&self, at: usize, payload: &mut Payload)
         requires { at < width_of self.now }

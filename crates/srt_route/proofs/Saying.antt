@@ -11,8 +11,8 @@ use Rattle.srt_seq.specs.declared.shared.Mode.TheVariants.{Live, Buffer}
 use Rattle.srt_seq.specs.declared.shared.Peer.{Peer}
 use Rattle.srt_seq.specs.Terms.{Terms}
 use Rattle.srt_seq.specs.Items.{Datagram}
-use Rattle.srt_packet.specs.declared.writing.Packet.{Packet}
-use Rattle.srt_packet.specs.Text.{text}
+use Rattle.srt_packet.specs.declared.encoded.EncodedPacket.{EncodedPacket}
+use Rattle.srt_packet.specs.Encoded.{bytes_of}
 use Rattle.srt_sendbuf.specs.Sending.{Sending, Mark, sent as marked_sent, all_lost}
 use Rattle.srt_pub.specs.Publishing as publishing
 use Rattle.srt_pub.specs.Publishing.{Publishing}
@@ -68,11 +68,11 @@ to_append : (peer : Peer) (xs ys : List (List ℕ)) → datagrams_to peer (xs ++
 to_append peer xs ys = map-append (λ bytes. record { peer = peer; bytes = bytes }) xs ys
 
 -- three calls one after another
-pub three_said : (a b c d : List Reply) (p q r s : ℕ) (peer : Peer) (xs ys zs : List Packet) (all : List (List ℕ)) → texts (xs ++ ys ++ zs) ≡ all → AreSaid a b p q (datagrams_to peer (texts xs)) → AreSaid b c q r (datagrams_to peer (texts ys)) → AreSaid c d r s (datagrams_to peer (texts zs)) → AreSaid a d p s (datagrams_to peer all)
+pub three_said : (a b c d : List Reply) (p q r s : ℕ) (peer : Peer) (xs ys zs : List EncodedPacket) (all : List (List ℕ)) → texts (xs ++ ys ++ zs) ≡ all → AreSaid a b p q (datagrams_to peer (texts xs)) → AreSaid b c q r (datagrams_to peer (texts ys)) → AreSaid c d r s (datagrams_to peer (texts zs)) → AreSaid a d p s (datagrams_to peer all)
 three_said a b c d p q r s peer xs ys zs all is h k l =
     subst (λ (ds : List Datagram). AreSaid a d p s ds)
-    (ap (λ (ds : List Datagram). datagrams_to peer (texts xs) ++ ds) (sym (to_append peer (texts ys) (texts zs)) ∙ ap (datagrams_to peer) (sym (map-append text ys zs)))
-    ∙ (sym (to_append peer (texts xs) (texts (ys ++ zs))) ∙ (ap (datagrams_to peer) (sym (map-append text xs (ys ++ zs))) ∙ ap (datagrams_to peer) (ap texts (sym (append_assoc xs ys zs)) ∙ is))))
+    (ap (λ (ds : List Datagram). datagrams_to peer (texts xs) ++ ds) (sym (to_append peer (texts ys) (texts zs)) ∙ ap (datagrams_to peer) (sym (map-append bytes_of ys zs)))
+    ∙ (sym (to_append peer (texts xs) (texts (ys ++ zs))) ∙ (ap (datagrams_to peer) (sym (map-append bytes_of xs (ys ++ zs))) ∙ ap (datagrams_to peer) (ap texts (sym (append_assoc xs ys zs)) ∙ is))))
     (said_then a b d p q s (datagrams_to peer (texts xs)) (datagrams_to peer (texts ys) ++ datagrams_to peer (texts zs)) h (said_then b c d q r s (datagrams_to peer (texts ys)) (datagrams_to peer (texts zs)) k l))
 
 -- packets of slots
@@ -410,7 +410,7 @@ telling_begins terms initial opening caller clock peer x m waiting places stands
       said = nothing_said waiting places;
     }
 
-pub telling_more : (terms : subscribing.Terms) (initial opening caller clock : ℕ) (peer : Peer) (y : Subscriber) (m : subscribing.Subscribing) (before now then_ : List Reply) (places more most turn : ℕ) (gone left : List subscribing.Report) (packet : Packet) → gone ++ left ≡ subscribing.reports terms (clock - opening) m → length gone ≡ turn → AreSaid before now places more (datagrams_to peer (map (subscriber_text.says caller initial (clock - opening)) gone)) → IsNext terms initial opening caller clock packet y m left → AreSaid now then_ more most (datagrams_to peer (text packet ∷ [])) → IsTelling terms initial opening caller clock peer y m before then_ places most (turn + 1)
+pub telling_more : (terms : subscribing.Terms) (initial opening caller clock : ℕ) (peer : Peer) (y : Subscriber) (m : subscribing.Subscribing) (before now then_ : List Reply) (places more most turn : ℕ) (gone left : List subscribing.Report) (packet : EncodedPacket) → gone ++ left ≡ subscribing.reports terms (clock - opening) m → length gone ≡ turn → AreSaid before now places more (datagrams_to peer (map (subscriber_text.says caller initial (clock - opening)) gone)) → IsNext terms initial opening caller clock packet y m left → AreSaid now then_ more most (datagrams_to peer (bytes_of packet ∷ [])) → IsTelling terms initial opening caller clock peer y m before then_ places most (turn + 1)
 telling_more terms initial opening caller clock peer y m before now then_ places more most turn gone left packet whole count said next one =
     let r = next.report in
     let says = subscriber_text.says caller initial (clock - opening) in

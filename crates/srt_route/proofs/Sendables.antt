@@ -87,7 +87,7 @@ subscribers_send caller initial time (subscriber.Dropped run) h =
     (record { stamp = omega arith; dest = omega arith; word1 = omega arith; rest = omega arith; body = tt })
     (ap (λ four. word 0x8007_0000 ++ word (message_number run.low) ++ word (time % 2 ^ 32) ++ four ++ words (number_word initial run.low ∷ number_word initial run.high ∷ [])) (low caller))
 subscribers_send caller initial time (subscriber.Media number again origin payload) h =
-    made _ (record { stamp = origin % 2 ^ 32; dest = caller % 2 ^ 32; body = out.Media (number_of initial number) (message_for number) again (record { items = payload }) })
+    made _ (record { stamp = origin % 2 ^ 32; dest = caller % 2 ^ 32; body = out.Media (number_of initial number) (message_for number) again (record { bytes = record { ref_ptr = (0, 0); now = payload }; some = h.0; most = h.1 }) })
     (record { stamp = omega arith; dest = omega arith; word1 = media_word again number; rest = h.1; body = h })
     (ap (λ four. word (number_word initial number) ++ word ((cond again 0xe400_0000 0xe000_0000) + message_number number) ++ word (origin % 2 ^ 32) ++ four ++ payload) (low caller))
 subscribers_send caller initial time subscriber.KeepAlive h =

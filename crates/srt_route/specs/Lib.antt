@@ -7,7 +7,6 @@ pub mod Shifted
 pub mod ShiftLaws
 pub mod Relabel
 pub mod Sendable
-pub mod Writable
 pub mod Written
 pub mod Waits
 pub mod Buffers

@@ -13,7 +13,7 @@ use crate::conclusion::Conclusion;
 use crate::replies::Reply;
 use arrayvec::ArrayVec;
 use srt_hs::{AnswerKind, HsAnswer, RefusalCode, write};
-use srt_packet::Body;
+use srt_packet::{Body, Packet};
 use srt_seq::Peer;
 
 /// The answer that refuses a conclusion for this reason, with the caller's initial sequence number.
@@ -53,7 +53,9 @@ pub fn answer_to(reply: &mut Reply, peer: Peer, caller: u32, answer: &HsAnswer)
     let mut info = ArrayVec::new();
     let _ = info.try_extend_from_slice(&out[..len]);
     reply.peer = peer;
-    reply.packet.stamp = 0;
-    reply.packet.dest = caller;
-    reply.packet.body = Body::Handshake(info);
+    reply.packet.write(&Packet {
+        stamp: 0,
+        dest: caller,
+        body: Body::Handshake(info),
+    });
 }

@@ -1,9 +1,12 @@
 //! How a route closes: every open session ends, and its peer is sent a SHUTDOWN.
 
-ghost use Rattle.std.specs.Prelude.{◌≡◌, None, map};
+ghost use Rattle.std.specs.Prelude.{◌≡◌, None, [], ◌∷◌, map};
+ghost use Rattle.srt_packet.specs.Encoded.{bytes_of};
+ghost use Rattle.srt_packet.specs.Text.{text};
 ghost use Rattle.srt_route.specs.Route.{ended, shutdown_to};
 ghost use Rattle.srt_route.specs.Sessions.{by_slot};
 ghost use Rattle.srt_route.specs.Tables.{with_stored};
+ghost use Rattle.srt_route.specs.Buffers.{datagrams_to};
 ghost use Rattle.srt_route.specs.Reports.{Queues};
 ghost use Rattle.srt_route.specs.OneSession.{shutdown_of, shutdowns_to};
 ghost use Rattle.srt_route.specs.Calls.{TableBecomes, Transmits};
@@ -12,16 +15,26 @@ use crate::replies::Reply;
 use crate::reply_queue::ReplyQueue;
 use crate::seat::{Seat, Session};
 use crate::table::Table;
-use srt_packet::{Body, Packet};
+use srt_packet::{Body, EncodedPacket, Packet};
 
 /// Writes a session's SHUTDOWN (section 3.2.7), with the session's time as its timestamp.
-fn write_shutdown(session: &Session, clock: u64, packet: &mut Packet)
-    ensures { packet.new ≡ shutdown_of clock session.now }
+fn write_shutdown(session: &Session, clock: u64, packet: &mut EncodedPacket)
+    ensures { bytes_of packet.new ≡ text (shutdown_of clock session.now) }
 {
     let time = clock.saturating_sub(session.opened);
-    packet.stamp = (time % (1 << 32)) as u32;
-    packet.dest = session.caller;
-    packet.body = Body::Shutdown;
+    packet.write(&Packet {
+        stamp: (time % (1 << 32)) as u32,
+        dest: session.caller,
+        body: Body::Shutdown,
+    });
+}
+
+/// Queues a session's SHUTDOWN.
+fn queue_shutdown(session: &Session, clock: u64, hand: &mut Box<Reply>, waiting: &mut ReplyQueue)
+    ensures { Queues waiting.old waiting.new (datagrams_to session.now.peer (text (shutdown_of clock session.now) ∷ [])) }
+{
+    write_shutdown(session, clock, &mut hand.packet);
+    waiting.put_to(session.peer, hand);
 }
 
 /// Ends the session in this seat, if one is open, and queues its SHUTDOWN.
@@ -30,8 +43,7 @@ fn close_seat(seat: &mut Seat, clock: u64, hand: &mut Box<Reply>, waiting: &mut 
     ensures said { Queues waiting.old waiting.new (shutdowns_to clock seat.old.session) }
 {
     if let Some(session) = &seat.session {
-        write_shutdown(session, clock, &mut hand.packet);
-        waiting.put_to(session.peer, hand);
+        queue_shutdown(session, clock, hand, waiting);
     }
     seat.session = None;
 }

@@ -1,9 +1,9 @@
 //! The packets that a route sends.
 
-ghost use Rattle.std.specs.Prelude.{◌≡◌, true};
-ghost use Rattle.srt_route.specs.Writable.{is_writable};
+ghost use Rattle.std.specs.Prelude.{◌≡◌, []};
+ghost use Rattle.srt_packet.specs.Encoded.{bytes_of};
 
-use srt_packet::{Body, Packet};
+use srt_packet::EncodedPacket;
 use srt_seq::Peer;
 
 /// A packet that a route sends, with its receiver.
@@ -11,26 +11,21 @@ use srt_seq::Peer;
 pub struct Reply {
     /// The address to which it is sent.
     pub peer: Peer,
-    /// The packet; `srt_packet::encode` can write it: its payload has 1 to 1456 bytes, its loss list at least one word.
-    pub packet: Packet,
-    pub ghost writable: { is_writable packet.body ≡ true },
+    /// The packet, encoded where it stays until it is sent.
+    pub packet: EncodedPacket,
 }
 
 impl Reply {
-    /// A blank reply, to be written over: a KEEPALIVE to no address.
+    /// A blank reply, to be written over: no bytes to no address.
     pub fn blank() -> Reply
-        ensures { result.packet.body ≡ Body.KeepAlive }
+        ensures { bytes_of result.packet ≡ [] }
     {
         Reply {
             peer: Peer {
                 ip: [0; 16],
                 port: 0,
             },
-            packet: Packet {
-                stamp: 0,
-                dest: 0,
-                body: Body::KeepAlive,
-            },
+            packet: EncodedPacket::new(),
         }
     }
 }

@@ -47,7 +47,7 @@ impl ScratchBoxes {
 
 impl ReplyQueue {
     ghost use Rattle.srt_seq.specs.Given.{given};
-    ghost use Rattle.srt_packet.specs.Text.{text};
+    ghost use Rattle.srt_packet.specs.Encoded.{bytes_of};
     ghost use Rattle.srt_pub.specs.Calls.{texts, listed};
     ghost use Rattle.srt_route.specs.Buffers.{datagrams_to};
     ghost use Rattle.srt_route.specs.Reports.{Queues};
@@ -90,7 +90,7 @@ impl ReplyQueue {
 
     /// Queues the packet in this box as a reply to this peer.
     pub fn put_to(&mut self, peer: Peer, hand: &mut Box<Reply>)
-        ensures { Queues self.old self.new (datagrams_to peer (text hand.old.value.packet ∷ [])) }
+        ensures { Queues self.old self.new (datagrams_to peer (bytes_of hand.old.value.packet ∷ [])) }
     {
         hand.peer = peer;
         self.put(hand);

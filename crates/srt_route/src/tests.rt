@@ -2,7 +2,6 @@
 //! it is arbitrary here.
 
 use crate::{Reply, Route};
-use srt_packet::encode;
 use srt_seq::{Entry, Item, Mode, OpenFault, Peer};
 use std::alloc::Global;
 use std::process::Abort;
@@ -100,7 +99,7 @@ fn assert_told(
     if route.next_reply(&mut place) {
         assert_eq!(rt; waiting, 1);
         assert!(rt; place.peer == from);
-        len = encode(&place.packet, &mut out);
+        len = place.packet.copy_to(&mut out);
     } else {
         assert_eq!(rt; waiting, 0);
     }
@@ -127,7 +126,7 @@ fn assert_closed(
     for (port, text) in shutdowns {
         assert!(rt; route.next_reply(&mut place));
         assert!(rt; place.peer == peer(*port));
-        let len = encode(&place.packet, &mut out);
+        let len = place.packet.copy_to(&mut out);
         let wanted = hex::decode(rt.alloc(), text)?;
         assert_eq!(rt; &out[..len], wanted.as_slice());
     }

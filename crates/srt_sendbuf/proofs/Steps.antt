@@ -232,24 +232,6 @@ due_none window flying count r none n q held =
     off (inr a) b = let e : nat_lt (in_flight r) window ≡ false = grind (arith, nat_tests, a) in rw e refl
     off (inl a) (inr b) = let f : nat_lt (in_flight r) window ≡ true = lt-ltb _ _ a in let e : nat_lt (next r) (length r.queue) ≡ false = grind (arith, nat_tests, b) in rw (f, e) refl
 
--- a lost number is due
-pub lost_is_due : (window : ℕ) (r : Sending) (ns : List ℕ) → nat_lt 0 (length ns) ≡ true → is_some (due_number window ns r) ≡ true
-lost_is_due window r [] e = absurd cc
-lost_is_due window r (n ∷ ns) e = refl
-
-pub nothing_lost : (ns : List ℕ) → nat_lt 0 (length ns) ≡ false → ns ≡ []
-nothing_lost [] e = refl
-nothing_lost (n ∷ ns) e = let b : nat_lt 0 (length (n ∷ ns)) ≡ true = lt-ltb _ _ (omega arith) in absurd (true≢false (sym b ∙ e))
-
--- whether a new number is due, if the flow window has room for it
-pub is_new_due : (window flying count : ℕ) (r : Sending) → lost r ≡ [] → front r + flying ≡ next r → front r + count ≡ length r.queue → flying < window → nat_lt flying count ≡ is_some (due_number window (lost r) r)
-is_new_due window flying count r none n q w = elim (cases_lt flying count) [
-  | inl c ↦ lt-ltb _ _ c ∙ sym (ap (λ (o : Option (ℕ × Bool)). is_some o) (due_new window flying count r none n q w c))
-  | inr c ↦
-      let e : nat_lt flying count ≡ false = grind (arith, nat_tests, c) in
-      e ∙ sym (ap (λ (o : Option (ℕ × Bool)). is_some o) (due_none window flying count r none n q (λ a b. omega (arith, b, c))))
-]
-
 pub is_any_lost : (initial word behind count flying low high base_message end_message : ℕ) (kept : ℕ → Option Kept) (lost_ones : ℕ → Bool) (r : Sending) → IsKept initial word behind count flying low high base_message end_message kept lost_ones r → high ≤ flying → nat_lt low high ≡ nat_lt 0 (length (lost r))
 is_any_lost initial word behind count flying low high base_message end_message kept lost_ones r h hi = elim (cases_lt low high) [
   | inl lt ↦

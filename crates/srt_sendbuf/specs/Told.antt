@@ -23,13 +23,9 @@ told initial d = record { number = number_word initial d.number; message = messa
 abbrev pub told_due : (initial window : ℕ) → Sending → Option Told
 told_due initial window s = option_map (told initial) (due window s)
 
--- a result of `next_due` with the payload that it wrote
-abbrev pub told_by : Out → (payload : List ℕ) → Told
-told_by o payload = record { number = word_of o.number; message = message_of o.message; again = o.again; origin = o.origin; payload = payload }
-
--- a result of `next_due`, if it returned a packet
-abbrev pub told_if : Option Out → (payload : List ℕ) → Option Told
-told_if out payload = option_map (λ o. told_by o payload) out
+-- a packet that `next_due` returned
+abbrev pub told_by : Out → Told
+told_by o = record { number = word_of o.number; message = message_of o.message; again = o.again; origin = o.origin; payload = o.payload.now }
 
 -- the contents of a drop request: the first sequence number, the last, and the message number of the first
 pub record Gone : Type 0 where

@@ -18,9 +18,9 @@ use std::alloc::{AllocError, Global};
 /// The cap of `behind`. All values above `ACK_REACH` behave alike, so the counter stops here.
 const BEHIND_END: usize = 16384;
 
-/// The header fields of a packet that is to be sent now. Its bytes are in the payload that `next_due` wrote.
+/// A packet that is to be sent now.
 #[derive(Clone, Copy, Debug, PartialEq, Eq)]
-pub struct Out {
+pub struct Out<'a> {
     /// Its sequence number (section 3.1).
     pub number: Seq31,
     /// Its message number (section 3.1).
@@ -29,6 +29,8 @@ pub struct Out {
     pub again: bool,
     /// The time that `queue` was given with its payload, in microseconds.
     pub origin: u64,
+    /// The bytes of its payload, at most 1456. They stay in the buffer.
+    pub payload: &'a [u8],
 }
 
 /// The contents of a drop request (section 3.2.9): all sequence numbers from the base up to the front, which are

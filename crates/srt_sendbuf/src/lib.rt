@@ -9,7 +9,7 @@
 //!
 //! Calls: `SendBuf::open` once; `start` for each session; `queue` for each payload; `ack` and `lose` for what the
 //! peer reports; `expire` for what is too old, and `lose_all` to resend all; `next_due` until it returns None, which
-//! gives lost packets first and then new ones.
+//! gives lost packets first and then new ones, and `note_sent` after each.
 //!
 //! Files: `buffer.rt` has the types, queueing, expiry, and what a NAK marks as lost; `acknowledging.rt` which numbers an
 //! ACK may name, and what it does; `drop_request.rt` which numbers a drop request names; `next_due.rt` the next packet to

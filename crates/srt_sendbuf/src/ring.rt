@@ -82,12 +82,13 @@ impl Ring {
         self.places.capacity()
     }
 
-    /// Replaces the bytes of `payload` by those of a place. One copy.
-    pub fn copy_to(&self, at: usize, payload: &mut Payload)
+    /// The bytes of a place's payload.
+    pub fn payload(&self, at: usize) -> &[u8]
         requires { at < width_of self.now }
-        ensures { payload.new.items ≡ payload_at self.now.payloads at }
+        ensures value { result.now ≡ payload_at self.now.payloads at }
+        ensures fits { length result.now ≤ 1456 }
     {
-        self.payloads.copy_to(at, payload);
+        self.payloads.payload(at)
     }
 
     /// Appends a packet that isn't lost. The ring must have a free place. One copy.

@@ -53,25 +53,28 @@ fn queued(buffer: &mut SendBuf, byte: u8, now: u64) -> Answer {
     }
 }
 
-/// The packet that is due, written over a payload that held more.
-fn due(buffer: &mut SendBuf, window: u32) -> Result<Answer, Fail> {
-    let mut payload = Payload::new();
-    let _ = payload.try_extend_from_slice(&[0x7a, 0x7a]);
-    let is_due = buffer.is_due(window);
-    match buffer.next_due(window, &mut payload) {
-        Some(out) if is_due && payload.len() == 1 => match payload.first() {
-            Some(byte) => Ok(Answer::Packet(
+/// The packet that is due, as an answer.
+fn next(buffer: &SendBuf, window: u32) -> Result<Answer, Fail> {
+    match buffer.next_due(window) {
+        Some(out) => match out.payload {
+            [byte] => Ok(Answer::Packet(
                 out.number.get(),
                 out.message.get(),
                 out.again,
                 out.origin,
                 *byte,
             )),
-            None => Err(Fail::from("an empty payload")),
+            _ => Err(Fail::from("not the payload that was queued")),
         },
-        None if !is_due && payload.as_slice() == [0x7a, 0x7a].as_slice() => Ok(Answer::Nothing),
-        _ => Err(Fail::from("not what is due")),
+        None => Ok(Answer::Nothing),
     }
+}
+
+/// The packet that is due, which is sent.
+fn due(buffer: &mut SendBuf, window: u32) -> Result<Answer, Fail> {
+    let answer = next(buffer, window)?;
+    buffer.note_sent(window);
+    Ok(answer)
 }
 
 fn lost(buffer: &mut SendBuf, first: u32, last: u32) -> Result<Answer, Fail> {

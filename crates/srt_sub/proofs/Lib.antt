@@ -1,7 +1,6 @@
 pub mod Sound
 pub mod Turns
 pub mod Dues
-pub mod Medias
 pub mod Queueing
 pub mod Unheard
 pub mod Freshness

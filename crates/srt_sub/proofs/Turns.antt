@@ -9,8 +9,8 @@ use Rattle.srt_seq.specs.Runs.{Run, numbers_from}
 use Rattle.srt_seq.specs.declared.shared.Mode.{Mode}
 use Rattle.srt_seq.specs.declared.shared.Mode.TheVariants.{Live, Buffer}
 use Rattle.srt_rtt.specs.RoundTrip.{resend_after}
-use Rattle.srt_packet.specs.Text.{text}
-use Rattle.srt_packet.specs.declared.writing.Packet.{Packet}
+use Rattle.srt_packet.specs.Encoded.{bytes_of}
+use Rattle.srt_packet.specs.declared.encoded.EncodedPacket.{EncodedPacket}
 use Rattle.srt_sendbuf.specs.Sending.{Queued, Sending, All_of, front, next, in_flight, is_in_span, is_marked, lost, all_lost, sent, Due, due, due_at, due_number, due_of as due_for}
 use Rattle.srt_sendbuf.proofs.OneByOne.{lost_one_by_one, new_one_by_one}
 use Rattle.srt_sub.specs.Subscribing.{Terms, Report, Dropped, Media, KeepAlive, Note, Sent, Subscribing, is_media, last_sent, last_growth, round_trip, flow_window, untold, drops, drops_of, expired, expired_in, resend_due, presumed, most, again_of, new_of, media, media_of, keep_alives, noted, due_of, reports_of, sent_each, sent_of}
@@ -333,7 +333,7 @@ settled_gave terms time n s r m h =
     }
 
 -- the packet is the next one, and the others are left
-pub goes_on : (terms : Terms) (initial opening caller time given later : ℕ) (p : Packet) (t : Subscriber) (middle m after : Subscribing) (left : List Report) (r : Report) → later ≤ most → StandsIn terms initial opening caller time later t after → IsSettled terms time after → text p ≡ says caller initial time r → IsLeft terms time given middle m left → Parts (most - given) (most - later) terms time (presumed time middle) after r → IsNextAt terms initial opening caller time p t m left
+pub goes_on : (terms : Terms) (initial opening caller time given later : ℕ) (p : EncodedPacket) (t : Subscriber) (middle m after : Subscribing) (left : List Report) (r : Report) → later ≤ most → StandsIn terms initial opening caller time later t after → IsSettled terms time after → bytes_of p ≡ says caller initial time r → IsLeft terms time given middle m left → Parts (most - given) (most - later) terms time (presumed time middle) after r → IsNextAt terms initial opening caller time p t m left
 goes_on terms initial opening caller time given later p t middle m after left r few stands settled said l parts =
     let stays = settled_stays terms time after settled in
     record {
@@ -356,11 +356,11 @@ goes_on terms initial opening caller time given later p t middle m after left r 
     }
 
 -- whether a packet was written
-pub wrote : (b : Bool) (p : Packet) (ts : List (List ℕ)) → b ≡ true → texts (given b p) ≡ ts → text p ∷ [] ≡ ts
+pub wrote : (b : Bool) (p : EncodedPacket) (ts : List (List ℕ)) → b ≡ true → texts (given b p) ≡ ts → bytes_of p ∷ [] ≡ ts
 wrote true p ts b e = e
 wrote false p ts b e = absurd cc
 
-pub wrote_none : (b : Bool) (p : Packet) (ts : List (List ℕ)) → b ≡ false → texts (given b p) ≡ ts → [] ≡ ts
+pub wrote_none : (b : Bool) (p : EncodedPacket) (ts : List (List ℕ)) → b ≡ false → texts (given b p) ≡ ts → [] ≡ ts
 wrote_none false p ts b e = e
 wrote_none true p ts b e = absurd cc
 
@@ -407,7 +407,7 @@ pub record NoDrop (terms : Terms) (initial opening caller time count : ℕ) (s :
   pub silent : untold x.notes ≡ None
   pub stands : StandsIn terms initial opening caller time count s x
 
-pub no_drop : (terms : Terms) (initial opening caller time count : ℕ) (before after : Subscriber) (x : Subscribing) (b : Bool) (p : Packet) → b ≡ false → (StandsIn terms initial opening caller time count before x → texts (given b p) ≡ map (says caller initial time) (drops x.notes)) → (StandsIn terms initial opening caller time count before x → StandsIn terms initial opening caller time count after (record x { notes = noted time (drops x.notes) x.notes })) → StandsIn terms initial opening caller time count before x → NoDrop terms initial opening caller time count after x
+pub no_drop : (terms : Terms) (initial opening caller time count : ℕ) (before after : Subscriber) (x : Subscribing) (b : Bool) (p : EncodedPacket) → b ≡ false → (StandsIn terms initial opening caller time count before x → texts (given b p) ≡ map (says caller initial time) (drops x.notes)) → (StandsIn terms initial opening caller time count before x → StandsIn terms initial opening caller time count after (record x { notes = noted time (drops x.notes) x.notes })) → StandsIn terms initial opening caller time count before x → NoDrop terms initial opening caller time count after x
 no_drop terms initial opening caller time count before after x b p is answer stands h =
     let silent = no_drop_said (untold x.notes) (says caller initial time) (wrote_none b p _ is (answer h)) in
     record {
@@ -421,7 +421,7 @@ pub record NoMedia (terms : Terms) (initial opening caller time count : ℕ) (s 
   pub none : due_in (64 - count) terms x ≡ None
   pub stands : StandsIn terms initial opening caller time count s x
 
-pub no_data : (terms : Terms) (initial opening caller time count : ℕ) (before after : Subscriber) (x : Subscribing) (b : Bool) (p : Packet) → b ≡ false → (StandsIn terms initial opening caller time count before x → count ≤ 64 → texts (given b p) ≡ map (λ d. says caller initial time (Media d.number d.again d.origin d.payload)) (option_to_list (due_in (64 - count) terms x))) → (StandsIn terms initial opening caller time count before x → count ≤ 64 → StandsIn terms initial opening caller time (given_with (due_in (64 - count) terms x) count) after (with_due time (due_in (64 - count) terms x) x)) → NoDrop terms initial opening caller time count before x → count ≤ 64 → NoMedia terms initial opening caller time count after x
+pub no_data : (terms : Terms) (initial opening caller time count : ℕ) (before after : Subscriber) (x : Subscribing) (b : Bool) (p : EncodedPacket) → b ≡ false → (StandsIn terms initial opening caller time count before x → count ≤ 64 → texts (given b p) ≡ map (λ d. says caller initial time (Media d.number d.again d.origin d.payload)) (option_to_list (due_in (64 - count) terms x))) → (StandsIn terms initial opening caller time count before x → count ≤ 64 → StandsIn terms initial opening caller time (given_with (due_in (64 - count) terms x) count) after (with_due time (due_in (64 - count) terms x) x)) → NoDrop terms initial opening caller time count before x → count ≤ 64 → NoMedia terms initial opening caller time count after x
 no_data terms initial opening caller time count before after x b p is answer stands h few =
     let none = no_media_said (due_in (64 - count) terms x) (λ d. says caller initial time (Media d.number d.again d.origin d.payload)) (wrote_none b p _ is (answer h.stands few)) in
     record {

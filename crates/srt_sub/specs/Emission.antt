@@ -1,7 +1,7 @@
 -- The packets of an event's end, one by one.
 use Rattle.std.specs.Prelude.{◌≡◌, ℕ, ◌-◌, ◌≤◌, List, [], ◌∷◌}
-use Rattle.srt_packet.specs.Text.{text}
-use Rattle.srt_packet.specs.declared.writing.Packet.{Packet}
+use Rattle.srt_packet.specs.Encoded.{bytes_of}
+use Rattle.srt_packet.specs.declared.encoded.EncodedPacket.{EncodedPacket}
 use Rattle.srt_sub.specs.Subscribing.{Terms, Report, Subscribing, most, expired, presumed, reports_of, sent_of, reports, reported}
 use Rattle.srt_sub.specs.Says.{says}
 use Rattle.srt_sub.specs.Stands.{StandsIn, StandsFor}
@@ -26,15 +26,15 @@ abbrev pub Emitting : (terms : Terms) (initial opening caller now : ℕ) → Sub
 Emitting terms initial opening caller now s m left = EmittingAt terms initial opening caller (now - opening) s m left
 
 -- a packet is the first of those that are left, and the others are left after it
-pub record IsNextAt (terms : Terms) (initial opening caller time : ℕ) (p : Packet) (s : Subscriber) (m : Subscribing) (left : List Report) : Type 0 where
+pub record IsNextAt (terms : Terms) (initial opening caller time : ℕ) (p : EncodedPacket) (s : Subscriber) (m : Subscribing) (left : List Report) : Type 0 where
   pub report : Report
   pub rest : List Report
   pub left_is : left ≡ report ∷ rest
-  pub text_is : text p ≡ says caller initial time report
+  pub text_is : bytes_of p ≡ says caller initial time report
   pub goes_on : EmittingAt terms initial opening caller time s m rest
 
 -- the same at a moment
-abbrev pub IsNext : (terms : Terms) (initial opening caller now : ℕ) → Packet → Subscriber → Subscribing → (left : List Report) → Type 0
+abbrev pub IsNext : (terms : Terms) (initial opening caller now : ℕ) → EncodedPacket → Subscriber → Subscribing → (left : List Report) → Type 0
 IsNext terms initial opening caller now p s m left = IsNextAt terms initial opening caller (now - opening) p s m left
 
 -- none are left, and the event is over
@@ -43,7 +43,7 @@ pub record IsOverAt (terms : Terms) (initial opening caller time : ℕ) (s : Sub
   pub stands : StandsIn terms initial opening caller time 0 s (reported terms time (expired terms time m))
 
 -- a call wrote the first of the packets that are left, after what is too late at this time was dropped
-abbrev pub WritesNextAt : (time : ℕ) → (before after : Subscriber) → Packet → Type 0
+abbrev pub WritesNextAt : (time : ℕ) → (before after : Subscriber) → EncodedPacket → Type 0
 WritesNextAt time before after p =
     (terms : Terms) (initial opening caller given : ℕ) (middle m : Subscribing) (left : List Report)
     → StandsIn terms initial opening caller time given before (expired terms time middle)
@@ -58,14 +58,8 @@ EndsAt time before after =
     → IsLeft terms time given (expired terms time middle) m left
     → IsOverAt terms initial opening caller time after m left
 
--- this holds if a session writes the packets of an event's end, at a moment
-abbrev pub IfEmitting : (now : ℕ) → Subscriber → (P : Type 0) → Type 0
-IfEmitting now s P =
-    (terms : Terms) (initial opening caller : ℕ) (m : Subscribing) (left : List Report)
-    → Emitting terms initial opening caller now s m left → P
-
 -- a call at a moment wrote the first of the packets that are left
-abbrev pub WritesNext : (now : ℕ) → (before after : Subscriber) → Packet → Type 0
+abbrev pub WritesNext : (now : ℕ) → (before after : Subscriber) → EncodedPacket → Type 0
 WritesNext now before after p =
     (terms : Terms) (initial opening caller : ℕ) (m : Subscribing) (left : List Report)
     → Emitting terms initial opening caller now before m left

@@ -4,8 +4,8 @@ use Rattle.srt_seq.specs.Counts.{message_number}
 use Rattle.srt_seq.specs.Runs.{Run}
 use Rattle.srt_rtt.specs.RoundTrip.{round_trip_of}
 use Rattle.srt_tsbpd.specs.Deadline.{too_late_at}
-use Rattle.srt_packet.specs.Text.{text}
-use Rattle.srt_packet.specs.declared.writing.Packet.{Packet}
+use Rattle.srt_packet.specs.Encoded.{bytes_of}
+use Rattle.srt_packet.specs.declared.encoded.EncodedPacket.{EncodedPacket}
 use Rattle.srt_sendbuf.specs.Sending.{Sending, IsTimely, IsLater}
 use Rattle.srt_seq.specs.Window.{word_of, number_word}
 use Rattle.srt_sendbuf.specs.Told.{Gone, gone_by}
@@ -65,8 +65,8 @@ abbrev pub IsWide : (width : ℕ) → Subscriber → Type 0
 IsWide width s = (initial : ℕ) × (kept : Sending) × places.StandsFor width initial s.buffer kept
 
 -- the bytes of the packets that are sent at once, if this packet was written
-abbrev pub texts_of : Took → Packet → List (List ℕ)
-texts_of Answer packet = text packet ∷ []
+abbrev pub texts_of : Took → EncodedPacket → List (List ℕ)
+texts_of Answer packet = bytes_of packet ∷ []
 texts_of Nothing packet = []
 texts_of Ended packet = []
 
@@ -83,12 +83,6 @@ abbrev pub ForWhatever : Subscriber → (P : Terms → (initial opening caller l
 ForWhatever s P =
     (terms : Terms) (initial opening caller last : ℕ) (m : Subscribing)
     → StandsFor terms initial opening caller last s m → P terms initial opening caller last m
-
--- this holds if a session represents anything at a time since its opening
-abbrev pub IfStandsAt : (time : ℕ) → Subscriber → (P : Type 0) → Type 0
-IfStandsAt time s P =
-    (terms : Terms) (initial opening caller given : ℕ) (m : Subscribing)
-    → StandsIn terms initial opening caller time given s m → P
 
 -- whatever a session represented before a call, it represents this function of it after the call, at the same time;
 -- numbers count from the initial one

@@ -1,13 +1,8 @@
 -- One packet of an event's end.
 use Rattle.std.specs.Prelude.{◌≡◌, ℕ, ◌+◌, ◌-◌, ◌≤◌, Bool, true, false, Option, None, Some, List, [], ◌∷◌, map, ◌==◌, if◌then◌else◌}
 use Rattle.std.specs.Option.{option_to_list}
-use Rattle.srt_packet.specs.Text.{text}
-use Rattle.srt_packet.specs.declared.writing.Packet.{Packet}
-use Rattle.srt_packet.specs.declared.writing.Body.{Body}
-use Rattle.srt_packet.specs.declared.writing.Body.TheVariants as bodies
-use Rattle.srt_seq.specs.Window.{word_of}
-use Rattle.srt_seq.specs.Counts.{message_of}
-use Rattle.srt_sendbuf.specs.Told.{Told}
+use Rattle.srt_packet.specs.Encoded.{bytes_of}
+use Rattle.srt_packet.specs.declared.encoded.EncodedPacket.{EncodedPacket}
 use Rattle.srt_sendbuf.specs.Sending.{Sending, Due, due, sent}
 use Rattle.srt_sendbuf.specs.declared.buffer.SendBuf.{SendBuf}
 use Rattle.srt_sendbuf.specs.Stands as places
@@ -30,20 +25,10 @@ abbrev pub given_with : Option Due → ℕ → ℕ
 given_with None given = given
 given_with (Some d) given = given + 1
 
--- whether a body is a data packet's
-abbrev pub is_media_body : Body → Bool
-is_media_body (bodies.Media number message again payload) = true
-is_media_body _ = false
-
--- the fields of a data packet's body, in numbers, with the time when its payload was queued
-abbrev pub told_in : Body → (origin : ℕ) → Told
-told_in (bodies.Media number message again payload) origin = record { number = word_of number; message = message_of message; again = again; origin = origin; payload = payload.items }
-told_in _ origin = record { number = 0; message = 0; again = false; origin = origin; payload = [] }
-
 -- the bytes of a packet, if there is one
-abbrev pub texts : Option Packet → List (List ℕ)
+abbrev pub texts : Option EncodedPacket → List (List ℕ)
 texts None = []
-texts (Some p) = text p ∷ []
+texts (Some p) = bytes_of p ∷ []
 
 -- the bytes of a data packet that is due, if there is one
 abbrev pub due_texts : (caller initial time : ℕ) → Option Due → List (List ℕ)

@@ -3,14 +3,14 @@
 
 ghost use Rattle.std.specs.Prelude.{◌≡◌, true, false, option_map, IfSome, IfNone};
 ghost use Rattle.srt_seq.specs.Given.{given as written};
-ghost use Rattle.srt_packet.specs.Text.{IsWritable};
+ghost use Rattle.srt_packet.specs.Encoded.{bytes_of, IsPacketText};
 ghost use Rattle.srt_sub.specs.Subscribing.{drops, noted, untold};
 ghost use Rattle.srt_sendbuf.specs.Told.{gone_by};
 
 use crate::history::History;
 use crate::packets::dropped;
 use crate::session::Subscriber;
-use srt_packet::Packet;
+use srt_packet::EncodedPacket;
 use srt_sendbuf::DropRun;
 
 impl Subscriber {
@@ -18,10 +18,10 @@ impl Subscriber {
     ghost use Rattle.srt_sub.specs.Turns.{texts};
 
     /// Writes the drop request that is to be sent. Returns whether there is one; if not, `packet` is unchanged.
-    pub(crate) fn next_drop(&mut self, time: u64, packet: &mut Packet) -> bool
+    pub(crate) fn next_drop(&mut self, time: u64, packet: &mut EncodedPacket) -> bool
         ensures stands { BecomesAt time self.old self.new (λ initial m. record m { notes = noted time (drops m.notes) m.notes }) }
         ensures answer { WritesAt time self.old (texts (written result packet.new)) (λ m. drops m.notes) }
-        ensures writable { result ≡ true → IsWritable packet.new.body }
+        ensures packet { result ≡ true → IsPacketText (bytes_of packet.new) }
         ensures kept { result ≡ false → packet.new ≡ packet.old }
     {
         let Some(run) = self.history.take_missed(time) else {

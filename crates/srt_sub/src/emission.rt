@@ -2,25 +2,23 @@
 
 ghost use Rattle.std.specs.Prelude.{◌≡◌, ◌^◌, ◌<◌, true, false};
 ghost use Rattle.srt_seq.specs.Given.{given as written};
-ghost use Rattle.srt_packet.specs.Text.{IsWritable};
+ghost use Rattle.srt_packet.specs.Encoded.{bytes_of, IsPacketText};
 
 use crate::packets::media;
 use crate::session::Subscriber;
-use srt_packet::Packet;
+use srt_packet::EncodedPacket;
 use srt_seq::limits::EVENT_PACKETS_MAX;
 
 impl Subscriber {
-    ghost use Rattle.srt_sub.specs.Stands.{IfStandsAt};
-    ghost use Rattle.srt_sub.specs.Emission.{WritesNextAt, EndsAt, IfEmitting, WritesNext, Ends};
+    ghost use Rattle.srt_sub.specs.Emission.{WritesNextAt, EndsAt, WritesNext, Ends};
     ghost use Rattle.srt_sub.specs.Turns.{texts, WritesMedia, SendsMedia};
 
     /// Writes the data packet that is due, as long as the event has sent fewer than 64. Returns whether there is one.
-    fn next_media(&mut self, time: u64, packet: &mut Packet) -> bool
+    fn next_media(&mut self, time: u64, packet: &mut EncodedPacket) -> bool
         ensures stands { SendsMedia time self.old self.new }
         ensures answer { WritesMedia time self.old (texts (written result packet.new)) }
-        ensures writable { result ≡ true → IsWritable packet.new.body }
-        ensures kept { result ≡ false → IsWritable packet.old.body → IsWritable packet.new.body }
-        ensures same { result ≡ false → IfStandsAt time self.old (packet.new ≡ packet.old) }
+        ensures packet { result ≡ true → IsPacketText (bytes_of packet.new) }
+        ensures same { result ≡ false → packet.new ≡ packet.old }
     {
         if self.given >= EVENT_PACKETS_MAX {
             return false;
@@ -35,12 +33,11 @@ impl Subscriber {
 
     /// Writes the next packet of the event's end, after what is too late was dropped. `time` is in microseconds since
     /// the opening.
-    fn next_packet(&mut self, time: u64, packet: &mut Packet) -> bool
+    fn next_packet(&mut self, time: u64, packet: &mut EncodedPacket) -> bool
         ensures some { result ≡ true → WritesNextAt time self.old self.new packet.new }
         ensures none { result ≡ false → EndsAt time self.old self.new }
-        ensures writable { result ≡ true → IsWritable packet.new.body }
-        ensures kept { result ≡ false → IsWritable packet.old.body → IsWritable packet.new.body }
-        ensures same { result ≡ false → IfStandsAt time self.old (packet.new ≡ packet.old) }
+        ensures packet { result ≡ true → IsPacketText (bytes_of packet.new) }
+        ensures same { result ≡ false → packet.new ≡ packet.old }
     {
         self.presume(time);
         if self.next_drop(time, packet) {
@@ -66,13 +63,12 @@ impl Subscriber {
     /// All packets in flight count as lost first if none of them is lost, and both the last data packet and the last
     /// ACK that acknowledged more are RTT + 4 x variance + 20 ms ago (this profile). Takes no memory; a payload is
     /// copied once.
-    pub fn emit(&mut self, now: u64, packet: &mut Packet) -> bool
+    pub fn emit(&mut self, now: u64, packet: &mut EncodedPacket) -> bool
         requires { now < 2 ^ 62 }
         ensures some { result ≡ true → WritesNext now self.old self.new packet.new }
         ensures none { result ≡ false → Ends now self.old self.new }
-        ensures writable { result ≡ true → IsWritable packet.new.body }
-        ensures kept { result ≡ false → IsWritable packet.old.body → IsWritable packet.new.body }
-        ensures same { result ≡ false → IfEmitting now self.old (packet.new ≡ packet.old) }
+        ensures packet { result ≡ true → IsPacketText (bytes_of packet.new) }
+        ensures same { result ≡ false → packet.new ≡ packet.old }
     {
         self.drop_old(now);
         let time = self.time(now);

@@ -4,14 +4,14 @@ ghost use Rattle.std.specs.Prelude.{◌≡◌, ◌^◌, ◌<◌, ◌≤◌, leng
 ghost use Rattle.srt_seq.specs.Words.{word_at};
 ghost use Rattle.srt_loss.specs.Reading.{losses_in};
 ghost use Rattle.srt_sendbuf.specs.Sending.{acknowledged_at};
-ghost use Rattle.srt_packet.specs.Text.{IsWritable};
+ghost use Rattle.srt_packet.specs.Encoded.{bytes_of, IsPacketText};
 ghost use Rattle.srt_packet.specs.View.{body_of};
 ghost use Rattle.srt_sub.specs.Heard.{heard_of, more_of, asked_from};
 ghost use Rattle.srt_sub.specs.Subscribing.{expired, took, answers, with_ack, with_nak, ack_reports, noted};
 
 use crate::packets::acked;
 use crate::session::Subscriber;
-use srt_packet::{Kind, Packet, PacketRef};
+use srt_packet::{EncodedPacket, Kind, PacketRef};
 use srt_seq::{Seq31, read_word};
 
 /// What a packet from the caller leads to at once.
@@ -48,10 +48,10 @@ impl Subscriber {
 
     /// Answers an ACK by an ACKACK with its number, `mark`, at a time in microseconds since the opening (section
     /// 3.2.8). One with the number 0, a Light or Small ACK, isn't answered.
-    fn answer(&mut self, mark: u32, time: u64, answer: &mut Packet) -> Took
+    fn answer(&mut self, mark: u32, time: u64, answer: &mut EncodedPacket) -> Took
         ensures stands { BecomesAt time self.old self.new (λ initial m. record m { notes = noted time (ack_reports mark) m.notes }) }
         ensures answer { WritesAt time self.old (texts_of result answer.new) (λ m. ack_reports mark) }
-        ensures writable { result ≡ Answer → IsWritable answer.new.body }
+        ensures packet { result ≡ Answer → IsPacketText (bytes_of answer.new) }
         ensures kept { (result ≡ Answer → ⊥) → answer.new ≡ answer.old }
         ensures goes_on { is_ended result ≡ false }
     {
@@ -80,11 +80,11 @@ impl Subscriber {
     /// number is outside the range that an ACK may name (section 3.2.8). The answer is written into `answer`, which
     /// is otherwise unchanged. Linear in the packets that it acknowledges, or in the loss list and the numbers in
     /// flight that it names; takes no memory.
-    pub fn datagram(&mut self, packet: &PacketRef<'_>, now: u64, answer: &mut Packet) -> Took
+    pub fn datagram(&mut self, packet: &PacketRef<'_>, now: u64, answer: &mut EncodedPacket) -> Took
         requires { now < 2 ^ 62 }
         ensures stands { BecomesBy now self.old self.new (λ terms initial time m. took time (heard_of initial packet.now.kind) (expired terms time m)) }
         ensures answer { WritesBy now self.old (texts_of result answer.new) (λ initial. answers (heard_of initial packet.now.kind)) }
-        ensures writable { result ≡ Answer → IsWritable answer.new.body }
+        ensures packet { result ≡ Answer → IsPacketText (bytes_of answer.new) }
         ensures kept { (result ≡ Answer → ⊥) → answer.new ≡ answer.old }
         ensures ended { is_ended result ≡ is_shutdown (body_of packet.now.kind) }
     {

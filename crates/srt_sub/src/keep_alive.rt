@@ -2,14 +2,14 @@
 
 ghost use Rattle.std.specs.Prelude.{◌≡◌, ◌-◌, [], true, false, nat_le};
 ghost use Rattle.srt_seq.specs.Given.{given as written};
-ghost use Rattle.srt_packet.specs.Text.{IsWritable};
+ghost use Rattle.srt_packet.specs.Encoded.{bytes_of, IsPacketText};
 ghost use Rattle.srt_sub.specs.Subscribing.{noted, keep_alives, last_sent};
 ghost use Rattle.srt_seq.specs.Limits.{keep_alive_after_us};
 
 use crate::history::History;
 use crate::packets::keep_alive;
 use crate::session::Subscriber;
-use srt_packet::Packet;
+use srt_packet::EncodedPacket;
 use srt_seq::limits::KEEP_ALIVE_AFTER_US;
 
 impl Subscriber {
@@ -17,10 +17,10 @@ impl Subscriber {
     ghost use Rattle.srt_sub.specs.Turns.{texts};
 
     /// Writes a KEEPALIVE if nothing was sent for a second. Returns whether it does; if not, `packet` is unchanged.
-    pub(crate) fn next_keep_alive(&mut self, time: u64, packet: &mut Packet) -> bool
+    pub(crate) fn next_keep_alive(&mut self, time: u64, packet: &mut EncodedPacket) -> bool
         ensures stands { BecomesAt time self.old self.new (λ initial m. record m { notes = noted time (keep_alives time [] m.notes) m.notes }) }
         ensures answer { WritesAt time self.old (texts (written result packet.new)) (λ m. keep_alives time [] m.notes) }
-        ensures writable { result ≡ true → IsWritable packet.new.body }
+        ensures packet { result ≡ true → IsPacketText (bytes_of packet.new) }
         ensures kept { result ≡ false → packet.new ≡ packet.old }
     {
         if !self.history.keep_alive_due(time) {

@@ -1,10 +1,9 @@
 //! Worked examples of a session, as the bytes that it receives and sends.
 
 ghost use Rattle.std.specs.Prelude.{◌^◌, ◌<◌};
-ghost use Rattle.srt_packet.specs.Text.{IsWritable};
 
 use crate::{Opening, Subscriber, Took};
-use srt_packet::{Body, Packet, decode, encode};
+use srt_packet::{EncodedPacket, decode};
 use srt_seq::{MOMENT_END, Mode, Payload, Seq31};
 use std::alloc::Global;
 use std::test::Fail;
@@ -50,24 +49,11 @@ fn payload(bytes: usize) -> Payload {
     payload
 }
 
-/// A packet to be overwritten.
-fn blank() -> Packet {
-    Packet {
-        stamp: 0,
-        dest: 0,
-        body: Body::KeepAlive,
-    }
-}
-
-fn sends(alloc: Global, packet: &Packet, answer: Answer) -> Result<bool, Fail>
-    requires { IsWritable packet.now.body }
-{
-    let mut out = [0; 1472];
-    let len = encode(packet, &mut out);
+fn sends(alloc: Global, packet: &EncodedPacket, answer: Answer) -> Result<bool, Fail> {
     match answer {
         Answer::Sends(text) => {
             let bytes = hex::decode(alloc, text)?;
-            Ok(&out[..len] == bytes.as_slice())
+            Ok(packet.bytes() == bytes.as_slice())
         }
         _ => Ok(false),
     }
@@ -78,7 +64,7 @@ fn sends(alloc: Global, packet: &Packet, answer: Answer) -> Result<bool, Fail>
 struct Trial {
     alloc: Global,
     session: Subscriber,
-    place: Packet,
+    place: EncodedPacket,
 }
 
 /// A session with 128 places that wasn't started yet.
@@ -86,7 +72,7 @@ fn unstarted(alloc: Global) -> Result<Trial, Fail> {
     Ok(Trial {
         alloc,
         session: Subscriber::open(alloc, 128)?,
-        place: blank(),
+        place: EncodedPacket::new(),
     })
 }
 

@@ -45,13 +45,11 @@ struct Both {
     now: u32,
     before: i64,
     ours: SendBuf,
-    /// The payload that `next_due` writes.
-    payload: Payload,
     plain: Plain,
 }
 
-fn due_of(out: Out, payload: &Payload) -> Option<Due> {
-    let byte = *payload.first()?;
+fn due_of(out: Out<'_>) -> Option<Due> {
+    let byte = *out.payload.first()?;
     Some(Due {
         number: out.number,
         message: u64::from(out.message.get()),
@@ -174,12 +172,12 @@ impl Both {
 
     fn send(&mut self) -> bool {
         let window = self.dice.below(self.width.wrapping_add(8));
-        let is_due = self.ours.is_due(window);
-        let ours = match self.ours.next_due(window, &mut self.payload) {
-            Some(out) => due_of(out, &self.payload),
+        let ours = match self.ours.next_due(window) {
+            Some(out) => due_of(out),
             None => None,
         };
-        is_due == ours.is_some() && ours == self.plain.next_due(u64::from(window))
+        self.ours.note_sent(window);
+        ours == self.plain.next_due(u64::from(window))
     }
 
     fn send_some(&mut self) -> bool {

@@ -24,3 +24,6 @@ returns-clause-spelled c = let P : List ℕ → Type 0 = λ bytes. Spells bytes 
 
 pub returns-clause-read : goal.returns-clause-read
 returns-clause-read c = ap packet_in (is_text c) ∙ sent_is_read c.args.packet.now (can_be_sent c)
+
+pub returns-clause-can_be_sent : goal.returns-clause-can_be_sent
+returns-clause-can_be_sent c = can_be_sent c

@@ -38,7 +38,7 @@ returns-then-ack-clause-bytes c terms initial opening stamp caller m h =
     let a = ack_point terms.width m.receiving in
     let room = c.available-available.ensures terms.width initial opening m.receiving h.buffer in
     let bytes = c.ack.ensures.bytes terms.width m.receiving.front a m.seen initial caller m.notes room (c.ack_point-point.ensures terms.width initial opening m.receiving h.buffer) h.log in
-    ap (λ (x : List ℕ). x ∷ []) (c.address.ensures.bytes caller h.agreed.caller_is)
+    ap (λ (x : List ℕ). x ∷ []) (c.encode.ensures.bytes caller h.agreed.caller_is)
     ∙ sym (ap (λ (b : Bool). map (body_bytes caller c.args.time) (listed (given b c.ack.new.body))) c.if-ack.true)
     ∙ bytes ∙ ap (λ (x : ℕ). map (says caller initial c.args.time) (acks_at terms.width a x c.args.time m.notes)) room
 

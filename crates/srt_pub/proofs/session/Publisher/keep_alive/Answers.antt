@@ -16,4 +16,4 @@ returns-then-keep_alive_due-clause-stands c terms initial opening stamp caller m
 pub returns-then-keep_alive_due-clause-bytes : goal.returns-then-keep_alive_due-clause-bytes
 returns-then-keep_alive_due-clause-bytes c terms initial opening stamp caller m h =
     let e : keep_alive_after c.args.ack c.args.nak c.args.time m.notes ≡ KeepAlive ∷ [] = alive_is c.args.ack c.args.nak c.args.time m.notes c.if-ack.false c.if-nak.false (sym (c.keep_alive_due.ensures _ _ _ _ m.notes h.log) ∙ c.if-keep_alive_due.true) in
-    ap (λ (x : List ℕ). x ∷ []) (c.address.ensures.bytes caller h.agreed.caller_is ∙ keep_alive_bytes caller initial c.args.time) ∙ sym (ap (map (says caller initial c.args.time)) e)
+    ap (λ (x : List ℕ). x ∷ []) (c.encode.ensures.bytes caller h.agreed.caller_is ∙ keep_alive_bytes caller initial c.args.time) ∙ sym (ap (map (says caller initial c.args.time)) e)

@@ -1,7 +1,5 @@
 use Rattle.srt_pub.proofs.session.Publisher.nak.Goals as goal
 use Rattle.std.proofs.Common.{◌≡◌, ◌<◌, ℕ, List, [], ◌∷◌, length, map, ap, sym, subst, ◌∙◌}
-use Rattle.srt_packet.specs.declared.writing.Body.{Body}
-use Rattle.srt_packet.specs.Text.{IsWritable}
 use Rattle.srt_pub.specs.Publishing.{Report, naks, noted, nak_report, nak_with, gaps_told, runs_said}
 use Rattle.srt_pub.specs.Says.{says}
 use Rattle.srt_pub.specs.Stands.{StandsFor}
@@ -50,10 +48,8 @@ returns-clause-bytes c terms initial opening stamp caller m h =
     let said = c.runs-runs.ensures terms initial opening stamp caller m h in
     let some = some_some initial c.runs-runs.result.items rs said (some_items c.runs-runs.result.items (sym c.is_empty.ensures ∙ c.if-is_empty.false)) in
     let e : naks terms c.args.time m ≡ nak_report all rs ∷ [] = naks_by terms c.args.time m all (c.is_nak_due-all.ensures _ _ _ _ m.notes h.log) ∙ nak_some all rs some in
-    ap (λ (x : List ℕ). x ∷ []) (c.address.ensures.bytes caller h.agreed.caller_is ∙ nak_bytes all caller initial c.args.time c.write.result rs (c.write.ensures.value ∙ same_losses initial c.runs-runs.result.items rs said))
+    ap (λ (x : List ℕ). x ∷ []) (c.encode.ensures.bytes caller h.agreed.caller_is ∙ nak_bytes all caller initial c.args.time c.write.result rs (c.write.ensures.value ∙ same_losses initial c.runs-runs.result.items rs said))
     ∙ sym (ap (map (says caller initial c.args.time)) e)
 
-pub returns-clause-writable : goal.returns-clause-writable
-returns-clause-writable c e =
-    let words : 0 < length c.write.result.items = subst (λ (xs : List ℕ). 0 < length xs) (sym c.write.ensures.value) (pairs_have_words c.runs-runs.result.items (some_items c.runs-runs.result.items (sym c.is_empty.ensures ∙ c.if-is_empty.false))) in
-    subst (λ (b : Body). IsWritable b) (sym c.address.ensures.body) words
+pub encode-requires : goal.encode-requires
+encode-requires c = subst (λ (xs : List ℕ). 0 < length xs) (sym c.write.ensures.value) (pairs_have_words c.runs-runs.result.items (some_items c.runs-runs.result.items (sym c.is_empty.ensures ∙ c.if-is_empty.false)))

@@ -70,7 +70,7 @@ returns-in_default c =
       answer = λ terms initial opening caller last m h le.
           let u = unheard initial c.args.packet.now.kind c.in_default.not-Ack c.in_default.not-Nak not_shutdown in
           sym (ap (λ y. map (says caller initial (c.args.now - opening)) (answers y)) u.heard);
-      writable = λ e. absurd cc;
+      packet = λ e. absurd cc;
       kept = λ e. refl;
       ended = (unheard 0 c.args.packet.now.kind c.in_default.not-Ack c.in_default.not-Nak not_shutdown).ends;
     }

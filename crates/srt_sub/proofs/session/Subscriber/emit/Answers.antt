@@ -26,12 +26,3 @@ returns-clause-none c said terms initial opening caller m left h =
     (subst (λ (t : ℕ). IsLeft terms t h.given (expired terms t h.middle) m left) (sym at) h.left_is) in
     let here = subst (λ (t : ℕ). IsOverAt terms initial opening caller t c.next_packet.new.self m left) at there in
     (here.left_is, here.stands)
-
-pub returns-clause-same : goal.returns-clause-same
-returns-clause-same c said terms initial opening caller m left h =
-    let k = c.time-time.result in
-    let now = c.args.now - opening in
-    let stands = c.drop_old.ensures terms initial opening caller now h.given h.middle h.stands (omega arith) in
-    let at : k ≡ now = c.time-time.ensures.value ∙ ap (λ o. c.args.now - o) stands.opening_is in
-    c.next_packet.ensures.same said terms initial opening caller h.given (expired terms now h.middle)
-    (subst (λ (t : ℕ). StandsIn terms initial opening caller t h.given c.drop_old.new.self (expired terms now h.middle)) (sym at) stands)

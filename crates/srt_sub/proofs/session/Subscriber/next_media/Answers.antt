@@ -7,8 +7,8 @@ use Rattle.srt_sendbuf.specs.Stands as places
 use Rattle.srt_sub.specs.Subscribing.{Terms, Subscribing, Media, flow_window}
 use Rattle.srt_sub.specs.Says.{says}
 use Rattle.srt_seq.specs.Given.{given as written}
-use Rattle.srt_packet.specs.Text.{text}
-use Rattle.srt_packet.specs.declared.writing.Packet.{Packet}
+use Rattle.srt_packet.specs.Encoded.{bytes_of}
+use Rattle.srt_packet.specs.declared.encoded.EncodedPacket.{EncodedPacket}
 use Rattle.srt_sub.specs.Turns.{due_in, with_due, given_with, texts}
 use Rattle.srt_sub.specs.Stands.{StandsIn}
 use Rattle.srt_sub.specs.declared.session.Subscriber.{Subscriber}
@@ -24,13 +24,13 @@ there given held terms m o lt w e =
     rw b (ap (λ k. due k m.sending) (sym w) ∙ e)
 
 -- no packet was written: the buffer has none that is due, and so the session
-nothing : (terms : Terms) (initial opening caller time given : ℕ) (s : Subscriber) (m : Subscribing) (b : Bool) (p : Packet) → StandsIn terms initial opening caller time given s m → s.given < 64 → b ≡ false → texts (written b p) ≡ map (λ d. says s.caller initial time (Media d.number d.again d.origin d.payload)) (option_to_list (due s.history.window m.sending)) → (due s.history.window m.sending ≡ None) × (due_in (64 - given) terms m ≡ None)
+nothing : (terms : Terms) (initial opening caller time given : ℕ) (s : Subscriber) (m : Subscribing) (b : Bool) (p : EncodedPacket) → StandsIn terms initial opening caller time given s m → s.given < 64 → b ≡ false → texts (written b p) ≡ map (λ d. says s.caller initial time (Media d.number d.again d.origin d.payload)) (option_to_list (due s.history.window m.sending)) → (due s.history.window m.sending ≡ None) × (due_in (64 - given) terms m ≡ None)
 nothing terms initial opening caller time given s m b p h few is answer =
     let none = no_media_said (due s.history.window m.sending) (λ d. says s.caller initial time (Media d.number d.again d.origin d.payload)) (wrote_none b p _ is answer) in
     (none, there given s.history.window terms m None (omega (arith, few, h.given_is)) h.history_is.window_is none)
 
 -- a packet was written, which is due in the buffer, and so in the session
-one : (terms : Terms) (initial opening caller time given : ℕ) (s : Subscriber) (m : Subscribing) (b : Bool) (p : Packet) → StandsIn terms initial opening caller time given s m → s.given < 64 → b ≡ true → texts (written b p) ≡ map (λ d. says s.caller initial time (Media d.number d.again d.origin d.payload)) (option_to_list (due s.history.window m.sending)) → (d : Due) × (due s.history.window m.sending ≡ Some d) × (due_in (64 - given) terms m ≡ Some d) × (text p ≡ says s.caller initial time (Media d.number d.again d.origin d.payload))
+one : (terms : Terms) (initial opening caller time given : ℕ) (s : Subscriber) (m : Subscribing) (b : Bool) (p : EncodedPacket) → StandsIn terms initial opening caller time given s m → s.given < 64 → b ≡ true → texts (written b p) ≡ map (λ d. says s.caller initial time (Media d.number d.again d.origin d.payload)) (option_to_list (due s.history.window m.sending)) → (d : Due) × (due s.history.window m.sending ≡ Some d) × (due_in (64 - given) terms m ≡ Some d) × (bytes_of p ≡ says s.caller initial time (Media d.number d.again d.origin d.payload))
 one terms initial opening caller time given s m b p h few is answer =
     let told = media_said (due s.history.window m.sending) (λ d. says s.caller initial time (Media d.number d.again d.origin d.payload)) _ (wrote b p _ is answer) in
     (told.0, told.1, there given s.history.window terms m (Some told.0) (omega (arith, few, h.given_is)) h.history_is.window_is told.1, told.2)

@@ -1,8 +1,6 @@
 use Rattle.std.proofs.Common.{◌+◌, ◌-◌, Option, Some, List, [], ◌∷◌, refl, sym, subst, ◌∙◌, arith}
 use Rattle.srt_seq.specs.Runs.{Run}
 use Rattle.srt_sendbuf.specs.Sending.{Due}
-use Rattle.srt_packet.specs.Text.{IsWritable}
-use Rattle.srt_packet.specs.declared.writing.Packet.{Packet}
 use Rattle.srt_sub.specs.Subscribing.{Report, Subscribing, Dropped, Media, KeepAlive, Sent, expired, presumed, untold, drops_of, noted, most, keep_alives}
 use Rattle.srt_sub.specs.Says.{says}
 use Rattle.srt_sub.specs.Turns.{due_in, with_due, given_with}
@@ -65,18 +63,8 @@ returns-clause-none c said terms initial opening caller given middle m left h l 
           (changed terms initial opening caller time given s x last time 0 0 s.buffer s.history x refl last.buffer_is last.history_is last.sound);
     }
 
-pub returns-clause-kept : goal.returns-clause-kept
-returns-clause-kept c ended writable =
-    let drop = c.next_drop.ensures.kept c.if-next_drop.false in
-    let media = c.next_media.ensures.kept c.if-next_media.false (subst (λ (p : Packet). IsWritable p.body) (sym drop) writable) in
-    let alive = c.next_keep_alive.ensures.kept c.if-next_keep_alive.false in
-    subst (λ (p : Packet). IsWritable p.body) (sym alive) media
-
 pub returns-clause-same : goal.returns-clause-same
-returns-clause-same c said terms initial opening caller given m h =
-    let x = presumed c.args.time m in
-    let stands = c.presume.ensures terms initial opening caller given m h in
-    let after = c.next_drop.ensures.stands terms initial opening caller given x stands in
+returns-clause-same c said =
     c.next_keep_alive.ensures.kept c.if-next_keep_alive.false
-    ∙ c.next_media.ensures.same c.if-next_media.false terms initial opening caller given _ after
+    ∙ c.next_media.ensures.same c.if-next_media.false
     ∙ c.next_drop.ensures.kept c.if-next_drop.false

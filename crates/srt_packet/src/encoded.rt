@@ -1,0 +1,61 @@
+//! The bytes of a packet, written where they stay until they are sent.
+
+ghost use Rattle.std.specs.Prelude.{◌≡◌, ◌≤◌, [], length, take, drop};
+ghost use Rattle.srt_packet.specs.Text.{text, IsWritable};
+
+use crate::writing::{Packet, encode};
+use srt_seq::write_at;
+
+// An array with a length of its own, so that writing a packet costs its bytes alone.
+#[derive(Drop)]
+struct Block {
+    bytes: [u8; 1472],
+}
+
+/// The bytes of a packet to be sent: 16 to 1472, or none before the first is written.
+#[derive(Drop)]
+pub struct EncodedPacket {
+    len: usize,
+    block: Block,
+    pub ghost fits: { len ≤ 1472 },
+}
+
+impl EncodedPacket {
+    ghost use Rattle.srt_packet.specs.Encoded.{bytes_of, IsPacketText};
+
+    /// No bytes. Takes no memory beyond the value itself, of fixed size.
+    pub fn new() -> EncodedPacket
+        ensures { bytes_of result ≡ [] }
+    {
+        EncodedPacket {
+            len: 0,
+            block: Block { bytes: [0; 1472] },
+        }
+    }
+
+    /// Encodes a packet over what stood here. One copy of a payload; takes no memory.
+    pub fn write(&mut self, packet: &Packet<'_>)
+        requires { IsWritable packet.now.body }
+        ensures written { bytes_of self.new ≡ text packet.now }
+        ensures packet { IsPacketText (bytes_of self.new) }
+    {
+        self.len = encode(packet, &mut self.block.bytes);
+    }
+
+    /// The bytes.
+    pub fn bytes(&self) -> &[u8]
+        ensures value { result.now ≡ bytes_of self.now }
+        ensures fits { length result.now ≤ 1472 }
+    {
+        &self.block.bytes[..self.len]
+    }
+
+    /// Copies the bytes to the front of `out`, and returns their number. The rest of `out` doesn't change.
+    pub fn copy_to(&self, out: &mut [u8; 1472]) -> usize
+        ensures within { result ≤ 1472 }
+        ensures written { take result out.new ≡ bytes_of self.now }
+        ensures kept { drop result out.new ≡ drop result out.old }
+    {
+        write_at(out, 0, self.bytes())
+    }
+}

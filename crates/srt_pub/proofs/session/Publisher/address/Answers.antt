@@ -1,8 +1,0 @@
-use Rattle.srt_pub.proofs.session.Publisher.address.Goals as goal
-use Rattle.std.proofs.Common.{ℕ, ◌%◌, ◌^◌, ap}
-use Rattle.srt_packet.specs.Text.{text}
-use Rattle.srt_pub.specs.Says.{body_bytes}
-
-pub returns-clause-bytes : goal.returns-clause-bytes
-unfolding body_bytes
-returns-clause-bytes c caller e = ap (λ (d : ℕ). text (record { stamp = c.args.time % 2 ^ 32; dest = d; body = c.args.packet.now.body })) e
