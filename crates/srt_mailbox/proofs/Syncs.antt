@@ -19,8 +19,6 @@ use Rattle.std.specs.contracts.alloc.Global as heap_c
 use Rattle.std.specs.contracts.impls.GlobalAllocator.TheImpl as heap_impl
 use denote.Builtin as builtin
 use Rattle.srt_seq.specs.contracts.shared.Entry as entry
-use Rattle.crossbeam_queue.proofs.array_queue.plain.ArrayQueue.TheSendSync as plain_is
-use Rattle.crossbeam_queue.specs.contracts.array_queue.plain.ArrayQueue as plain
 use Rattle.srt_route.specs.contracts.replies.Reply as reply
 use Rattle.srt_route.proofs.replies.Reply.TheSendSync as reply_is
 use Rattle.srt_mailbox.specs.contracts.inbox_rule.InboxView as inbox_view
@@ -45,7 +43,7 @@ use Rattle.srt_mailbox.specs.contracts.cells.RouteCell as cell
 use Rattle.srt_mailbox.specs.contracts.cells.Label as label
 use Rattle.srt_mailbox.specs.contracts.cells.Boxed as boxed_route
 use Rattle.srt_mailbox.specs.contracts.cells.BoxedFits.TheImpl as boxed_fits
-use Rattle.srt_mailbox.specs.contracts.spares.Boxes as boxes
+use Rattle.srt_mailbox.proofs.spares.Boxes.TheSendSync as boxes_is
 
 pub seat_sync : (S V : RattleType) → IsSend S → IsSync (seat.the_row S V)
 seat_sync S V s = record { shared = λ d b o ν q. part_keyless (seat.the_row S V) (seat_is.the_send S V s) q d b o }
@@ -89,21 +87,6 @@ snapshot_send Y = record { owned = λ d vs. ((λ vss. (tt, ((λ uss. (tt, tt)), 
 snapshot_sync : (Y : RattleType) → IsSync (snapshot.the_row Y)
 snapshot_sync Y = record { shared = λ d b o κ q. part_keyless (snapshot.the_row Y) (snapshot_send Y) q d b o }
 
-abbrev returned : RattleType
-returned = plain.the_row (box_of reply.the_row) heap_c.the_row heap_impl.ghosts
-
-returned_send : IsSend returned
-returned_send = plain_is.the_send (box_of reply.the_row) heap_c.the_row heap_impl.ghosts (heap.Box-send _ reply_is.the_send) heap.send heap.frees
-
-returned_sync : IsSync returned
-returned_sync = plain_is.the_sync (box_of reply.the_row) heap_c.the_row heap_impl.ghosts (heap.Box-send _ reply_is.the_send) heap.send heap.sync heap.frees
-
-boxes_send : IsSend (boxes.the_field).row
-boxes_send = (struct_send (shape boxes.the_type) (heap.Arc-send returned returned_send returned_sync, (heap.Vec-send (box_of reply.the_row) (heap.Box-send _ reply_is.the_send), tt)))
-
-boxes_sync : IsSync (boxes.the_field).row
-boxes_sync = (struct_sync (shape boxes.the_type) (heap.Arc-sync returned returned_send returned_sync, (heap.Vec-sync (box_of reply.the_row) (heap.Box-sync _ reply_is.the_sync), tt)))
-
 putter_in_sync : IsSync putter_in.the_row
 putter_in_sync = recorded_sync (putter_in.the_field).row _ _ putter_in.the_type.to_one (struct_sync (shape putter_in.the_type) (heap.Arc-sync outbox_queue outbox_queue_send outbox_queue_sync, (seat_sync _ _ option_box, tt)))
 
@@ -111,13 +94,13 @@ putter_sync : IsSync putter.the_row
 putter_sync = view_sync _ _ _ _ _ putter_in_sync
 
 running_in_send : IsSend running_in.the_row
-running_in_send = recorded_send (running_in.the_field).row _ _ running_in.the_type.to_one (struct_send (shape running_in.the_type) (taker_is.the_send, (putter_is.the_send, (boxes_send, (option_is.the_field_send _ (heap.Box-send _ reply_is.the_send), (search sendable, (search sendable, (search sendable, (search sendable, (route_is.the_field_send, (snapshot_send entry.the_row, (snapshot_send builtin.usize, tt))))))))))))
+running_in_send = recorded_send (running_in.the_field).row _ _ running_in.the_type.to_one (struct_send (shape running_in.the_type) (taker_is.the_send, (putter_is.the_send, (boxes_is.the_field_send, (option_is.the_field_send _ (heap.Box-send _ reply_is.the_send), (search sendable, (search sendable, (search sendable, (search sendable, (route_is.the_field_send, (snapshot_send entry.the_row, (snapshot_send builtin.usize, tt))))))))))))
 
 running_send : IsSend running.the_row
 running_send = view_send _ _ _ _ _ running_in_send
 
 running_in_sync : IsSync running_in.the_row
-running_in_sync = recorded_sync (running_in.the_field).row _ _ running_in.the_type.to_one (struct_sync (shape running_in.the_type) (taker_sync, (putter_sync, (boxes_sync, (option_is.the_field_sync _ (heap.Box-sync _ reply_is.the_sync), (search sendable, (search sendable, (search sendable, (search sendable, (route_is.the_field_sync, (snapshot_sync entry.the_row, (snapshot_sync builtin.usize, tt))))))))))))
+running_in_sync = recorded_sync (running_in.the_field).row _ _ running_in.the_type.to_one (struct_sync (shape running_in.the_type) (taker_sync, (putter_sync, (boxes_is.the_field_sync, (option_is.the_field_sync _ (heap.Box-sync _ reply_is.the_sync), (search sendable, (search sendable, (search sendable, (search sendable, (route_is.the_field_sync, (snapshot_sync entry.the_row, (snapshot_sync builtin.usize, tt))))))))))))
 
 running_sync : IsSync running.the_row
 running_sync = view_sync _ _ _ _ _ running_in_sync

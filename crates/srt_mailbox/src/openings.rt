@@ -16,11 +16,9 @@ use srt_route::Route;
 use srt_seq::{Entry, OpenFault};
 use std::alloc::{AllocError, Global};
 use std::snapshot::Snapshot;
-use std::sync::Wait;
 
 // Makes the queues and the cell of a route that was opened, and returns the four ends.
-fn joined<R: Wait>(
-    rt: &R,
+fn joined(
     alloc: Global,
     route: Route,
     entry: &Entry,
@@ -35,7 +33,7 @@ fn joined<R: Wait>(
     ensures drain { IfOk result (λ r. r.3 ≡ drained (name_in r.2).outbox entry.now.outbox [] r.3.hand) }
 {
     let (ingress, clock, taker) = open_inbox(alloc, entry.inbox as usize)?;
-    let (putter, drain, boxes) = open_outbox(rt, alloc, entry.outbox as usize)?;
+    let (putter, drain, boxes) = open_outbox(alloc, entry.outbox as usize)?;
     let label = Label {
         inbox: taker.share()?,
         outbox: putter.share()?,
@@ -59,8 +57,7 @@ fn joined<R: Wait>(
 ///
 /// Errors, in this order: `Names` if the route's name is malformed, `Limits` if a number or the index is out of range,
 /// `OutOfMemory`. Nothing is kept after an error.
-pub fn open_route<R: Wait>(
-    rt: &R,
+pub fn open_route(
     alloc: Global,
     entry: &Entry,
     index: usize,
@@ -74,7 +71,7 @@ pub fn open_route<R: Wait>(
     ensures memory { fault_of (terms_of entry.now) index ≡ None → IfErr result (λ fault. fault ≡ OpenFault.OutOfMemory) }
 {
     let route = Route::open(alloc, entry, index)?;
-    match joined(rt, alloc, route, entry, index) {
+    match joined(alloc, route, entry, index) {
         Ok(ends) => Ok(ends),
         Err(_) => Err(OpenFault::OutOfMemory),
     }

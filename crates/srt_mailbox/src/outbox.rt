@@ -9,7 +9,7 @@ ghost use Rattle.srt_mailbox.specs.Ends.{pipe, drained};
 ghost use Rattle.srt_mailbox.specs.Outbox.{StoodAsPut, StoodAsDrained};
 
 use crate::outbox_rule::{Draining, Drains, Left, Outbox, OutboxPass, Puts};
-use crate::spares::{Boxes, Returned};
+use crate::spares::{Boxes, Spent, open_boxes};
 use srt_route::Reply;
 use std::alloc::{AllocError, Global};
 use std::marker::Model;
@@ -43,7 +43,7 @@ impl Model for Putter {
 pub struct Drain {
     queue: Arc<Outbox>,
     pass: OutboxPass,
-    returned: Arc<Returned>,
+    spent: Spent,
     hand: Box<Reply>,
     // the number of replies drained; saturates at 2^64 - 1
     count: u64,
@@ -85,7 +85,7 @@ impl Putter {
         let Drain {
             queue: _,
             pass: drains,
-            returned: _,
+            spent: _,
             hand: _,
             count,
         } = drain;
@@ -111,11 +111,14 @@ impl Drain {
         match self.queue.pop_as::<Drains, R>(rt, &mut self.pass) {
             Some(reply) => {
                 let empty = mem::replace(&mut self.hand, reply);
-                let _ = self.returned.push(rt, empty);
+                self.spent.give(empty);
                 self.count = self.count.saturating_add(1);
                 true
             }
-            None => false,
+            None => {
+                self.spent.flush();
+                false
+            }
         }
     }
 
@@ -128,12 +131,9 @@ impl Drain {
 }
 
 /// The two ends of a new, empty outbox for at most `capacity` replies (1 to 4096), and the empty boxes that go round
-/// between them. Takes memory for `capacity` + 3 boxes and both queues; an error means that it was refused.
-pub fn open_outbox<R: Wait>(
-    rt: &R,
-    alloc: Global,
-    capacity: usize,
-) -> Result<(Putter, Drain, Boxes), AllocError>
+/// between them. Takes memory for the queue and for more than `capacity` boxes (`open_boxes`); an error means that it
+/// was refused.
+pub fn open_outbox(alloc: Global, capacity: usize) -> Result<(Putter, Drain, Boxes), AllocError>
     requires { (0 < capacity) × (capacity ≤ 4096) }
     ensures { IfOk result (λ r. (r.0 ≡ pipe r.0.queue capacity []) × (r.1 ≡ drained r.0.queue capacity [] r.1.hand)) }
 {
@@ -141,14 +141,13 @@ pub fn open_outbox<R: Wait>(
     let drains = queue.another::<Draining>(&mut pass);
     let ours = Arc::new(alloc, queue)?;
     let theirs = Arc::try_clone(&ours)?;
-    let boxes = Boxes::open(rt, alloc, capacity + 2)?;
-    let returned = boxes.share()?;
+    let (boxes, spent) = open_boxes(alloc, capacity)?;
     let hand = Box::new(alloc, Reply::blank())?;
     let putter = Putter { queue: ours, pass };
     let drain = Drain {
         queue: theirs,
         pass: drains,
-        returned,
+        spent,
         hand,
         count: 0,
     };

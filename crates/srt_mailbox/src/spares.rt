@@ -1,58 +1,111 @@
-//! The boxes of replies on their way back, from the end that drains them to the route that fills them again.
+//! The boxes of replies on their way back, from the end that drains them to the route that fills them again. They go
+//! back in batches, so that a box costs no locked operation of its own. Nobody waits for the lock. No contract speaks
+//! of the boxes' contents, since each is overwritten as a whole.
 
-use crossbeam_queue::ArrayQueue;
 use srt_route::Reply;
 use std::alloc::{AllocError, Global};
-use std::sync::{Arc, Wait};
+use std::sync::atomic::{AtomicBool, Ordering};
+use std::sync::{Arc, Mutex, Wait};
 use std::thread;
 
-/// The queue of boxes that come back. No contract speaks of their contents, since each is overwritten as a whole.
-pub type Returned = ArrayQueue<Box<Reply>>;
+// A batch has a sixteenth as many boxes as the outbox has places, and at most this many.
+const BATCH: usize = 16;
 
-/// The route's free boxes: the queue of those that come back, and a stack of those collected. The box that was
-/// collected last is used first, so that only as many boxes go round as there are replies under way, and they stay in
-/// the processor's caches.
+/// Where the drain leaves boxes for the route.
+#[derive(Drop)]
+pub struct Returned {
+    // boxes lie here: a hint, so that the route asks for the lock only where it finds some; written under the lock
+    any: AtomicBool,
+    boxes: Mutex<Vec<Box<Reply>>>,
+}
+
+/// The drain's part: the boxes whose replies were read, until there is a batch of them.
+#[derive(Drop)]
+pub struct Spent {
+    returned: Arc<Returned>,
+    boxes: Vec<Box<Reply>>,
+    batch: usize,
+}
+
+/// The route's part: a stack of free boxes. The box that came back last is used first, so that only as many boxes go
+/// round as there are replies under way and in two batches, and they stay in the processor's caches.
 #[derive(Drop)]
 pub struct Boxes {
     returned: Arc<Returned>,
     stock: Vec<Box<Reply>>,
 }
 
+/// Both parts for an outbox of this capacity, with all free boxes in the stock: as many as the outbox holds, a batch,
+/// and two. Takes memory for them and for three lists that have room for all; an error means that it was refused.
+pub fn open_boxes(alloc: Global, capacity: usize) -> Result<(Boxes, Spent), AllocError> {
+    let batch = (capacity / 16).clamp(1, BATCH);
+    let count = capacity.saturating_add(batch + 2);
+    // one more: the box that the drain has from the start
+    let room = count.saturating_add(1);
+    let mut stock = Vec::with_capacity(alloc, room)?;
+    for _ in 0..count {
+        stock.push(Box::new(alloc, Reply::blank())?)?;
+    }
+    let ours = Arc::new(
+        alloc,
+        Returned {
+            any: AtomicBool::new(false),
+            boxes: Mutex::new(Vec::with_capacity(alloc, room)?),
+        },
+    )?;
+    let theirs = Arc::try_clone(&ours)?;
+    let spent = Spent {
+        returned: theirs,
+        boxes: Vec::with_capacity(alloc, room)?,
+        batch,
+    };
+    let boxes = Boxes {
+        returned: ours,
+        stock,
+    };
+    Ok((boxes, spent))
+}
+
+impl Spent {
+    /// Sends a box back to the route, with those before it once they are a batch. Takes no memory.
+    pub fn give(&mut self, empty: Box<Reply>) {
+        let _ = self.boxes.push(empty);
+        self.flush();
+    }
+
+    /// Leaves all boxes for the route if they are a batch or more. If the route has the lock they stay, until the next
+    /// call of this or of `give`. Takes no memory.
+    pub fn flush(&mut self) {
+        if self.boxes.len() < self.batch {
+            return;
+        }
+        if let Some(mut left) = self.returned.boxes.try_lock() {
+            let _ = left.append(&mut self.boxes);
+            self.returned.any.store(true, Ordering::SeqCst);
+        }
+    }
+}
+
 impl Boxes {
-    /// `count` free boxes, with room for one more: the box that the drain has from the start. Takes memory for all of
-    /// them; an error means that it was refused.
-    pub fn open<R: Wait>(rt: &R, alloc: Global, count: usize) -> Result<Boxes, AllocError> {
-        let room = count.saturating_add(1);
-        let queue = ArrayQueue::new(alloc, room)?;
-        for _ in 0..count {
-            let _ = queue.push(rt, Box::new(alloc, Reply::blank())?);
+    // Moves the boxes that came back to the stock, if there are any and the drain hasn't got the lock.
+    fn collect(&mut self) {
+        if !self.returned.any.load(Ordering::SeqCst) {
+            return;
         }
-        let returned = Arc::new(alloc, queue)?;
-        let stock = Vec::with_capacity(alloc, room)?;
-        Ok(Boxes { returned, stock })
-    }
-
-    /// Another handle of the queue of boxes that come back.
-    pub fn share(&self) -> Result<Arc<Returned>, AllocError> {
-        Ok(Arc::try_clone(&self.returned)?)
-    }
-
-    // Moves at most two boxes that came back to the stock. That is one more than a call of `empty_box` uses, so that
-    // the queue runs empty over time.
-    fn collect<R: Wait>(&mut self, rt: &R) {
-        for _ in 0..2 {
-            let Some(place) = self.returned.pop(rt) else {
-                return;
-            };
-            let _ = self.stock.push(place);
+        if let Some(mut left) = self.returned.boxes.try_lock() {
+            let _ = self.stock.append(&mut left);
+            self.returned.any.store(false, Ordering::SeqCst);
         }
     }
 
-    /// A free box, whose old contents are to be overwritten. There are three boxes more than the outbox holds, and the
-    /// drain has at most two of them, so one is free here. Nothing proves that, hence the loop.
+    /// A free box, whose old contents are to be overwritten. There are three boxes more than the outbox and a batch
+    /// hold. The drain has at most two (the one that it took last and the one before) and less than a batch, so one is
+    /// here or where the drain leaves them. A drain that has more met the lock: the route had it then, and got a batch.
+    /// Once the route has used that up, nothing keeps the lock from the drain, and its next look into the outbox brings
+    /// all that it has. Nothing proves this, hence the loop.
     pub fn empty_box<R: Wait>(&mut self, rt: &R) -> Box<Reply> {
         for _ in rt.forever() {
-            self.collect(rt);
+            self.collect();
             if let Some(place) = self.stock.pop() {
                 return place;
             }

@@ -122,10 +122,10 @@ fn entry(alloc: Global) -> Result<Entry, Fail> {
     })
 }
 
-fn studio<R: Wait>(rt: &R, alloc: Global) -> Result<Ends, Fail>
+fn studio(alloc: Global) -> Result<Ends, Fail>
     ensures { IfOk result (λ r. AreEndsOf (name_in r.2) r.0 r.1 r.3) }
 {
-    match open_route(rt, alloc, &entry(alloc)?, 0) {
+    match open_route(alloc, &entry(alloc)?, 0) {
         Ok(ends) => Ok(ends),
         Err(_) => Err(Fail::from("the route opens")),
     }
@@ -268,7 +268,7 @@ fn settled<R: Wait>(
 
 #[test]
 fn a_held_route_makes_no_turn(rt: HostRuntime) -> Result<(), Fail> {
-    let (_ingress, mut clock, cell, mut drain) = studio(&rt, rt.alloc())?;
+    let (_ingress, mut clock, cell, mut drain) = studio(rt.alloc())?;
     let mut shut = Fixed::shut();
     assert!(rt; tick(&rt, &mut clock, 5));
     assert_eq!(rt; cell.serve(&rt, &mut shut), Served::Held);
@@ -294,7 +294,7 @@ fn assert_visited<C: Serve>(
 /// A visit ends where there is nothing to do, at a full outbox of 16 places, at a shut gate, or after the most turns.
 #[test]
 fn a_visit_makes_the_turns_that_it_may(rt: HostRuntime) -> Result<(), Fail> {
-    let (mut ingress, _clock, cell, mut drain) = studio(&rt, rt.alloc())?;
+    let (mut ingress, _clock, cell, mut drain) = studio(rt.alloc())?;
     let mut shut = Fixed::shut();
     offer_times(&rt, &mut ingress, PUBLISHER, 2)?;
     let held = cell.visit(&rt, &mut shut, 64);
@@ -314,6 +314,42 @@ fn a_visit_makes_the_turns_that_it_may(rt: HostRuntime) -> Result<(), Fail> {
     Ok(())
 }
 
+/// A route with an outbox of 64 places. It has 71 boxes, which go back four at a time.
+fn wide_studio(alloc: Global) -> Result<Ends, Fail> {
+    let mut wide = entry(alloc)?;
+    wide.outbox = 64;
+    match open_route(alloc, &wide, 0) {
+        Ok(ends) => Ok(ends),
+        Err(_) => Err(Fail::from("the route opens")),
+    }
+}
+
+/// Offers a conclusion n times, serves the route, and drains this many answers.
+fn go_round(
+    rt: &(impl AllocGlobal + Wait + Abort),
+    ingress: &mut Ingress,
+    cell: &RouteCell,
+    drain: &mut Drain,
+    counts: (usize, usize),
+) -> Result<(), Fail> {
+    offer_times(rt, ingress, PUBLISHER, counts.0)?;
+    cell.visit(rt, &mut Fixed::open(), 64);
+    drain_times(rt, drain, ANSWER, counts.1)
+}
+
+/// 300 replies are drained five at a time; then 64 fill the outbox before the first of them is drained.
+#[test]
+fn boxes_go_round_in_batches(rt: HostRuntime) -> Result<(), Fail> {
+    let (mut ingress, _clock, cell, mut drain) = wide_studio(rt.alloc())?;
+    for _ in 0..60 {
+        go_round(&rt, &mut ingress, &cell, &mut drain, (5, 5))?;
+    }
+    for _ in 0..4 {
+        go_round(&rt, &mut ingress, &cell, &mut drain, (16, 0))?;
+    }
+    go_round(&rt, &mut ingress, &cell, &mut drain, (0, 64))
+}
+
 #[test]
 fn an_entry_out_of_its_limits_is_refused(rt: HostRuntime) -> Result<(), Fail> {
     let alloc = rt.alloc();
@@ -326,7 +362,7 @@ fn an_entry_out_of_its_limits_is_refused(rt: HostRuntime) -> Result<(), Fail> {
         (&entry(alloc)?, 511, OpenFault::Limits),
         (&nameless, 511, OpenFault::Names),
     ] {
-        assert!(rt; matches!(&open_route(&rt, alloc, entry, index), Err(found) if *found == fault));
+        assert!(rt; matches!(&open_route(alloc, entry, index), Err(found) if *found == fault));
     }
     Ok(())
 }
@@ -397,7 +433,7 @@ fn assert_stream(
 
 #[test]
 fn what_meets_a_full_inbox_comes_back(rt: HostRuntime) -> Result<(), Fail> {
-    let (mut ingress, mut clock, cell, mut drain) = studio(&rt, rt.alloc())?;
+    let (mut ingress, mut clock, cell, mut drain) = studio(rt.alloc())?;
     assert_full_inbox(&rt, &mut ingress, &mut clock, &cell)?;
     assert_stream(&rt, &cell, &mut drain)
 }
@@ -428,7 +464,7 @@ fn assert_full_outbox(
 
 #[test]
 fn a_full_outbox_blocks_the_route(rt: HostRuntime) -> Result<(), Fail> {
-    let (mut ingress, mut clock, cell, mut drain) = studio(&rt, rt.alloc())?;
+    let (mut ingress, mut clock, cell, mut drain) = studio(rt.alloc())?;
     assert_full_outbox(&rt, &mut ingress, &mut clock, &cell, &mut drain)?;
     assert!(rt; !drain.take(&rt));
     let account = settled(&rt, ingress, clock, cell, drain)?;
@@ -451,7 +487,7 @@ fn account_after(
     turns: usize,
     n: usize,
 ) -> Result<Account, Fail> {
-    let (mut ingress, clock, cell, mut drain) = studio(rt, rt.alloc())?;
+    let (mut ingress, clock, cell, mut drain) = studio(rt.alloc())?;
     offer_times(rt, &mut ingress, PUBLISHER, 1)?;
     for _ in 0..turns {
         cell.serve(rt, &mut Fixed::open());
@@ -596,7 +632,7 @@ fn serve_by_two<C: Serve + Sync, R: AllocGlobal + Threads + Wait + Abort + Sync>
 /// Whichever of two workers makes a turn, the replies are those of the route alone, in order.
 #[test]
 fn two_workers_serve_as_one(rt: HostRuntime) -> Result<(), Fail> {
-    let (mut ingress, _clock, cell, mut drain) = studio(&rt, rt.alloc())?;
+    let (mut ingress, _clock, cell, mut drain) = studio(rt.alloc())?;
     serve_by_two(&rt, &mut ingress, &cell, &mut drain)?;
     assert!(rt; !drain.take(&rt));
     Ok(())
@@ -662,8 +698,8 @@ fn serve_beside<C: Serve + Sync, R: Threads + Wait + Sync>(
 /// with another route.
 #[test]
 fn nobody_waits_for_a_route(rt: HostRuntime) -> Result<(), Fail> {
-    let (_ingress, mut clock, cell, _drain) = studio(&rt, rt.alloc())?;
-    let (_other_ingress, mut other_clock, other, _other_drain) = studio(&rt, rt.alloc())?;
+    let (_ingress, mut clock, cell, _drain) = studio(rt.alloc())?;
+    let (_other_ingress, mut other_clock, other, _other_drain) = studio(rt.alloc())?;
     for _ in 0..1_000 {
         assert!(rt; tick(&rt, &mut clock, 5));
         assert_served(&rt, &cell, &[APPLIED, IDLE]);

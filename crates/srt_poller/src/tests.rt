@@ -116,20 +116,20 @@ fn named(alloc: Global, entries: &[Entry], first: Schedule) -> Result<Names, Fai
 }
 
 /// The poller's ends and the cell of a route.
-fn opened<R: Wait>(rt: &R, alloc: Global, r: usize) -> Result<(Ends, RouteCell), Fail> {
+fn opened(alloc: Global, r: usize) -> Result<(Ends, RouteCell), Fail> {
     let Some(route) = ROUTES.get(r) else {
         return Err(Fail::from("a route"));
     };
-    let Ok((ingress, _, cell, drain)) = open_route(rt, alloc, &entry(alloc, route)?, r) else {
+    let Ok((ingress, _, cell, drain)) = open_route(alloc, &entry(alloc, route)?, r) else {
         return Err(Fail::from("the route opens"));
     };
     Ok((Ends { ingress, drain }, cell))
 }
 
 /// The routes `studio`, with this schedule, and `files`, which is always open.
-fn scheduled<R: Wait>(rt: &R, alloc: Global, first: Schedule) -> Result<Routes, Fail> {
-    let (studio, cell) = opened(rt, alloc, 0)?;
-    let (files, _) = opened(rt, alloc, 1)?;
+fn scheduled(alloc: Global, first: Schedule) -> Result<Routes, Fail> {
+    let (studio, cell) = opened(alloc, 0)?;
+    let (files, _) = opened(alloc, 1)?;
     Ok(Routes {
         first,
         ends: [studio, files],
@@ -138,8 +138,8 @@ fn scheduled<R: Wait>(rt: &R, alloc: Global, first: Schedule) -> Result<Routes, 
 }
 
 /// The routes `studio` and `files`, always open.
-fn open_routes<R: Wait>(rt: &R, alloc: Global) -> Result<Routes, Fail> {
-    scheduled(rt, alloc, ALWAYS)
+fn open_routes(alloc: Global) -> Result<Routes, Fail> {
+    scheduled(alloc, ALWAYS)
 }
 
 /// The report of this many rounds over these devices.
@@ -211,7 +211,7 @@ fn assert_handed(
 #[test]
 fn an_induction_is_answered_and_a_failed_read_is_counted(rt: HostRuntime) -> Result<(), Fail> {
     let alloc = rt.alloc();
-    let mut routes = open_routes(&rt, alloc)?;
+    let mut routes = open_routes(alloc)?;
     let mut wire = WireScript::new(alloc, Vec::new(alloc));
     let steps = vec![in alloc; comes(alloc, INDUCTION)?, SourceStep::ReadFails]?;
     let report = reported(&rt, &mut routes, steps, &mut wire, 2)?;
@@ -232,7 +232,7 @@ fn induction_with(
     sent: Sent,
 ) -> Result<Report, Fail> {
     let alloc = rt.alloc();
-    let mut routes = open_routes(rt, alloc)?;
+    let mut routes = open_routes(alloc)?;
     let mut wire = WireScript::new(alloc, vec![in alloc; sent]?);
     let steps = vec![in alloc; wait, comes(alloc, INDUCTION)?]?;
     reported(rt, &mut routes, steps, &mut wire, 1)
@@ -269,7 +269,7 @@ fn what_comes_is_answered_offered_or_dropped_and_a_full_inbox_loses_it(
     rt: HostRuntime,
 ) -> Result<(), Fail> {
     let alloc = rt.alloc();
-    let mut routes = open_routes(&rt, alloc)?;
+    let mut routes = open_routes(alloc)?;
     let mut wire = WireScript::new(alloc, Vec::new(alloc));
     let mut steps = vec![in alloc; comes(alloc, STRAY)?, comes(alloc, INDUCTION)?]?;
     for _ in 0..17 {
@@ -294,7 +294,7 @@ fn what_comes_is_answered_offered_or_dropped_and_a_full_inbox_loses_it(
 /// Routes, the first of which has `count` replies in its outbox.
 fn with_replies(rt: &(impl AllocGlobal + Wait), count: u32) -> Result<Routes, Fail> {
     let alloc = rt.alloc();
-    let mut routes = open_routes(rt, alloc)?;
+    let mut routes = open_routes(alloc)?;
     let mut wire = WireScript::new(alloc, Vec::new(alloc));
     let mut steps = Vec::new(alloc);
     for _ in 0..count {
@@ -435,7 +435,7 @@ impl<'a, R: Wait> Source for Serving<'a, R> {
 #[test]
 fn a_wire_that_puts_off_blocks_turns_and_fills_inboxes(rt: HostRuntime) -> Result<(), Fail> {
     let alloc = rt.alloc();
-    let mut routes = open_routes(&rt, alloc)?;
+    let mut routes = open_routes(alloc)?;
     let mut wire = WireScript::new(alloc, vec![in alloc; Sent::Later; 10_000]?);
     let mut steps = Vec::new(alloc);
     for _ in 0..60 {
@@ -566,7 +566,7 @@ fn assert_answers(
 #[test]
 fn a_socket_answers_an_induction(rt: HostRuntime) -> Result<(), Fail> {
     let alloc = rt.alloc();
-    let mut routes = open_routes(&rt, alloc)?;
+    let mut routes = open_routes(alloc)?;
     let (mut source, mut wire) = bound(&rt, alloc, 0)?;
     assert_answers(&rt, &mut routes.ends, &mut source, &mut wire)
 }

@@ -8,7 +8,6 @@ use srt_mailbox::{ClockEnd, RouteCell, open_route};
 use srt_poller::Ends;
 use srt_seq::Entry;
 use std::alloc::{AllocError, Global};
-use std::sync::Wait;
 
 /// The ends of all routes, each list in the order of the routes' indexes.
 #[derive(Drop)]
@@ -47,13 +46,13 @@ impl Opened {
 
 /// Opens the routes of these entries, in order. Takes all memory that they will ever need. An error means that memory
 /// was refused, or that an entry is out of its limits (`run` requires that none is). Nothing is kept then.
-pub fn open_routes<R: Wait>(rt: &R, alloc: Global, entries: &[Entry]) -> Result<Opened, AllocError>
+pub fn open_routes(alloc: Global, entries: &[Entry]) -> Result<Opened, AllocError>
     ensures { IfOk result (λ o. AreOpened (map terms_of entries.now) o.ends.items o.clocks.items o.cells.items) }
 {
     let mut opened = Opened::empty(alloc, entries.len())?;
     let mut index = 0;
     for entry in entries {
-        let Ok((ingress, clock, cell, drain)) = open_route(rt, alloc, entry, index) else {
+        let Ok((ingress, clock, cell, drain)) = open_route(alloc, entry, index) else {
             return Err(AllocError);
         };
         opened.add(Ends { ingress, drain }, clock, cell)?;

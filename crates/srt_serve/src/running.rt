@@ -70,8 +70,7 @@ fn hide_later(names: &mut Names, schedules: &[Schedule])
     }
 }
 
-fn open_stage<R: Wait>(
-    rt: &R,
+fn open_stage(
     alloc: Global,
     entries: &[Entry],
     schedules: &[Schedule],
@@ -89,7 +88,7 @@ fn open_stage<R: Wait>(
     hide_later(&mut names, schedules);
     Ok(Stage {
         names,
-        routes: open_routes(rt, alloc, entries)?,
+        routes: open_routes(alloc, entries)?,
         hall: Hall::open(alloc, entries.len(), workers)?,
         accounts: Vec::with_capacity(alloc, entries.len())?,
     })
@@ -130,7 +129,7 @@ where
         (told_by (S.gave source.new) (W.handed wire.new) (K.gave r.ticker)) r.report r.accounts.items) }
     ensures unread { (result ≡ Err RunFault.OutOfMemory) ⊎ (result ≡ Err RunFault.Thread) → (source.new ≡ source.old) × (wire.new ≡ wire.old) }
 {
-    let Ok(stage) = open_stage(rt, alloc, entries, schedules, workers.len()) else {
+    let Ok(stage) = open_stage(alloc, entries, schedules, workers.len()) else {
         return Err(RunFault::OutOfMemory);
     };
     let Stage {

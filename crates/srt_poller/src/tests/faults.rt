@@ -130,7 +130,7 @@ fn digit(alloc: Global, bytes: &Vec<u8>) -> Result<u32, Fail> {
 /// The outcome of six rounds, in which the first route is served at each wait.
 fn played(rt: &(impl AllocGlobal + Wait), fault: Fault) -> Result<Outcome, Fail> {
     let alloc = rt.alloc();
-    let mut routes = open_routes(rt, alloc)?;
+    let mut routes = open_routes(alloc)?;
     let mut wire = WireScript::new(alloc, answers(alloc, fault)?);
     let mut source = Serving::new(rt, &routes.cell, script(alloc, fault)?);
     let report = pumped(rt, ALWAYS, &mut routes.ends, &mut source, &mut wire, 6)?;

@@ -95,7 +95,7 @@ fn assert_played(
     applied: u32,
 ) -> Result<WireScript, Fail> {
     let alloc = rt.alloc();
-    let mut routes = scheduled(rt, alloc, schedule)?;
+    let mut routes = scheduled(alloc, schedule)?;
     let mut wire = WireScript::new(alloc, Vec::new(alloc));
     let mut source = Serving::new(rt, &routes.cell, script(alloc, comings)?);
     let report = pumped(rt, schedule, &mut routes.ends, &mut source, &mut wire, 6)?;

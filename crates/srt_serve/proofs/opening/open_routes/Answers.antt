@@ -3,7 +3,7 @@ use Rattle.srt_serve.proofs.Openings.{opened_grow}
 use Rattle.srt_serve.proofs.opening.open_routes.Goals as goal
 
 pub loop-entry-preserved : goal.loop-entry-preserved
-loop-entry-preserved g c = record {
+loop-entry-preserved c = record {
   opened =
       let opened = c.in-Ok.ensures in
       rw (c.in_ok-add.ensures.ends, c.in_ok-add.ensures.clocks, c.in_ok-add.ensures.cells)
