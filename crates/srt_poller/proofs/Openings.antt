@@ -158,6 +158,15 @@ closed_then os o ns = fold-append hidden_by ns os (o ∷ [])
 pub closed_none : (moment round : ℕ) (ns : List RouteName) (es : List Ends) → AreClosed moment round [] ns ns es es
 closed_none moment round ns es = ([], record { routes = refl; names = refl; ends = are_later_none (Begins moment [] ∷ []) es (λ r. refl) (λ r. refl) })
 
+-- what one list has at a place the other one has too, if they have the same there
+pub below_both : {A : Type 0} (xs ys : List A) (k : ℕ) → slice_get xs k ≡ slice_get ys k → k < length ys → k < length xs
+below_both [] [] k e lt = lt
+below_both [] (y ∷ ys) zero e lt = absurd cc
+below_both [] (y ∷ ys) (suc k) e lt = let h : k < 0 = below_both [] ys k e (omega (arith, lt)) in absurd (omega (arith, h))
+below_both (x ∷ xs) [] k e lt = absurd (omega (arith, lt))
+below_both (x ∷ xs) (y ∷ ys) zero e lt = omega arith
+below_both (x ∷ xs) (y ∷ ys) (suc k) e lt = let h = below_both xs ys k e (omega (arith, lt)) in omega (arith, h)
+
 pub closed_skip : (moment round r : ℕ) (ss : List Schedule) (s : Schedule) (ns now : List RouteName) (before after : List Ends) → slice_get ss r ≡ Some s → length ss ≡ length ns →
     slice_get now r ≡ slice_get ns r → (has_come round s.close_round && is_shown_at now r) ≡ false → AreClosed moment round (take r ss) ns now before after → AreClosed moment round (take (r + 1) ss) ns now before after
 closed_skip moment round r ss s ns now before after h e same rests c = (

@@ -3,7 +3,7 @@ use Rattle.std.proofs.lemmas.Option.{slice_get-get_or}
 use Rattle.srt_seq.specs.declared.shared.Schedule.{Schedule}
 use Rattle.srt_lobby.specs.Names.{RouteName, names_of, is_shown_at}
 use Rattle.srt_poller.specs.Schedules.{offered, has_come}
-use Rattle.srt_poller.proofs.Openings.{no_schedule, closed_skip, closed_more, hidden_stays}
+use Rattle.srt_poller.proofs.Openings.{no_schedule, closed_none, closed_skip, closed_more, below_both, hidden_stays}
 use Rattle.srt_poller.proofs.beginning.Doors.close.Goals.{then-is_over+then-shows, else-is_over, else-is_over-via-then-is_over+else-shows, else-is_over-via-else-is_over}
 use Rattle.srt_poller.proofs.beginning.Doors.close.Goals as goal
 
@@ -16,6 +16,13 @@ second_fails false b q = refl
 
 first_fails : (a b : Bool) → a ≡ false → (a && b) ≡ false
 first_fails a b p = rw p refl
+
+pub loop-schedule-init : goal.loop-schedule-init
+loop-schedule-init g c = (refl, closed_none c.args.self.now.latest.moment c.args.round (names_of c.args.names.now) c.args.ends.now, λ k le. refl)
+
+pub close_one-requires-clause-known : goal.close_one-requires-clause-known
+close_one-requires-clause-known g c =
+    below_both (names_of c.loop-schedule.names) (names_of c.args.names.now) c.loop-schedule.route (c.loop-schedule.invariant.2 c.loop-schedule.route (omega arith)) (omega (arith, c.requires.known, c.loop-schedule.invariant.0, c.loop-schedule-test.true))
 
 pub loop-schedule-preserved : goal.loop-schedule-preserved
 loop-schedule-preserved g c =
