@@ -17,7 +17,11 @@ fn number(word: u32) -> Result<Seq31, Fail> {
 }
 
 /// Asserts that `encode` writes these bytes, and an `EncodedPacket` likewise, which is longer before.
-fn assert_written(rt: &(impl AllocGlobal + Abort), packet: &Packet<'_>, text: &str) -> Result<(), Fail>
+fn assert_written(
+    rt: &(impl AllocGlobal + Abort),
+    packet: &Packet<'_>,
+    text: &str,
+) -> Result<(), Fail>
     requires { IsWritable packet.now.body }
 {
     let wanted = hex::decode(rt.alloc(), text)?;

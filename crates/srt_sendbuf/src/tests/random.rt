@@ -92,7 +92,6 @@ impl Both {
             now: 0,
             before: -8,
             ours: SendBuf::open(alloc, width)?,
-            payload: Payload::new(),
             plain: Plain::new(alloc, width, 0),
         })
     }
