@@ -1,10 +1,10 @@
 //! The mailbox's structure in plain Rust: a route behind a claim word, between two bounded queues for many producers
-//! and consumers, with replies in boxes that come back; the one that came back last is used first. The route replies to
+//! and consumers, with replies in boxes that come back in batches; the one that came back last is used first. The route replies to
 //! each item by writing a whole box, as the gateway's does.
 use std::cell::UnsafeCell;
 use std::mem::MaybeUninit;
 use std::sync::atomic::{AtomicBool, AtomicU64, AtomicUsize, Ordering::SeqCst};
-use std::sync::Arc;
+use std::sync::{Arc, Mutex};
 use std::time::Instant;
 
 const CALLS: u64 = 100_000;
@@ -97,20 +97,63 @@ fn blank() -> Box<Reply> {
     Box::new(Reply { peer: [0; 18], bytes: [0; DATAGRAM] })
 }
 
-/// Free boxes: the queue of those that come back, and a stack of those collected.
+/// Where boxes lie on their way back, and whether some do. Nobody waits for the lock.
+struct Returned {
+    any: AtomicBool,
+    boxes: Mutex<Vec<Box<Reply>>>,
+}
+
+/// The drain's empty boxes, until there is a batch of them.
+struct Spent {
+    returned: Arc<Returned>,
+    boxes: Vec<Box<Reply>>,
+    batch: usize,
+}
+
+impl Spent {
+    fn give(&mut self, empty: Box<Reply>) {
+        self.boxes.push(empty);
+        self.flush();
+    }
+
+    fn flush(&mut self) {
+        if self.boxes.len() < self.batch {
+            return;
+        }
+        if let Ok(mut left) = self.returned.boxes.try_lock() {
+            left.append(&mut self.boxes);
+            self.returned.any.store(true, SeqCst);
+        }
+    }
+}
+
+/// Free boxes: a stack of those that came back.
 struct Boxes {
-    returned: Arc<Queue<Box<Reply>>>,
+    returned: Arc<Returned>,
     stock: Vec<Box<Reply>>,
 }
 
 impl Boxes {
     fn empty_box(&mut self) -> Box<Reply> {
-        for _ in 0..2 {
-            let Some(place) = self.returned.pop() else { break };
-            self.stock.push(place);
+        if self.returned.any.load(SeqCst) {
+            if let Ok(mut left) = self.returned.boxes.try_lock() {
+                self.stock.append(&mut left);
+                self.returned.any.store(false, SeqCst);
+            }
         }
         self.stock.pop().unwrap()
     }
+}
+
+/// Both parts, for an outbox of this capacity.
+fn open_boxes(capacity: usize) -> (Boxes, Spent) {
+    let batch = (capacity / 16).clamp(1, 16);
+    let room = capacity + batch + 3;
+    let mut stock = Vec::with_capacity(room);
+    stock.resize_with(room - 1, blank);
+    let returned = Arc::new(Returned { any: AtomicBool::new(false), boxes: Mutex::new(Vec::with_capacity(room)) });
+    let spent = Spent { returned: returned.clone(), boxes: Vec::with_capacity(room), batch };
+    (Boxes { returned, stock }, spent)
 }
 
 /// An item of the inbox, of the size that the gateway's has in memory.
@@ -236,15 +279,18 @@ impl Cell {
 
 struct Drain {
     outbox: Arc<Queue<Box<Reply>>>,
-    returned: Arc<Queue<Box<Reply>>>,
+    spent: Spent,
     hand: Box<Reply>,
 }
 
 impl Drain {
     fn take(&mut self) -> bool {
-        let Some(reply) = self.outbox.pop() else { return false };
+        let Some(reply) = self.outbox.pop() else {
+            self.spent.flush();
+            return false;
+        };
         let empty = std::mem::replace(&mut self.hand, reply);
-        let _ = self.returned.push(empty);
+        self.spent.give(empty);
         true
     }
 }
@@ -252,14 +298,10 @@ impl Drain {
 fn open(capacity: usize) -> (Arc<Queue<Item>>, Cell, Drain) {
     let inbox = Arc::new(Queue::new(capacity));
     let outbox = Arc::new(Queue::new(capacity));
-    let returned = Arc::new(Queue::new(capacity + 3));
-    for _ in 0..capacity + 2 {
-        let _ = returned.push(blank());
-    }
-    let boxes = Boxes { returned: returned.clone(), stock: Vec::with_capacity(capacity + 3) };
+    let (boxes, spent) = open_boxes(capacity);
     let running = Running { inbox: inbox.clone(), outbox: outbox.clone(), boxes, route: Box::new(Route::new()), held: None, waiting: 0, taken: 0 };
     let cell = Cell { word: AtomicU64::new(0), place: UnsafeCell::new(Some(Box::new(running))) };
-    (inbox, cell, Drain { outbox, returned, hand: blank() })
+    (inbox, cell, Drain { outbox, spent, hand: blank() })
 }
 
 fn item(body: &[u8]) -> Item {

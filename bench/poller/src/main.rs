@@ -1,9 +1,9 @@
 //! A poller's round in plain Rust, over the same kind of devices in memory: a datagram is read, classified, copied and
-//! put into a bounded queue; a reply is taken from a second queue, encoded and sent, and its box goes back by a third.
+//! put into a bounded queue; a reply is taken from a second queue and sent, and its box goes back in a batch.
 use std::cell::UnsafeCell;
 use std::mem::MaybeUninit;
-use std::sync::atomic::{AtomicUsize, Ordering::SeqCst};
-use std::sync::Arc;
+use std::sync::atomic::{AtomicBool, AtomicUsize, Ordering::SeqCst};
+use std::sync::{Arc, Mutex};
 use std::time::{Duration, Instant};
 
 const AT_ONCE: usize = 256;
@@ -94,19 +94,70 @@ struct Item {
     body: Vec<u8>,
 }
 
-/// A reply, of the size that the gateway's has in memory.
-#[allow(dead_code)]
-enum Body {
-    Media { number: u32, message: u32, len: usize, payload: [u8; 1456] },
-    AckAck { number: u32 },
-    FullAck { number: u32, words: [u32; 7] },
-}
-
+/// A reply, of the size that the gateway's has in memory: its peer, and its bytes, which are encoded already.
 struct Reply {
     peer: Peer,
-    stamp: u32,
-    dest: u32,
-    body: Body,
+    len: usize,
+    bytes: [u8; 1472],
+}
+
+/// Where boxes lie on their way back, and whether some do. Nobody waits for the lock.
+struct Returned {
+    any: AtomicBool,
+    boxes: Mutex<Vec<Box<Reply>>>,
+}
+
+/// The drain's empty boxes, until there is a batch of them.
+struct Spent {
+    returned: Arc<Returned>,
+    boxes: Vec<Box<Reply>>,
+    batch: usize,
+}
+
+impl Spent {
+    fn give(&mut self, empty: Box<Reply>) {
+        self.boxes.push(empty);
+        self.flush();
+    }
+
+    fn flush(&mut self) {
+        if self.boxes.len() < self.batch {
+            return;
+        }
+        if let Ok(mut left) = self.returned.boxes.try_lock() {
+            left.append(&mut self.boxes);
+            self.returned.any.store(true, SeqCst);
+        }
+    }
+}
+
+/// Free boxes: a stack of those that came back.
+struct Boxes {
+    returned: Arc<Returned>,
+    stock: Vec<Box<Reply>>,
+}
+
+impl Boxes {
+    fn empty_box(&mut self) -> Box<Reply> {
+        if self.returned.any.load(SeqCst) {
+            if let Ok(mut left) = self.returned.boxes.try_lock() {
+                self.stock.append(&mut left);
+                self.returned.any.store(false, SeqCst);
+            }
+        }
+        self.stock.pop().unwrap()
+    }
+}
+
+/// Both parts, for an outbox of this capacity.
+fn open_boxes(capacity: usize) -> (Boxes, Spent) {
+    let batch = (capacity / 16).clamp(1, 16);
+    let room = capacity + batch + 3;
+    let mut stock = Vec::with_capacity(room);
+    stock.resize_with(room - 1, blank);
+    let returned = Arc::new(Returned { any: AtomicBool::new(false), boxes: Mutex::new(Vec::with_capacity(room)) });
+    let spent = Spent { returned: returned.clone(), boxes: Vec::with_capacity(room), batch };
+    (Boxes { returned, stock }, spent)
 }
 
 enum Polled {
@@ -176,7 +227,7 @@ impl Wire for Last {
 struct Ends {
     inbox: Arc<Queue<Item>>,
     outbox: Arc<Queue<Box<Reply>>>,
-    spares: Arc<Queue<Box<Reply>>>,
+    spent: Spent,
     hand: Box<Reply>,
 }
 
@@ -199,30 +250,6 @@ fn classify(bytes: &[u8], routes: usize) -> Option<usize> {
     };
     let place = (word(bytes, 12) >> 20) as usize;
     if spelled && 0 < place && place <= routes { Some(place - 1) } else { None }
-}
-
-fn encode(reply: &Reply, text: &mut [u8; 1472]) -> usize {
-    let (first, second) = match &reply.body {
-        Body::Media { number, message, .. } => (*number, 0xe000_0000 + *message),
-        Body::AckAck { number } => (0x8006_0000, *number),
-        Body::FullAck { number, .. } => (0x8002_0000, *number),
-    };
-    for (k, word) in [first, second, reply.stamp, reply.dest].iter().enumerate() {
-        text[4 * k..4 * k + 4].copy_from_slice(&word.to_be_bytes());
-    }
-    match &reply.body {
-        Body::Media { len, payload, .. } => {
-            text[16..16 + len].copy_from_slice(&payload[..*len]);
-            16 + len
-        }
-        Body::AckAck { .. } => 16,
-        Body::FullAck { words, .. } => {
-            for (k, word) in words.iter().enumerate() {
-                text[16 + 4 * k..20 + 4 * k].copy_from_slice(&word.to_be_bytes());
-            }
-            44
-        }
-    }
 }
 
 #[derive(Default)]
@@ -265,12 +292,17 @@ impl Poller {
 
     fn drain<W: Wire>(&mut self, wire: &mut W, end: &mut Ends) {
         for _ in 0..64 {
-            let Some(reply) = end.outbox.pop() else { return };
-            let _ = end.spares.push(std::mem::replace(&mut end.hand, reply));
-            let len = encode(&end.hand, &mut self.text);
-            match wire.send(end.hand.peer, &self.text[..len]) {
+            let Some(reply) = end.outbox.pop() else {
+                end.spent.flush();
+                return;
+            };
+            let empty = std::mem::replace(&mut end.hand, reply);
+            end.spent.give(empty);
+            let len = end.hand.len;
+            match wire.send(end.hand.peer, &end.hand.bytes[..len]) {
                 Sent::Taken => self.report.sent += 1,
                 Sent::Later => {
+                    self.text[..len].copy_from_slice(&end.hand.bytes[..len]);
                     self.kept = Some((end.hand.peer, len));
                     return;
                 }
@@ -307,20 +339,22 @@ fn pump<S: Source, W: Wire>(source: &mut S, wire: &mut W, ends: &mut [Ends], rou
 }
 
 /// Takes each item from the inbox, and puts a reply into the outbox.
-fn serve(ends: &Ends) {
+fn serve(ends: &Ends, boxes: &mut Boxes) {
     while let Some(item) = ends.inbox.pop() {
-        let mut reply = ends.spares.pop().unwrap();
+        let mut reply = boxes.empty_box();
         reply.peer = item.peer;
-        reply.stamp = item.moment as u32;
-        reply.dest = word(&item.head, 12) ^ item.body.len() as u32;
-        reply.body = Body::AckAck { number: word(&item.head, 4) };
+        let dest = word(&item.head, 12) ^ item.body.len() as u32;
+        for (k, word) in [0x8006_0000, word(&item.head, 4), item.moment as u32, dest].iter().enumerate() {
+            reply.bytes[4 * k..4 * k + 4].copy_from_slice(&word.to_be_bytes());
+        }
+        reply.len = 16;
         let _ = ends.outbox.push(reply);
     }
 }
 
 fn blank() -> Box<Reply> {
     let peer = Peer { ip: [0; 16], port: 0 };
-    Box::new(Reply { peer, stamp: 0, dest: 0, body: Body::Media { number: 0, message: 0, len: 0, payload: [0; 1456] } })
+    Box::new(Reply { peer, len: 0, bytes: [0; 1472] })
 }
 
 fn main() {
@@ -330,17 +364,14 @@ fn main() {
     let bytes = words.iter().flat_map(|it| it.to_be_bytes()).collect();
     let mut source = Once { peer, bytes, given: false };
     let mut wire = Last { text: Vec::with_capacity(1472), count: 0 };
-    let spares = Arc::new(Queue::new(AT_ONCE + 4));
-    for _ in 0..AT_ONCE + 3 {
-        let _ = spares.push(blank());
-    }
-    let mut ends = [Ends { inbox: Arc::new(Queue::new(AT_ONCE)), outbox: Arc::new(Queue::new(AT_ONCE)), spares, hand: blank() }];
+    let (mut boxes, spent) = open_boxes(AT_ONCE);
+    let mut ends = [Ends { inbox: Arc::new(Queue::new(AT_ONCE)), outbox: Arc::new(Queue::new(AT_ONCE)), spent, hand: blank() }];
     let mut least = Duration::MAX;
     for _ in 0..TIMES {
         let start = Instant::now();
         std::hint::black_box(pump(&mut source, &mut wire, &mut ends, AT_ONCE));
         least = least.min(start.elapsed());
-        serve(&ends[0]);
+        serve(&ends[0], &mut boxes);
     }
     println!("round {} {}", least.as_nanos() * 100 / 256, wire.count);
 }

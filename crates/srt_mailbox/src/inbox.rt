@@ -1,14 +1,15 @@
 //! The three ends of an inbox: two offer items (the poller, the clock), one takes them (the route).
 
-ghost use Rattle.std.specs.Prelude.{◌≡◌, ◌<◌, ◌^◌, [], ◌∷◌, ◌++◌, true, IfOk, OnOk, IfErr, MatchOption};
+ghost use Rattle.std.specs.Prelude.{◌≡◌, ◌<◌, ◌^◌, [], ◌∷◌, ◌++◌, true, false, IfOk, OnOk, IfErr, MatchOption};
 ghost use Rattle.std.specs.Arc.{arc_value};
 ghost use Rattle.crossbeam_queue.specs.Fifo.{Held};
 ghost use Rattle.srt_seq.specs.Items.{told, moment_of};
+ghost use Rattle.srt_seq.specs.declared.shared.Item.TheVariants.{Datagram};
 ghost use Rattle.srt_mailbox.specs.Ends.{producer, consumer, AreNew, AreLeft};
 ghost use Rattle.srt_mailbox.specs.Inbox.{StoodAsPolled, StoodAsTicked, StoodAsTaken};
 
 use crate::inbox_rule::{Clock, Inbox, InboxPass, Left, Marked, Poller, Polls, Takes, Ticks};
-use srt_seq::Item;
+use srt_seq::{Item, Peer};
 use std::alloc::{AllocError, Global};
 use std::marker::Model;
 use std::sync::{Arc, Wait};
@@ -98,6 +99,28 @@ impl Ingress {
             Err(back) => Err(Full {
                 item: back.into_item(),
             }),
+        }
+    }
+
+    /// Appends a datagram to the inbox, as `offer` does with its item. False only if the inbox was full at some moment of
+    /// the call; then nothing changed, and the datagram is discarded. Its moment is in microseconds, below 2^62. Takes
+    /// no memory.
+    pub fn offer_datagram<R: Wait>(
+        &mut self,
+        rt: &R,
+        peer: Peer,
+        moment: u64,
+        head: [u8; 16],
+        body: Vec<u8>,
+    ) -> bool
+        requires timely { moment < 2 ^ 62 }
+        ensures accepted { result ≡ true → self.new ≡ producer self.old.queue self.old.capacity (self.old.offered ++ Datagram peer moment head body ∷ []) }
+        ensures full { result ≡ false → (self.new ≡ self.old) × Held self.old.capacity (StoodAsPolled self.old.offered) }
+    {
+        let marked = Marked::datagram(peer, moment, head, body);
+        match self.queue.push_as::<Polls, R>(rt, &mut self.pass, marked) {
+            Ok(()) => true,
+            Err(_) => false,
         }
     }
 }

@@ -51,15 +51,13 @@ impl Ends {
         let Ok(body) = Vec::from_slice(context.alloc, &bytes[16..]) else {
             return Offered::Refused;
         };
-        let item = Item::Datagram {
-            peer,
-            moment,
-            head,
-            body,
-        };
-        match self.ingress.offer(context.rt, item) {
-            Ok(()) => Offered::Accepted,
-            Err(_) => Offered::Full,
+        if self
+            .ingress
+            .offer_datagram(context.rt, peer, moment, head, body)
+        {
+            Offered::Accepted
+        } else {
+            Offered::Full
         }
     }
 
