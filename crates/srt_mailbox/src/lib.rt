@@ -8,9 +8,9 @@
 //! turn (`Ungated` never does), `Served` is the outcome of a turn that was asked for, `Visit` that of several, and
 //! `Account` has the counts of a route that has ended.
 //!
-//! Calls: `open_route`; then, each from its own thread, `offer` on `Ingress` and `ClockEnd`, `RouteCell::visit` or
-//! `RouteCell::serve` (any number of workers), and `Drain::take` with `Drain::reply`; last `settle`, which takes all
-//! four ends.
+//! Calls: `open_route`; then, each from its own thread, `offer` on `Ingress` (for a datagram also `offer_datagram`) and
+//! on `ClockEnd`, `RouteCell::visit` or `RouteCell::serve` (any number of workers), and `Drain::take` with
+//! `Drain::reply`; last `settle`, which takes all four ends.
 //!
 //! Files: the claim word is in `cells.rt`, one turn of a route in `running.rt`, the queues in `inbox.rt` and
 //! `outbox.rt`, what passes through them in `inbox_rule.rt` and `outbox_rule.rt` (`specs/Inbox.antt`,
