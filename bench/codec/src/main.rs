@@ -116,8 +116,8 @@ fn main() {
     let start = Instant::now();
     for _ in 0..ROUNDS {
         for packet in black_box(&packets) {
-            let end = encode(packet, &mut out);
-            sum = mix(sum, u32::from(out[end - 1]));
+            encode(packet, &mut out);
+            sum = mix(sum, u32::from(out[(sum % 1024) as usize]));
         }
     }
     let encoding = start.elapsed().as_micros();
