@@ -117,7 +117,7 @@ impl Ingress {
         ensures accepted { result ≡ true → self.new ≡ producer self.old.queue self.old.capacity (self.old.offered ++ Datagram peer moment head body ∷ []) }
         ensures full { result ≡ false → (self.new ≡ self.old) × Held self.old.capacity (StoodAsPolled self.old.offered) }
     {
-        let marked = Marked::datagram(peer, moment, head, body);
+        let marked = Marked::datagram(true, peer, moment, head, body);
         match self.queue.push_as::<Polls, R>(rt, &mut self.pass, marked) {
             Ok(()) => true,
             Err(_) => false,

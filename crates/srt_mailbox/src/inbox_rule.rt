@@ -1,7 +1,7 @@
 //! The rule of the inbox: which end may do what, and what each end knows of the items. A *pass* is the right to use the
 //! queue; each of the three ends has one. Views, rules, splits, outcomes and lessons are for proofs alone.
 
-ghost use Rattle.std.specs.Prelude.{◌≡◌, ◌<◌, ◌^◌, true};
+ghost use Rattle.std.specs.Prelude.{◌≡◌, ◌<◌, ◌^◌};
 ghost use Rattle.srt_seq.specs.Items.{told, moment_of};
 ghost use Rattle.srt_seq.specs.declared.shared.Item.TheVariants.{Datagram};
 ghost use Rattle.srt_mailbox.specs.Marks.{marked_item};
@@ -63,16 +63,7 @@ impl Marked {
                 moment,
                 head,
                 body,
-            } => Marked {
-                head,
-                peer,
-                polled,
-                tick: false,
-                close: false,
-                _apart: [0; 3],
-                moment,
-                body,
-            },
+            } => Marked::datagram(polled, peer, moment, head, body),
             Item::Tick { moment } => Marked {
                 head: [0; 16],
                 peer: NOWHERE,
@@ -96,16 +87,15 @@ impl Marked {
         }
     }
 
-    /// Marks a datagram that the poller offers. Its moment is in microseconds, below 2^62. No `Item` is made of it, whose
-    /// copies would be slow.
-    pub fn datagram(peer: Peer, moment: u64, head: [u8; 16], body: Vec<u8>) -> Marked
+    /// Marks a datagram. Its moment is in microseconds, below 2^62. No `Item` is made of it, whose copies would be slow.
+    pub fn datagram(polled: bool, peer: Peer, moment: u64, head: [u8; 16], body: Vec<u8>) -> Marked
         requires timely { moment < 2 ^ 62 }
-        ensures { result ≡ marked_item true (Datagram peer moment head body) }
+        ensures { result ≡ marked_item polled (Datagram peer moment head body) }
     {
         Marked {
             head,
             peer,
-            polled: true,
+            polled,
             tick: false,
             close: false,
             _apart: [0; 3],
