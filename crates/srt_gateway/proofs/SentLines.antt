@@ -22,12 +22,12 @@ use Rattle.srt_hub.specs.declared.answers.Closing.{Closing}
 use Rattle.srt_hub.specs.declared.answers.Closing.TheVariants as closings
 use Rattle.srt_hub.specs.declared.answers.Ticked.{Ticked}
 use Rattle.srt_hub.specs.declared.answers.Ticked.TheVariants as ticked
-use Rattle.srt_hub.specs.World.{Event, Arrives, Ticks, Turns, Sends, Opens, Closes, Sorting, Meaning, World, Lane, Step, Offers, Send, Nothing, own_step, step_for, sends_out, Turn, empty, names_in, is_shown_in, listed, offer_if, opening_of, opening, closing, arrival_of, offered_to, is_route, solo, accepted, sent, first, tick, turn, world_after}
-use Rattle.srt_hub.specs.Hubs.{names_at, entry_at, lane_at, room_at}
+use Rattle.srt_hub.specs.World.{Event, Arrives, Ticks, Turns, Sends, Opens, Closes, Sorting, Meaning, Lane, Step, Offers, Send, Nothing, own_step, step_for, sends_out, Turn, empty, names_in, is_shown_in, listed, offer_if, opening_of, closing, arrival_of, offered_to, is_route, sent, first, tick, turn, world_after}
+use Rattle.srt_hub.specs.Hubs.{entry_at, lane_at, room_at}
 use Rattle.srt_gateway.specs.Tape.{lines_of}
 use Rattle.srt_gateway.specs.Texts.{digit_of, route_text, arrived_text, arrival_text, ticked_text, turned_text, sent_text, opened_text, closed_text, event_text}
-use Rattle.srt_gateway.specs.Replay.{text_after, tape_text, with_past}
-use Rattle.srt_gateway.specs.Sent.{events_of, happened, is_send, sent_line, is_sent_line, sent_at, sent_lines, SentLinesTell, TapesAreIsolated}
+use Rattle.srt_gateway.specs.Replay.{text_after, with_past}
+use Rattle.srt_gateway.specs.Sent.{events_of, happened, is_send, sent_line, is_sent_line, sent_at, SentLinesTell, TapesAreIsolated}
 use Rattle.srt_hub.proofs.Isolation.{gateways_isolated}
 use Rattle.srt_hub.proofs.Refusals.{empty_before}
 use Rattle.srt_gateway.proofs.TapeEvents.{Unrefused, AllUnrefused, lines_unrefused}

@@ -1,10 +1,10 @@
 -- The law of isolation.
-use Rattle.std.proofs.Common.{◌≡◌, ℕ, ◌≤◌, ltb, Bool, true, false, cond, List, [], ◌∷◌, ◌++◌, reverse, length, refl, sym, ap, subst, ◌∙◌, append_assoc, arith, length-append}
+use Rattle.std.proofs.Common.{◌≡◌, ℕ, ◌≤◌, ltb, Bool, true, false, cond, List, [], ◌∷◌, ◌++◌, reverse, length, refl, sym, ap, ◌∙◌, append_assoc, arith, length-append}
 use Rattle.std.proofs.lemmas.List.{append-nil, reverse-append}
 use Rattle.std.proofs.lemmas.Bool.Decides.{nat_tests}
 use Rattle.srt_seq.specs.Items.{Datagram, Item}
 use Rattle.srt_seq.specs.Terms.{Terms}
-use Rattle.srt_hub.specs.World.{Event, Sorting, Meaning, solo, Lane, Step, Offers, Turn, Send, Nothing, has_room, turned_by, first, without_first, after_step, takes_in, sends_out, listed, accepted, sent, IsQuiet}
+use Rattle.srt_hub.specs.World.{Event, Sorting, Meaning, solo, Lane, Step, Offers, Turn, Send, Nothing, has_room, turned_by, first, without_first, after_step, takes_in, sends_out, listed, accepted, sent}
 use Rattle.srt_hub.specs.Laws.{IsFrontOf, SentIsFront, SentIsWhole, RoutesAreIsolated, GatewaysAreIsolated}
 use Rattle.srt_hub.specs.Hubs.{entry_at, lane_at}
 use Rattle.srt_hub.proofs.OwnSteps.{lane_by, accepted_by, sent_by, by_own}

@@ -17,9 +17,9 @@ use Rattle.srt_route.specs.Route.{reply}
 use Rattle.srt_route.specs.Sendable.{IsSendable}
 use Rattle.srt_route.proofs.Sendables.{replies_send}
 use Rattle.srt_hub.specs.World.{Event, Sorting, Meaning, Place, World, name_at, place_in, names_in, is_route, solo, world_after, accepted, sent}
-use Rattle.srt_hub.specs.Hubs.{names, terms_at, names_at, entry_at, is_shown_at}
+use Rattle.srt_hub.specs.Hubs.{names, names_at, entry_at, is_shown_at}
 use Rattle.srt_hub.specs.Laws.{SortsByOwnName, OwnNameDecides}
-use Rattle.srt_hub.specs.Gateways.{sorting, HaveRoute, ArrivalsAreOwn, OpenWith, StepsAreOwn, SentByOwnSteps, SentByAccepted, SoloIsTheRoutes, SentArePackets}
+use Rattle.srt_hub.specs.Gateways.{sorting, ArrivalsAreOwn, OpenWith, StepsAreOwn, SentByOwnSteps, SentByAccepted, SoloIsTheRoutes, SentArePackets}
 use Rattle.srt_hub.proofs.Places.{always_there, always_entry}
 use Rattle.srt_hub.proofs.Named.{named, always_distinct}
 use Rattle.srt_hub.proofs.Isolation.{sent_is_front, sent_is_whole, isolated}

@@ -1,5 +1,5 @@
 -- The places of routes, and how events change them.
-use Rattle.std.proofs.Common.{◌≡◌, ◌≢◌, ℕ, zero, suc, ◌+◌, ◌<◌, nat_lt, Bool, true, false, not, ◌&&◌, cond, eqb, List, [], ◌∷◌, ◌++◌, length, map, get_or, Option, None, Some, Result, Ok, Err, refl, sym, ap, subst, ◌∙◌, arith, inl, inr, slice_get}
+use Rattle.std.proofs.Common.{◌≡◌, ℕ, zero, suc, ◌<◌, nat_lt, Bool, true, false, not, ◌&&◌, cond, eqb, List, [], ◌∷◌, length, map, get_or, Result, Ok, Err, refl, sym, ap, subst, ◌∙◌, arith, inl, inr}
 use Rattle.std.proofs.lemmas.Bool.{cases_eq, eq-eqb, ne_eqb}
 use Rattle.std.proofs.lemmas.Bool.Decides.{nat_tests}
 use Rattle.std.proofs.lemmas.List.{get_or_append_left, length_push, length-map}
@@ -8,8 +8,8 @@ use Rattle.srt_seq.specs.declared.shared.OpenFault.{OpenFault}
 use Rattle.srt_seq.specs.Terms.{Terms}
 use Rattle.srt_hub.specs.declared.answers.Closing.{Closing}
 use Rattle.srt_hub.specs.declared.answers.Closing.TheVariants as closings
-use Rattle.srt_hub.specs.World.{Event, Arrives, Ticks, Turns, Sends, Opens, Closes, Sorting, Meaning, Place, World, opened, place_in, entry_in, is_shown_in, is_there, hidden, hidden_at, opening, places_opened, closing_of, closing, places_closed, places_after, after, world_after, has_room}
-use Rattle.srt_hub.specs.Hubs.{terms_at, entry_at, is_shown_at}
+use Rattle.srt_hub.specs.World.{Event, Arrives, Ticks, Turns, Sends, Opens, Closes, Sorting, Meaning, Place, World, opened, place_in, entry_in, is_shown_in, hidden, hidden_at, opening, places_opened, closing_of, closing, places_closed, places_after, world_after, has_room}
+use Rattle.srt_hub.specs.Hubs.{terms_at, entry_at}
 
 -- where there is no route
 abbrev pub nowhere : Place

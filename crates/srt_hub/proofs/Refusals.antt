@@ -1,5 +1,5 @@
 -- When something is refused.
-use Rattle.std.proofs.Common.{◌≡◌, ◌≢◌, ℕ, zero, suc, ◌+◌, ◌<◌, ◌≤◌, ltb, nat_lt, Bool, true, false, not, ◌&&◌, ◌⊎◌, cond, eqb, Option, None, Some, Result, Ok, Err, List, [], ◌∷◌, ◌++◌, length, get_or, refl, sym, ap, subst, ◌∙◌, arith, inl, inr}
+use Rattle.std.proofs.Common.{◌≡◌, ◌≢◌, ℕ, zero, suc, ◌<◌, ◌≤◌, ltb, nat_lt, Bool, true, false, not, ◌&&◌, ◌⊎◌, cond, eqb, Option, None, Some, Ok, Err, List, [], ◌∷◌, ◌++◌, length, refl, sym, ap, subst, ◌∙◌, arith, inl, inr}
 use Rattle.std.proofs.lemmas.Bool.{cases_eq, cases_lt, eq-eqb, ne_eqb}
 use Rattle.std.proofs.lemmas.Bool.Decides.{nat_tests}
 use Rattle.std.proofs.lemmas.List.{get_or_push, length_push, append-nil}
@@ -11,16 +11,15 @@ use Rattle.srt_lobby.specs.declared.classes.Class.TheVariants.{Answer, Route, Dr
 use Rattle.srt_hub.specs.declared.answers.Arrived.{Arrived}
 use Rattle.srt_hub.specs.declared.answers.Arrived.TheVariants as arrived
 use Rattle.srt_hub.specs.declared.answers.Ticked.TheVariants as ticked
-use Rattle.srt_hub.specs.declared.answers.Closing.{Closing}
 use Rattle.srt_hub.specs.declared.answers.Closing.TheVariants as closings
 use Rattle.srt_lobby.specs.Changing.{fault_of_adding}
 use Rattle.srt_seq.specs.Items.{Datagram, Item, Received, Tick, Close}
 use Rattle.srt_seq.specs.Terms.{Terms}
-use Rattle.srt_hub.specs.World.{Event, Arrives, Ticks, Turns, Sends, Opens, Closes, Sorting, Meaning, Lane, empty, Step, Offers, Turn, Nothing, World, Place, opened, place_in, entry_in, is_shown_in, is_there, names_in, offer_if, own_step, step_for, after_step, takes_in, has_room, turned_by, turn_by, arrival_of, offered_to, opening_of, opening, places_opened, closing_of, closing, places_closed, places_after, after, world_after, accepted, sent}
-use Rattle.srt_hub.specs.Hubs.{names_at, entry_at, is_shown_at, lane_at, room_at}
+use Rattle.srt_hub.specs.World.{Event, Arrives, Ticks, Turns, Sends, Opens, Closes, Sorting, Meaning, Lane, empty, Step, Offers, Turn, Nothing, World, Place, opened, entry_in, is_shown_in, names_in, offer_if, own_step, step_for, after_step, has_room, turned_by, turn_by, arrival_of, offered_to, opening_of, places_opened, closing_of, places_closed, places_after, world_after, sent}
+use Rattle.srt_hub.specs.Hubs.{names_at, entry_at, lane_at, room_at}
 use Rattle.srt_hub.specs.Laws.{own_steps, OthersStay}
-use Rattle.srt_hub.specs.Refusals.{ChangesNoRoute, FullIsAtCapacity, FullTickIsAtCapacity, BlockedIsAtCapacity, IdleIsEmpty, RefusedIsARoutes, LobbyAnswersAlone, FaultOpensNothing, OpeningIsNext, HasOpened, ClosedIsHidden, FullClosingIsAtCapacity, AcceptedClosingHides, HiddenStays}
-use Rattle.srt_hub.proofs.Places.{nowhere, at, there_in, below_of, hidden_same, there_stays, entry_stays, shows_on, shows_next, opening_keeps, closing_keeps}
+use Rattle.srt_hub.specs.Refusals.{ChangesNoRoute, FullIsAtCapacity, FullTickIsAtCapacity, BlockedIsAtCapacity, IdleIsEmpty, RefusedIsARoutes, LobbyAnswersAlone, FaultOpensNothing, OpeningIsNext, ClosedIsHidden, FullClosingIsAtCapacity, AcceptedClosingHides, HiddenStays}
+use Rattle.srt_hub.proofs.Places.{nowhere, at, below_of, hidden_same, there_stays, entry_stays, shows_on, shows_next, opening_keeps, closing_keeps}
 use Rattle.srt_hub.proofs.OwnSteps.{by_own, lane_by, accepted_by, sent_by}
 use Rattle.srt_hub.proofs.Isolation.{kept}
 use Rattle.srt_hub.proofs.Happens.{no_step, step_there, other_way, tick_here, tick_elsewhere, turn_here, turn_elsewhere, send_elsewhere, answer_nowhere, drop_nowhere, refused_nowhere, arrival_here, arrival_elsewhere}

@@ -1,11 +1,11 @@
 -- Calls that close routes are steps of the model.
-use Rattle.std.proofs.Common.{◌≡◌, ◌≢◌, ℕ, zero, suc, ◌<◌, Bool, true, false, List, [], ◌∷◌, length, map, refl, sym, ap, subst, ◌∙◌, arith, inl, inr}
+use Rattle.std.proofs.Common.{◌≡◌, ℕ, zero, suc, Bool, true, false, List, [], ◌∷◌, map, refl, sym, ap, subst, ◌∙◌, inl, inr}
 use Rattle.std.proofs.lemmas.Bool.{cases_eq}
 use Rattle.srt_seq.specs.Items.{Close}
 use Rattle.srt_lobby.specs.Names.{RouteName, is_shown_at}
 use Rattle.srt_lobby.specs.Changing as changing
 use Rattle.srt_hub.specs.declared.answers.Closing.TheVariants as closings
-use Rattle.srt_hub.specs.World.{Closes, Sorting, Step, Nothing, Place, World, name_at, names_in, entry_in, is_shown_in, offer_if, own_step, hidden_at, closing_of, closing, places_closed, places_after, has_room}
+use Rattle.srt_hub.specs.World.{Closes, Sorting, Nothing, Place, World, name_at, names_in, entry_in, is_shown_in, offer_if, own_step, closing_of, closing, places_closed, places_after, has_room}
 use Rattle.srt_hub.proofs.Places.{at}
 use Rattle.srt_hub.proofs.Named.{hidden_names}
 use Rattle.srt_hub.proofs.Refusals.{close_here, close_elsewhere}

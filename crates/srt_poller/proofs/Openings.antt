@@ -1,9 +1,7 @@
 -- Names and schedules, route by route.
-use Rattle.std.proofs.Common.{◌≡◌, ◌≢◌, ℕ, zero, suc, ◌+◌, ◌<◌, ◌≤◌, ◌==◌, Bool, true, false, cond, ◌&&◌, nat_le, Option, None, Some, List, [], ◌∷◌, ◌++◌, length, map, take, slice_get, get_or, refl, sym, ap, ◌∙◌, subst, append_assoc, append-nil, arith}
+use Rattle.std.proofs.Common.{◌≡◌, ℕ, zero, suc, ◌+◌, ◌<◌, ◌==◌, Bool, true, false, ◌&&◌, None, Some, List, [], ◌∷◌, ◌++◌, length, map, take, slice_get, refl, sym, ap, ◌∙◌, subst, append-nil, arith}
 use Rattle.std.specs.Prelude.{if◌then◌else◌}
-use Rattle.std.specs.List.{fold}
 use Rattle.std.proofs.lemmas.Grind.{fold-append}
-use Rattle.std.proofs.lemmas.Bool.Decides.{nat_tests}
 use Rattle.std.proofs.lemmas.List.{map-append, length-map}
 use Rattle.srt_seq.specs.declared.shared.Schedule.{Schedule}
 use Rattle.srt_lobby.specs.Names.{RouteName, shown, name_of, shows, is_shown_at, AreDistinct}
@@ -11,10 +9,10 @@ use Rattle.srt_seq.specs.Terms.{Terms}
 use Rattle.srt_lobby.specs.Opening.{fault_of}
 use Rattle.srt_lobby.proofs.Distinct.{names_are_distinct}
 use Rattle.srt_lobby.specs.Changing.{marked_at, hidden_at, shown_at}
-use Rattle.srt_poller.specs.Schedules.{CloseOffer, offered, offered_routes, opened, has_come, due_from, due, hidden_by, closed, AllDiffer}
+use Rattle.srt_poller.specs.Schedules.{CloseOffer, offered, opened, has_come, due_from, due, hidden_by, closed, AllDiffer}
 use Rattle.srt_poller.specs.declared.ends.Ends.{Ends}
 use Rattle.srt_poller.specs.History.{State, Event, state_by, state_after, names_by, Begins, Waits, WaitFails, ReadsNothing, ReadFails, Answers, Accepts, Overflows, Refuses, Drops, Sends, Resends}
-use Rattle.srt_poller.specs.Doors.{all_shown, Rests, RouteRests, Closes, ClosedBy, AreClosed}
+use Rattle.srt_poller.specs.Doors.{all_shown, Rests, RouteRests, Closes, AreClosed}
 use Rattle.srt_poller.proofs.Steps.{are_later_none, closings_then}
 
 abbrev pub no_schedule : Schedule

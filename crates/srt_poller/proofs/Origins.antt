@@ -1,10 +1,10 @@
 -- The origins of what the wire was handed.
-use Rattle.std.proofs.Common.{◌≡◌, ℕ, ◌==◌, Bool, true, false, Option, None, Some, List, [], ◌∷◌, ◌++◌, refl, sym, ap, ◌∙◌, append_assoc, append-nil}
+use Rattle.std.proofs.Common.{◌≡◌, ℕ, ◌==◌, Bool, true, false, Option, None, List, [], ◌∷◌, ◌++◌, refl, sym, ap, ◌∙◌, append_assoc, append-nil}
 use Rattle.srt_seq.specs.declared.shared.Schedule.{Schedule}
 use Rattle.srt_seq.specs.Items.{Datagram}
 use Rattle.srt_lobby.specs.Names.{RouteName}
 use Rattle.srt_poller.specs.declared.devices.Sent.TheVariants.{Taken, Later, Failed}
-use Rattle.srt_poller.specs.History.{Sorting, Event, State, at_first, state_by, state_after, Begins, Waits, WaitFails, ReadsNothing, ReadFails, Answers, Accepts, Overflows, Refuses, Drops, Sends, Resends, Kept, kept, Follow, kept_after, kept_of, at_route, Handed, handed, of_lobby, of_route, answered, drained, from, FromRoute}
+use Rattle.srt_poller.specs.History.{Sorting, Event, State, at_first, state_by, state_after, Begins, Waits, WaitFails, ReadsNothing, ReadFails, Answers, Accepts, Overflows, Refuses, Drops, Sends, Resends, Kept, Follow, kept_after, kept_of, at_route, Handed, handed, of_lobby, of_route, answered, drained, from, FromRoute}
 use Rattle.srt_poller.specs.Pumped.{HaveOrigins}
 
 pub lobby_origin : (events : List Event) → of_lobby (handed events) ≡ answered events

@@ -1,12 +1,12 @@
 -- The beginning of a round.
-use Rattle.std.specs.Prelude.{◌≡◌, ℕ, suc, ◌<◌, ◌≤◌, ◌==◌, Bool, true, false, Option, List, [], ◌∷◌, ◌&&◌, length, map}
+use Rattle.std.specs.Prelude.{◌≡◌, ℕ, ◌<◌, ◌≤◌, ◌==◌, Bool, false, Option, List, [], ◌∷◌, ◌&&◌, map}
 use Rattle.srt_seq.specs.declared.shared.Schedule.{Schedule}
 use Rattle.srt_seq.specs.Items.{Datagram}
 use Rattle.srt_lobby.specs.Names.{RouteName, shown}
 use Rattle.srt_poller.specs.declared.ends.Ends.{Ends}
 use Rattle.srt_poller.specs.declared.poller.Poller.{Poller}
 use Rattle.srt_poller.specs.Devices.{Arrival}
-use Rattle.srt_poller.specs.Schedules.{CloseOffer, offered, offered_routes, opened, due, has_come, hidden_by, closed}
+use Rattle.srt_poller.specs.Schedules.{CloseOffer, offered_routes, opened, due, has_come, hidden_by, closed}
 use Rattle.srt_poller.specs.History.{Sorting, Begins}
 use Rattle.srt_poller.specs.Pollers.{begun_turn, next_turn, world_of}
 use Rattle.srt_poller.specs.Rounds.{AreLater, Went}

@@ -1,5 +1,5 @@
 -- How a socket's source waits.
-use Rattle.std.specs.Prelude.{◌≡◌, ℕ, ◌+◌, ◌-◌, Bool, true, false, nat_lt, ◌&&◌, if◌then◌else◌}
+use Rattle.std.specs.Prelude.{ℕ, ◌+◌, ◌-◌, Bool, true, false, nat_lt, ◌&&◌, if◌then◌else◌}
 use Rattle.srt_poller.specs.declared.density.Density.{Density}
 use Rattle.srt_poller.specs.declared.pace.Pace.{Pace}
 use Rattle.srt_poller.specs.declared.pace.Pause.{Pause}

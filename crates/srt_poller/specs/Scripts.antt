@@ -1,5 +1,5 @@
 -- What devices in memory do and record.
-use Rattle.std.specs.Prelude.{◌≡◌, ◌⊎◌, ℕ, ◌+◌, ◌-◌, ◌^◌, min, Option, None, Some, List, [], ◌∷◌, length, map, take, slice_get, slice_index}
+use Rattle.std.specs.Prelude.{ℕ, ◌+◌, ◌-◌, ◌^◌, min, Option, None, Some, List, [], ◌∷◌, length, take, slice_get, slice_index}
 use Rattle.std.specs.List.{flat_map}
 use Rattle.srt_seq.specs.Items.{Datagram as TheDatagram}
 use Rattle.srt_poller.specs.declared.devices.Polled.{Polled}
@@ -7,7 +7,7 @@ use Rattle.srt_poller.specs.declared.devices.Polled.TheVariants as polled
 use Rattle.srt_poller.specs.declared.devices.Read.{Read}
 use Rattle.srt_poller.specs.declared.devices.Read.TheVariants as read
 use Rattle.srt_poller.specs.declared.devices.Sent.{Sent}
-use Rattle.srt_poller.specs.declared.devices.Sent.TheVariants.{Taken, Later, Failed}
+use Rattle.srt_poller.specs.declared.devices.Sent.TheVariants.{Taken}
 use Rattle.srt_poller.specs.declared.scripts.ScriptDatagram.{ScriptDatagram}
 use Rattle.srt_poller.specs.declared.scripts.SentDatagram.{SentDatagram}
 use Rattle.srt_poller.specs.declared.scripts.ClockScript.{ClockScript}

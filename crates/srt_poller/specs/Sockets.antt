@@ -1,6 +1,5 @@
 -- Addresses of a socket.
 use Rattle.std.specs.Prelude.{ℕ, List, ◌∷◌}
-use Rattle.srt_seq.specs.declared.shared.Peer.{Peer}
 
 -- an IPv4 address as the last four bytes of an IPv6 address
 abbrev pub mapped : (octets : List ℕ) → List ℕ

@@ -4,7 +4,7 @@ use Rattle.std.specs.List.{list_any}
 use Rattle.srt_seq.specs.Terms.{Terms}
 use Rattle.srt_seq.specs.Items.{Item, Received, Tick, Close}
 use Rattle.srt_route.specs.Sessions.{Session, is_active, time_in, aged, passed_at, passed, reported_at, reported}
-use Rattle.srt_route.specs.Route.{Route, ended, closed, closes, clock_after, least_room, delivery, room_if, delivered, passed_by, replies_at, sessions_at, sent, after}
+use Rattle.srt_route.specs.Route.{Route, ended, closes, clock_after, least_room, delivery, room_if, delivered, replies_at, sessions_at, sent, after}
 use Rattle.srt_route.specs.Closed.{ClosesOnce, ClosedHasNoSession, ClosedIsQuiet}
 
 abbrev none_open : List Session → Bool

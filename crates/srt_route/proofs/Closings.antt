@@ -1,6 +1,5 @@
 -- What a route that is closed replies, worked out from bytes to bytes.
-use Rattle.std.proofs.Common.{◌≡◌, ℕ, true, false, Bool, List, [], ◌∷◌, ◌++◌, map, refl}
-use Rattle.srt_seq.specs.declared.shared.Peer.{Peer}
+use Rattle.std.proofs.Common.{◌≡◌, ℕ, false, Bool, List, [], ◌∷◌, map, refl}
 use Rattle.srt_seq.specs.declared.shared.Mode.TheVariants.{Live}
 use Rattle.srt_seq.specs.Terms.{Terms}
 use Rattle.srt_seq.specs.Items.{Item, Received, Tick, Close, Datagram}

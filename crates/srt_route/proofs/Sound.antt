@@ -26,7 +26,7 @@ use Rattle.srt_sub.specs.Subscribing as subscriber
 use Rattle.srt_route.specs.declared.conclusion.Conclusion.{Conclusion}
 use Rattle.srt_route.specs.Past.{Past, Publishes, Subscribes, Agreed, Report, ToPublisher, ToSubscriber, past_of, expired_past, took_past, answers_to, payload_of, payloads_of, passed_past, reports_of, reported_past}
 use Rattle.srt_route.specs.Sessions.{Session, is_publisher, is_subscriber, open_publishers, active, is_active, is_open_in, by_slot, free_slot, time_in, stamp_in, is_idle, terms_of, aged_at, aged, passed_at, passed, reported_at, reported}
-use Rattle.srt_route.specs.Route.{Output, Answers, Says, Ends, Reply, Taken, Route, closed, ended, shutdown_to, refused, is_of, heard_if, opens, considered, concluded, is_for, took_if, said_by, answered_by, arrived, concludes, without_destination, packet_taken, read_taken, taken, least_room, delivery_of, delivery, room_if, delivered, packets_at, packets_where, clock_after, taken_by, passed_by, replies_at, replies_to, sessions_at, after}
+use Rattle.srt_route.specs.Route.{Output, Answers, Says, Ends, Reply, Taken, closed, ended, shutdown_to, refused, is_of, heard_if, opens, considered, concluded, is_for, took_if, said_by, answered_by, arrived, concludes, without_destination, packet_taken, read_taken, taken, least_room, delivery_of, delivery, room_if, delivered, packets_at, packets_where, clock_after, taken_by, passed_by, replies_at, replies_to, sessions_at, after}
 use Rattle.srt_route.specs.ShiftLaws.{IsPublishersReport, IsSubscribersReport, HasFewWords, IsReadable}
 use Rattle.srt_packet.proofs.Agreement.{packet_found}
 use Rattle.srt_route.proofs.ShiftedAnswers.{conclusions_have_few}

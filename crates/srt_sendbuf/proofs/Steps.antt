@@ -1,6 +1,6 @@
 -- What each call does to the record that the fields represent.
 use Rattle.std.proofs.Common.{◌≡◌, ◌≢◌, ℕ, zero, suc, ◌+◌, ◌-◌, ◌%◌, ◌^◌, ◌<◌, ◌≤◌, ◌==◌, min, max, Bool, true, false, ◌&&◌, ◌||◌, if◌then◌else◌, Option, None, Some, List, [], ◌∷◌, ◌++◌, length, inl, inr, ◌⊎◌, refl, sym, ap, subst, ◌∙◌, arith}
-use Rattle.std.specs.Prelude.{All, filter, is_some, slice_get, nat_lt, nat_le}
+use Rattle.std.specs.Prelude.{All, filter, slice_get, nat_lt, nat_le}
 use Rattle.std.proofs.lemmas.Bool.{false_from_ne_true, cases_lt, cases_eq, eq-eqb, ne_eqb, lt-ltb, true≢false}
 use Rattle.std.proofs.lemmas.Bool.Decides.{nat_tests}
 use Rattle.std.proofs.lemmas.List.Elements.{All-head, All-tail, All-nil, All-push}

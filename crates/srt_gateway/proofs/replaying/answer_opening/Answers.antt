@@ -1,4 +1,4 @@
-use Rattle.std.proofs.Common.{◌≡◌, List, map, sym, ◌∙◌}
+use Rattle.std.proofs.Common.{List, map, sym, ◌∙◌}
 use Rattle.srt_seq.specs.Terms.{terms_of}
 use Rattle.srt_hub.specs.World.{Event, names_in, world_after}
 use Rattle.srt_hub.specs.Queued.{item_in, reply_in}

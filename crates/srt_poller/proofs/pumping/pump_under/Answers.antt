@@ -3,9 +3,9 @@ use Rattle.srt_seq.specs.declared.shared.Schedule.{Schedule}
 use Rattle.srt_lobby.specs.Names.{names_of}
 use Rattle.srt_poller.specs.declared.report.Report.{Report}
 use Rattle.srt_poller.specs.declared.beginning.Latest.{Latest}
-use Rattle.srt_poller.specs.History.{State, Kept, kept_after, at_first, state_after, state}
+use Rattle.srt_poller.specs.History.{State, Kept, kept_after, at_first}
 use Rattle.srt_poller.specs.Reports.{nothing, counted, with_kept}
-use Rattle.srt_poller.specs.Rounds.{World, Went, world}
+use Rattle.srt_poller.specs.Rounds.{Went, world}
 use Rattle.srt_poller.specs.Pollers.{kept_in, sorting, world_of, next_turn, begun_turn}
 use Rattle.srt_poller.specs.Doors.{RestBetween}
 use Rattle.srt_poller.proofs.Sums.{all_summed}

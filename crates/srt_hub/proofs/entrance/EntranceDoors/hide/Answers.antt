@@ -1,4 +1,4 @@
-use Rattle.std.proofs.Common.{◌≡◌, ℕ, false, List, sym, ap, ◌∙◌}
+use Rattle.std.proofs.Common.{◌≡◌, false, List, sym, ap, ◌∙◌}
 use Rattle.srt_lobby.specs.Names.{RouteName, is_shown_at}
 use Rattle.srt_hub.proofs.Shutting.{hidden_already}
 use Rattle.srt_hub.proofs.entrance.EntranceDoors.hide.Goals as goal

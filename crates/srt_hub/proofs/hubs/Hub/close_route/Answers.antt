@@ -1,9 +1,9 @@
-use Rattle.std.proofs.Common.{◌≡◌, ℕ, ◌<◌, Bool, true, false, List, map, length, refl, sym, ap, subst, ◌∙◌, arith}
+use Rattle.std.proofs.Common.{◌≡◌, ◌<◌, Bool, true, false, List, length, sym, ap, subst, ◌∙◌, arith}
 use Rattle.std.proofs.lemmas.List.{length-map}
 use Rattle.srt_seq.specs.Items.{Close}
 use Rattle.srt_lobby.specs.Names.{RouteName}
 use Rattle.srt_hub.specs.declared.answers.Closing.TheVariants as closings
-use Rattle.srt_hub.specs.World.{Closes, Offers, offer_if, names_in, name_at, entry_in, is_shown_in, has_room, closing, closing_of, places_closed, world_after}
+use Rattle.srt_hub.specs.World.{Closes, Offers, offer_if, names_in, name_at, is_shown_in, has_room, closing, closing_of, places_closed, world_after}
 use Rattle.srt_hub.proofs.Places.{length-closed}
 use Rattle.srt_hub.proofs.Happens.{nothing_happens, lane_happens, answer_is}
 use Rattle.srt_hub.proofs.Refusals.{close_here, close_elsewhere}

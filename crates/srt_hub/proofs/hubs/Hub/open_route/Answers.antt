@@ -1,4 +1,4 @@
-use Rattle.std.proofs.Common.{rules, ◌≡◌, ℕ, true, false, ◌++◌, [], ◌∷◌, List, map, length, None, refl, sym, ap, subst, ◌∙◌, arith}
+use Rattle.std.proofs.Common.{rules, ◌≡◌, true, false, ◌++◌, [], ◌∷◌, List, map, length, None, sym, ap, subst, ◌∙◌, arith}
 use Rattle.std.specs.Result.{is_ok}
 use Rattle.srt_seq.specs.Terms.{terms_of}
 use Rattle.srt_lobby.specs.Names.{RouteName}

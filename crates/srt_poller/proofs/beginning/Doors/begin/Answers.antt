@@ -1,7 +1,6 @@
-use Rattle.std.proofs.Common.{◌≡◌, ◌∙◌, ◌≤◌, true, refl, sym, ap, List, [], length, take, arith}
-use Rattle.srt_seq.specs.declared.shared.Schedule.{Schedule}
+use Rattle.std.proofs.Common.{◌∙◌, true, refl, sym, ap, List, [], arith}
 use Rattle.srt_lobby.specs.Names.{RouteName, names_of}
-use Rattle.srt_poller.specs.Schedules.{opened, due, closed, begun}
+use Rattle.srt_poller.specs.Schedules.{due, closed}
 use Rattle.srt_poller.specs.History.{Begins, state}
 use Rattle.srt_poller.specs.Pollers.{kept_in}
 use Rattle.srt_poller.specs.Doors.{all_shown}

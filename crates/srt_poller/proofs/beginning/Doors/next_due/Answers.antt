@@ -1,4 +1,4 @@
-use Rattle.std.proofs.Common.{◌≡◌, ◌∙◌, ◌+◌, Bool, List, refl, sym, ap, subst, length, take, slice_get, get_or, arith}
+use Rattle.std.proofs.Common.{◌∙◌, ◌+◌, Bool, List, refl, ap, subst, slice_get, get_or, arith}
 use Rattle.std.proofs.lemmas.List.{take_all}
 use Rattle.std.proofs.lemmas.Option.{slice_get-get_or}
 use Rattle.srt_seq.specs.declared.shared.Schedule.{Schedule}

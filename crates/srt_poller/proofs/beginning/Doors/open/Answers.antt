@@ -1,9 +1,9 @@
-use Rattle.std.proofs.Common.{◌≡◌, ◌≢◌, ◌∙◌, ℕ, ◌==◌, Bool, true, false, Some, List, refl, sym, ap, length, take, slice_get, get_or, arith}
+use Rattle.std.proofs.Common.{◌≡◌, ◌≢◌, ◌∙◌, ℕ, ◌==◌, true, false, List, refl, sym, ap, take, slice_get, get_or, arith}
 use Rattle.std.proofs.lemmas.List.{take_all}
 use Rattle.std.proofs.lemmas.Bool.Decides.{nat_tests}
 use Rattle.std.proofs.lemmas.Option.{slice_get-get_or}
 use Rattle.srt_seq.specs.declared.shared.Schedule.{Schedule}
-use Rattle.srt_lobby.specs.Names.{RouteName, names_of}
+use Rattle.srt_lobby.specs.Names.{names_of}
 use Rattle.srt_lobby.specs.Changing.{shown_at}
 use Rattle.srt_lobby.proofs.Changing.{distinct_are_unused}
 use Rattle.srt_poller.specs.Schedules.{opened}

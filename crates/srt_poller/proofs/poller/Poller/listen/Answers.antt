@@ -1,4 +1,4 @@
-use Rattle.std.proofs.Common.{◌≡◌, ℕ, suc, refl, sym, subst, Option, List, arith}
+use Rattle.std.proofs.Common.{suc, refl, sym, subst, Option, List, arith}
 use Rattle.srt_poller.specs.Devices.{Arrival}
 use Rattle.srt_poller.specs.History.{ReadsNothing, ReadFails}
 use Rattle.srt_poller.specs.Pollers.{sorted_by, named_in, next_turn, world_of}

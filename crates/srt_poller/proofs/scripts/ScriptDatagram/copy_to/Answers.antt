@@ -1,4 +1,4 @@
-use Rattle.std.proofs.Common.{◌≡◌, ◌∙◌, ap, sym, take, length, arith}
+use Rattle.std.proofs.Common.{◌≡◌, take, length}
 use Rattle.std.specs.Prelude.{min}
 use Rattle.srt_poller.proofs.Scripted.{bytes_given}
 use Rattle.srt_poller.proofs.scripts.ScriptDatagram.copy_to.Goals as goal

@@ -1,4 +1,4 @@
-use Rattle.std.proofs.Common.{◌≡◌, ℕ, ◌<◌, Bool, Option, sym, subst, ◌∙◌, arith}
+use Rattle.std.proofs.Common.{ℕ, Bool, Option, sym, subst}
 use Rattle.srt_sendbuf.specs.Sending.{sent_number}
 use Rattle.srt_sendbuf.specs.Places.{length_of}
 use Rattle.srt_sendbuf.specs.Stands.{StandsFor}
