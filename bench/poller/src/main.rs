@@ -1,5 +1,6 @@
 //! A poller's round in plain Rust, over the same kind of devices in memory: a datagram is read, classified, copied and
-//! put into a bounded queue; a reply is taken from a second queue and sent, and its box goes back in a batch.
+//! put into a bounded queue; a reply is taken from a second queue and sent, and its box goes back in a batch. With the
+//! argument `queue`: the time of the bounded queue alone.
 use std::cell::UnsafeCell;
 use std::mem::MaybeUninit;
 use std::sync::atomic::{AtomicBool, AtomicUsize, Ordering::SeqCst};
@@ -357,9 +358,57 @@ fn blank() -> Box<Reply> {
     Box::new(Reply { peer, len: 0, bytes: [0; 1472] })
 }
 
+/// The least time of `AT_ONCE` pushes and pops of items without a body. Also the sum of their moments.
+fn queued_values(peer: Peer) -> (Duration, u64) {
+    let queue = Queue::new(AT_ONCE);
+    let (mut least, mut sum) = (Duration::MAX, 0);
+    for _ in 0..TIMES {
+        let start = Instant::now();
+        for moment in 0..AT_ONCE as u64 {
+            let _ = queue.push(Item { peer, moment: std::hint::black_box(moment), head: [1; 16], body: Vec::new() });
+        }
+        for _ in 0..AT_ONCE {
+            if let Some(item) = queue.pop() {
+                sum += item.moment;
+            }
+        }
+        least = least.min(start.elapsed());
+    }
+    (least, sum)
+}
+
+/// The same for boxes, which come from a stock and go back to it.
+fn queued_boxes() -> (Duration, u64) {
+    let queue = Queue::new(AT_ONCE);
+    let mut stock: Vec<Box<u64>> = (0..AT_ONCE as u64).map(Box::new).collect();
+    let (mut least, mut sum) = (Duration::MAX, 0);
+    for _ in 0..TIMES {
+        let start = Instant::now();
+        for _ in 0..AT_ONCE {
+            if let Some(one) = stock.pop() {
+                let _ = queue.push(one);
+            }
+        }
+        for _ in 0..AT_ONCE {
+            if let Some(one) = queue.pop() {
+                sum += *one;
+                stock.push(one);
+            }
+        }
+        least = least.min(start.elapsed());
+    }
+    (least, sum)
+}
+
 fn main() {
     let mut peer = Peer { ip: [0; 16], port: 5000 };
     peer.ip[10..].copy_from_slice(&[0xff, 0xff, 127, 0, 0, 1]);
+    if std::env::args().nth(1).as_deref() == Some("queue") {
+        for (name, (least, sum)) in [("values", queued_values(peer)), ("boxes", queued_boxes())] {
+            println!("{name} {} {sum}", least.as_nanos() * 100 / AT_ONCE as u128);
+        }
+        return;
+    }
     let words = [0x8002_0000u32, 1, 0, 0x0010_0000, 0, 10_000, 100, 8192, 0, 0, 0];
     let bytes = words.iter().flat_map(|it| it.to_be_bytes()).collect();
     let mut source = Once { peer, bytes, given: false };

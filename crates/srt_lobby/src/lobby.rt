@@ -125,6 +125,7 @@ fn of_handshake(secret: &Secret, names: &Names, peer: Peer, moment: u64, hs: &Hs
 }
 
 /// The class of a handshake packet with destination 0, from the bytes after its header.
+#[inline(never)]
 fn of_info(secret: &Secret, names: &Names, peer: Peer, moment: u64, info: &[u8]) -> Class
     ensures { result ≡ of_handshake (secret_bytes secret.now) (names_of names.now) peer moment (handshake_in info.now) }
 {
@@ -136,6 +137,7 @@ fn of_info(secret: &Secret, names: &Names, peer: Peer, moment: u64, info: &[u8])
 
 /// The class of a packet to this socket ID, which isn't 0: its bits from 20 up are the route's index + 1 (this
 /// profile).
+#[inline(always)]
 fn to_session(names: &Names, dest: u32) -> Class
     ensures { result ≡ to_session (names_of names.now) dest }
 {
@@ -147,6 +149,7 @@ fn to_session(names: &Names, dest: u32) -> Class
     }
 }
 
+#[inline(always)]
 fn of_packet(
     secret: &Secret,
     names: &Names,
@@ -168,6 +171,7 @@ fn of_packet(
 /// Sorts a datagram that came from `peer` at this moment, in microseconds. Linear in its length; a name costs one
 /// look-up, for any number of routes. Takes no memory and changes nothing; the result depends on the arguments alone.
 #[tactic(auto, unfolding(crate::specs::Lobby::class_of))]
+#[inline(always)]
 pub fn classify(secret: &Secret, names: &Names, peer: Peer, bytes: &[u8], moment: u64) -> Class
     requires { moment < 2 ^ 62 }
     ensures class { result ≡ class_of (secret_bytes secret.now) (names_of names.now) (record { peer = peer; bytes = bytes.now }) moment }

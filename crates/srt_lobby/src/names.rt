@@ -99,6 +99,7 @@ impl Names {
     }
 
     /// Whether there is a route with this index, and it is shown. Takes no memory.
+    #[inline(always)]
     pub fn shows(&self, r: usize) -> bool
         ensures { result ≡ is_shown_at (names_of self.now) r }
     {

@@ -105,6 +105,7 @@ impl Ingress {
     /// Appends a datagram to the inbox, as `offer` does with its item. False only if the inbox was full at some moment of
     /// the call; then nothing changed, and the datagram is discarded. Its moment is in microseconds, below 2^62. Takes
     /// no memory.
+    #[inline(always)]
     pub fn offer_datagram<R: Wait>(
         &mut self,
         rt: &R,

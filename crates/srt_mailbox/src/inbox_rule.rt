@@ -88,6 +88,7 @@ impl Marked {
     }
 
     /// Marks a datagram. Its moment is in microseconds, below 2^62. No `Item` is made of it, whose copies would be slow.
+    #[inline(always)]
     pub fn datagram(polled: bool, peer: Peer, moment: u64, head: [u8; 16], body: Vec<u8>) -> Marked
         requires timely { moment < 2 ^ 62 }
         ensures { result ≡ marked_item polled (Datagram peer moment head body) }
@@ -105,6 +106,7 @@ impl Marked {
     }
 
     /// The item. Its moment is below 2^62.
+    #[inline(always)]
     pub fn into_item(self) -> Item
         ensures item { result ≡ self.item }
         ensures timely { moment_of (told result) < 2 ^ 62 }

@@ -104,6 +104,7 @@ impl Putter {
 impl Drain {
     /// Takes the oldest reply out of the outbox, to be read by `reply`. False only if the outbox was empty at some
     /// moment of the call; then nothing changed. Takes no memory: the box of the reply before goes back to the route.
+    #[inline(always)]
     pub fn take<R: Wait>(&mut self, rt: &R) -> bool
         ensures some { result ≡ true → self.new ≡ drained self.old.queue self.old.capacity (self.old.through ++ self.new.hand ∷ []) self.new.hand }
         ensures none { result ≡ false → (self.new ≡ self.old) × Held 0 (StoodAsDrained self.old.through) }
@@ -123,6 +124,7 @@ impl Drain {
     }
 
     /// The reply that `take` took last. Before the first it is a blank one, which isn't to be sent.
+    #[inline(always)]
     pub fn reply(&self) -> &Reply
         ensures { result.now ≡ self.now.hand }
     {

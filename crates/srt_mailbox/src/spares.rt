@@ -68,6 +68,7 @@ pub fn open_boxes(alloc: Global, capacity: usize) -> Result<(Boxes, Spent), Allo
 
 impl Spent {
     /// Sends a box back to the route, with those before it once they are a batch. Takes no memory.
+    #[inline(always)]
     pub fn give(&mut self, empty: Box<Reply>) {
         let _ = self.boxes.push(empty);
         self.flush();
@@ -75,6 +76,7 @@ impl Spent {
 
     /// Leaves all boxes for the route if they are a batch or more. If the route has the lock they stay, until the next
     /// call of this or of `give`. Takes no memory.
+    #[inline(always)]
     pub fn flush(&mut self) {
         if self.boxes.len() < self.batch {
             return;

@@ -43,6 +43,7 @@ impl EncodedPacket {
     }
 
     /// The bytes.
+    #[inline(always)]
     pub fn bytes(&self) -> &[u8]
         ensures value { result.now ≡ bytes_of self.now }
         ensures fits { length result.now ≤ 1472 }

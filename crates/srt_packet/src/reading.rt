@@ -89,6 +89,7 @@ pub struct PacketRef<'a> {
     pub kind: Kind<'a>,
 }
 
+#[inline(always)]
 fn data_of(number: u32, word1: u32, rest: &[u8]) -> Result<Kind<'_>, PacketFault>
     requires most { length rest.now ≤ 1456 }
     ensures { body_read result ≡ data_in number word1 rest.now }
@@ -103,6 +104,7 @@ fn data_of(number: u32, word1: u32, rest: &[u8]) -> Result<Kind<'_>, PacketFault
     })
 }
 
+#[inline(always)]
 fn control_of(kind: u32, word1: u32, rest: &[u8]) -> Result<Kind<'_>, PacketFault>
     ensures { body_read result ≡ control_in kind word1 rest.now }
 {
@@ -143,6 +145,7 @@ fn control_of(kind: u32, word1: u32, rest: &[u8]) -> Result<Kind<'_>, PacketFaul
     }
 }
 
+#[inline(always)]
 fn kind_of(word0: u32, word1: u32, rest: &[u8]) -> Result<Kind<'_>, PacketFault>
     requires most { length rest.now ≤ 1456 }
     ensures { body_read result ≡ body_in word0 word1 rest.now }
@@ -156,6 +159,7 @@ fn kind_of(word0: u32, word1: u32, rest: &[u8]) -> Result<Kind<'_>, PacketFault>
 
 /// The packet with the first 16 bytes of `head` as its header, and `rest` after it. Bytes of `head` after the first 16
 /// are ignored.
+#[inline(always)]
 fn packet_of_parts<'a>(head: &[u8], rest: &'a [u8]) -> Result<PacketRef<'a>, PacketFault>
     requires header { 16 ≤ length head.now }
     requires most { length rest.now ≤ 1456 }
@@ -170,6 +174,7 @@ fn packet_of_parts<'a>(head: &[u8], rest: &'a [u8]) -> Result<PacketRef<'a>, Pac
 }
 
 /// Reads the bytes of a datagram as a packet. It copies nothing. O(1).
+#[inline(always)]
 pub fn decode(bytes: &[u8]) -> Result<PacketRef<'_>, PacketFault>
     // The result as a function of the bytes.
     ensures value { packet_read result ≡ packet_in bytes.now }
@@ -191,6 +196,7 @@ pub fn decode(bytes: &[u8]) -> Result<PacketRef<'_>, PacketFault>
 
 /// Reads the first 16 bytes of a datagram, and the bytes after them, as a packet. The result is that of [`decode`] of
 /// both in a row, without [`PacketFault::Short`]. O(1).
+#[inline(always)]
 pub fn decode_parts<'a>(head: &[u8; 16], body: &'a [u8]) -> Result<PacketRef<'a>, PacketFault>
     // The result as a function of the bytes.
     ensures value { packet_read result ≡ packet_in (head.now ++ body.now) }

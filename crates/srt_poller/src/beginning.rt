@@ -21,6 +21,7 @@ pub(crate) struct Latest {
 
 impl Latest {
     /// A datagram came at this moment.
+    #[inline(always)]
     pub(crate) fn see(&mut self, moment: u64)
         requires { moment < 2 ^ 62 }
         ensures { self.new.moment ≡ max self.old.moment moment }
@@ -164,6 +165,7 @@ impl<'a> Doors<'a> {
     /// closing has come, in the order of their indexes. A route whose inbox accepts it is hidden; one whose inbox is
     /// full is offered it again in the next round. Costs one comparison in a round with nothing to do, else some for
     /// each route.
+    #[inline(always)]
     pub(crate) fn begin<R: Wait, G: Signals>(
         &mut self,
         rt: &R,

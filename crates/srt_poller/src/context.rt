@@ -34,6 +34,7 @@ pub(crate) struct Context<'a, 'b, R, G> {
 impl<R, G: Signals> Context<'_, '_, R, G> {
     /// The first route from this one on to take replies from: this one if the round looks at all, else the first one
     /// with a hint.
+    #[inline(always)]
     pub(crate) fn next_route(&self, route: usize) -> usize
         ensures { route ≤ result }
     {

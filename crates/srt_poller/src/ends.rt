@@ -34,6 +34,7 @@ impl Ends {
 
     /// Offers a copy of a datagram of 16 bytes or more to the route. The moment is in microseconds. Takes memory for
     /// the bytes after the first 16; this is the only memory that a poller takes.
+    #[inline(always)]
     pub(crate) fn offer<R: Wait, G>(
         &mut self,
         context: &Context<R, G>,

@@ -91,6 +91,7 @@ impl Poller {
     }
 
     /// Sends the kept reply again, if there is one.
+    #[inline(always)]
     pub(crate) fn resend<W: Wire>(&mut self, wire: &mut W)
         ensures { (ends : List TheEnds) →
             Replies 1 (sending (W.handed wire.old) ends self.old) (sending (W.handed wire.new) ends self.new) }
@@ -107,6 +108,7 @@ impl Poller {
     }
 
     /// Waits for datagrams. False if the wait failed.
+    #[inline(always)]
     fn wait<S: Source>(&mut self, source: &mut S) -> bool
         ensures ready { result ≡ true →
             Waited (reading (S.gave source.old) self.old) (reading (S.gave source.new) self.new) }
@@ -123,6 +125,7 @@ impl Poller {
     }
 
     /// Offers a datagram to its route, and counts the outcome.
+    #[inline(always)]
     fn offer<R: Wait, G: Signals>(
         &mut self,
         context: &Context<R, G>,
@@ -148,6 +151,7 @@ impl Poller {
     }
 
     /// Answers, offers or drops a datagram, as the lobby decides. An answer for which the send returns Later is lost.
+    #[inline(always)]
     fn arrive<R: Wait, W: Wire, G: Signals>(
         &mut self,
         context: &Context<R, G>,
@@ -173,6 +177,7 @@ impl Poller {
 
     /// Waits, and reads at most 256 datagrams unless the wait failed. A read that finds none or fails is the last one.
     /// `latest` sees the moment of each datagram.
+    #[inline(always)]
     pub(crate) fn listen<R: Wait, S: Source, W: Wire, G: Signals>(
         &mut self,
         context: &Context<R, G>,
@@ -212,6 +217,7 @@ impl Poller {
     }
 
     /// Takes a reply from an outbox and sends it. No reply may be kept.
+    #[inline(always)]
     fn drain_one<R: Wait, W: Wire>(
         &mut self,
         rt: &R,
@@ -245,6 +251,7 @@ impl Poller {
 
     /// Sends at most 64 replies of a route, until one is kept, unless its hint says that its outbox has none and the
     /// round doesn't look at all. True if no reply is kept.
+    #[inline(always)]
     fn visit<R: Wait, W: Wire, G: Signals>(
         &mut self,
         context: &Context<R, G>,
@@ -275,6 +282,7 @@ impl Poller {
     }
 
     /// Sends replies of all routes, in the order of their indexes, until one is kept.
+    #[inline(always)]
     pub(crate) fn drain<R: Wait, W: Wire, G: Signals>(
         &mut self,
         context: &Context<R, G>,

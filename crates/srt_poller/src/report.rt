@@ -70,6 +70,7 @@ impl Report {
     }
 
     /// A reply was sent with this outcome.
+    #[inline(always)]
     pub(crate) fn count_reply(&mut self, sent: Sent)
         ensures { self.new ≡ with_reply self.old sent }
     {
@@ -84,6 +85,7 @@ impl Report {
     }
 
     /// A datagram came, and its route's inbox accepted it.
+    #[inline(always)]
     pub(crate) fn count_accepted(&mut self)
         ensures { self.new ≡ with_accepted self.old }
     {
