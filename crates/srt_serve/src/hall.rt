@@ -4,7 +4,6 @@
 
 use crate::bell::Bell;
 use crate::marks::Marks;
-use srt_poller::Signals;
 use std::alloc::{AllocError, Global};
 use std::sync::Wait;
 use std::sync::atomic::{AtomicBool, AtomicU64, Ordering};
@@ -38,8 +37,8 @@ pub struct Hall {
     visited: Marks,
     // the route's outbox may have a reply
     told: Marks,
-    // the number of routes that an offer made ask, since the poller's last round
-    begun: AtomicU64,
+    // the poller offered something to the route and served it no more since
+    offered: Marks,
     // wakes workers
     bell: Bell,
     // wakes the polling thread while it waits in `gather` for the others
@@ -62,7 +61,7 @@ impl Hall {
             asked: Marks::open(alloc, routes)?,
             visited: Marks::open(alloc, routes)?,
             told: Marks::open(alloc, routes)?,
-            begun: AtomicU64::new(0),
+            offered: Marks::open(alloc, routes)?,
             bell: Bell::new(),
             door: Bell::new(),
             workers: workers as u64,
@@ -173,19 +172,54 @@ impl Hall {
         }
         self.resting.fetch_sub(1, Ordering::SeqCst);
     }
-}
 
-impl Signals for Hall {
-    fn offered(&self, route: usize) {
-        if self.asked.set(route) {
-            let begun = self.begun.load(Ordering::Relaxed);
-            self.begun.store(begun.wrapping_add(1), Ordering::Relaxed);
-        }
+    /// The inbox of the route accepted something from the poller. Only the polling thread calls this.
+    pub fn offered(&self, route: usize) {
+        self.offered.set_alone(route);
     }
 
-    fn read_ended(&self, datagrams: u32) {
-        let begun = self.begun.load(Ordering::Relaxed);
-        self.begun.store(0, Ordering::Relaxed);
+    /// The first route from this one on to which the poller offered something that nobody was asked to serve yet; the
+    /// number of routes if there is none.
+    pub fn next_offered(&self, route: usize) -> usize {
+        self.offered.next_from(route)
+    }
+
+    /// The number of routes to which the poller offered something that nobody was asked to serve yet.
+    pub fn count_offered(&self) -> u64 {
+        self.offered.count()
+    }
+
+    /// The polling thread serves what it offered to the route itself. Only the polling thread calls this.
+    pub fn forget(&self, route: usize) {
+        self.offered.clear_alone(route);
+    }
+
+    /// The route asks for a worker. True if it didn't before.
+    pub fn ask(&self, route: usize) -> bool {
+        self.asked.set(route)
+    }
+
+    /// All routes to which the poller offered something ask for a worker. Returns the number of those that didn't
+    /// before. Only the polling thread calls this.
+    pub fn hand_over(&self) -> u64 {
+        let mut begun = 0u64;
+        let mut route = self.next_offered(0);
+        for _ in 0..self.offered.len() {
+            if route >= self.offered.len() {
+                return begun;
+            }
+            self.forget(route);
+            if self.ask(route) {
+                begun = begun.saturating_add(1);
+            }
+            route = self.next_offered(route);
+        }
+        begun
+    }
+
+    /// Wakes a worker after a round of the poller that read this many datagrams and made this many routes ask, if it has
+    /// to.
+    pub fn read_ended(&self, datagrams: u32, begun: u64) {
         let are_for_few = begun.saturating_mul(SHARE) <= u64::from(datagrams);
         let all_rest = self.resting.load(Ordering::SeqCst) >= self.workers;
         if (datagrams >= MANY && are_for_few) || (datagrams > 0 && all_rest) {
@@ -193,7 +227,8 @@ impl Signals for Hall {
         }
     }
 
-    fn may_have(&self, route: usize) -> bool {
+    /// Whether the outbox of the route may have a reply. Clears the hint.
+    pub fn may_have(&self, route: usize) -> bool {
         let is_told = self.told.is_set(route);
         if is_told {
             self.told.clear(route);
@@ -201,7 +236,8 @@ impl Signals for Hall {
         is_told
     }
 
-    fn next_from(&self, route: usize) -> usize {
+    /// The first route from this one on whose outbox may have a reply; the number of routes if there is none.
+    pub fn next_told(&self, route: usize) -> usize {
         self.told.next_from(route)
     }
 }

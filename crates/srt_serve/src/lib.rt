@@ -1,6 +1,6 @@
 //! The running gateway: it starts the threads, stops them, and settles the routes.
 //!
-//! One thread polls, one ticks, and workers serve the routes. The crate reads no configuration (`srt_gateway` does),
+//! One thread polls, one ticks, and workers serve the routes; the polling thread serves some of them too. The crate reads no configuration (`srt_gateway` does),
 //! binds no socket and reads no clock (the program hands in a source, a wire and a ticker), and takes no signals.
 //!
 //! Types: a `Ticker` gives the moments at which all routes are ticked; `Ran` is the outcome of a run, a report of the
@@ -11,12 +11,13 @@
 //!
 //! Files, in the order of a run: `running.rt` has the whole of it, and hides routes that open later; `opening.rt` opens
 //! all routes; `serving.rt` starts and joins the threads, which are `ticking.rt`, `working.rt` and
-//! `srt_poller::pump_under`; `settling.rt` settles the routes. How threads wake each other is `hall.rt`, with `bell.rt`
+//! `srt_poller::pump_under`, with what the polling thread does for routes in `helping.rt`; `settling.rt` settles the routes. How threads wake each other is `hall.rt`, with `bell.rt`
 //! and `marks.rt`; no contract depends on it. `specs/Ran.antt` says what a run did.
 #![tactic(auto)]
 
 mod bell;
 mod hall;
+mod helping;
 mod marks;
 mod opening;
 mod running;
@@ -25,7 +26,7 @@ mod settling;
 mod ticking;
 mod working;
 
-pub use running::{Ran, RunFault, run};
+pub use running::{Gates, Ran, RunFault, run};
 pub use ticking::Ticker;
 
 #[cfg(test)]

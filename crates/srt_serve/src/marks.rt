@@ -66,6 +66,40 @@ impl Marks {
         }
     }
 
+    /// Sets the route's mark, if no other thread writes marks of these routes meanwhile. Makes no locked operation.
+    pub fn set_alone(&self, route: usize) {
+        if route >= self.routes {
+            return;
+        }
+        if let Some(word) = self.words.get(route / 64) {
+            let marks = word.load(Ordering::Relaxed);
+            word.store(marks | bit_of(route), Ordering::Relaxed);
+        }
+    }
+
+    /// Clears the route's mark, if no other thread writes marks of these routes meanwhile. Makes no locked operation.
+    pub fn clear_alone(&self, route: usize) {
+        if let Some(word) = self.words.get(route / 64) {
+            let marks = word.load(Ordering::Relaxed);
+            word.store(marks & !bit_of(route), Ordering::Relaxed);
+        }
+    }
+
+    /// The number of marks that are set. Costs a load for each 64 routes.
+    pub fn count(&self) -> u64 {
+        let mut count = 0u64;
+        for word in &self.words {
+            let marks = word.load(Ordering::Relaxed);
+            count = count.saturating_add(u64::from(marks.count_ones()));
+        }
+        count
+    }
+
+    /// The number of routes.
+    pub fn len(&self) -> usize {
+        self.routes
+    }
+
     /// Clears the route's mark.
     pub fn clear(&self, route: usize) {
         if let Some(word) = self.words.get(route / 64) {

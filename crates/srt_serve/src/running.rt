@@ -38,6 +38,16 @@ pub enum RunFault {
     Busy,
 }
 
+/// A gate for each thread that serves routes.
+#[derive(Drop)]
+pub struct Gates<G: Drop> {
+    /// The polling thread's, which serves the routes of what it has just read, if that is little. `None` leaves all
+    /// routes to the workers.
+    pub poller: Option<G>,
+    /// The workers', 1 to 16.
+    pub workers: Vec<G>,
+}
+
 /// The outcome of a run.
 #[derive(Drop)]
 pub struct Ran<K: Drop> {
@@ -96,7 +106,7 @@ fn open_stage(
 
 /// Runs the gateway of these entries for `rounds` rounds of its poller, and returns the poller's report and an account
 /// of each route. The entries must be right as a whole: names distinct, numbers within their limits. `schedules` has a
-/// schedule for each entry, and `workers` a gate for each worker, 1 to 16.
+/// schedule for each entry, and `gates` a gate for each worker, 1 to 16, and perhaps one for the polling thread.
 ///
 /// First all routes are opened, those that callers find in a later round too, which takes all memory but that of
 /// threads and of arriving datagrams. The names of later routes are hidden until their round. Then one thread for each
@@ -114,7 +124,7 @@ pub fn run<R, S: Source, W: Wire, K, G>(
     source: &mut S,
     wire: &mut W,
     ticker: K,
-    workers: Vec<G>,
+    gates: Gates<G>,
     rounds: u32,
 ) -> Result<Ran<K>, RunFault>
 where
@@ -123,12 +133,13 @@ where
     G: Gate + Send + Drop,
     requires entries { fault_of (map terms_of entries.now) ≡ None }
     requires schedules { length schedules.now ≡ length entries.now }
-    requires workers { (1 ≤ vec_len workers) × (vec_len workers ≤ 16) }
+    requires workers { (1 ≤ vec_len gates.workers) × (vec_len gates.workers ≤ 16) }
     ensures ran { IfOk result (λ r. TheRan (class_of (secret_bytes secret.now)) schedules.now (map terms_of entries.now) rounds
         (told_by (S.gave source.old) (W.handed wire.old) (K.gave ticker))
         (told_by (S.gave source.new) (W.handed wire.new) (K.gave r.ticker)) r.report r.accounts.items) }
     ensures unread { (result ≡ Err RunFault.OutOfMemory) ⊎ (result ≡ Err RunFault.Thread) → (source.new ≡ source.old) × (wire.new ≡ wire.old) }
 {
+    let Gates { poller, workers } = gates;
     let Ok(stage) = open_stage(alloc, entries, schedules, workers.len()) else {
         return Err(RunFault::OutOfMemory);
     };
@@ -152,7 +163,11 @@ where
         hall: &hall,
         rounds,
     };
-    let mut front = Front { names, ends };
+    let mut front = Front {
+        names,
+        ends,
+        gate: poller,
+    };
     let mut crew = Crew {
         clocks: Clocks {
             ends: clocks,

@@ -9,6 +9,7 @@ ghost use Rattle.srt_serve.specs.Polled.{AreReady, Polled, AreUntouched};
 ghost use Rattle.srt_serve.specs.Ticks.{Ticked};
 
 use crate::hall::Hall;
+use crate::helping::Helper;
 use crate::ticking::{Clocks, Ticker, tick};
 use crate::working::work;
 use srt_cookie::Secret;
@@ -42,11 +43,13 @@ pub struct Context<'a, R, C> {
 
 /// What the polling thread has for itself: the routes as callers find them.
 #[derive(Drop)]
-pub struct Front {
+pub struct Front<G: Drop> {
     /// The names of the routes, in the order of their indexes. A round shows and hides them.
     pub names: Names,
     /// The poller's ends of all routes, in the same order.
     pub ends: Vec<Ends>,
+    /// The gate through which it serves routes, if it does. `serve_routes` takes it out.
+    pub gate: Option<G>,
 }
 
 /// What the threads besides the polling one have for themselves.
@@ -90,11 +93,11 @@ where
 // Waits until all threads have arrived, polls for `rounds` rounds, and ends the run. `None` if they don't arrive; then
 // nothing was read.
 #[tactic(auto, unfolding(crate::specs::Polled::AreReady, crate::specs::Polled::Polled, crate::specs::Polled::AreUntouched))]
-fn poll<R: Wait, S: Source, W: Wire, C>(
+fn poll<R: Wait, S: Source, W: Wire, C: Serve, G: Gate + Drop>(
     context: &Context<R, C>,
     source: &mut S,
     wire: &mut W,
-    front: &mut Front,
+    front: &mut Front<G>,
 ) -> Option<Report>
     requires { AreReady context.now.schedules.now (names_of front.old.names) front.old.ends.items }
     ensures pumped { IfSome result (λ report.
@@ -108,35 +111,37 @@ fn poll<R: Wait, S: Source, W: Wire, C>(
         alloc,
         secret,
         schedules,
+        cells,
         hall,
         rounds,
-        ..
     } = *context;
     if !hall.gather(rt) {
         hall.finish();
         return None;
     }
+    let helper = Helper::new(rt, cells, hall, front.gate.take());
     let names = &mut front.names;
     let ends = &mut front.ends;
     let report = pump_under(
-        rt, alloc, secret, names, schedules, source, wire, ends, rounds, hall,
+        rt, alloc, secret, names, schedules, source, wire, ends, rounds, &helper,
     );
     hall.finish();
     Some(report)
 }
 
 // Ticks in a new thread, and polls in this one. Returns when both have ended.
-fn tick_and_poll<R, S: Source, W: Wire, K, C>(
+fn tick_and_poll<R, S: Source, W: Wire, K, C, G>(
     context: &Context<R, C>,
     source: &mut S,
     wire: &mut W,
-    front: &mut Front,
+    front: &mut Front<G>,
     clocks: &mut Clocks<K>,
 ) -> Option<Report>
 where
     R: Threads + Wait + Sync,
     K: Ticker + Send + Drop,
-    C: Sync,
+    C: Serve + Sync,
+    G: Gate + Send + Drop,
     requires { AreReady context.now.schedules.now (names_of front.old.names) front.old.ends.items }
     ensures pumped { IfSome result (λ report.
         Polled (class_of (secret_bytes context.now.secret.now)) context.now.schedules.now context.now.rounds
@@ -159,7 +164,7 @@ pub fn serve_routes<R, S: Source, W: Wire, K, G, C>(
     context: &Context<R, C>,
     source: &mut S,
     wire: &mut W,
-    front: &mut Front,
+    front: &mut Front<G>,
     crew: &mut Crew<K, G>,
 ) -> Option<Report>
 where

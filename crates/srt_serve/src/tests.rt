@@ -6,7 +6,7 @@ ghost use Rattle.std.specs.Vec.{vec_len};
 ghost use Rattle.srt_seq.specs.Terms.{terms_of};
 ghost use Rattle.srt_lobby.specs.Opening.{fault_of};
 
-use crate::{Ran, RunFault, Ticker, run};
+use crate::{Gates, Ran, RunFault, Ticker, run};
 use srt_cookie::Secret;
 use srt_lobby::Names;
 use srt_mailbox::{Gate, Ungated};
@@ -389,11 +389,12 @@ fn scene_of(alloc: Global, texts: &[&str], again: Again) -> Result<Scene, Fail> 
     })
 }
 
-/// A run of these routes, which must be right.
+/// A run of these routes, which must be right, with these gates of the polling thread and of the workers.
 fn run_of<R, G>(
     rt: &R,
     routes: &Routes,
     scene: &mut Scene,
+    poller: Option<G>,
     workers: Vec<G>,
     rounds: u32,
 ) -> Result<Ran<Member>, Fail>
@@ -418,7 +419,7 @@ where
         &mut scene.source,
         &mut scene.wire,
         ticker,
-        workers,
+        Gates { poller, workers },
         rounds,
     ) {
         Ok(ran) => Ok(ran),
@@ -434,7 +435,7 @@ fn with_nobody_calling_nothing_is_counted(rt: HostRuntime) -> Result<(), Fail> {
     let routes = Routes::two(alloc, ALWAYS)?;
     let mut scene = scene_of(alloc, &[], Again::Never)?;
     let workers = vec![in alloc; Ungated]?;
-    let ran = run_of(&rt, &routes, &mut scene, workers, 3)?;
+    let ran = run_of(&rt, &routes, &mut scene, None, workers, 3)?;
     assert_eq!(rt; ran.report, Report::NOTHING);
     assert_eq!(rt; ran.accounts.len(), 2);
     assert_eq!(rt; scene.source.waits, 3);
@@ -451,7 +452,7 @@ fn two_routes_are_served_at_once(rt: HostRuntime) -> Result<(), Fail> {
     let routes = Routes::two(alloc, ALWAYS)?;
     let mut scene = scene_of(alloc, &[STUDIO, STUDIA], Again::Never)?;
     let workers = vec![in alloc; Member::of(&scene.meeting)?, Member::of(&scene.meeting)?]?;
-    let ran = run_of(&rt, &routes, &mut scene, workers, LIMIT)?;
+    let ran = run_of(&rt, &routes, &mut scene, None, workers, LIMIT)?;
     assert!(rt; !scene.meeting.is_late.load(Ordering::SeqCst));
     assert_eq!(rt;
         ran.report,
@@ -469,10 +470,44 @@ fn two_routes_are_served_at_once(rt: HostRuntime) -> Result<(), Fail> {
     Ok(())
 }
 
+/// The polling thread serves the routes of what it has read, so that the answer leaves in the same round.
+#[test]
+fn an_answer_leaves_in_the_round_of_its_datagram(rt: HostRuntime) -> Result<(), Fail> {
+    let alloc = rt.alloc();
+    let routes = Routes::two(alloc, ALWAYS)?;
+    let mut scene = scene_of(alloc, &[STUDIO], Again::Never)?;
+    let workers = vec![in alloc; Ungated]?;
+    let ran = run_of(&rt, &routes, &mut scene, Some(Ungated), workers, 1)?;
+    assert_eq!(rt; scene.wire.answers, 1);
+    assert_eq!(rt;
+        ran.report,
+        Report {
+            read: 1,
+            accepted: 1,
+            sent: 1,
+            ..Report::NOTHING
+        }
+    );
+    Ok(())
+}
+
 /// A hundred answers go out while the source yields half a million times; then the route closes, and its caller gets a
 /// SHUTDOWN.
 #[test]
 fn a_hundred_answers_are_sent_and_then_the_route_closes(rt: HostRuntime) -> Result<(), Fail> {
+    a_hundred_answers(&rt, None)
+}
+
+/// The same if the polling thread serves routes too.
+#[test]
+fn the_polling_thread_sends_a_hundred_answers(rt: HostRuntime) -> Result<(), Fail> {
+    a_hundred_answers(&rt, Some(Ungated))
+}
+
+fn a_hundred_answers<R>(rt: &R, poller: Option<Ungated>) -> Result<(), Fail>
+where
+    R: AllocGlobal + Threads + Wait + Abort + Sync,
+{
     let alloc = rt.alloc();
     let closes = Schedule {
         open_round: 0,
@@ -481,7 +516,7 @@ fn a_hundred_answers_are_sent_and_then_the_route_closes(rt: HostRuntime) -> Resu
     let routes = Routes::two(alloc, closes)?;
     let mut scene = scene_of(alloc, &[STUDIO], Again::Answered)?;
     let workers = vec![in alloc; Ungated, Ungated]?;
-    let ran = run_of(&rt, &routes, &mut scene, workers, LIMIT)?;
+    let ran = run_of(rt, &routes, &mut scene, poller, workers, LIMIT)?;
     assert!(rt; scene.wire.answers >= ANSWERS && scene.wire.is_closed);
     assert_eq!(rt; ran.report.faults, 0);
     let (Some(studio), Some(studia)) = (ran.accounts.get(0), ran.accounts.get(1)) else {
@@ -503,7 +538,7 @@ fn a_route_is_found_from_its_round_on(rt: HostRuntime) -> Result<(), Fail> {
     let routes = Routes::two(alloc, opens)?;
     let mut scene = scene_of(alloc, &[STUDIO], Again::InWait(3))?;
     let workers = vec![in alloc; Ungated]?;
-    let ran = run_of(&rt, &routes, &mut scene, workers, 4)?;
+    let ran = run_of(&rt, &routes, &mut scene, None, workers, 4)?;
     assert_eq!(rt; scene.wire.refusals, 1);
     assert!(rt; ran.report.read == 2 && ran.report.answered == 1 && ran.report.accepted == 1);
     Ok(())
@@ -521,7 +556,7 @@ fn as_many_routes_and_workers_as_there_can_be_run(rt: HostRuntime) -> Result<(),
     routes.add(alloc, "studio", 32, ALWAYS)?;
     let mut scene = scene_of(alloc, &[STUDIO], Again::Never)?;
     let workers = vec![in alloc; Ungated; 16]?;
-    let ran = run_of(&rt, &routes, &mut scene, workers, 2_000)?;
+    let ran = run_of(&rt, &routes, &mut scene, None, workers, 2_000)?;
     assert_eq!(rt; scene.source.waits, 2_000);
     assert_eq!(rt; ran.accounts.len(), 511);
     assert!(rt; ran.report.read == 1 && ran.report.accepted == 1 && ran.report.sent <= 1);

@@ -51,24 +51,25 @@ impl Round {
     }
 }
 
-// Serves a route until it is idle, blocked by a full outbox, held by the gate or claimed by another call, and for at
-// most `TURNS` turns.
-fn serve_route<R: Wait, C: Serve, G: Gate>(
+/// Serves a route until it is idle, blocked by a full outbox, held by the gate or claimed by another call, and for at
+/// most `most` turns.
+pub fn serve_route<R: Wait, C: Serve, G: Gate>(
     rt: &R,
     cell: &C,
     route: usize,
     gate: &mut G,
     hall: &Hall,
+    most: u32,
 ) -> Visit {
-    let visit = cell.visit(rt, gate, TURNS);
+    let visit = cell.visit(rt, gate, most);
     if visit.moved > 0 {
         hall.moved(route);
     }
     visit
 }
 
-// Whether more may be left to do after a visit, so that the route is to ask again.
-fn is_left(visit: Visit) -> bool {
+/// Whether more may be left to do after a visit, so that the route is to ask again.
+pub fn is_left(visit: Visit) -> bool {
     match visit.end {
         Some(Served::Turned(Turned::Idle)) | Some(Served::Held) => false,
         _ => true,
@@ -107,7 +108,7 @@ fn go_round<R: Wait, C: Serve, G: Gate>(
         }
         if let Some(cell) = cells.get(route) {
             if hall.enter(route) {
-                let visit = serve_route(rt, cell, route, gate, hall);
+                let visit = serve_route(rt, cell, route, gate, hall, TURNS);
                 hall.leave(route, is_left(visit));
                 round.count(visit);
             }

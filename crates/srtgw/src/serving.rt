@@ -6,7 +6,7 @@ ghost use Rattle.std.specs.Vec.{vec_len};
 use crate::faults::Fault;
 use srt_gateway::Config;
 use srt_poller::{BindFault, MioSource, Report, Ungated};
-use srt_serve::{RunFault, Ticker, run};
+use srt_serve::{Gates, RunFault, Ticker, run};
 use std::alloc::{AllocError, Global};
 use std::io;
 use std::net::{Ipv4Addr, Net, SocketAddrV4};
@@ -103,8 +103,12 @@ pub fn serve<R: AllocGlobal + Net + Clock + Threads + Wait + Sync>(
         Err(BindFault::Socket) => return Err(Fault::Socket),
         Err(BindFault::OutOfMemory) => return Err(Fault::Memory),
     };
-    let Ok(gates) = gates(rt.alloc(), config.workers) else {
+    let Ok(workers) = gates(rt.alloc(), config.workers) else {
         return Err(Fault::Memory);
+    };
+    let gates = Gates {
+        poller: Some(Ungated),
+        workers,
     };
     let clock = Ticks {
         since: Since::new(rt, start),
