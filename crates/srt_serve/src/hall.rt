@@ -9,8 +9,9 @@ use std::sync::Wait;
 use std::sync::atomic::{AtomicBool, AtomicU64, Ordering};
 use std::time::Duration;
 
-// A round that read at least this many datagrams wakes a worker, even if another is awake, if they are for few routes.
-const MANY: u32 = 64;
+/// A round that read at least this many datagrams leaves them to the workers, and wakes one even if another is awake, if
+/// they are for few routes.
+pub const MANY: u32 = 64;
 
 // They are for few routes if at most one of this many datagrams was the first for its route since a worker served it.
 const SHARE: u64 = 8;
@@ -28,7 +29,8 @@ const SLEEP: u64 = 100_000;
 // waits for ten seconds or more.
 const PATIENCE: u32 = 120;
 
-/// What the threads of a run share besides the routes. Every method may be called from any thread.
+/// What the threads of a run share besides the routes. Every method may be called from any thread, but for those that
+/// say otherwise.
 #[derive(Drop)]
 pub struct Hall {
     // the route's inbox may have an item
@@ -37,7 +39,7 @@ pub struct Hall {
     visited: Marks,
     // the route's outbox may have a reply
     told: Marks,
-    // the poller offered something to the route and served it no more since
+    // the poller offered something to the route, which it has neither served since nor left to the workers
     offered: Marks,
     // wakes workers
     bell: Bell,
@@ -54,7 +56,7 @@ pub struct Hall {
 }
 
 impl Hall {
-    /// A hall for this many routes and workers. Takes memory for three marks a route; an error means that it was
+    /// A hall for this many routes and workers. Takes memory for four marks a route; an error means that it was
     /// refused.
     pub fn open(alloc: Global, routes: usize, workers: usize) -> Result<Hall, AllocError> {
         Ok(Hall {

@@ -2,18 +2,15 @@
 //! just read, if both are few. What it passes to a route and takes from it then stays in the caches of one processor, and
 //! no worker has to be woken.
 
-use crate::hall::Hall;
+use crate::hall::{Hall, MANY};
 use crate::working::{is_left, serve_route};
 use srt_mailbox::{Gate, Serve};
 use srt_poller::Signals;
 use std::cell::Cell;
 use std::sync::Wait;
 
-// After a round that read this many datagrams the polling thread leaves all of them to the workers: it has enough to do
-// with reading and sending.
-const MANY: u32 = 64;
-
-// So it does if they are for more routes than this: it would wait for the memory of each.
+// The polling thread leaves the datagrams of a round to the workers if they are `MANY`, since it has enough to do with
+// reading and sending, and if they are for more routes than this, since it would wait for the memory of each.
 const FEW_ROUTES: u64 = 8;
 
 // The most turns that the polling thread makes in a round. What is left then it leaves to the workers.

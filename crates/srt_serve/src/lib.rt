@@ -1,9 +1,10 @@
 //! The running gateway: it starts the threads, stops them, and settles the routes.
 //!
-//! One thread polls, one ticks, and workers serve the routes; the polling thread serves some of them too. The crate reads no configuration (`srt_gateway` does),
-//! binds no socket and reads no clock (the program hands in a source, a wire and a ticker), and takes no signals.
+//! One thread polls, one ticks, and workers serve the routes; the polling thread serves some of them too. The crate reads
+//! no configuration (`srt_gateway` does), binds no socket and reads no clock (the program hands in a source, a wire and
+//! a ticker), and takes no signals.
 //!
-//! Types: a `Ticker` gives the moments at which all routes are ticked; `Ran` is the outcome of a run, a report of the
+//! Types: `Gates` has a gate for each thread that serves routes; a `Ticker` gives the moments at which all routes are ticked; `Ran` is the outcome of a run, a report of the
 //! poller and an account of each route; `RunFault` says why there is none.
 //!
 //! Calls: `run`, once. It returns when the given number of rounds is over and all its threads have ended. Each route has
@@ -11,8 +12,9 @@
 //!
 //! Files, in the order of a run: `running.rt` has the whole of it, and hides routes that open later; `opening.rt` opens
 //! all routes; `serving.rt` starts and joins the threads, which are `ticking.rt`, `working.rt` and
-//! `srt_poller::pump_under`, with what the polling thread does for routes in `helping.rt`; `settling.rt` settles the routes. How threads wake each other is `hall.rt`, with `bell.rt`
-//! and `marks.rt`; no contract depends on it. `specs/Ran.antt` says what a run did.
+//! `srt_poller::pump_under`, with what the polling thread does for routes in `helping.rt`; `settling.rt` settles the
+//! routes. How threads wake each other is `hall.rt`, with `bell.rt` and `marks.rt`; no contract depends on it.
+//! `specs/Ran.antt` says what a run did.
 #![tactic(auto)]
 
 mod bell;

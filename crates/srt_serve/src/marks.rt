@@ -1,5 +1,7 @@
 //! Marks of routes: flags that any thread sets and clears, 64 in a word.
 
+ghost use Rattle.std.specs.Prelude.{◌≡◌};
+
 use std::alloc::{AllocError, Global};
 use std::sync::atomic::{AtomicU64, Ordering};
 
@@ -96,7 +98,9 @@ impl Marks {
     }
 
     /// The number of routes.
-    pub fn len(&self) -> usize {
+    pub fn len(&self) -> usize
+        ensures { result ≡ self.now.routes }
+    {
         self.routes
     }
 

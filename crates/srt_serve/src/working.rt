@@ -1,5 +1,10 @@
 //! A worker thread: it goes round the routes and serves those that may have work.
 
+ghost use Rattle.std.specs.Prelude.{◌≡◌, ◌≢◌, ◌≤◌, true, false, Some, None};
+ghost use Rattle.srt_mailbox.specs.Counts.{Grew};
+ghost use Rattle.srt_mailbox.specs.declared.gates.Served.TheVariants.{Turned as TurnedAs, Held, Busy};
+ghost use Rattle.srt_seq.specs.declared.shared.Turned.TheVariants.{Idle};
+
 use crate::hall::Hall;
 use srt_mailbox::{Gate, Serve, Served, Visit};
 use srt_seq::Turned;
@@ -60,7 +65,14 @@ pub fn serve_route<R: Wait, C: Serve, G: Gate>(
     gate: &mut G,
     hall: &Hall,
     most: u32,
-) -> Visit {
+) -> Visit
+    ensures most { result.turns ≤ most }
+    ensures moved { result.moved ≤ result.turns }
+    ensures all { result.end ≡ None → result.turns ≡ most }
+    ensures held { result.end ≡ Some Held → Grew (G.held gate.old) (G.held gate.new) }
+    ensures passed { result.end ≢ Some Held → G.held gate.new ≡ G.held gate.old }
+    ensures busy { result.end ≡ Some Busy → (result.turns ≡ 0) × (gate.new ≡ gate.old) }
+{
     let visit = cell.visit(rt, gate, most);
     if visit.moved > 0 {
         hall.moved(route);
@@ -69,7 +81,11 @@ pub fn serve_route<R: Wait, C: Serve, G: Gate>(
 }
 
 /// Whether more may be left to do after a visit, so that the route is to ask again.
-pub fn is_left(visit: Visit) -> bool {
+pub fn is_left(visit: Visit) -> bool
+    ensures idle { visit.end ≡ Some (TurnedAs Idle) → result ≡ false }
+    ensures held { visit.end ≡ Some Held → result ≡ false }
+    ensures left { visit.end ≢ Some (TurnedAs Idle) → visit.end ≢ Some Held → result ≡ true }
+{
     match visit.end {
         Some(Served::Turned(Turned::Idle)) | Some(Served::Held) => false,
         _ => true,
