@@ -21,14 +21,17 @@ def below(crates):
     return found
 
 
-def built(room, name, program, needs, answers=None):
+def built(room, name, program, needs, answers=None, modules=()):
     """The program's path, after it was proved and built in this empty folder; `answers` gives the file of each function that has
-    proof answers."""
+    proof answers, and `modules` the files of its modules."""
     found = below(needs)
     for crate in found:
         shutil.copytree(f"{TOP}/crates/{crate}", f"{room}/crates/{crate}")
     os.makedirs(f"{room}/crates/{name}/src")
     shutil.copyfile(program, f"{room}/crates/{name}/src/main.rt")
+    for path in modules:
+        module = os.path.splitext(os.path.basename(path))[0]
+        shutil.copyfile(path, f"{room}/crates/{name}/src/{module}.rt")
     for function, path in (answers or {}).items():
         os.makedirs(f"{room}/crates/{name}/proofs/{function}")
         shutil.copyfile(path, f"{room}/crates/{name}/proofs/{function}/Answers.antt")

@@ -8,7 +8,9 @@ ghost use Rattle.srt_seq.specs.declared.shared.Item.TheVariants.{Datagram};
 ghost use Rattle.srt_mailbox.specs.Ends.{producer, consumer, AreNew, AreLeft};
 ghost use Rattle.srt_mailbox.specs.Inbox.{StoodAsPolled, StoodAsTicked, StoodAsTaken};
 
-use crate::inbox_rule::{Clock, Inbox, InboxPass, Left, Marked, Poller, Polls, Takes, Ticks};
+use crate::inbox_rule::{
+    Clock, Inbox, InboxPass, Left, Marked, Poller, Polls, PollsDatagram, Takes, Ticks,
+};
 use srt_seq::{Item, Peer};
 use std::alloc::{AllocError, Global};
 use std::marker::Model;
@@ -119,7 +121,10 @@ impl Ingress {
         ensures full { result ≡ false → (self.new ≡ self.old) × Held self.old.capacity (StoodAsPolled self.old.offered) }
     {
         let marked = Marked::datagram(true, peer, moment, head, body);
-        match self.queue.push_as::<Polls, R>(rt, &mut self.pass, marked) {
+        match self
+            .queue
+            .push_as::<PollsDatagram, R>(rt, &mut self.pass, marked)
+        {
             Ok(()) => true,
             Err(_) => false,
         }

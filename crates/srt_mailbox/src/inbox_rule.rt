@@ -216,6 +216,22 @@ impl Lesson<Marked, InboxView> for Polls {
     ghost fact = { λ v items. StoodAsPolled v.polled items };
 }
 
+/// The poller offers a datagram. It means what `Polls` does; as a name of its own it gives the push of a datagram one
+/// caller alone, so that the compiler moves it into the poller's loop.
+pub struct PollsDatagram;
+
+impl Outcome<Marked, InboxView> for PollsDatagram {
+    ghost use Rattle.srt_mailbox.specs.Inbox.{Polled};
+
+    ghost then = { Polled };
+}
+
+impl Lesson<Marked, InboxView> for PollsDatagram {
+    ghost use Rattle.srt_mailbox.specs.Inbox.{StoodAsPolled};
+
+    ghost fact = { λ v items. StoodAsPolled v.polled items };
+}
+
 /// The clock offers a tick.
 pub struct Ticks;
 
