@@ -123,6 +123,16 @@ impl Drain {
         }
     }
 
+    /// True only if the outbox was empty at some moment of the call. Changes nothing. It only reads, so calls at several
+    /// outboxes one after the other wait for memory at the same time, where one `take` waits for the one before it.
+    #[inline(always)]
+    pub fn is_empty(&mut self) -> bool
+        ensures same { self.new ≡ self.old }
+        ensures empty { result ≡ true → Held 0 (StoodAsDrained self.old.through) }
+    {
+        self.queue.is_empty_as::<Drains>(&mut self.pass)
+    }
+
     /// The reply that `take` took last. Before the first it is a blank one, which isn't to be sent.
     #[inline(always)]
     pub fn reply(&self) -> &Reply

@@ -193,6 +193,7 @@ fn assert_drained(
 ) -> Result<(), Fail>
     ensures { drain.new.queue ≡ drain.old.queue }
 {
+    assert!(rt; !drain.is_empty());
     assert!(rt; drain.take(rt));
     assert_at_hand(rt, drain, wanted)
 }
@@ -310,6 +311,7 @@ fn a_visit_makes_the_turns_that_it_may(rt: HostRuntime) -> Result<(), Fail> {
     drain_times(&rt, &mut drain, ANSWER, 16)?;
     assert_visited(&rt, &cell, 1, (1, 1, None));
     drain_times(&rt, &mut drain, ANSWER, 1)?;
+    assert!(rt; drain.is_empty());
     assert!(rt; !drain.take(&rt));
     Ok(())
 }

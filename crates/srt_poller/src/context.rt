@@ -32,6 +32,14 @@ pub(crate) struct Context<'a, 'b, R, G> {
 }
 
 impl<R, G: Signals> Context<'_, '_, R, G> {
+    /// The first route from this one on with a hint that its outbox may have a reply.
+    #[inline(always)]
+    pub(crate) fn next_hinted(&self, route: usize) -> usize
+        ensures { route ≤ result }
+    {
+        self.signals.next_from(route).max(route)
+    }
+
     /// The first route from this one on to take replies from: this one if the round looks at all, else the first one
     /// with a hint.
     #[inline(always)]
@@ -41,6 +49,6 @@ impl<R, G: Signals> Context<'_, '_, R, G> {
         if self.all {
             return route;
         }
-        self.signals.next_from(route).max(route)
+        self.next_hinted(route)
     }
 }

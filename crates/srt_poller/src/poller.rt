@@ -281,6 +281,25 @@ impl Poller {
         true
     }
 
+    /// Looks at the outboxes of all routes with a hint. Those of many routes are mostly out of the caches, and here the
+    /// processor fetches several at the same time; the drain then finds them.
+    fn look_ahead<R, G: Signals>(context: &Context<R, G>, ends: &mut [Ends])
+        ensures { ends.new ≡ ends.old }
+    {
+        if ends.len() < 2 {
+            return;
+        }
+        let mut route = 0;
+        while route < ends.len() {
+            let at = context.next_hinted(route);
+            if at >= ends.len() {
+                return;
+            }
+            let _ = ends[at].drain.is_empty();
+            route = at + 1;
+        }
+    }
+
     /// Sends replies of all routes, in the order of their indexes, until one is kept.
     #[inline(always)]
     pub(crate) fn drain<R: Wait, W: Wire, G: Signals>(
@@ -295,6 +314,7 @@ impl Poller {
         if self.kept.is_some() {
             return;
         }
+        Poller::look_ahead(context, ends);
         self.left = false;
         let mut route = 0;
         while route < ends.len() {

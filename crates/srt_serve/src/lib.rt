@@ -4,8 +4,8 @@
 //! no configuration (`srt_gateway` does), binds no socket and reads no clock (the program hands in a source, a wire and
 //! a ticker), and takes no signals.
 //!
-//! Types: `Gates` has a gate for each thread that serves routes; a `Ticker` gives the moments at which all routes are ticked; `Ran` is the outcome of a run, a report of the
-//! poller and an account of each route; `RunFault` says why there is none.
+//! Types: `Gates` has a gate for each thread that serves routes; a `Ticker` gives the moments at which routes are ticked;
+//! `Ran` is the outcome of a run, a report of the poller and an account of each route; `RunFault` says why there is none.
 //!
 //! Calls: `run`, once. It returns when the given number of rounds is over and all its threads have ended. Each route has
 //! a `srt_seq::Schedule`: the rounds in which callers begin to find it and in which it closes.

@@ -6,10 +6,12 @@ ghost use Rattle.std.specs.Vec.{vec_len};
 ghost use Rattle.srt_seq.specs.Terms.{terms_of};
 ghost use Rattle.srt_lobby.specs.Opening.{fault_of};
 
+use crate::hall::Hall;
+use crate::ticking::{Clocks, tick};
 use crate::{Gates, Ran, RunFault, Ticker, run};
 use srt_cookie::Secret;
 use srt_lobby::Names;
-use srt_mailbox::{Gate, Ungated};
+use srt_mailbox::{ClockEnd, Gate, RouteCell, Serve, Ungated, open_route};
 use srt_poller::{Polled, Read, Report, Sent, Source, Wire};
 use srt_seq::{Entry, Mode, Peer, Schedule};
 use std::alloc::Global;
@@ -568,5 +570,51 @@ fn as_many_routes_and_workers_as_there_can_be_run(rt: HostRuntime) -> Result<(),
         return Err(Fail::from("511 accounts"));
     };
     assert_eq!(rt; studio.drained, ran.report.sent);
+    Ok(())
+}
+
+/// A ticker that ends the run with its first moment.
+#[derive(Drop)]
+struct Once<'a> {
+    hall: &'a Hall,
+}
+
+impl Ticker for Once<'_> {
+    ghost gave = { λ ticker. None };
+
+    fn next(&mut self) -> u64 {
+        self.hall.finish();
+        MOMENT
+    }
+}
+
+/// The clock's ends and the cells of these routes.
+fn clocked(alloc: Global, routes: &Routes) -> Result<(Vec<ClockEnd>, Vec<RouteCell>), Fail> {
+    let mut ends = Vec::new(alloc);
+    let mut cells = Vec::new(alloc);
+    for (index, entry) in routes.entries.iter().enumerate() {
+        let Ok((_, end, cell, _)) = open_route(alloc, entry, index) else {
+            return Err(Fail::from("the entries are right"));
+        };
+        ends.push(end)?;
+        cells.push(cell)?;
+    }
+    Ok((ends, cells))
+}
+
+/// Of two routes the second one asks for a worker, so the tick goes to the first alone.
+#[test]
+fn a_route_that_asks_gets_no_tick(rt: HostRuntime) -> Result<(), Fail> {
+    let alloc = rt.alloc();
+    let (ends, cells) = clocked(alloc, &Routes::two(alloc, ALWAYS)?)?;
+    let hall = Hall::open(alloc, cells.len(), 1)?;
+    hall.ask(1);
+    let ticker = Once { hall: &hall };
+    tick(&rt, &mut Clocks { ends, ticker }, &hall);
+    let mut turns = Vec::new(alloc);
+    for cell in &cells {
+        turns.push(cell.visit(&rt, &mut Ungated, 4).turns)?;
+    }
+    assert_eq!(rt; turns.as_slice(), [1, 0].as_slice());
     Ok(())
 }

@@ -34,47 +34,68 @@ pub struct Clocks<K: Ticker + Drop> {
     pub ticker: K,
 }
 
-// Offers a tick to one route. If the inbox is full, the tick is discarded.
-fn tick_one<R: Wait>(rt: &R, end: &mut ClockEnd, moment: u64)
+// Whether the route gets no tick now, since it asks for a worker: what waits for the worker shows the route the time as a
+// tick does, and two events so close cost twice as much.
+fn is_left_out(hall: &Hall, route: usize) -> bool {
+    hall.asks(route)
+}
+
+// Offers a tick to one route, unless it is left out. If the inbox is full, the tick is discarded.
+fn tick_one<R: Wait>(rt: &R, end: &mut ClockEnd, moment: u64, hall: &Hall, route: usize)
     requires { moment < 2 ^ 62 }
     ensures { (end.new ≡ end.old) ⊎ (end.new ≡ producer end.old.queue end.old.capacity (end.old.offered ++ tick moment ∷ [])) }
 {
+    if is_left_out(hall, route) {
+        return;
+    }
     let _ = end.offer(rt, Item::Tick { moment });
 }
 
-// Whether no inbox has room. Their ends are mostly out of the caches, and here the processor fetches those of several
+// Whether the route is left out or has no room in its inbox.
+fn takes_no_tick(end: &mut ClockEnd, hall: &Hall, route: usize) -> bool
+    ensures { end.new ≡ end.old }
+{
+    is_left_out(hall, route) || end.is_full()
+}
+
+// Whether no route takes a tick. The ends are mostly out of the caches, and here the processor fetches those of several
 // routes at the same time; `tick_each` then finds them.
-fn all_full(ends: &mut [ClockEnd]) -> bool
+fn all_left_out(ends: &mut [ClockEnd], hall: &Hall) -> bool
     ensures { WereTicked [] ends.old ends.new }
 {
-    let mut full = true;
+    let mut all = true;
+    let mut route = 0usize;
     for end in ends.iter_mut() {
-        full &= end.is_full();
+        all &= takes_no_tick(end, hall, route);
+        route = route.wrapping_add(1);
     }
-    full
+    all
 }
 
-// Offers a tick to every route, in the order of their indexes.
-fn tick_each<R: Wait>(rt: &R, ends: &mut [ClockEnd], moment: u64)
+// Offers a tick to every route that isn't left out, in the order of their indexes.
+fn tick_each<R: Wait>(rt: &R, ends: &mut [ClockEnd], moment: u64, hall: &Hall)
     requires { moment < 2 ^ 62 }
     ensures { WereTicked (moment ∷ []) ends.old ends.new }
 {
+    let mut route = 0usize;
     for end in ends.iter_mut() {
-        tick_one(rt, end, moment);
+        tick_one(rt, end, moment, hall, route);
+        route = route.wrapping_add(1);
     }
 }
 
-// Offers a tick to every route, unless no inbox has room.
-fn tick_all<R: Wait>(rt: &R, ends: &mut [ClockEnd], moment: u64)
+// Offers a tick to every route that isn't left out, unless no route takes one.
+fn tick_all<R: Wait>(rt: &R, ends: &mut [ClockEnd], moment: u64, hall: &Hall)
     requires { moment < 2 ^ 62 }
     ensures { WereTicked (moment ∷ []) ends.old ends.new }
 {
-    if !all_full(ends) {
-        tick_each(rt, ends, moment);
+    if !all_left_out(ends, hall) {
+        tick_each(rt, ends, moment, hall);
     }
 }
 
-/// Ticks all routes at each moment that the ticker gives, until the run is over.
+/// Ticks all routes at each moment that the ticker gives, until the run is over. A route that asks for a worker is left
+/// out: an item waits there, and each item shows the time.
 pub fn tick<R: Wait, K: Ticker + Drop>(rt: &R, clocks: &mut Clocks<K>, hall: &Hall)
     ensures { Ticked (K.gave clocks.old.ticker) (K.gave clocks.new.ticker) clocks.old.ends.items clocks.new.ends.items }
 {
@@ -84,7 +105,7 @@ pub fn tick<R: Wait, K: Ticker + Drop>(rt: &R, clocks: &mut Clocks<K>, hall: &Ha
             return;
         }
         let moment = clocks.ticker.next();
-        tick_all(rt, &mut clocks.ends, moment);
+        tick_all(rt, &mut clocks.ends, moment, hall);
         hall.ticked();
         thread::yield_now();
     }

@@ -136,8 +136,9 @@ fn go_round<R: Wait, C: Serve, G: Gate>(
 
 /// Serves the routes that ask, round after round from the route `first` on, until the run is over. After a round that
 /// found nothing to do it sleeps for at most 500 microseconds, and after each further one until the bell is called.
-/// After a round that found a little to do at each of many routes it sleeps for at most 2 milliseconds, so that more
-/// gathers at each: a visit costs nearly the same for one item as for several.
+/// After a round that found a little to do at each of many routes it sleeps for at most 5 milliseconds, so that more
+/// gathers at each: a visit costs nearly the same for one item as for several. A worker that finds another one asleep so
+/// leaves such work to it, and is called in again by a round that has much to do.
 pub fn work<R: Wait, C: Serve, G: Gate + Drop>(
     rt: &R,
     cells: &[C],
@@ -162,6 +163,9 @@ pub fn work<R: Wait, C: Serve, G: Gate + Drop>(
             hall.doze(rt, heard);
             napped = true;
         } else if round.served > 0 {
+            if round.moved >= MANY {
+                hall.call_in();
+            }
             napped = false;
         } else if napped {
             hall.rest(rt, heard);

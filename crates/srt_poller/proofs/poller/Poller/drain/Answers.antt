@@ -8,7 +8,7 @@ returns-then-is_some g c class schedules t gave = went_more {m = 0} (omega arith
 pub loop-route-init : goal.loop-route-init
 loop-route-init g c =
     let none : c.args.self.now.kept ≡ None = none_is _ (sym c.if-is_some.ensures) in
-    (none, omega arith, λ class schedules t gave. went_none _ _ _ _)
+    (none, omega arith, λ class schedules t gave. rw c.look_ahead.ensures (went_none _ _ _ _))
 
 pub returns-then-at-ends : goal.returns-then-at-ends
 returns-then-at-ends g c class schedules t gave = went_more (omega (arith, c.loop-route.invariant.1, c.loop-route.auto.ends)) (omega arith) (c.loop-route.invariant.2 class schedules t gave)
