@@ -20,9 +20,9 @@ const SHARE: u64 = 8;
 // How long a worker that found nothing to do sleeps at most before it looks again, in microseconds.
 const NAP: u64 = 500;
 
-// How long one worker sleeps at most after it found a little to do at each of many routes, in microseconds. Half a
-// tick; a route of 130 packets a second gets about two datagrams in this time.
-const DOZE: u64 = 5000;
+// How long one worker sleeps at most for each route at which it found a little to do, in microseconds, if there were
+// many: half a tick for as many routes as there can be.
+const DOZE_EACH: u64 = 10;
 
 // How long a worker that found nothing again sleeps at most, in microseconds.
 const SLEEP: u64 = 100_000;
@@ -181,13 +181,15 @@ impl Hall {
         self.bell.rest(rt, heard, Duration::from_micros(NAP));
     }
 
-    /// Sleeps for at most 5 milliseconds, or until the bell is called. If another worker does so, it sleeps for at most
-    /// 100 milliseconds, or until the bell is called: one is enough for a little work at each of many routes.
-    pub fn doze<R: Wait>(&self, rt: &R, heard: u64) {
+    /// Sleeps for at most 10 microseconds for each of this many routes, and 500 in all for few, or until the bell is
+    /// called. If another worker does so, it sleeps for at most 100 milliseconds, or until the bell is called: one is
+    /// enough for a little work at each of many routes.
+    pub fn doze<R: Wait>(&self, rt: &R, heard: u64, routes: u32) {
         if self.dozing.swap(true, Ordering::SeqCst) {
             self.stand_by(rt, heard);
         } else {
-            self.bell.rest(rt, heard, Duration::from_micros(DOZE));
+            let most = u64::from(routes).saturating_mul(DOZE_EACH).max(NAP);
+            self.bell.rest(rt, heard, Duration::from_micros(most));
             self.dozing.store(false, Ordering::SeqCst);
         }
     }

@@ -136,9 +136,9 @@ fn go_round<R: Wait, C: Serve, G: Gate>(
 
 /// Serves the routes that ask, round after round from the route `first` on, until the run is over. After a round that
 /// found nothing to do it sleeps for at most 500 microseconds, and after each further one until the bell is called.
-/// After a round that found a little to do at each of many routes it sleeps for at most 5 milliseconds, so that more
-/// gathers at each: a visit costs nearly the same for one item as for several. A worker that finds another one asleep so
-/// leaves such work to it, and is called in again by a round that has much to do.
+/// After a round that found a little to do at each of many routes it sleeps for at most 10 microseconds for each, so that
+/// more gathers there: a visit costs nearly the same for one item as for several. A worker that finds another one asleep
+/// so leaves such work to it, and is called in again by a round that has much to do.
 pub fn work<R: Wait, C: Serve, G: Gate + Drop>(
     rt: &R,
     cells: &[C],
@@ -160,7 +160,7 @@ pub fn work<R: Wait, C: Serve, G: Gate + Drop>(
         let heard = hall.heard();
         let round = go_round(rt, cells, first, &mut gate, hall);
         if round.is_thin() {
-            hall.doze(rt, heard);
+            hall.doze(rt, heard, round.served);
             napped = true;
         } else if round.served > 0 {
             if round.moved >= MANY {
