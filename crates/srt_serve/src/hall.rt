@@ -53,8 +53,8 @@ pub struct Hall {
     resting: AtomicU64,
     // a worker is in `doze`, and looks again by itself
     dozing: AtomicBool,
-    // the number of workers that sleep meanwhile
-    standing_by: AtomicU64,
+    // the number of workers that are in reserve meanwhile
+    reserve: AtomicU64,
     // the number of threads that have arrived: the ticking thread and the workers
     here: AtomicU64,
     // the run is over
@@ -75,7 +75,7 @@ impl Hall {
             workers: workers as u64,
             resting: AtomicU64::new(0),
             dozing: AtomicBool::new(false),
-            standing_by: AtomicU64::new(0),
+            reserve: AtomicU64::new(0),
             here: AtomicU64::new(0),
             done: AtomicBool::new(false),
         })
@@ -161,9 +161,9 @@ impl Hall {
         }
     }
 
-    /// Wakes a worker, if one sleeps because another was enough.
+    /// Wakes a worker, if one is in reserve.
     pub fn call_in(&self) {
-        if self.standing_by.load(Ordering::SeqCst) > 0 {
+        if self.reserve.load(Ordering::SeqCst) > 0 {
             self.bell.call_one();
         }
     }
@@ -182,11 +182,11 @@ impl Hall {
     }
 
     /// Sleeps for at most 10 microseconds for each of this many routes, and 500 in all for few, or until the bell is
-    /// called. If another worker does so, it sleeps for at most 100 milliseconds, or until the bell is called: one is
-    /// enough for a little work at each of many routes.
+    /// called. If another worker does so, this one is in reserve, for at most 100 milliseconds or until the bell is
+    /// called: one is enough for a little work at each of many routes.
     pub fn doze<R: Wait>(&self, rt: &R, heard: u64, routes: u32) {
         if self.dozing.swap(true, Ordering::SeqCst) {
-            self.stand_by(rt, heard);
+            self.rest_in_reserve(rt, heard);
         } else {
             let most = u64::from(routes).saturating_mul(DOZE_EACH).max(NAP);
             self.bell.rest(rt, heard, Duration::from_micros(most));
@@ -195,12 +195,12 @@ impl Hall {
     }
 
     // Sleeps until the bell is called, for at most 100 milliseconds.
-    fn stand_by<R: Wait>(&self, rt: &R, heard: u64) {
-        self.standing_by.fetch_add(1, Ordering::SeqCst);
+    fn rest_in_reserve<R: Wait>(&self, rt: &R, heard: u64) {
+        self.reserve.fetch_add(1, Ordering::SeqCst);
         if !self.is_done() {
             self.bell.rest(rt, heard, Duration::from_micros(SLEEP));
         }
-        self.standing_by.fetch_sub(1, Ordering::SeqCst);
+        self.reserve.fetch_sub(1, Ordering::SeqCst);
     }
 
     /// Sleeps until the bell is called, for at most 100 milliseconds; at most 500 microseconds if a route still asks
@@ -263,8 +263,7 @@ impl Hall {
     pub fn read_ended(&self, datagrams: u32, begun: u64) {
         let are_for_few = begun.saturating_mul(SHARE) <= u64::from(datagrams);
         let resting = self.resting.load(Ordering::SeqCst);
-        let all_rest = resting.saturating_add(self.standing_by.load(Ordering::SeqCst))
-            >= self.workers;
+        let all_rest = resting.saturating_add(self.reserve.load(Ordering::SeqCst)) >= self.workers;
         if (datagrams >= MANY && are_for_few) || (datagrams > 0 && all_rest) {
             self.bell.call_one();
         }
