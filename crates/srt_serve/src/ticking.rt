@@ -35,7 +35,8 @@ pub struct Clocks<K: Ticker + Drop> {
 }
 
 // Whether the route gets no tick now, since it asks for a worker: what waits for the worker shows the route the time as a
-// tick does, and two events so close cost twice as much.
+// tick does, and two events so close cost twice as much. The mark is a hint. If nothing waits any more, a worker clears
+// it, and the route gets a later tick.
 fn is_left_out(hall: &Hall, route: usize) -> bool {
     hall.asks(route)
 }
@@ -95,7 +96,7 @@ fn tick_all<R: Wait>(rt: &R, ends: &mut [ClockEnd], moment: u64, hall: &Hall)
 }
 
 /// Ticks all routes at each moment that the ticker gives, until the run is over. A route that asks for a worker is left
-/// out: an item waits there, and each item shows the time.
+/// out: by its mark an item waits there, and each item shows the time.
 pub fn tick<R: Wait, K: Ticker + Drop>(rt: &R, clocks: &mut Clocks<K>, hall: &Hall)
     ensures { Ticked (K.gave clocks.old.ticker) (K.gave clocks.new.ticker) clocks.old.ends.items clocks.new.ends.items }
 {
