@@ -9,9 +9,11 @@
 
    RATE is the number of packets a second over all routes. Each has 1316 bytes, with its number and the moment when it was
    sent. A publisher replies to each ACK with an ACKACK, and never retransmits. A subscriber acknowledges each 64th packet,
-   and every 10 ms if one came, as if none were missing, so what is lost stays lost. Both threads sleep between their turns
-   and then take all that has arrived. Latencies are computed from the kernel's timestamp of the arrival, and leave out the
-   first and the last tenth of the packets: when nothing more arrives, what is held back comes out at ticks only.
+   and every 10 ms if one came, up to the greatest sequence number that came, as if none were missing, so what is lost
+   stays lost. A gateway numbers its packets itself: after a loss their sequence numbers are less than the publisher's.
+   Both threads sleep between their turns and then take all that has arrived. Latencies are computed from the kernel's
+   timestamp of the arrival, and leave out the first and the last tenth of the packets: when nothing more arrives, what is
+   held back comes out at ticks only.
 
    Prints one line of names and numbers. cpu_ns is the processor time of PID from half a second after the start to the end
    of sending; relayed is the number of packets that came out in that time, datagrams that of all datagrams, both ways. */
@@ -256,8 +258,6 @@ static void take_payload(struct sub *it, const uint8_t *payload, int64_t came) {
     }
     it->seen[number] = 1;
     it->got++;
-    if (number >= it->next)
-        it->next = number + 1;
     if (latency_count < latency_room && number >= each / 10 && number < each - each / 10)
         latencies[latency_count++] = came > sent ? (came - sent) / 1000 : 0;
     atomic_fetch_add_explicit(&received, 1, memory_order_relaxed);
@@ -280,6 +280,9 @@ static void *receive_all(void *unused) {
                 uint32_t index = word_at(bytes + 12) - FIRST_ID;
                 if (length != 16 + PAYLOAD || index >= (uint32_t)all || bytes[0] & 0x80)
                     continue;
+                uint32_t sequence = word_at(bytes);
+                if (sequence >= subs[index].next)
+                    subs[index].next = sequence + 1;
                 take_payload(&subs[index], bytes + 16, arrival(&batch, i));
                 if (subs[index].next - subs[index].acked >= 64)
                     acknowledge(&subs[index]);
