@@ -25,7 +25,7 @@ impl RouteStep for Route {
     }
 
     fn step(&mut self, item: Item) -> usize {
-        Route::step(self, item)
+        Route::step(self, &item)
     }
 
     fn waits(&self) -> bool {

@@ -93,27 +93,27 @@ impl Route {
     /// One event: applies one item, a datagram, a tick or a Close, whose moment is in microseconds. Returns the number
     /// of replies that now wait: at most 66 for each session that the entry allows, and 4 more; none if the route was
     /// closed before. Take them all with `next_reply` before the next call. Takes no memory.
-    pub fn step(&mut self, item: Item) -> usize
+    pub fn step(&mut self, item: &Item) -> usize
         requires none_waits { waiting self.old ≡ [] }
-        requires timely { moment_of (told item) < 2 ^ 62 }
+        requires timely { moment_of (told item.now) < 2 ^ 62 }
         ensures count { result ≡ length (waiting self.new) }
-        ensures stands { (e : Terms) (index : ℕ) (items : List TheItem) → stands self.old e index items → stands self.new e index (told item ∷ items) }
+        ensures stands { (e : Terms) (index : ℕ) (items : List TheItem) → stands self.old e index items → stands self.new e index (told item.now ∷ items) }
         ensures replies { (e : Terms) (index : ℕ) (items : List TheItem) →
-            stands self.old e index items → waiting self.new ≡ reply e index (told item ∷ items) }
+            stands self.old e index items → waiting self.new ≡ reply e index (told item.now ∷ items) }
     {
         // 1: the clock never goes back. After a Close nothing else goes on.
-        self.clock = later(self.clock, moment(&item));
+        self.clock = later(self.clock, moment(item));
         if self.closed {
             return 0;
         }
-        self.closed = closes(&item);
+        self.closed = closes(item);
         // 2: idle sessions end, and what is too late is dropped.
         end_idle(&mut self.table, self.clock);
         // 3: a datagram is for a session, or is a conclusion; a Close ends every session.
         dispatch(
             &mut self.table,
             self.clock,
-            &item,
+            item,
             &mut self.scratch.reply,
             &mut self.waiting,
         );

@@ -92,7 +92,7 @@ fn assert_told(
         head,
         body: Vec::from_slice(rt.alloc(), &bytes[16..])?,
     };
-    let waiting = route.step(item);
+    let waiting = route.step(&item);
     let mut out = [0u8; 1472];
     let mut len = 0;
     let mut place = Box::new(rt.alloc(), Reply::blank())?;
@@ -119,7 +119,7 @@ fn assert_closed(
     if route.waits() || moment > 10_000_000 {
         return Err(Fail::from("an early moment, and no reply that waits"));
     }
-    let waiting = route.step(Item::Close { moment });
+    let waiting = route.step(&Item::Close { moment });
     assert_eq!(rt; waiting, shutdowns.len());
     let mut out = [0u8; 1472];
     let mut place = Box::new(rt.alloc(), Reply::blank())?;
@@ -321,7 +321,7 @@ fn what_opens_nothing_is_not_answered(rt: HostRuntime) -> Result<(), Fail> {
     if route.waits() {
         return Err(Fail::from("no reply waits"));
     }
-    assert_eq!(rt; route.step(Item::Tick { moment: 5 }), 0);
+    assert_eq!(rt; route.step(&Item::Tick { moment: 5 }), 0);
     Ok(())
 }
 
@@ -362,7 +362,7 @@ fn a_closed_route_sends_shutdowns_and_nothing_more(rt: HostRuntime) -> Result<()
     if route.waits() {
         return Err(Fail::from("no reply waits"));
     }
-    assert_eq!(rt; route.step(Item::Tick { moment: 2_000_000 }), 0);
+    assert_eq!(rt; route.step(&Item::Tick { moment: 2_000_000 }), 0);
     Ok(())
 }
 
