@@ -13,13 +13,11 @@ use Rattle.counted_slot.proofs.Counted.TheSendSync as counted
 use Rattle.counted_slot.specs.contracts.OptionFits.TheImpl as option_fits
 use Rattle.std.specs.contracts.option.Option as option
 use Rattle.std.proofs.option.Option.TheSendSync as option_is
-use Rattle.std.specs.contracts.boxed.Box as boxed
 use Rattle.std.proofs.Crossing as heap
 use Rattle.std.specs.contracts.alloc.Global as heap_c
 use Rattle.std.specs.contracts.impls.GlobalAllocator.TheImpl as heap_impl
 use denote.Builtin as builtin
 use Rattle.srt_seq.specs.contracts.shared.Entry as entry
-use Rattle.srt_route.specs.contracts.replies.Reply as reply
 use Rattle.srt_route.proofs.replies.Reply.TheSendSync as reply_is
 use Rattle.srt_mailbox.specs.contracts.inbox_rule.InboxView as inbox_view
 use Rattle.srt_mailbox.specs.contracts.inbox_rule.Marked as marked
@@ -29,8 +27,10 @@ use Rattle.srt_mailbox.specs.contracts.inbox_rule.InboxRuleProtocolMarkedInboxVi
 use Rattle.srt_mailbox.specs.contracts.inbox.Taker as taker
 use Rattle.srt_mailbox.specs.contracts.inbox.Taker.TheInside as taker_in
 use Rattle.srt_mailbox.specs.contracts.outbox_rule.OutboxView as outbox_view
+use Rattle.srt_mailbox.specs.contracts.outbox_rule.Parcel as parcel
+use Rattle.srt_mailbox.proofs.outbox_rule.Parcel.TheSendSync as parcel_is
 use Rattle.srt_mailbox.specs.contracts.outbox_rule.OutboxRule as outbox_rule
-use Rattle.srt_mailbox.specs.contracts.outbox_rule.OutboxRuleProtocolBoxReplyOutboxView.TheImpl as outbox_proto
+use Rattle.srt_mailbox.specs.contracts.outbox_rule.OutboxRuleProtocolParcelOutboxView.TheImpl as outbox_proto
 use Rattle.srt_mailbox.specs.contracts.outbox.Putter as putter
 use Rattle.srt_mailbox.specs.contracts.outbox.Putter.TheInside as putter_in
 use Rattle.srt_mailbox.specs.contracts.running.Running as running
@@ -66,20 +66,17 @@ taker_in_sync = recorded_sync (taker_in.the_field).row _ _ taker_in.the_type.to_
 taker_sync : IsSync taker.the_row
 taker_sync = view_sync _ _ _ _ _ taker_in_sync
 
-abbrev box_of : RattleType → RattleType
-box_of T = boxed.the_row T heap_c.the_row heap_impl.ghosts
-
-option_box : IsSend (option.the_row (box_of reply.the_row))
-option_box = option_is.the_send _ (heap.Box-send _ reply_is.the_send)
+option_parcel : IsSend (option.the_row parcel.the_row)
+option_parcel = option_is.the_send _ parcel_is.the_send
 
 abbrev outbox_queue : RattleType
-outbox_queue = slotted_c.the_row (option.the_row (box_of reply.the_row)) (doing_c.the_row (box_of reply.the_row) outbox_view.the_row) (turns_c.the_row outbox_rule.the_row) heap_c.the_row (turns_impl.ghosts (box_of reply.the_row) outbox_view.the_row outbox_rule.the_row outbox_proto.ghosts turns_impl.no_dict) heap_impl.ghosts
+outbox_queue = slotted_c.the_row (option.the_row parcel.the_row) (doing_c.the_row parcel.the_row outbox_view.the_row) (turns_c.the_row outbox_rule.the_row) heap_c.the_row (turns_impl.ghosts parcel.the_row outbox_view.the_row outbox_rule.the_row outbox_proto.ghosts turns_impl.no_dict) heap_impl.ghosts
 
 outbox_queue_send : IsSend outbox_queue
-outbox_queue_send = slotted.the_send _ _ _ _ (turns_impl.ghosts (box_of reply.the_row) outbox_view.the_row outbox_rule.the_row outbox_proto.ghosts turns_impl.no_dict) heap_impl.ghosts option_box heap.send heap.frees
+outbox_queue_send = slotted.the_send _ _ _ _ (turns_impl.ghosts parcel.the_row outbox_view.the_row outbox_rule.the_row outbox_proto.ghosts turns_impl.no_dict) heap_impl.ghosts option_parcel heap.send heap.frees
 
 outbox_queue_sync : IsSync outbox_queue
-outbox_queue_sync = slotted.the_sync _ _ _ _ (turns_impl.ghosts (box_of reply.the_row) outbox_view.the_row outbox_rule.the_row outbox_proto.ghosts turns_impl.no_dict) heap_impl.ghosts option_box heap.send heap.sync heap.frees
+outbox_queue_sync = slotted.the_sync _ _ _ _ (turns_impl.ghosts parcel.the_row outbox_view.the_row outbox_rule.the_row outbox_proto.ghosts turns_impl.no_dict) heap_impl.ghosts option_parcel heap.send heap.sync heap.frees
 
 snapshot_send : (Y : RattleType) → IsSend (snapshot.the_row Y)
 snapshot_send Y = record { owned = λ d vs. ((λ vss. (tt, ((λ uss. (tt, tt)), tt))), tt); leaving = λ k f vs. tt }
@@ -88,19 +85,19 @@ snapshot_sync : (Y : RattleType) → IsSync (snapshot.the_row Y)
 snapshot_sync Y = record { shared = λ d b o κ q. part_keyless (snapshot.the_row Y) (snapshot_send Y) q d b o }
 
 putter_in_sync : IsSync putter_in.the_row
-putter_in_sync = recorded_sync (putter_in.the_field).row _ _ putter_in.the_type.to_one (struct_sync (shape putter_in.the_type) (heap.Arc-sync outbox_queue outbox_queue_send outbox_queue_sync, (seat_sync _ _ option_box, tt)))
+putter_in_sync = recorded_sync (putter_in.the_field).row _ _ putter_in.the_type.to_one (struct_sync (shape putter_in.the_type) (heap.Arc-sync outbox_queue outbox_queue_send outbox_queue_sync, (seat_sync _ _ option_parcel, tt)))
 
 putter_sync : IsSync putter.the_row
 putter_sync = view_sync _ _ _ _ _ putter_in_sync
 
 running_in_send : IsSend running_in.the_row
-running_in_send = recorded_send (running_in.the_field).row _ _ running_in.the_type.to_one (struct_send (shape running_in.the_type) (taker_is.the_send, (putter_is.the_send, (boxes_is.the_field_send, (option_is.the_field_send _ (heap.Box-send _ reply_is.the_send), (search sendable, (search sendable, (search sendable, (search sendable, (route_is.the_field_send, (snapshot_send entry.the_row, (snapshot_send builtin.usize, tt))))))))))))
+running_in_send = recorded_send (running_in.the_field).row _ _ running_in.the_type.to_one (struct_send (shape running_in.the_type) (taker_is.the_send, (putter_is.the_send, (boxes_is.the_field_send, (option_is.the_field_send _ (heap.Box-send _ reply_is.the_send), (search (sendable, heap.crosses, option_is.the_field_send) depth 30, (search sendable, (search sendable, (search sendable, (search sendable, (route_is.the_field_send, (snapshot_send entry.the_row, (snapshot_send builtin.usize, tt)))))))))))))
 
 running_send : IsSend running.the_row
 running_send = view_send _ _ _ _ _ running_in_send
 
 running_in_sync : IsSync running_in.the_row
-running_in_sync = recorded_sync (running_in.the_field).row _ _ running_in.the_type.to_one (struct_sync (shape running_in.the_type) (taker_sync, (putter_sync, (boxes_is.the_field_sync, (option_is.the_field_sync _ (heap.Box-sync _ reply_is.the_sync), (search sendable, (search sendable, (search sendable, (search sendable, (route_is.the_field_sync, (snapshot_sync entry.the_row, (snapshot_sync builtin.usize, tt))))))))))))
+running_in_sync = recorded_sync (running_in.the_field).row _ _ running_in.the_type.to_one (struct_sync (shape running_in.the_type) (taker_sync, (putter_sync, (boxes_is.the_field_sync, (option_is.the_field_sync _ (heap.Box-sync _ reply_is.the_sync), (search (sendable, heap.crosses, option_is.the_field_sync) depth 30, (search sendable, (search sendable, (search sendable, (search sendable, (route_is.the_field_sync, (snapshot_sync entry.the_row, (snapshot_sync builtin.usize, tt)))))))))))))
 
 running_sync : IsSync running.the_row
 running_sync = view_sync _ _ _ _ _ running_in_sync

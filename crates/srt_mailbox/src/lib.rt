@@ -2,6 +2,7 @@
 //!
 //! It starts no thread (`srt_serve` does), uses no socket (`srt_poller` does), and doesn't define what a route replies
 //! (`srt_route` does). After `open_route` no call takes memory: replies travel in boxes that come back (`spares.rt`).
+//! With a reply the body of a datagram that was applied comes back to the poller, to be filled again.
 //!
 //! Types: the four ends of a route, which are `Ingress` (the poller offers datagrams), `ClockEnd` (the ticking thread
 //! offers ticks), `RouteCell` (workers serve the route) and `Drain` (the poller takes replies). A `Gate` may refuse a
@@ -10,7 +11,7 @@
 //!
 //! Calls: `open_route`; then, each from its own thread, `offer` on `Ingress` (for a datagram also `offer_datagram`) and
 //! on `ClockEnd`, `RouteCell::visit` or `RouteCell::serve` (any number of workers), and `Drain::take` with
-//! `Drain::reply`; last `settle`, which takes all four ends.
+//! `Drain::reply` and `Drain::take_body`; last `settle`, which takes all four ends.
 //!
 //! Files: the claim word is in `cells.rt`, one turn of a route in `running.rt`, the queues in `inbox.rt` and
 //! `outbox.rt`, what passes through them in `inbox_rule.rt` and `outbox_rule.rt` (`specs/Inbox.antt`,
@@ -34,7 +35,7 @@ pub use gates::{Gate, Served, Ungated, Visit};
 pub use inbox::{ClockEnd, Full, Ingress};
 pub use openings::open_route;
 pub use outbox::Drain;
-pub use running::Running;
+pub use running::{BODY_ROOM, Running};
 
 #[cfg(test)]
 mod tests;

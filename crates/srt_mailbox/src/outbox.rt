@@ -8,7 +8,7 @@ ghost use Rattle.srt_mailbox.specs.Counts.{counted};
 ghost use Rattle.srt_mailbox.specs.Ends.{pipe, drained};
 ghost use Rattle.srt_mailbox.specs.Outbox.{StoodAsPut, StoodAsDrained};
 
-use crate::outbox_rule::{Draining, Drains, Left, Outbox, OutboxPass, Puts};
+use crate::outbox_rule::{Draining, Drains, Left, Outbox, OutboxPass, Parcel, Puts};
 use crate::spares::{Boxes, Spent, open_boxes};
 use srt_route::Reply;
 use std::alloc::{AllocError, Global};
@@ -45,6 +45,8 @@ pub struct Drain {
     pass: OutboxPass,
     spent: Spent,
     hand: Box<Reply>,
+    // the body that came with it
+    body: Option<Vec<u8>>,
     // the number of replies drained; saturates at 2^64 - 1
     count: u64,
 }
@@ -65,13 +67,13 @@ impl Model for Drain {
 }
 
 impl Putter {
-    /// Appends a reply to the outbox. The error hands the box back; it comes only if the outbox was full at some moment
-    /// of the call. Takes no memory.
-    pub fn put<R: Wait>(&mut self, rt: &R, reply: Box<Reply>) -> Result<(), Box<Reply>>
-        ensures ok { OnOk result (self.new ≡ pipe self.old.queue self.old.capacity (self.old.put ++ reply.value ∷ [])) }
-        ensures full { IfErr result (λ back. (back ≡ reply) × (self.new ≡ self.old) × Held self.old.capacity (StoodAsPut self.old.put)) }
+    /// Appends a reply to the outbox. The error hands it back; it comes only if the outbox was full at some moment of
+    /// the call. Takes no memory.
+    pub fn put<R: Wait>(&mut self, rt: &R, parcel: Parcel) -> Result<(), Parcel>
+        ensures ok { OnOk result (self.new ≡ pipe self.old.queue self.old.capacity (self.old.put ++ parcel.value ∷ [])) }
+        ensures full { IfErr result (λ back. (back ≡ parcel) × (self.new ≡ self.old) × Held self.old.capacity (StoodAsPut self.old.put)) }
     {
-        self.queue.push_as::<Puts, R>(rt, &mut self.pass, reply)
+        self.queue.push_as::<Puts, R>(rt, &mut self.pass, parcel)
     }
 
     /// Returns the number of replies left and the number drained (saturated at 2^64 - 1), and ends the outbox; `drain`
@@ -87,6 +89,7 @@ impl Putter {
             pass: drains,
             spent: _,
             hand: _,
+            body: _,
             count,
         } = drain;
         queue.absorb::<Draining>(&mut pass, drains);
@@ -110,7 +113,9 @@ impl Drain {
         ensures none { result ≡ false → (self.new ≡ self.old) × Held 0 (StoodAsDrained self.old.through) }
     {
         match self.queue.pop_as::<Drains, R>(rt, &mut self.pass) {
-            Some(reply) => {
+            Some(parcel) => {
+                let (reply, body) = parcel.into_parts();
+                self.body = body;
                 let empty = mem::replace(&mut self.hand, reply);
                 self.spent.give(empty);
                 self.count = self.count.saturating_add(1);
@@ -131,6 +136,15 @@ impl Drain {
         ensures empty { result ≡ true → Held 0 (StoodAsDrained self.old.through) }
     {
         self.queue.is_empty_as::<Drains>(&mut self.pass)
+    }
+
+    /// The body of some datagram that the route has applied, if one came with the reply that `take` took last. It has
+    /// room for any packet's (`BODY_ROOM`), and its bytes mean nothing.
+    #[inline(always)]
+    pub fn take_body(&mut self) -> Option<Vec<u8>>
+        ensures { self.new ≡ self.old }
+    {
+        self.body.take()
     }
 
     /// The reply that `take` took last. Before the first it is a blank one, which isn't to be sent.
@@ -161,6 +175,7 @@ pub fn open_outbox(alloc: Global, capacity: usize) -> Result<(Putter, Drain, Box
         pass: drains,
         spent,
         hand,
+        body: None,
         count: 0,
     };
     Ok((putter, drain, boxes))

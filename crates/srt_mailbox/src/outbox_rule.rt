@@ -1,10 +1,50 @@
 //! The rule of the outbox: which end may do what, and what each end knows of the replies. A *pass* is the right to use
 //! the queue; each of the two ends has one. Views, rules, splits, outcomes and lessons are for proofs alone.
 
+ghost use Rattle.std.specs.Prelude.{◌≡◌};
+
 use crossbeam_queue::protocol::{Join, Lesson, Outcome, Protocol, Split};
 use crossbeam_queue::{Pass, RuledArrayQueue};
 use srt_route::Reply;
 use std::collections::LinkedList;
+use std::marker::Model;
+
+/// What lies in the outbox: a reply in its box and, on its way back to the poller, the memory of a datagram that the
+/// route has applied. Contracts see the box alone.
+#[derive(Drop)]
+pub struct Parcel {
+    reply: Box<Reply>,
+    // the datagram's body, whose bytes mean nothing any more
+    body: Option<Vec<u8>>,
+}
+
+impl Model for Parcel {
+    ghost use Rattle.std.specs.Global.{Box};
+    ghost use Rattle.srt_route.specs.declared.replies.Reply.{Reply as TheReply};
+
+    ghost Value = { Box TheReply };
+
+    ghost view = { λ s. s.reply };
+}
+
+impl Parcel {
+    /// A reply, and a body to be filled again if there is one.
+    #[inline(always)]
+    pub fn new(reply: Box<Reply>, body: Option<Vec<u8>>) -> Parcel
+        ensures { result ≡ reply }
+    {
+        Parcel { reply, body }
+    }
+
+    /// The reply and the body.
+    #[inline(always)]
+    pub fn into_parts(self) -> (Box<Reply>, Option<Vec<u8>>)
+        ensures { result.0 ≡ self }
+    {
+        let Parcel { reply, body } = self;
+        (reply, body)
+    }
+}
 
 /// The rights of a pass of the outbox, and what was done by them, the oldest first. No value of it is ever made.
 pub struct OutboxView {
@@ -13,15 +53,15 @@ pub struct OutboxView {
     /// It may drain replies.
     pub drains: bool,
     /// The replies that it put.
-    pub put: LinkedList<Box<Reply>>,
+    pub put: LinkedList<Parcel>,
     /// The replies that it drained.
-    pub drained: LinkedList<Box<Reply>>,
+    pub drained: LinkedList<Parcel>,
 }
 
 /// The rule: the replies drained, followed by those held, are the replies that were put, in order.
 pub struct OutboxRule;
 
-impl Protocol<Box<Reply>, OutboxView> for OutboxRule {
+impl Protocol<Parcel, OutboxView> for OutboxRule {
     ghost use Rattle.srt_mailbox.specs.Outbox.{Kept, fresh};
 
     ghost holds = { Kept };
@@ -51,13 +91,13 @@ impl Join<OutboxView> for Draining {
 /// The route puts a reply.
 pub struct Puts;
 
-impl Outcome<Box<Reply>, OutboxView> for Puts {
+impl Outcome<Parcel, OutboxView> for Puts {
     ghost use Rattle.srt_mailbox.specs.Outbox.{Put};
 
     ghost then = { Put };
 }
 
-impl Lesson<Box<Reply>, OutboxView> for Puts {
+impl Lesson<Parcel, OutboxView> for Puts {
     ghost use Rattle.srt_mailbox.specs.Outbox.{StoodAsPut, replies_in};
 
     ghost fact = { λ v items. StoodAsPut (replies_in v.put) items };
@@ -66,13 +106,13 @@ impl Lesson<Box<Reply>, OutboxView> for Puts {
 /// The drain takes a reply.
 pub struct Drains;
 
-impl Outcome<Box<Reply>, OutboxView> for Drains {
+impl Outcome<Parcel, OutboxView> for Drains {
     ghost use Rattle.srt_mailbox.specs.Outbox.{Drained};
 
     ghost then = { Drained };
 }
 
-impl Lesson<Box<Reply>, OutboxView> for Drains {
+impl Lesson<Parcel, OutboxView> for Drains {
     ghost use Rattle.srt_mailbox.specs.Outbox.{StoodAsDrained, replies_in};
 
     ghost fact = { λ v items. StoodAsDrained (replies_in v.drained) items };
@@ -81,14 +121,14 @@ impl Lesson<Box<Reply>, OutboxView> for Drains {
 /// The pass that has both rights looks at the replies left.
 pub struct Left;
 
-impl Lesson<Box<Reply>, OutboxView> for Left {
+impl Lesson<Parcel, OutboxView> for Left {
     ghost use Rattle.srt_mailbox.specs.Outbox.{KnowsAll};
 
     ghost fact = { KnowsAll };
 }
 
 /// The queue of an outbox: bounded, first in, first out.
-pub type Outbox = RuledArrayQueue<Box<Reply>, OutboxView, OutboxRule>;
+pub type Outbox = RuledArrayQueue<Parcel, OutboxView, OutboxRule>;
 
 /// A pass of an outbox.
-pub type OutboxPass = Pass<Box<Reply>, OutboxView>;
+pub type OutboxPass = Pass<Parcel, OutboxView>;

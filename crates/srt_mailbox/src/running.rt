@@ -10,9 +10,10 @@ ghost use Rattle.srt_mailbox.specs.Runs.{run, waiting_at, Replays, TurnedAs};
 
 use crate::inbox::Taker;
 use crate::outbox::Putter;
+use crate::outbox_rule::Parcel;
 use crate::spares::Boxes;
 use srt_route::{Reply, Route};
-use srt_seq::{Entry, Turned};
+use srt_seq::{Entry, Item, Turned};
 use std::marker::Model;
 use std::snapshot::Snapshot;
 use std::sync::Wait;
@@ -36,6 +37,8 @@ pub struct Running {
     boxes: Boxes,
     // a reply that a full outbox handed back; it is the oldest that waits
     held: Option<Box<Reply>>,
+    // the body of a datagram that was applied, which goes back to the poller with the next reply
+    body: Option<Vec<u8>>,
     // the number of replies that wait, `held` included
     waiting: usize,
     // the number of items taken; saturates at 2^64 - 1
@@ -64,6 +67,24 @@ impl Model for Running {
 
     // The route is in the state that the taken items lead to, and what it replied is what it would reply alone.
     ghost invariant = { λ s. stands s.route (terms_of s.entry.value) s.index.value (applied s.taker.taken) × Replays (run (terms_of s.entry.value) s.index.value s.taker s.putter (waiting_at s.held s.route)) × (s.waiting ≡ length (waiting_at s.held s.route)) × (s.taken ≡ counted (length s.taker.taken)) };
+}
+
+/// The length of the longest body of a packet, in bytes: that of the longest payload.
+pub const BODY_ROOM: usize = 1456;
+
+// Keeps the body of an item that was applied, if it has room for any packet's.
+fn keep_body(kept: &mut Option<Vec<u8>>, item: Item) {
+    if let Item::Datagram {
+        peer: _,
+        moment: _,
+        head: _,
+        body,
+    } = item
+    {
+        if body.capacity() >= BODY_ROOM {
+            *kept = Some(body);
+        }
+    }
 }
 
 // Takes the oldest reply that waits, in its box. There must be one.
@@ -105,6 +126,7 @@ impl Running {
             boxes,
             route,
             held: None,
+            body: None,
             waiting: 0,
             taken: 0,
             clock: 0,
@@ -120,13 +142,16 @@ impl Running {
         ensures { TurnedAs result self.old self.new }
     {
         let reply = next_waiting(rt, &mut self.held, &mut self.route, &mut self.boxes);
-        match self.putter.put(rt, reply) {
+        let parcel = Parcel::new(reply, self.body.take());
+        match self.putter.put(rt, parcel) {
             Ok(()) => {
                 self.waiting -= 1;
                 Turned::Moved
             }
             Err(back) => {
-                self.held = Some(back);
+                let (reply, body) = back.into_parts();
+                self.held = Some(reply);
+                self.body = body;
                 Turned::Blocked
             }
         }
@@ -144,8 +169,10 @@ impl Running {
         self.publishers = self.route.publishers();
         match self.taker.take(rt) {
             Some(marked) => {
-                self.waiting = self.route.step(marked.into_item());
+                let item = marked.into_item();
+                self.waiting = self.route.step(&item);
                 self.taken = self.taken.saturating_add(1);
+                keep_body(&mut self.body, item);
                 Turned::Applied
             }
             None => Turned::Idle,
@@ -185,6 +212,7 @@ impl Running {
             boxes: _,
             route: _,
             held: _,
+            body: _,
             waiting,
             taken,
             clock: _,

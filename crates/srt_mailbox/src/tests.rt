@@ -7,7 +7,7 @@ ghost use Rattle.srt_mailbox.specs.Cells.{AreEndsOf};
 ghost use Rattle.srt_mailbox.specs.Names.{name_in};
 
 use crate::gates::{Gate, Served, Visit};
-use crate::{Account, ClockEnd, Drain, Ingress, RouteCell, Serve, open_route, settle};
+use crate::{Account, BODY_ROOM, ClockEnd, Drain, Ingress, RouteCell, Serve, open_route, settle};
 use srt_seq::{Entry, Item, MOMENT_END, Mode, OpenFault, Peer, Turned};
 use std::alloc::Global;
 use std::process::Abort;
@@ -350,6 +350,42 @@ fn boxes_go_round_in_batches(rt: HostRuntime) -> Result<(), Fail> {
         go_round(&rt, &mut ingress, &cell, &mut drain, (16, 0))?;
     }
     go_round(&rt, &mut ingress, &cell, &mut drain, (0, 64))
+}
+
+/// Offers a conclusion whose body has room for any packet's, serves the route, and drains the answer.
+fn answer_with_room(
+    rt: &(impl AllocGlobal + Wait + Abort),
+    ingress: &mut Ingress,
+    cell: &RouteCell,
+    drain: &mut Drain,
+) -> Result<(), Fail> {
+    let bytes = hex::decode(rt.alloc(), PUBLISHER.text)?;
+    if bytes.len() < 16 {
+        return Err(Fail::from("a header"));
+    }
+    let mut head = [0u8; 16];
+    head.copy_from_slice(&bytes[..16]);
+    let mut body = Vec::with_capacity(rt.alloc(), BODY_ROOM)?;
+    body.extend_from_slice(&bytes[16..])?;
+    assert!(rt; ingress.offer_datagram(rt, peer(PUBLISHER.port), 1_000_000, head, body));
+    cell.visit(rt, &mut Fixed::open(), 64);
+    assert_drained(rt, drain, ANSWER)
+}
+
+#[test]
+fn a_body_with_room_comes_back_with_a_reply(rt: HostRuntime) -> Result<(), Fail> {
+    let (mut ingress, _clock, cell, mut drain) = studio(rt.alloc())?;
+    answer_with_room(&rt, &mut ingress, &cell, &mut drain)?;
+    let Some(body) = drain.take_body() else {
+        return Err(Fail::from("a body"));
+    };
+    assert!(rt; body.capacity() >= BODY_ROOM);
+    assert!(rt; drain.take_body().is_none());
+    offer_times(&rt, &mut ingress, PUBLISHER, 1)?;
+    cell.visit(&rt, &mut Fixed::open(), 64);
+    assert_drained(&rt, &mut drain, ANSWER)?;
+    assert!(rt; drain.take_body().is_none());
+    Ok(())
 }
 
 #[test]

@@ -24,8 +24,8 @@ invariant_of-self g c =
     let none = ap (λ (w : Run). w.waiting) c.self.view_is ∙ c.requires in
     let taken = ap (λ (k : Consumer). applied k.taken) c.in-Some.ensures ∙ told_last [] inside.taker.taken x in
     let stood : stands inside.route e r items = c.self.invariant.0 in
-    let waits = waits_next e r items inside.held inside.route c.step-self-inside.new.self _ _ none (c.step-self-inside.ensures.replies e r items stood) c.into_item.ensures.item in (
-      rw taken (subst (λ (i : Item). stands c.step-self-inside.new.self e r (told i ∷ items)) c.into_item.ensures.item (c.step-self-inside.ensures.stands e r items stood)),
+    let waits = waits_next e r items inside.held inside.route c.step-self-inside.new.self _ _ none (c.step-self-inside.ensures.replies e r items stood) c.into_item-item.ensures.item in (
+      rw taken (subst (λ (i : Item). stands c.step-self-inside.new.self e r (told i ∷ items)) c.into_item-item.ensures.item (c.step-self-inside.ensures.stands e r items stood)),
       rw taken (applied_replays e r (map written inside.putter.put) (waiting_at inside.held inside.route) (waiting_at inside.held c.step-self-inside.new.self) items (told x.item) c.self.invariant.1 none waits),
       c.step-self-inside.ensures.count ∙ ap (λ l. length (l ++ waiting c.step-self-inside.new.self)) (sym (none_held inside.held inside.route none)),
       c.saturating_add-self-inside.ensures ∙ counted_more (length inside.taker.taken) inside.taken c.self.invariant.3 ∙ sym (ap counted (ap (λ (k : Consumer). length k.taken) c.in-Some.ensures ∙ length-append inside.taker.taken (x ∷ []))),
@@ -37,7 +37,7 @@ returns-in-Some g c =
     let now = c.step-self-inside.new.self in
     let run_of = run (terms_of inside.entry.value) inside.index.value in
     let stood : stands inside.route (terms_of inside.entry.value) inside.index.value (applied inside.taker.taken) = c.self.invariant.0 in
-    let waits = waits_next (terms_of inside.entry.value) inside.index.value (applied inside.taker.taken) inside.held inside.route now _ _ (ap (λ (w : Run). w.waiting) c.self.view_is ∙ c.requires) (c.step-self-inside.ensures.replies (terms_of inside.entry.value) inside.index.value (applied inside.taker.taken) stood) c.into_item.ensures.item in (
+    let waits = waits_next (terms_of inside.entry.value) inside.index.value (applied inside.taker.taken) inside.held inside.route now _ _ (ap (λ (w : Run). w.waiting) c.self.view_is ∙ c.requires) (c.step-self-inside.ensures.replies (terms_of inside.entry.value) inside.index.value (applied inside.taker.taken) stood) c.into_item-item.ensures.item in (
       c.in-Some.marked,
       c.requires,
       subst

@@ -1,5 +1,7 @@
 use Rattle.std.proofs.Common.{◌≡◌, ◌++◌, ◌∷◌, [], map, length, sym, ap, ◌∙◌, subst, arith}
+use Rattle.std.specs.Global.{Box}
 use Rattle.srt_seq.specs.Terms.{terms_of}
+use Rattle.srt_route.specs.declared.replies.Reply.{Reply}
 use Rattle.srt_route.specs.Stands.{waiting}
 use Rattle.srt_route.specs.Written.{written}
 use Rattle.srt_mailbox.specs.Ends.{Pipe, pipe}
@@ -10,9 +12,9 @@ use Rattle.srt_mailbox.proofs.running.Running.move_reply.Goals as goal
 pub invariant_of-self : goal.invariant_of-self
 invariant_of-self g c =
     let inside = c.self.inside in
-    let y = c.next_waiting-reply.result.value in
+    let y = c.new-parcel.result.value in
     let rest = waiting c.next_waiting-reply.new.route in
-    let first = c.next_waiting-reply.ensures.first in
+    let first = c.next_waiting-reply.ensures.first ∙ ap (λ (b : Box Reply). written b.value ∷ rest) (sym c.new-parcel.ensures) in
     let put = ap (λ (p : Pipe). p.put) c.in-Ok.ensures.ok in (
       c.next_waiting-reply.ensures.stands _ _ _ c.self.invariant.0,
       rw (put, c.next_waiting-reply.ensures.held) (moved_replays inside.putter.put y rest _ (ap (λ l. map written inside.putter.put ++ l) (sym first) ∙ c.self.invariant.1)),
@@ -24,8 +26,8 @@ pub invariant_of-self-in-Err : goal.invariant_of-self-in-Err
 invariant_of-self-in-Err g c =
     let inside = c.self.inside in
     let full = c.in-Err.ensures.full in
-    let first = c.next_waiting-reply.ensures.first in
-    let same = (λ i. written (full.0 i).value ∷ waiting c.next_waiting-reply.new.route) ∙ sym first in
+    let rest = waiting c.next_waiting-reply.new.route in
+    let same = (λ i. written ((c.into_parts-reply.ensures ∙ full.0 ∙ c.new-parcel.ensures) i).value ∷ rest) ∙ sym c.next_waiting-reply.ensures.first in
     let put = ap (λ (p : Pipe). map written p.put) full.1 in (
       c.next_waiting-reply.ensures.stands _ _ _ c.self.invariant.0,
       (λ i. put i ++ same i) ∙ c.self.invariant.1,
@@ -36,11 +38,11 @@ invariant_of-self-in-Err g c =
 pub returns-in-Ok : goal.returns-in-Ok
 returns-in-Ok g c =
     let inside = c.self.inside in
-    let y = c.next_waiting-reply.result.value in
+    let y = c.new-parcel.result.value in
     let route = c.next_waiting-reply.new.route in (
       y,
       waiting route,
-      ap (λ (w : Run). w.waiting) (sym c.self.view_is) ∙ c.next_waiting-reply.ensures.first,
+      ap (λ (w : Run). w.waiting) (sym c.self.view_is) ∙ c.next_waiting-reply.ensures.first ∙ ap (λ (b : Box Reply). written b.value ∷ waiting route) (sym c.new-parcel.ensures),
       subst
           (λ (w : Run). run (terms_of inside.entry.value) inside.index.value inside.taker c.put.new.self (waiting_at c.next_waiting-reply.new.held route) ≡ run w.terms w.index w.inbox (pipe w.outbox.queue w.outbox.capacity (w.outbox.put ++ y ∷ [])) (waiting route))
           c.self.view_is
