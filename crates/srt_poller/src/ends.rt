@@ -3,6 +3,7 @@
 ghost use Rattle.std.specs.Prelude.{◌≡◌, ◌<◌, ◌≤◌, ◌^◌, length};
 
 use crate::beginning::Latest;
+use crate::bodies::Bodies;
 use crate::context::Context;
 use srt_mailbox::{Drain, Ingress};
 use srt_seq::{Item, Peer};
@@ -32,12 +33,13 @@ impl Ends {
     ghost use Rattle.srt_poller.specs.Devices.{arrival};
     ghost use Rattle.srt_poller.specs.Pollers.{OfferedAs, ClosedAs};
 
-    /// Offers a copy of a datagram of 16 bytes or more to the route. The moment is in microseconds. Takes memory for
-    /// the bytes after the first 16; this is the only memory that a poller takes.
+    /// Offers a copy of a datagram of 16 bytes or more to the route. The moment is in microseconds. The bytes after the
+    /// first 16 are copied into a body that came back, or into new memory, which is all that a poller takes.
     #[inline(always)]
     pub(crate) fn offer<R: Wait, G>(
         &mut self,
         context: &Context<R, G>,
+        bodies: &mut Bodies,
         peer: Peer,
         bytes: &[u8],
         moment: u64,
@@ -49,7 +51,7 @@ impl Ends {
     {
         let mut head = [0; 16];
         head.copy_from_slice(&bytes[..16]);
-        let Ok(body) = Vec::from_slice(context.alloc, &bytes[16..]) else {
+        let Some(body) = bodies.copy_of(context.alloc, &bytes[16..]) else {
             return Offered::Refused;
         };
         if self

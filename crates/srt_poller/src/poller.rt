@@ -6,6 +6,7 @@ ghost use Rattle.srt_lobby.specs.Names.{RouteName};
 ghost use Rattle.srt_poller.specs.History.{Sorting};
 
 use crate::beginning::Latest;
+use crate::bodies::Bodies;
 use crate::context::{Context, Lobby};
 use crate::devices::{Polled, Read, Sent, Source, Wire};
 use crate::ends::{Ends, Offered};
@@ -13,6 +14,7 @@ use crate::report::Report;
 use crate::signals::Signals;
 use srt_lobby::{Class, classify};
 use srt_seq::Peer;
+use std::alloc::Global;
 use std::sync::Wait;
 
 /// A datagram that was read. Its bytes are in the poller's `datagram`, `len` of them.
@@ -59,6 +61,8 @@ pub(crate) struct Poller {
     // the bytes of the kept reply, if there is one
     text: [u8; 1472],
     kept: Option<KeptReply>,
+    // for copies of datagrams
+    bodies: Bodies,
     report: Report,
     // some outbox was left before it was found empty, so the next round that takes replies looks at all of them
     left: bool,
@@ -72,7 +76,7 @@ impl Poller {
     ghost use Rattle.srt_poller.specs.Pollers.{sorted_by, named_in, came, kept_in, reading, sending, listening, Waited, WaitFailed, Came, Listened, Replies};
 
     /// A poller with no reply kept and all counts 0. Takes no memory.
-    pub(crate) fn new() -> Poller
+    pub(crate) fn new(alloc: Global) -> Poller
         ensures kept { result.kept ≡ None }
         ensures report { result.report ≡ nothing }
     {
@@ -80,6 +84,7 @@ impl Poller {
             datagram: [0; 2048],
             text: [0; 1472],
             kept: None,
+            bodies: Bodies::new(alloc),
             report: Report::NOTHING,
             left: false,
         }
@@ -140,7 +145,8 @@ impl Poller {
             Came class names arrival (sending handed ends.old self.old) (sending handed ends.new self.new) }
     {
         let bytes = &self.datagram[..incoming.len];
-        match ends[route].offer(context, incoming.peer, bytes, incoming.moment) {
+        let Incoming { peer, moment, .. } = incoming;
+        match ends[route].offer(context, &mut self.bodies, peer, bytes, moment) {
             Offered::Accepted => {
                 self.report.count_accepted();
                 context.signals.offered(route);
@@ -235,6 +241,7 @@ impl Poller {
         if !end.drain.take(rt) {
             return Drained::Empty;
         }
+        self.bodies.keep(end.drain.take_body());
         let reply = end.drain.reply();
         let peer = reply.peer;
         let sent = wire.send(peer, reply.packet.bytes());

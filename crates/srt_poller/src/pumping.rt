@@ -33,8 +33,8 @@ use std::sync::Wait;
 ///
 /// A reply for which the send returns Later is kept, and no other reply is taken until it went. An answer of the lobby
 /// is lost in that case. A datagram whose send fails is lost. After a failed wait the round reads nothing; a failed
-/// read ends the reads of its round. Memory is taken only for the copy of a datagram that is offered; if it is refused,
-/// the datagram is lost.
+/// read ends the reads of its round. Memory is taken only for the copy of a datagram that is offered, if no body came
+/// back with a reply; if it is refused, the datagram is lost.
 pub fn pump<R: Wait, S: Source, W: Wire>(
     rt: &R,
     alloc: Global,
@@ -88,7 +88,7 @@ pub fn pump_under<R: Wait, S: Source, W: Wire, G: Signals>(
         (before (names_of names.old) (S.gave source.old) (W.handed wire.old) ends.old)
         (after (names_of names.new) (S.gave source.new) (W.handed wire.new) ends.new result) }
 {
-    let mut poller = Poller::new();
+    let mut poller = Poller::new(alloc);
     let mut doors = Doors::new(schedules);
     for round in 0..rounds {
         doors.begin(rt, signals, names, ends, round);

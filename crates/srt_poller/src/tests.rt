@@ -5,6 +5,7 @@ ghost use Rattle.std.specs.Prelude.{◌≡◌, ◌<◌, ◌≤◌, ◌^◌, IfOk
 ghost use Rattle.srt_lobby.specs.Names.{names_of};
 ghost use Rattle.srt_poller.specs.Schedules.{AllDiffer};
 
+mod copies;
 mod faults;
 mod rounds;
 mod waits;
