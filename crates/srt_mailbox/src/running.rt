@@ -13,6 +13,7 @@ use crate::outbox::Putter;
 use crate::outbox_rule::Parcel;
 use crate::spares::Boxes;
 use srt_route::{Reply, Route};
+use srt_seq::limits::MAX_PAYLOAD;
 use srt_seq::{Entry, Item, Turned};
 use std::marker::Model;
 use std::snapshot::Snapshot;
@@ -69,8 +70,8 @@ impl Model for Running {
     ghost invariant = { λ s. stands s.route (terms_of s.entry.value) s.index.value (applied s.taker.taken) × Replays (run (terms_of s.entry.value) s.index.value s.taker s.putter (waiting_at s.held s.route)) × (s.waiting ≡ length (waiting_at s.held s.route)) × (s.taken ≡ counted (length s.taker.taken)) };
 }
 
-/// The length of the longest body of a packet, in bytes: that of the longest payload.
-pub const BODY_ROOM: usize = 1456;
+/// The length of the longest body of a packet, in bytes: that of a data packet's payload.
+pub const BODY_ROOM: usize = MAX_PAYLOAD;
 
 // Keeps the body of an item that was applied, if it has room for any packet's.
 fn keep_body(kept: &mut Option<Vec<u8>>, item: Item) {

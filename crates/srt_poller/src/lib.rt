@@ -13,7 +13,8 @@
 //!
 //! Files: the beginning of a round is in `beginning.rt`, its other steps are in `poller.rt` (limits, the reply that is
 //! kept), what they use in `context.rt`, the memory of copies in `bodies.rt`, the rounds in `pumping.rt`, what is
-//! counted in `report.rt`, how a socket's source waits in `pace.rt` and `density.rt`. `specs/History.antt` has the events of a poller.
+//! counted in `report.rt`, how a socket's source waits in `pace.rt` and `density.rt`. `specs/History.antt` has the
+//! events of a poller.
 #![tactic(auto)]
 
 mod beginning;
