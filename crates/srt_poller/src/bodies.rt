@@ -1,5 +1,5 @@
 //! The bodies of datagrams that routes have applied, which come back with replies. They are filled again, so that the
-//! copies of a steady stream take no memory: what one thread takes and another one gives back costs both a lock.
+//! copies of a steady stream seldom take memory: what one thread takes and another one gives back costs both a lock.
 
 ghost use Rattle.std.specs.Prelude.{◌≡◌, IfSome};
 
