@@ -96,7 +96,7 @@ fn look<'a, R: BufRead>(reader: &'a mut R, budget: &mut ReadBudget) -> io::Resul
     shown
 }
 
-/// One read: appends what belongs to the line to its first `len` bytes.
+/// Reads once; appends this line's bytes to `line[..len]`.
 fn take_piece<R: BufRead>(
     reader: &mut R,
     budget: &mut ReadBudget,
@@ -143,7 +143,7 @@ fn take_piece<R: BufRead>(
 }
 
 impl<R> CountedReader<R> {
-    /// A counted reader with the 2^33 reads of a replay.
+    /// A reader with a budget of 2^33 reads, that of a replay.
     pub fn new(reader: R) -> CountedReader<R>
         ensures source { source result ≡ reader }
         ensures left { reads_left result ≡ 2 ^ 33 }
@@ -152,7 +152,7 @@ impl<R> CountedReader<R> {
         CountedReader::within(reader, READS_MAX)
     }
 
-    /// A counted reader with this number of reads.
+    /// A reader with a budget of this many reads.
     pub fn within(reader: R, reads: u64) -> CountedReader<R>
         ensures source { source result ≡ reader }
         ensures left { reads_left result ≡ reads }
@@ -194,7 +194,7 @@ impl<R> CountedReader<R> {
 }
 
 impl<R: BufRead> CountedReader<R> {
-    /// One read: appends what belongs to the line to its first `len` bytes.
+    /// Reads once; appends this line's bytes to `line[..len]`.
     pub(crate) fn take_piece(
         &mut self,
         line: &mut [u8; LINE_MAX],

@@ -10,13 +10,13 @@ ghost use Rattle.srt_hs.specs.Text.{code_of};
 ///
 /// If several causes apply, the first counts. `srt_lobby` checks, in this order: the version (1008), the initial number
 /// and the HSREQ (1004), KMREQ (1011), FILTER (1014), GROUP (1015), the Stream ID and its route (1002). Then
-/// `srt_route` checks the flag STREAM (1012), the MTU and the window (1004), a second publisher (1002), and a free slot
+/// `srt_route` checks the flag STREAM (1012), the MTU and the window (1004), a third publisher (1002), and a free slot
 /// (1003).
 #[derive(Clone, Copy, Debug, PartialEq, Eq)]
 pub enum RefusalCode {
     /// 1002, `SRT_REJ_PEER`: the conclusion has no Stream ID block; or its Stream ID has a fault (not UTF-8, a mode
     /// other than `publish` and `request`, `r` or `m` twice, no name or an empty one); or no route has the name that it
-    /// asks for; or it wants to publish to a route that already has a publisher.
+    /// asks for; or it wants to publish while two publishers of the route are open.
     Peer,
     /// 1003, `SRT_REJ_RESOURCE`: as many sessions of the route are open as its configuration allows.
     Resource,

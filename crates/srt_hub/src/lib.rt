@@ -11,8 +11,8 @@
 //!
 //! Calls: `Hub::open`; then in any order `arrive` for each datagram, `tick` for a route's clock, `turn`, which moves a
 //! waiting reply to the outbox or applies one item of the inbox, and `send`, which takes a reply out of the outbox.
-//! Over a lobby whose names change (`Doors` in `parts.rt`) also `open_route`, which adds a route with the next index, and
-//! `close_route`, which hides a route and ends its sessions.
+//! If the lobby implements `Doors` (`parts.rt`), routes can be added and closed at run time: `open_route` adds a route
+//! with the next index, `close_route` hides a route and ends its sessions.
 //!
 //! Laws: `laws.rt` states that routes don't affect each other (`specs/Laws.antt`), why something is refused, and what
 //! openings and closings change (`specs/Refusals.antt`).

@@ -105,7 +105,7 @@ pub trait RouteStep: Drop {
         ensures stands { (e : Terms) (index : ℕ) (items : List TheItem) → stands self.old e index items → stands self.new e index (told item ∷ items) }
         ensures replies { RouteReplies stands self.old reply (told item) (waiting self.new) };
 
-    /// Whether a reply waits.
+    /// Whether a reply waits. A turn asks this first: it must know it before it knows whether the outbox has room.
     fn waits(&self) -> bool
         ensures { (result ≡ true) ↔ (0 < length (waiting self.now)) };
 

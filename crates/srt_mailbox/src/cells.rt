@@ -18,7 +18,8 @@ use std::marker::Model;
 use std::snapshot::Snapshot;
 use std::sync::{Arc, Wait};
 
-/// Which route a cell holds, and its two queues. Fixed when the cell is made. Contracts see it as a `Name`.
+/// Which route a cell holds, and its two queues. Fixed when the cell is made, and the tag of its slot: so what a claim
+/// finds there is known to be that route between those queues, whoever put it there. Contracts see it as a `Name`.
 #[derive(Drop)]
 pub struct Label {
     pub(crate) inbox: Arc<Inbox>,
@@ -170,8 +171,8 @@ impl RouteCell {
     }
 
     /// Makes turns of the route, at most `most`, if no other call has it, until one finds nothing to do or a full
-    /// outbox, or the gate refuses one; it is asked before each. The route is claimed once for all of them. Takes no
-    /// memory and doesn't wait for the route.
+    /// outbox, or the gate refuses one; it is asked before each. The route is claimed once for all of them, since a
+    /// claim and its return are four locked operations. Takes no memory and doesn't wait for the route.
     pub fn visit<R: Wait, G: Gate>(&self, rt: &R, gate: &mut G, most: u32) -> Visit
         ensures most { result.turns ≤ most }
         ensures moved { result.moved ≤ result.turns }

@@ -106,7 +106,8 @@ impl Ingress {
 
     /// Appends a datagram to the inbox, as `offer` does with its item. False only if the inbox was full at some moment of
     /// the call; then nothing changed, and the datagram is discarded. Its moment is in microseconds, below 2^62. Takes
-    /// no memory.
+    /// no memory. The datagram comes by its parts: an `Item` that is passed on is copied four times by words that
+    /// overlap, and the processor waits at each copy.
     #[inline(always)]
     pub fn offer_datagram<R: Wait>(
         &mut self,

@@ -52,7 +52,8 @@ const NOWHERE: Peer = Peer {
 };
 
 impl Marked {
-    /// Marks an item. Its moment is in microseconds, below 2^62. Takes no memory; `alloc` is that of the empty body of what is no datagram.
+    /// Marks an item. Its moment is in microseconds, below 2^62. Takes no memory; `alloc` is that of the empty body of
+    /// what is no datagram.
     pub fn new(alloc: Global, polled: bool, item: Item) -> Marked
         requires timely { moment_of (told item) < 2 ^ 62 }
         ensures { result ≡ marked_item polled item }

@@ -147,7 +147,8 @@ impl Drain {
         self.body.take()
     }
 
-    /// The reply that `take` took last. Before the first it is a blank one, which isn't to be sent.
+    /// The reply that `take` took last, lent where the route wrote it: no reply is moved between writing and sending.
+    /// Before the first it is a blank one, which isn't to be sent.
     #[inline(always)]
     pub fn reply(&self) -> &Reply
         ensures { result.now ≡ self.now.hand }

@@ -9,8 +9,8 @@ use srt_route::Reply;
 use std::collections::LinkedList;
 use std::marker::Model;
 
-/// What lies in the outbox: a reply in its box and, on its way back to the poller, the memory of a datagram that the
-/// route has applied. Contracts see the box alone.
+/// An outbox entry: a reply in its box, and perhaps a used datagram buffer going back to the poller. Contracts see the
+/// reply only.
 #[derive(Drop)]
 pub struct Parcel {
     reply: Box<Reply>,

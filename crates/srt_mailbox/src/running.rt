@@ -40,7 +40,7 @@ pub struct Running {
     held: Option<Box<Reply>>,
     // the body of a datagram that was applied, which goes back to the poller with the next reply
     body: Option<Vec<u8>>,
-    // the number of replies that wait, `held` included
+    // the number of replies that wait, `held` included; kept here so that a turn needn't ask the route
     waiting: usize,
     // the number of items taken; saturates at 2^64 - 1
     taken: u64,
@@ -73,7 +73,8 @@ impl Model for Running {
 /// The length of the longest body of a packet, in bytes: that of a data packet's payload.
 pub const BODY_ROOM: usize = MAX_PAYLOAD;
 
-// Keeps the body of an item that was applied, if it has room for any packet's.
+// Keeps the body of an item that was applied, if it has room for any packet's. It goes back to the thread that took its
+// memory: what one thread takes and another one gives back costs both of them a lock of the allocator.
 fn keep_body(kept: &mut Option<Vec<u8>>, item: Item) {
     if let Item::Datagram {
         peer: _,

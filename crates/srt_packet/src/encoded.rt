@@ -12,7 +12,9 @@ struct Block {
     bytes: [u8; 1472],
 }
 
-/// The bytes of a packet to be sent: 16 to 1472, or none before the first is written.
+/// The bytes of a packet to be sent: 16 to 1472, or none before the first is written. A packet is encoded here when it
+/// is made and stays here until it is sent: a payload is copied once on that way, and a packet without one touches its
+/// own 16 to 84 bytes alone.
 #[derive(Drop)]
 pub struct EncodedPacket {
     len: usize,

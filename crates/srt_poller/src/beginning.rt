@@ -39,7 +39,7 @@ pub(crate) struct Doors<'a> {
     schedules: &'a [Schedule],
     // the first round in which a route may have to be shown or closed
     due: u32,
-    /// The moment of the next Close.
+    /// The latest arrival so far; a Close is given this moment.
     pub(crate) latest: Latest,
 }
 

@@ -33,8 +33,8 @@ impl Bodies {
         }
     }
 
-    /// A copy of these bytes. Takes memory if no body is kept, or if the bytes are more than a packet's; `None` if it was
-    /// refused.
+    /// A copy of these bytes. Takes memory if no body is kept, or if the bytes are more than a packet's; `None` if it
+    /// was refused. A new body has room for any packet's, however few bytes these are, so that it can be filled again.
     #[inline(always)]
     pub(crate) fn copy_of(&mut self, alloc: Global, bytes: &[u8]) -> Option<Vec<u8>>
         ensures { IfSome result (λ body. body.items ≡ bytes.now) }

@@ -6,10 +6,10 @@ ghost use Rattle.srt_poller.specs.Pauses.{counted};
 // A millisecond, in microseconds.
 const MILLISECOND: u64 = 1000;
 
-// Counts stop here.
+// The counters saturate at this value.
 const MOST: u32 = 100;
 
-/// A count of datagrams by the millisecond. Counts stop at 100.
+/// A count of datagrams by the millisecond. The counters saturate at 100.
 #[derive(Clone, Copy)]
 pub(crate) struct Density {
     /// When the millisecond that is counted began, in microseconds.

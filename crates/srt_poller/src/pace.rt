@@ -8,7 +8,8 @@ use crate::density::Density;
 // The number of short waits after a datagram came or a send returned Later.
 const SHORT_WAITS: u32 = 100;
 
-// After a round that read or sent this many datagrams there may be more to do at once.
+// After a round that read or sent this many datagrams there may be more to do at once. A nap could then leave a route
+// with more replies than a round sends.
 const MANY: u32 = 64;
 
 // Datagrams come densely if a millisecond had this many, and too densely for naps if it had `TOO_DENSE`: then many are
@@ -36,7 +37,7 @@ pub(crate) struct Pace {
     pub(crate) more: bool,
     /// The number of short waits left.
     pub(crate) warm: u32,
-    /// The number of datagrams that came since the last wait; stops at 64.
+    /// The number of datagrams that came since the last wait; saturates at 64.
     pub(crate) read: u32,
     /// How densely datagrams come.
     pub(crate) density: Density,

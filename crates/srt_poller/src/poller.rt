@@ -58,13 +58,13 @@ enum Drained {
 pub(crate) struct Poller {
     // the last datagram that was read
     datagram: [u8; 2048],
-    // the bytes of the kept reply, if there is one
+    // a copy of the kept reply's bytes, if there is one, so that its box can go back; no other reply is copied
     text: [u8; 1472],
     kept: Option<KeptReply>,
     // for copies of datagrams
     bodies: Bodies,
     report: Report,
-    // some outbox was left before it was found empty, so the next round that takes replies looks at all of them
+    // a drain stopped before it had found an outbox empty: the next round that drains checks every outbox
     left: bool,
 }
 

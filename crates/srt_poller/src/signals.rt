@@ -13,8 +13,7 @@ pub trait Signals {
     /// drains the outbox, and remembers if it left before that was empty.
     fn may_have(&self, route: usize) -> bool;
 
-    /// The least index from this one on for which `may_have` may return true; any number past the last route if there is
-    /// none.
+    /// The least index from this one on for which `may_have` may return true; the route count or more if there is none.
     fn next_from(&self, route: usize) -> usize;
 }
 

@@ -12,11 +12,11 @@
 //! `deliver` until it returns false (64 times at most), or `pass_over` if the publisher stands by, and `transmit`, which
 //! writes the ACK, NAK and KEEPALIVE that are due.
 //!
-//! Files: `session.rt` has the rules of data, drop requests and delivery, on `opening.rt`'s terms; `due_times.rt` of due times; `window_lost.rt`
-//! of the lost window that ends a live session; `transmit.rt` of what is sent at the end of an event;
-//! `acknowledgements.rt` of Full and Light ACKs and ACKACKs; `nak.rt` of NAKs and their interval; `keep_alive.rt` of
-//! KEEPALIVEs; `log.rt` keeps the times of the last packets. `specs/Publishing.antt` defines what a session sends,
-//! `specs/Says.antt` its bytes; `laws.rt` has facts about these.
+//! Files: `session.rt` has the rules of data, drop requests and delivery, on `opening.rt`'s terms; `due_times.rt` of
+//! due times; `window_lost.rt` of the lost window that ends a live session; `transmit.rt` of what is sent at the end of
+//! an event; `acknowledgements.rt` of Full and Light ACKs and ACKACKs; `nak.rt` of NAKs and their interval;
+//! `keep_alive.rt` of KEEPALIVEs; `log.rt` keeps the times of the last packets. `specs/Publishing.antt` defines what a
+//! session sends, `specs/Says.antt` its bytes; `laws.rt` has facts about these.
 #![tactic(auto)]
 
 mod acknowledgements;

@@ -26,10 +26,9 @@ pub enum Put {
 /// The packets of one stream that are received and not yet delivered: a window of 32 to 8192 sequence numbers from
 /// the front on, each of which is received, dropped by the sender, or missing.
 ///
-/// The end of the received numbers, the acknowledgement point and a place before which no packet is are kept up to
-/// date, so that in a stream with few losses the work per packet is constant, whatever the width. At worst `put` and
-/// `advance` are linear in the places that they search, as each of their comments says. `start` is linear in the
-/// width. Times are microseconds of one clock that the caller chooses, the same for `put` and `advance`.
+/// `end`, `point` and `next` are kept incrementally, so a stream with few losses costs O(1) a packet at any width. At
+/// worst `put` and `advance` are linear in the places that they search, as each of their comments says. `start` is
+/// linear in the width. Times are microseconds of one clock that the caller chooses, the same for `put` and `advance`.
 #[derive(Drop)]
 pub struct RecvBuf {
     pub(crate) front: Seq31,
@@ -165,10 +164,11 @@ impl RecvBuf {
     /// past dropped numbers after it (sections 4.5 and 4.6).
     ///
     /// Returns whether there was one. If so, `payload` is replaced by its bytes, one copy; if not, `payload` is
-    /// unchanged. `room` only counts as 0 or not. In buffer mode call it only if the acknowledgement point is past
-    /// the front; else a gap would be skipped. O(1) if the front's number is received or nothing came since the last
-    /// search; else linear in the distance to the first packet. Linear also in the places that the front and the
-    /// acknowledgement point pass.
+    /// unchanged. The caller lends it, since a payload that is returned by value is copied at each step, and even a
+    /// `None` of that size is filled and copied. `room` only counts as 0 or not. In buffer mode call it only if the
+    /// acknowledgement point is past the front; else a gap would be skipped. O(1) if the front's number is received or
+    /// nothing came since the last search; else linear in the distance to the first packet. Linear also in the places
+    /// that the front and the acknowledgement point pass.
     pub fn advance(&mut self, now: u64, room: u32, payload: &mut Payload) -> bool
         requires { now < 2 ^ 62 }
         ensures stands { BecomesAt now self.old self.new (λ width time r. after_next width (next_due time room r) r) }

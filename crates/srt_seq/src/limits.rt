@@ -1,5 +1,5 @@
 //! The limits and intervals of the protocol (draft-sharabayko-srt-01) and of this profile. Where libsrt has a name for
-//! one, it is given. Types and contracts have these numbers as literals.
+//! one, it is given. Types, contracts and a few bodies have these numbers as literals.
 
 /// The upper bound of moments, itself excluded: 2^62 microseconds. Moments count from the gateway's start; in a replay
 /// they are what the tape gives.

@@ -14,7 +14,7 @@ use std::time::Duration;
 /// they are for few routes.
 pub const MANY: u32 = 64;
 
-// They are for few routes if at most one of this many datagrams was the first for its route since a worker served it.
+// A round is for few routes if it made at most datagrams / SHARE routes ask that didn't ask before.
 const SHARE: u64 = 8;
 
 // How long a worker that found nothing to do sleeps at most before it looks again, in microseconds.
@@ -181,9 +181,9 @@ impl Hall {
         self.bell.rest(rt, heard, Duration::from_micros(NAP));
     }
 
-    /// Sleeps for at most 10 microseconds for each of this many routes, and 500 in all for few, or until the bell is
-    /// called. If another worker does so, this one is in reserve, for at most 100 milliseconds or until the bell is
-    /// called: one is enough for a little work at each of many routes.
+    /// Sleeps until the bell is called, for at most max(500, 10 x `routes`) microseconds. If another worker already
+    /// does, this one waits in reserve instead, until the bell is called, for at most 100 milliseconds: one worker is
+    /// enough for a little work at each of many routes.
     pub fn doze<R: Wait>(&self, rt: &R, heard: u64, routes: u32) {
         if self.dozing.swap(true, Ordering::SeqCst) {
             self.rest_in_reserve(rt, heard);

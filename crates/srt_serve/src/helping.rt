@@ -13,7 +13,8 @@ use std::sync::Wait;
 // reading and sending, and if they are for more routes than this, since it would wait for the memory of each.
 const FEW_ROUTES: u64 = 8;
 
-// The most turns that the polling thread makes in a round. What is left then it leaves to the workers.
+// The most turns that the polling thread makes in a round. What is left then it leaves to the workers: meanwhile no
+// route's datagrams are read, so a route with costly ones would delay all others.
 const TURNS: u32 = 256;
 
 /// The poller's hints, and its work for the routes.

@@ -137,8 +137,8 @@ fn go_round<R: Wait, C: Serve, G: Gate>(
 /// Serves the routes that ask, round after round from the route `first` on, until the run is over. After a round that
 /// found nothing to do it sleeps for at most 500 microseconds, and after each further one until the bell is called.
 /// After a round that found a little to do at each of many routes it sleeps for at most 10 microseconds for each, so that
-/// more gathers there: a visit costs nearly the same for one item as for several. A worker that finds another one asleep
-/// so leaves such work to it, and is called in again by a round that has much to do.
+/// more gathers there: a visit costs nearly the same for one item as for several. Only one worker dozes at a time; a
+/// second waits in reserve, until a round that has much to do calls it in (`Hall::call_in`).
 pub fn work<R: Wait, C: Serve, G: Gate + Drop>(
     rt: &R,
     cells: &[C],

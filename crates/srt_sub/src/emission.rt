@@ -62,7 +62,7 @@ impl Subscriber {
     /// sent for a second (section 3.2.3). There are at most 64 data packets, and 65 packets in all (this profile).
     /// All packets in flight count as lost first if none of them is lost, and both the last data packet and the last
     /// ACK that acknowledged more are RTT + 4 x variance + 20 ms ago (this profile). Takes no memory; a payload is
-    /// copied once.
+    /// copied once. The packets come one by one, so that 65 of up to 1472 bytes need no list.
     pub fn emit(&mut self, now: u64, packet: &mut EncodedPacket) -> bool
         requires { now < 2 ^ 62 }
         ensures some { result ≡ true → WritesNext now self.old self.new packet.new }

@@ -65,7 +65,8 @@ pub fn dropped(run: DropRun, time: u64, caller: u32, packet: &mut EncodedPacket)
 }
 
 /// Writes this packet (section 3.1). Its timestamp is the time when its payload was queued. Returns false, with
-/// `packet` unchanged, if its payload is empty. One copy of the payload.
+/// `packet` unchanged, if its payload is empty: no caller feeds an empty one, and so each packet can be written without
+/// a condition on what was fed. One copy of the payload.
 fn write(out: Out<'_>, caller: u32, packet: &mut EncodedPacket) -> bool
     requires { length out.payload.now ≤ 1456 }
     ensures text { result ≡ true → (initial time : ℕ) (d : Due) → told_by out.entry ≡ told initial d → bytes_of packet.new ≡ says caller initial time (Media d.number d.again d.origin d.payload) }
