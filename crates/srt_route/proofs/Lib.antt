@@ -35,3 +35,4 @@ pub mod ShiftRows
 pub mod Closings
 pub mod Ending
 pub mod Closed
+pub mod Alone

@@ -19,3 +19,4 @@ pub mod Reports
 pub mod OneSession
 pub mod Calls
 pub mod Closed
+pub mod Bounds

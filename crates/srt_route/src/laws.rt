@@ -1,5 +1,6 @@
 //! Laws of the definitions.
 
+ghost use Rattle.srt_route.specs.Bounds.{TwoPublish, NoMoreThanSlots, OneInASlot, NoneElsewhere, OneOfACaller};
 ghost use Rattle.srt_route.specs.Closed.{ClosesOnce, ClosedHasNoSession, ClosedIsQuiet};
 ghost use Rattle.srt_route.specs.Relabel.{Renumbers, Restamps, Moves};
 ghost use Rattle.srt_route.specs.Route.{RepliesHavePlaces};
@@ -18,6 +19,16 @@ pub fn replies_are_packets()
     ensures publishers { PublishersSendPackets }
     ensures subscribers { SubscribersSendPackets }
     ensures answers { AnswersArePackets }
+{}
+
+/// Whatever a route's terms are and whatever came, at most two of its open sessions publish. No more sessions are open
+/// than it has slots, at most one in each slot and none elsewhere, and at most one is open of each caller.
+pub fn open_sessions()
+    ensures publishers { TwoPublish }
+    ensures sessions { NoMoreThanSlots }
+    ensures slots { OneInASlot }
+    ensures elsewhere { NoneElsewhere }
+    ensures callers { OneOfACaller }
 {}
 
 /// A route with a Close among its items is closed. It has no open session; and whatever comes, it replies to nothing

@@ -144,7 +144,7 @@ impl Route {
         *clock
     }
 
-    /// The number of open publishers, 2 at most. Looks at each seat.
+    /// The number of open publishers, 2 at most (`laws::open_sessions`). Looks at each seat.
     pub fn publishers(&self) -> usize
         ensures { (e : Terms) (index : ℕ) (items : List TheItem) → stands self.now e index items → result ≡ open_publishers (after e index items).sessions }
     {
