@@ -6,27 +6,15 @@ import sys
 import tempfile
 
 TOP = os.path.dirname(os.path.dirname(os.path.realpath(__file__)))
+sys.path.insert(0, f"{TOP}/tests/lib")
 
-
-def below(crates):
-    """These crates of the repository and those below them, with their lines of crates.txt."""
-    with open(f"{TOP}/crates.txt") as it:
-        lines = {line.split(":")[0].split()[0]: line for line in it if ":" in line}
-    found, left = {}, list(crates)
-    while left:
-        crate = left.pop()
-        if crate in lines and crate not in found:
-            found[crate] = lines[crate]
-            left += lines[crate].split(":")[1].split()
-    return found
+import tree
 
 
 def built(room, name, program, needs, answers=None, modules=()):
     """The program's path, after it was proved and built in this empty folder; `answers` gives the file of each function that has
     proof answers, and `modules` the files of its modules."""
-    found = below(needs)
-    for crate in found:
-        shutil.copytree(f"{TOP}/crates/{crate}", f"{room}/crates/{crate}")
+    tree.make_room(room, needs, [*tree.SOURCES, "out"], f"{name}: {' '.join(needs)}\n")
     os.makedirs(f"{room}/crates/{name}/src")
     shutil.copyfile(program, f"{room}/crates/{name}/src/main.rt")
     for path in modules:
@@ -35,10 +23,6 @@ def built(room, name, program, needs, answers=None, modules=()):
     for function, path in (answers or {}).items():
         os.makedirs(f"{room}/crates/{name}/proofs/{function}")
         shutil.copyfile(path, f"{room}/crates/{name}/proofs/{function}/Answers.antt")
-    with open(f"{room}/crates.txt", "w") as it:
-        it.writelines([*found.values(), f"{name}: {' '.join(needs)}\n"])
-    shutil.copyfile(f"{TOP}/HANDLES", f"{room}/HANDLES")
-    subprocess.run(["git", "init", "--quiet"], cwd=room, check=True)
     crate = f"{room}/crates/{name}"
     ran = subprocess.run(["rt", "run"], cwd=crate, stdout=subprocess.PIPE, stderr=subprocess.STDOUT, text=True)
     if not os.path.isfile(f"{crate}/out/{name}"):
