@@ -10,7 +10,7 @@ import threading
 import time
 import traceback
 
-import wire
+import packets
 
 SECOND = 1_000_000
 
@@ -50,11 +50,11 @@ class Caller(threading.Thread):
         self.extension = (1 if asks else 0) | (0 if stream_id is None else 4)
         self.blocks = b""
         if asks:
-            self.blocks += wire.hsreq(wire.FLAGS[mode] if flags is None else flags, receiver_ms, sender_ms)
+            self.blocks += packets.hsreq(packets.FLAGS[mode] if flags is None else flags, receiver_ms, sender_ms)
         if stream_id is not None:
-            self.blocks += wire.block(wire.STREAM_ID, wire.text_words(stream))
+            self.blocks += packets.block(packets.STREAM_ID, packets.text_words(stream))
         if congestion is not None:
-            self.blocks += wire.block(wire.CONGESTION, wire.text_words(congestion))
+            self.blocks += packets.block(packets.CONGESTION, packets.text_words(congestion))
         self.blocks += more
         self.answer, self.cookie, self.peer_id = None, 0, 0
         self.rtt, self.variance = 100_000, 50_000
@@ -64,7 +64,7 @@ class Caller(threading.Thread):
     # The handshake (section 4.3.1).
 
     def stamp(self):
-        return (now() - self.began) % wire.WORDS
+        return (now() - self.began) % packets.WORDS
 
     def send(self, datagram):
         try:
@@ -74,27 +74,27 @@ class Caller(threading.Thread):
             pass
 
     def send_control(self, kind, info=0, body=b""):
-        self.send(wire.control(kind, info, self.stamp(), self.peer_id, body))
+        self.send(packets.control(kind, info, self.stamp(), self.peer_id, body))
 
     def receive(self, seconds):
         """The next packet, or None if none comes within `seconds`."""
         if not select.select([self.socket], [], [], max(0, seconds))[0]:
             return None
         try:
-            return wire.read(self.socket.recv(2048))
+            return packets.read(self.socket.recv(2048))
         except (ConnectionRefusedError, BlockingIOError):
             return None
 
     def asked(self, body, wanted, until):
         """Sends a handshake every 250 ms until an answer of the wanted type comes. Raises Refused, or Silent after `until`."""
         while now() < until:
-            self.send(wire.control(wire.HANDSHAKE, 0, self.stamp(), 0, body))
+            self.send(packets.control(packets.HANDSHAKE, 0, self.stamp(), 0, body))
             again = min(until, now() + SECOND // 4)
             while now() < again:
                 packet = self.receive((again - now()) / SECOND)
-                if not isinstance(packet, wire.Control) or packet.kind != wire.HANDSHAKE:
+                if not isinstance(packet, packets.Control) or packet.kind != packets.HANDSHAKE:
                     continue
-                answer = wire.read_handshake(packet.body)
+                answer = packets.read_handshake(packet.body)
                 if packet.destination != self.socket_id or answer is None:
                     continue
                 if answer.kind == wanted:
@@ -105,16 +105,16 @@ class Caller(threading.Thread):
 
     def induce(self, seconds=5):
         """Makes the induction, which gives the cookie."""
-        body = wire.handshake(4, 2, self.initial, self.mtu, self.window, wire.INDUCTION, self.socket_id, 0)
-        answer = self.asked(body, wire.INDUCTION, now() + int(seconds * SECOND))
+        body = packets.handshake(4, 2, self.initial, self.mtu, self.window, packets.INDUCTION, self.socket_id, 0)
+        answer = self.asked(body, packets.INDUCTION, now() + int(seconds * SECOND))
         self.cookie = answer.cookie
         return answer
 
     def conclude(self, seconds=5):
         """Makes the conclusion, which opens the session."""
-        body = wire.handshake(self.version, self.extension, self.initial, self.mtu, self.window, wire.CONCLUSION,
+        body = packets.handshake(self.version, self.extension, self.initial, self.mtu, self.window, packets.CONCLUSION,
                               self.socket_id, self.cookie, self.blocks)
-        self.answer = self.asked(body, wire.CONCLUSION, now() + int(seconds * SECOND))
+        self.answer = self.asked(body, packets.CONCLUSION, now() + int(seconds * SECOND))
         self.peer_id, self.heard = self.answer.socket_id, now()
         return self.answer
 
@@ -126,7 +126,7 @@ class Caller(threading.Thread):
 
     def delays(self):
         """The receiver's and the sender's delay of the answer, in milliseconds (section 4.4)."""
-        return struct.unpack("!2H", self.answer.blocks[wire.HSRSP][8:12])
+        return struct.unpack("!2H", self.answer.blocks[packets.HSRSP][8:12])
 
     # The session.
 
@@ -152,11 +152,11 @@ class Caller(threading.Thread):
         if packet.destination != self.socket_id:
             return
         self.heard = now()
-        if isinstance(packet, wire.Data):
+        if isinstance(packet, packets.Data):
             self.on_data(packet)
-        elif packet.kind == wire.SHUTDOWN:
+        elif packet.kind == packets.SHUTDOWN:
             self.shut.set()
-        elif packet.kind == wire.KEEPALIVE:
+        elif packet.kind == packets.KEEPALIVE:
             self.kept_alive += 1
         else:
             self.on_control(packet)
@@ -169,7 +169,7 @@ class Caller(threading.Thread):
 
     def on_time(self):
         if now() - self.sent >= SECOND:
-            self.send_control(wire.KEEPALIVE)
+            self.send_control(packets.KEEPALIVE)
 
     def sample(self, trip):
         """Adds the time of a round trip, in microseconds, to both means (section 4.10)."""
@@ -187,7 +187,7 @@ class Caller(threading.Thread):
     def close(self):
         """Ends the session with a SHUTDOWN."""
         self.stop()
-        self.send_control(wire.SHUTDOWN)
+        self.send_control(packets.SHUTDOWN)
         self.socket.close()
 
 
@@ -214,11 +214,11 @@ class Publisher(Caller):
         return min(0.005, max(0, (self.due - now()) / SECOND))
 
     def message(self, number):
-        return 1 + (number - self.initial) % wire.MESSAGES
+        return 1 + (number - self.initial) % packets.MESSAGES
 
     def send_data(self, number, again=False):
         stamp, payload = self.flight[number]
-        self.send(wire.data(number % wire.NUMBERS, self.message(number), stamp, self.peer_id, payload, again))
+        self.send(packets.data(number % packets.NUMBERS, self.message(number), stamp, self.peer_id, payload, again))
 
     def on_time(self):
         super().on_time()
@@ -249,8 +249,8 @@ class Publisher(Caller):
         gone = [number for number, (stamp, _) in self.flight.items() if stamp < oldest]
         if gone:
             first, last = min(gone), max(gone)
-            body = struct.pack("!2I", first % wire.NUMBERS, last % wire.NUMBERS)
-            self.send_control(wire.DROPREQ, self.message(first), body)
+            body = struct.pack("!2I", first % packets.NUMBERS, last % packets.NUMBERS)
+            self.send_control(packets.DROPREQ, self.message(first), body)
             self.dropped += len(gone)
             self.advance(last + 1)
 
@@ -263,20 +263,20 @@ class Publisher(Caller):
             self.base, self.grown = to, now()
 
     def on_control(self, packet):
-        if packet.kind == wire.ACK:
-            words = wire.words_of(packet.body)
-            to = wire.near(words[0], self.base)
+        if packet.kind == packets.ACK:
+            words = packets.words_of(packet.body)
+            to = packets.near(words[0], self.base)
             if packet.info:
-                self.send_control(wire.ACKACK, packet.info)
+                self.send_control(packets.ACKACK, packet.info)
             if len(words) >= 4:
                 self.rtt, self.variance, self.room = words[1:4]
             if self.base <= to <= self.next:
                 self.advance(to)
             if to == self.next and len(words) >= 4 and words[3] >= self.answer.window:
                 self.delivered = to
-        elif packet.kind == wire.NAK:
-            for first, last in wire.runs_of(packet.body):
-                first, last = wire.near(first, self.base), wire.near(last, self.base)
+        elif packet.kind == packets.NAK:
+            for first, last in packets.runs_of(packet.body):
+                first, last = packets.near(first, self.base), packets.near(last, self.base)
                 self.lost.update(number for number in range(first, last + 1) if number in self.flight)
 
     def wait_all(self, seconds):
@@ -309,7 +309,7 @@ class Subscriber(Caller):
         self.nak, self.rates = 0, (0, 0, 0)
 
     def on_data(self, packet):
-        number = wire.near(packet.number, self.front)
+        number = packets.near(packet.number, self.front)
         if number < self.front or number in self.waiting:
             self.repeats += 1
             return
@@ -330,7 +330,7 @@ class Subscriber(Caller):
 
     def ask(self, runs):
         self.asked_again += 1
-        self.send_control(wire.NAK, 0, wire.loss_list([(a % wire.NUMBERS, b % wire.NUMBERS) for a, b in runs]))
+        self.send_control(packets.NAK, 0, packets.loss_list([(a % packets.NUMBERS, b % packets.NUMBERS) for a, b in runs]))
 
     def gaps(self):
         runs = []
@@ -344,12 +344,12 @@ class Subscriber(Caller):
         return runs[:32]
 
     def on_control(self, packet):
-        if packet.kind == wire.ACKACK and packet.info in self.acks:
+        if packet.kind == packets.ACKACK and packet.info in self.acks:
             moment, self.confirmed = self.acks.pop(packet.info)
             self.sample(now() - moment)
-        elif packet.kind == wire.DROPREQ and len(packet.body) >= 8:
+        elif packet.kind == packets.DROPREQ and len(packet.body) >= 8:
             first, last = struct.unpack_from("!2I", packet.body)
-            first, last = wire.near(first, self.front), wire.near(last, self.front)
+            first, last = packets.near(first, self.front), packets.near(last, self.front)
             self.gone.update(number for number in range(max(first, self.front), last + 1) if number not in self.waiting)
             self.top = max(self.top, last + 1)
             self.advance()
@@ -361,8 +361,8 @@ class Subscriber(Caller):
             self.acks[self.ack_number] = (now(), self.front)
             self.acks.pop(self.ack_number - 64, None)
             room = max(2, self.window - len(self.waiting))
-            words = (self.front % wire.NUMBERS, self.rtt, self.variance, room, *self.rates)
-            self.send_control(wire.ACK, self.ack_number, struct.pack("!7I", *words))
+            words = (self.front % packets.NUMBERS, self.rtt, self.variance, room, *self.rates)
+            self.send_control(packets.ACK, self.ack_number, struct.pack("!7I", *words))
             self.acked = now()
         if now() - self.nak >= max((self.rtt + 4 * self.variance) // 2, 20_000):
             runs = self.gaps()

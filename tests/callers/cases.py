@@ -8,7 +8,7 @@ import threading
 import time
 
 import tools
-import wire
+import packets
 from caller import Caller, Publisher, Refused, Silent, Subscriber, delays_of, indexes, now, payload, stream
 from gateway import Gateway, files, live, report
 from proxy import Proxy
@@ -245,11 +245,11 @@ def longer_delay(address):
 def answers(address):
     one = Subscriber(address, request("answers"), initial=0x7FFFFFFF, mtu=1400, congestion=b"live")
     first = one.induce()
-    expect(first[:7] == (5, 0, 0x4A17, 0x7FFFFFFF, 1500, 8192, wire.INDUCTION), f"the induction is answered with {first}")
+    expect(first[:7] == (5, 0, 0x4A17, 0x7FFFFFFF, 1500, 8192, packets.INDUCTION), f"the induction is answered with {first}")
     second = one.conclude()
-    expect(second[:7] == (5, 0, 5, 0x7FFFFFFF, 1400, 1024, wire.CONCLUSION), f"the conclusion is answered with {second}")
+    expect(second[:7] == (5, 0, 5, 0x7FFFFFFF, 1400, 1024, packets.CONCLUSION), f"the conclusion is answered with {second}")
     hsrsp = struct.pack("!2I2H", 0x00010500, 0x3F, 120, 120)
-    expect(second.blocks == {wire.HSRSP: hsrsp, wire.CONGESTION: wire.text_words(b"live")}, f"its blocks are {second.blocks}")
+    expect(second.blocks == {packets.HSRSP: hsrsp, packets.CONGESTION: packets.text_words(b"live")}, f"its blocks are {second.blocks}")
     expect(one.conclude() == second, "the conclusion again is answered otherwise")
     one.close()
 
@@ -284,9 +284,9 @@ def refusals(address):
     expect_refusal(1004, Caller(address, "codes", window=0), "a flow window of 0")
     expect_refusal(1004, Caller(address, "codes.files", mode="buffer", mtu=1499), "a buffer-mode subscriber with an MTU of 1499")
     expect_refusal(1008, Caller(address, "codes", version=4), "version 4")
-    expect_refusal(1011, Caller(address, "codes", more=wire.block(wire.KMREQ, bytes(56))), "key material")
-    expect_refusal(1014, Caller(address, "codes", more=wire.block(wire.FILTER, b"cef\0")), "a packet filter")
-    expect_refusal(1015, Caller(address, "codes", more=wire.block(wire.GROUP, bytes(8))), "a group")
+    expect_refusal(1011, Caller(address, "codes", more=packets.block(packets.KMREQ, bytes(56))), "key material")
+    expect_refusal(1014, Caller(address, "codes", more=packets.block(packets.FILTER, b"cef\0")), "a packet filter")
+    expect_refusal(1015, Caller(address, "codes", more=packets.block(packets.GROUP, bytes(8))), "a group")
     expect_refusal(1012, Caller(address, "codes", mode="buffer"), "buffer mode on a live route")
     expect_refusal(1012, Caller(address, "codes.files", mode="live"), "live mode on a route in buffer mode")
     open_callers = [Publisher(address, publish("codes"), []) for _ in range(2)]
@@ -490,7 +490,7 @@ def no_thread(_):
     until = time.monotonic() + 30
     while time.monotonic() < until and any(gateway.runs() for gateway in gateways):
         for one in callers:
-            one.send(wire.control(wire.HANDSHAKE, 0, 0, 0, wire.handshake(4, 2, 1, 1500, 8192, wire.INDUCTION, 1, 0)))
+            one.send(packets.control(packets.HANDSHAKE, 0, 0, 0, packets.handshake(4, 2, 1, 1500, 8192, packets.INDUCTION, 1, 0)))
             answers += one.receive(0) is not None
         time.sleep(0.002)
     for count, gateway in enumerate(gateways):

@@ -6,10 +6,9 @@ import tempfile
 import time
 
 from caller import Caller, Silent
-from tools import free_port
+from machine import free_port
+from tree import PROGRAM
 
-TOP = os.path.dirname(os.path.dirname(os.path.dirname(os.path.realpath(__file__))))
-PROGRAM = os.environ.get("SRTGW", f"{TOP}/crates/srtgw/out/srtgw")
 STACK = 64 << 20
 NAMES = ["read", "answered", "accepted", "full", "dropped", "memory", "sent", "lost", "faults"]
 SECRET = bytes(range(32)).hex()

@@ -5,18 +5,14 @@ import subprocess
 import threading
 import time
 
+from machine import free_port
+
 SRT = "srt-live-transmit"
 FFMPEG = "ffmpeg"
 
 
 def has(tool):
     return shutil.which(tool) is not None
-
-
-def free_port():
-    with socket.socket(socket.AF_INET, socket.SOCK_DGRAM) as probe:
-        probe.bind(("127.0.0.1", 0))
-        return probe.getsockname()[1]
 
 
 class Tool:

@@ -1,4 +1,7 @@
 """Packets, handshakes and loss lists in the form of draft-sharabayko-srt-01, sections 3, 3.2.1 and appendix A."""
+from __future__ import annotations
+
+import hashlib
 import struct
 from collections import namedtuple
 
@@ -10,23 +13,24 @@ SRT_VERSION = 0x00010501
 NUMBERS = 1 << 31
 MESSAGES = (1 << 26) - 1
 WORDS = 1 << 32
+LOOPBACK = bytes([1, 0, 0, 127]) + bytes(12)
 
 Data = namedtuple("Data", "number word stamp destination payload")
 Control = namedtuple("Control", "kind info stamp destination body")
 Handshake = namedtuple("Handshake", "version encryption extension initial mtu window kind socket_id cookie blocks")
 
 
-def data(number, message, stamp, destination, payload, again=False):
-    """A data packet with a whole message (PP 11), unencrypted, with the flag R if it is retransmitted."""
-    word = 0xC0000000 | (0x04000000 if again else 0) | message
+def data(number: int, message: int, stamp: int, destination: int, payload: bytes, again: bool = False, flags: int = 0xC0000000) -> bytes:
+    """A data packet with a whole message (PP 11, unless `flags` say otherwise), unencrypted, with the flag R if it is retransmitted."""
+    word = flags | (0x04000000 if again else 0) | message
     return struct.pack("!4I", number, word, stamp, destination) + payload
 
 
-def control(kind, info, stamp, destination, body=b""):
+def control(kind: int, info: int, stamp: int, destination: int, body: bytes = b"") -> bytes:
     return struct.pack("!4I", 0x80000000 | kind << 16, info, stamp, destination) + body
 
 
-def read(datagram):
+def read(datagram: bytes) -> Data | Control | None:
     """The packet of a datagram, or None if it is too short for one."""
     if len(datagram) < 16:
         return None
@@ -36,32 +40,40 @@ def read(datagram):
     return Control(first >> 16 & 0x7FFF, second, stamp, destination, datagram[16:])
 
 
-def words_of(body):
+def words(*numbers: int) -> bytes:
+    """Words of 32 bits in network order."""
+    return struct.pack(f"!{len(numbers)}I", *numbers)
+
+
+def words_of(body: bytes) -> tuple[int, ...]:
     """The 32-bit words of a body. One to three bytes after the last whole word are ignored."""
     return struct.unpack_from(f"!{len(body) // 4}I", body)
 
 
-def block(kind, contents):
+def block(kind: int, contents: bytes) -> bytes:
     """An extension block. The length of its contents must be a multiple of four bytes."""
     return struct.pack("!2H", kind, len(contents) // 4) + contents
 
 
-def text_words(text):
+def text_words(text: bytes) -> bytes:
     """A text in the form of Stream IDs: padded with zeros, each group of four bytes reversed (section 3.2.1.3)."""
     padded = text + bytes(-len(text) % 4)
     return b"".join(padded[at:at + 4][::-1] for at in range(0, len(padded), 4))
 
 
-def hsreq(flags, receiver_ms, sender_ms):
-    return block(HSREQ, struct.pack("!2I2H", SRT_VERSION, flags, receiver_ms, sender_ms))
+def hsreq(flags: int, receiver_ms: int, sender_ms: int, version: int = SRT_VERSION) -> bytes:
+    return block(HSREQ, struct.pack("!2I2H", version, flags, receiver_ms, sender_ms))
 
 
-def handshake(version, extension, initial, mtu, window, kind, socket_id, cookie, blocks=b""):
+def handshake(
+    version: int, extension: int, initial: int, mtu: int, window: int, kind: int, socket_id: int, cookie: int, blocks: bytes = b"", peer: bytes = LOOPBACK
+) -> bytes:
+    """The body of a handshake; `peer` is the address that it carries (section 3.2.1)."""
     fields = (version, 0, extension, initial, mtu, window, kind, socket_id, cookie)
-    return struct.pack("!IHH6I", *fields) + bytes([1, 0, 0, 127]) + bytes(12) + blocks
+    return struct.pack("!IHH6I", *fields) + peer + blocks
 
 
-def read_handshake(body):
+def read_handshake(body: bytes) -> Handshake | None:
     """The handshake of a body, or None if it is too short. Its blocks are a dictionary from types to contents."""
     if len(body) < 48:
         return None
@@ -74,7 +86,7 @@ def read_handshake(body):
     return Handshake(*fields, blocks)
 
 
-def loss_list(runs):
+def loss_list(runs: list[tuple[int, int]]) -> bytes:
     """The loss list of runs of numbers, each a pair of its first and its last number (appendix A)."""
     body = b""
     for first, last in runs:
@@ -82,9 +94,10 @@ def loss_list(runs):
     return body
 
 
-def runs_of(body):
+def runs_of(body: bytes) -> list[tuple[int, int]]:
     """The runs of a loss list, each a pair of its first and its last number."""
-    runs, first = [], None
+    runs: list[tuple[int, int]] = []
+    first = None
     for word in words_of(body):
         if first is not None:
             runs.append((first, word))
@@ -96,6 +109,12 @@ def runs_of(body):
     return runs
 
 
-def near(word, expected, size=NUMBERS):
+def near(word: int, expected: int, size: int = NUMBERS) -> int:
     """The number congruent to `word` modulo `size` that is nearest to `expected`."""
     return expected + (word - expected + size // 2) % size - size // 2
+
+
+def cookie(secret: bytes, ip: bytes, port: int, minute: int) -> int:
+    """The cookie for a caller: the first word of SHA-256 over the secret, its address and port, and the minute (section 4.3.1.1)."""
+    hashed = hashlib.sha256(secret + ip + struct.pack("!HQ", port, minute)).digest()
+    return int.from_bytes(hashed[:4], "big")

@@ -1,0 +1,114 @@
+"""Command-line cases (tests/cli) and the tapes of examples/, played against the built program. tests/cli/README.md has the form."""
+from __future__ import annotations
+
+import os
+import resource
+import shutil
+import subprocess
+import tempfile
+from typing import Callable
+
+from tree import PROGRAM, TOP
+
+CASES = f"{TOP}/tests/cli"
+EXAMPLES = f"{TOP}/examples"
+OWN_FILES = {"args", "stdout", "status", "stderr", "sizes", "repeats", "memory", "full"}
+SECONDS = 60
+
+
+def bytes_of(path: str, usual: bytes = b"") -> bytes:
+    """The bytes of a file, or `usual` if there is none."""
+    if not os.path.isfile(path):
+        return usual
+    with open(path, "rb") as file:
+        return file.read()
+
+
+def lines_of(path: str) -> list[str]:
+    return bytes_of(path).decode().splitlines()
+
+
+def limited(kilobytes: int) -> Callable[[], None] | None:
+    """A function for a process to call before it runs the program: it sets the limit of memory. None if there is no limit."""
+    if not kilobytes:
+        return None
+    return lambda: resource.setrlimit(resource.RLIMIT_AS, (1024 * kilobytes, 1024 * kilobytes))
+
+
+def lay_out(folder: str, room: str) -> bytes:
+    """Puts the case's files into the room, and returns the lines that `repeats` puts before the wanted output."""
+    for name in os.listdir(folder):
+        if name not in OWN_FILES:
+            shutil.copyfile(f"{folder}/{name}", f"{room}/{name}")
+    for line in lines_of(f"{folder}/sizes"):
+        name, size = line.split()
+        with open(f"{room}/{name}", "wb") as file:
+            file.truncate(int(size))
+    front = b""
+    for line in lines_of(f"{folder}/repeats"):
+        name, count, text = line.split(" ", 2)
+        repeated = f"{text}\n".encode() * int(count)
+        if name == "stdout":
+            front = repeated
+        else:
+            more = bytes_of(f"{room}/{name}")
+            with open(f"{room}/{name}", "wb") as file:
+                file.write(repeated + more)
+    return front
+
+
+def ran(folder: str, room: str) -> subprocess.CompletedProcess[bytes]:
+    """The program's run in the room, with the case's words, limit of memory and ends that take nothing."""
+    words = bytes_of(f"{folder}/args").decode().split("\n")[:-1]
+    limit = limited(int(bytes_of(f"{folder}/memory", b"0")))
+    with open("/dev/full", "wb") as full:
+        ends = {"stdout": subprocess.PIPE, "stderr": subprocess.PIPE, **{name: full for name in bytes_of(f"{folder}/full").decode().split()}}
+        return subprocess.run([PROGRAM, *words], cwd=room, stdin=subprocess.DEVNULL, timeout=SECONDS, preexec_fn=limit, **ends)  # type: ignore[call-overload]
+
+
+def wrong_of(folder: str, front: bytes, it: subprocess.CompletedProcess[bytes]) -> list[str]:
+    """What of the run isn't as the case wants it."""
+    status = int(bytes_of(f"{folder}/status", b"0"))
+    said, heard = it.stdout or b"", (it.stderr or b"").decode(errors="replace")
+    wanted = lines_of(f"{folder}/stderr")
+    wrong = []
+    if said != front + bytes_of(f"{folder}/stdout"):
+        wrong.append(f"standard output is {said[-300:]!r}")
+    if it.returncode != status:
+        wrong.append(f"the status is {it.returncode}, and not {status}")
+    wrong += [f"standard error lacks {line!r}" for line in wanted if line not in heard]
+    if not wanted and heard:
+        wrong.append(f"standard error is {heard[-300:]!r}")
+    return wrong
+
+
+def play(case: str) -> list[str]:
+    """Plays one case, and returns what is wrong."""
+    folder = f"{CASES}/{case}"
+    if not os.path.isfile(f"{folder}/args") or not os.path.isfile(f"{folder}/stdout"):
+        return ["it lacks `args` or `stdout`"]
+    with tempfile.TemporaryDirectory(prefix="srtgw-case-") as room:
+        front = lay_out(folder, room)
+        try:
+            return wrong_of(folder, front, ran(folder, room))
+        except (OSError, subprocess.TimeoutExpired) as why:
+            return [str(why)]
+
+
+def play_example(tape: str) -> list[str]:
+    """Plays one tape of examples/, and returns what is wrong."""
+    words = [PROGRAM, "replay", f"{EXAMPLES}/tapes.toml", f"{EXAMPLES}/{tape}"]
+    try:
+        it = subprocess.run(words, stdin=subprocess.DEVNULL, stdout=subprocess.PIPE, timeout=SECONDS)
+    except (OSError, subprocess.TimeoutExpired) as why:
+        return [str(why)]
+    wanted = bytes_of(f"{EXAMPLES}/{tape.removesuffix('.tape')}.out")
+    return [] if it.returncode == 0 and it.stdout == wanted else [f"status {it.returncode}, standard output {it.stdout[-300:]!r}"]
+
+
+def names_of_cases(word: str = "") -> list[str]:
+    return sorted(it for it in os.listdir(CASES) if word in it and os.path.isdir(f"{CASES}/{it}"))
+
+
+def names_of_examples() -> list[str]:
+    return sorted(it for it in os.listdir(EXAMPLES) if it.endswith(".tape"))

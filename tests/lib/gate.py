@@ -1,0 +1,116 @@
+"""The gate and the steps below it: proofs, tests and wrong bodies of crates."""
+from __future__ import annotations
+
+import os
+import re
+import subprocess
+import time
+from concurrent.futures import ThreadPoolExecutor
+
+import trying
+from machine import Meter
+from parts import OF_FILES, PARTS, QUICK, Count, all_of
+from tree import PROGRAM, TOP, Crate, above, crates, files_of, read
+
+TEST = re.compile(r"(?m)^\s*#\[test\]")
+
+
+def section(title: str) -> None:
+    print(f"\n== {title}", flush=True)
+
+
+def in_crate(crate: Crate, *words: str) -> bool:
+    """Runs a command of the toolchain in the crate's folder, and returns whether it went well."""
+    return subprocess.run(["rt", *words], cwd=crate.folder, stdin=subprocess.DEVNULL).returncode == 0
+
+
+def has_tests(crate: Crate) -> bool:
+    return any(TEST.search(read(it)) for it in files_of(crate.folder, ["src"]) if it.endswith(".rt"))
+
+
+def verdict() -> Count:
+    """Runs `rt ci`, which proves all crates and their tests from nothing, runs them, and tries the edits of must-fail/."""
+    last = ""
+    with subprocess.Popen(["rt", "ci"], cwd=TOP, stdout=subprocess.PIPE, stderr=subprocess.STDOUT, text=True, errors="replace") as it:
+        assert it.stdout
+        for line in it.stdout:
+            print(line, end="", flush=True)
+            last = line.strip() or last
+    found = re.fullmatch(r"(\d+) passed, (\d+) failed", last)
+    passed, failed = map(int, found.groups()) if found else (0, 1)
+    return Count(passed, failed or int(it.returncode != 0))
+
+
+def wrong_bodies(wanted: list[Crate], outside_only: bool) -> Count:
+    """Tries the edits of these crates by copies: those of tests/edits alone, or those of must-fail/ that can be copied too."""
+    count = Count()
+    for it in trying.try_all(wanted, outside_only=outside_only):
+        trying.tell(it)
+        count = count.and_also(Count(len(it.edits(trying.REFUSED)), len(it.wrong())))
+    return count
+
+
+def changed() -> list[Crate]:
+    """The crates with a source that is newer than the built program."""
+    built = os.path.getmtime(PROGRAM) if os.path.isfile(PROGRAM) else 0.0
+    return [it for it in crates().values() if any(os.path.getmtime(path) > built for path in files_of(it.folder))]
+
+
+def try_tests(crate: Crate) -> Count:
+    """Runs the crate's tests before any proof."""
+    words = ["rt", "try", "--test"]
+    it = subprocess.run(words, cwd=crate.folder, stdin=subprocess.DEVNULL, stdout=subprocess.PIPE, stderr=subprocess.STDOUT, text=True, errors="replace")
+    print(f"tests of {crate.name}: " + ("ok" if it.returncode == 0 else f"wrong:\n{it.stdout[-2000:]}"), flush=True)
+    return Count(int(it.returncode == 0), int(it.returncode != 0))
+
+
+def quick(names: list[str]) -> Count:
+    """The tests of these crates, or of those that changed, before any proof, and what plays for a short while."""
+    wanted = [crates()[it] for it in names] if names else changed()
+    if any(crate in changed() for crate in wanted):
+        print(f"note: some sources are newer than {os.path.relpath(PROGRAM, TOP)}, which the cases play against; bin/build builds it anew", flush=True)
+    with ThreadPoolExecutor(len(os.sched_getaffinity(0))) as pool:
+        tests = list(pool.map(try_tests, filter(has_tests, wanted)))
+    return all_of([*tests, *(PARTS[it]() for it in QUICK)])
+
+
+def of_crates(names: list[str]) -> Count:
+    """Proof, tests and edits of these crates and of those that use them, over what earlier checks kept."""
+    wanted = above(names)
+    built = subprocess.run([f"{TOP}/bin/build", *(it.name for it in wanted)]).returncode == 0
+    if not built:
+        return Count(0, 1)
+    count = Count(len(wanted))
+    for crate in filter(has_tests, wanted):
+        section(f"tests of {crate.name}")
+        good = in_crate(crate, "test")
+        count = count.and_also(Count(int(good), int(not good)))
+    section("edits that can't be tried by copies")
+    good = subprocess.run(["rt", "must-fail", *(it.name for it in wanted)], cwd=TOP).returncode == 0
+    section("edits by copies")
+    return all_of([count, Count(int(good), int(not good)), wrong_bodies(wanted, outside_only=True)])
+
+
+def print_minutes(minutes: dict[str, float], began: float) -> None:
+    print("\nProcessor minutes of the toolchain for each crate:")
+    for crate, spent in sorted(minutes.items()):
+        print(f"  {crate:<14} {spent:6.1f}")
+    print(f"  {'all':<14} {sum(minutes.values()):6.1f}")
+    print(f"The whole took {(time.monotonic() - began) / 60:.1f} minutes")
+
+
+def whole() -> Count:
+    """The gate. What needs no proof runs before the wrong bodies, so that a plain mistake is seen early."""
+    began, meter = time.monotonic(), Meter()
+    meter.start()
+    count = all_of([PARTS[it]() for it in OF_FILES])
+    section("proofs")
+    count = count.and_also(verdict())
+    if not count.failed:
+        for name in (it for it in PARTS if it not in OF_FILES):
+            section(name)
+            count = count.and_also(PARTS[name]())
+        section("wrong bodies, by copies")
+        count = count.and_also(wrong_bodies(list(crates().values()), outside_only=True))
+    print_minutes(meter.stop(), began)
+    return count

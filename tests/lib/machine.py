@@ -1,0 +1,110 @@
+"""What the machine says of its processors and ports."""
+from __future__ import annotations
+
+import os
+import socket
+import threading
+from typing import NamedTuple
+
+TICKS = os.sysconf("SC_CLK_TCK")
+
+
+class Times(NamedTuple):
+    """The processors' time since boot, in ticks: all of it, the busy part, and the part that the host took (steal)."""
+
+    whole: int
+    busy: int
+    steal: int
+
+
+def processor_times() -> Times:
+    with open("/proc/stat") as file:
+        words = [int(word) for word in file.readline().split()[1:9]]
+    return Times(sum(words), sum(words) - words[3] - words[4], words[7])
+
+
+class Shares:
+    """The shares of the processors' time that were busy, and that the host took, since this object was made. 0 where the system
+    doesn't say."""
+
+    def __init__(self) -> None:
+        self.first = self.now()
+
+    @staticmethod
+    def now() -> Times:
+        try:
+            return processor_times()
+        except OSError:
+            return Times(0, 0, 0)
+
+    def taken(self) -> tuple[float, float]:
+        whole, busy, steal = (after - before for after, before in zip(self.now(), self.first))
+        return busy / max(1, whole), steal / max(1, whole)
+
+
+def free_port() -> int:
+    """A UDP port of this machine that nobody has now."""
+    with socket.socket(socket.AF_INET, socket.SOCK_DGRAM) as probe:
+        probe.bind(("127.0.0.1", 0))
+        return probe.getsockname()[1]
+
+
+def seconds_of_process(pid: int) -> float:
+    """The processor time of all threads of a process that still run, in seconds."""
+    total = 0
+    for task in os.listdir(f"/proc/{pid}/task"):
+        with open(f"/proc/{pid}/task/{task}/schedstat") as file:
+            total += int(file.read().split()[0])
+    return total / 1e9
+
+
+class Prover(NamedTuple):
+    """A process of the toolchain that is at work on a crate, and the processor time that it took so far, in seconds."""
+
+    crate: str
+    pid: str
+    began: str
+    seconds: float
+
+
+def provers() -> list[Prover]:
+    """The processes of the toolchain that are at work on a crate."""
+    found = []
+    for pid in filter(str.isdigit, os.listdir("/proc")):
+        try:
+            with open(f"/proc/{pid}/cmdline", "rb") as file:
+                words = file.read().decode(errors="replace").split("\0")
+            with open(f"/proc/{pid}/stat") as file:
+                numbers = file.read().rpartition(") ")[2].split()
+        except OSError:
+            continue
+        if "--crate-name" in words[:-1]:
+            crate = words[words.index("--crate-name") + 1]
+            found.append(Prover(crate, pid, numbers[19], (int(numbers[11]) + int(numbers[12])) / TICKS))
+    return found
+
+
+class Meter(threading.Thread):
+    """Sums the processor time that the toolchain takes for each crate, until `stop`."""
+
+    def __init__(self) -> None:
+        super().__init__(daemon=True)
+        self.seconds: dict[tuple[str, str, str], float] = {}
+        self.ends = threading.Event()
+
+    def run(self) -> None:
+        while not self.ends.wait(0.5):
+            for it in provers():
+                self.seconds[it.crate, it.pid, it.began] = it.seconds
+
+    def minutes(self) -> dict[str, float]:
+        """The minutes of each crate so far."""
+        sums: dict[str, float] = {}
+        for (crate, _, _), spent in list(self.seconds.items()):
+            sums[crate] = sums.get(crate, 0.0) + spent / 60
+        return sums
+
+    def stop(self) -> dict[str, float]:
+        self.ends.set()
+        self.join()
+        return self.minutes()

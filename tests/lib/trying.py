@@ -1,0 +1,176 @@
+"""Tries the wrong bodies of crates by copies: one run of the prover judges those of several functions at a time."""
+from __future__ import annotations
+
+import glob
+import os
+import re
+import shutil
+import subprocess
+import sys
+import tempfile
+from concurrent.futures import ThreadPoolExecutor
+from typing import Any, Iterable, Iterator, NamedTuple
+
+import copying
+from copying import Copy
+from tree import SOURCES, TOP, Crate, read, sum_of, write, files_of
+
+CONTROLS = f"{TOP}/tests/edits/controls"
+# The most copies that one run of the prover judges, and the memory that such a run may take, in bytes.
+MOST = 24
+MEMORY = 2_500_000_000
+LINE = re.compile(r"(?m)^fn \S*?(\w+): (proved|not proved|no proof|could not tell)(.*)$")
+# A function that isn't proved because of what it calls says nothing of itself.
+OF_OTHERS = re.compile(r"it calls|it passes|a call of")
+# What a proof file says that names something that the edit took away.
+NAMES = re.compile(r"has no field|is not in scope|has no `|was not admitted")
+REFUSED, PROVED, UNKNOWN = "refused", "proved", "unknown"
+
+
+class Batch(NamedTuple):
+    """The copies of one crate that one run of the prover judges."""
+
+    crate: str
+    copies: list[Copy]
+
+
+class Outcome(NamedTuple):
+    """What became of a copy, and whether it was refused only since a proof names what the edit took away."""
+
+    copy: Copy
+    result: str
+    by_name: bool
+
+
+class Result(NamedTuple):
+    """What a crate's edits came to."""
+
+    crate: str
+    outcomes: list[Outcome]
+    alone: dict[str, str]
+    said: list[str]
+
+    def edits(self, result: str) -> list[str]:
+        return [it.copy.edit for it in self.outcomes if it.copy.edit and it.result == result]
+
+    def wrong(self) -> list[str]:
+        """What isn't as it must be, a text each."""
+        found = [f"{it.copy.edit} is {it.result}" for it in self.outcomes if it.copy.edit and it.result != REFUSED]
+        found += [f"the unchanged copy of {it.copy.of.name} is {it.result}" for it in self.outcomes if not it.copy.edit and it.result != PROVED]
+        return found
+
+
+def toolchain() -> Any:
+    """The module of `rt` that has the words of a check."""
+    rt = shutil.which("rt")
+    if not rt:
+        sys.exit("the Rattle toolchain (rt) is not on PATH: see README.md, First commands")
+    folder = os.path.dirname(os.path.realpath(rt))
+    if folder not in sys.path:
+        sys.path.insert(0, folder)
+    import rtlib  # type: ignore[import-not-found]
+
+    return rtlib
+
+
+def edits_of(crate: str, outside_only: bool = False) -> list[str]:
+    """The files of a crate's edits: those of must-fail/, which `rt ci` tries, unless only the others are asked for, and the others."""
+    inside = [] if outside_only else sorted(glob.glob(f"{TOP}/crates/{crate}/must-fail/*.edit"))
+    return inside + sorted(glob.glob(f"{TOP}/tests/edits/{crate}/*.edit"))
+
+
+def stamp_of(crate: Crate) -> str:
+    """A checksum of what the controls of a crate's copies rest on: its sources, its edited functions, and the copying."""
+    copies, _ = copying.copies_of(crate.folder, edits_of(crate.name))
+    functions = sorted({f"{it.of.path} {it.of.owner} {it.of.name}" for it in copies})
+    return sum_of([*files_of(crate.folder), copying.__file__], "\n".join(functions))
+
+
+def stamps() -> dict[str, str]:
+    """For each crate the stamp at which its controls were proved last."""
+    if not os.path.isfile(CONTROLS):
+        return {}
+    return dict(line.split() for line in read(CONTROLS).splitlines() if line and not line.startswith("#"))
+
+
+def keep_stamps(new: dict[str, str]) -> None:
+    """Writes down the stamps of crates whose controls were proved."""
+    head = "# For each crate the checksum of the sources and edited functions whose unchanged copies were all proved (tests/edits/README.md).\n"
+    write(CONTROLS, head + "".join(f"{crate} {stamp}\n" for crate, stamp in sorted({**stamps(), **new}.items())))
+
+
+def batches_of(crate: str, copies: list[Copy]) -> list[Batch]:
+    """The copies in parts of at most MOST, each part about as large, those of one function one after the other."""
+    ordered = sorted(copies, key=lambda it: (it.of.path, it.of.top))
+    count = -(-len(ordered) // MOST)
+    bounds = [len(ordered) * at // count for at in range(count + 1)] if count else []
+    return [Batch(crate, ordered[low:high]) for low, high in zip(bounds, bounds[1:])]
+
+
+def checked(rtlib: Any, batch: Batch) -> str:
+    """What the prover says of a batch, over the libraries that are built below its crate."""
+    here = Crate(batch.crate, (), "").folder
+    crate = next(it for it in rtlib.crates_below(TOP) if it.name == batch.crate)
+    crate.out = open(os.devnull, "w")
+    with tempfile.TemporaryDirectory(prefix="srtgw-copies-") as room:
+        for part in SOURCES:
+            if os.path.isdir(f"{here}/{part}"):
+                shutil.copytree(f"{here}/{part}", f"{room}/{part}")
+        copying.add_bodies(room, batch.copies)
+        for it in batch.copies:
+            copying.add_proofs(room, it)
+        only = [word for it in batch.copies for word in ("--only", it.name)]
+        words = [*rtlib.guarded(), rtlib.RATTLE, "check", *crate.words(["--jobs", "1", *only], keeps=False)]
+        ran = subprocess.run(words, cwd=room, stdin=subprocess.DEVNULL, stdout=subprocess.PIPE, stderr=subprocess.STDOUT, text=True, errors="replace")
+    return ran.stdout
+
+
+def outcomes_of(batch: Batch, said: str) -> list[Outcome]:
+    """What became of each copy of a batch, by what the prover said."""
+    told = {name: (word, rest) for name, word, rest in LINE.findall(said)}
+    found = []
+    for it in batch.copies:
+        word, rest = told.get(it.name, ("", ""))
+        is_refused = word in ("not proved", "no proof") and not OF_OTHERS.search(rest)
+        errors = [line for line in said.split("\n") if f"/{it.name}/" in line and ": error" in line]
+        by_name = is_refused and bool(errors) and all(NAMES.search(line) for line in errors)
+        found.append(Outcome(it, REFUSED if is_refused else PROVED if word == "proved" else UNKNOWN, by_name))
+    return found
+
+
+def lanes() -> int:
+    """How many runs of the prover have a processor and memory each."""
+    with open("/proc/meminfo") as file:
+        free = next(int(line.split()[1]) * 1024 for line in file if line.startswith("MemAvailable:"))
+    return max(1, min(len(os.sched_getaffinity(0)), free // MEMORY))
+
+
+def try_all(crates: Iterable[Crate], with_controls: bool | None = None, outside_only: bool = False) -> Iterator[Result]:
+    """Tries the edits of these crates by copies, over the libraries that are built; those of tests/edits alone, if `outside_only`.
+    Controls are tried too if that is asked for; if nothing is said, for each crate whose stamp isn't the one at which its controls
+    were proved last. Gives each crate's result, in order, as soon as it is there."""
+    rtlib, kept = toolchain(), stamps()
+    rtlib.guarded()
+    with ThreadPoolExecutor(lanes()) as pool:
+        begun = []
+        for crate in crates:
+            copies, alone = copying.copies_of(crate.folder, edits_of(crate.name, outside_only))
+            needs = with_controls if with_controls is not None else kept.get(crate.name) != stamp_of(crate)
+            batches = batches_of(crate.name, copies + (copying.controls_of(crate.folder, copies) if needs else []))
+            begun.append((crate, alone, [(it, pool.submit(checked, rtlib, it)) for it in batches]))
+        for crate, alone, tried in begun:
+            said = [it.result() for _, it in tried]
+            found = [outcome for (batch, _), text in zip(tried, said) for outcome in outcomes_of(batch, text)]
+            yield Result(crate.name, found, alone, said)
+
+
+def tell(result: Result) -> None:
+    """Prints a crate's line, and what the prover said first if nothing is known of some copy."""
+    wrong, refused = result.wrong(), result.edits(REFUSED)
+    by_name = [it.copy.edit for it in result.outcomes if it.by_name]
+    controls = sum(not it.copy.edit for it in result.outcomes)
+    beside = f", beside {controls} unchanged copies that are proved" if controls else ""
+    names = f"; only by a name that is gone: {', '.join(by_name)}" if by_name else ""
+    print(f"edits of {result.crate}: " + (f"wrong: {wrong}" if wrong else f"ok, {len(refused)} refused by copies{beside}{names}"), flush=True)
+    if any(it.result == UNKNOWN for it in result.outcomes):
+        print("\n".join(text[:3000] for text in result.said), flush=True)
