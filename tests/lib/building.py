@@ -91,11 +91,26 @@ def jobs_for(idle: int, ready: int) -> int:
     return max(1, min(MOST_JOBS, idle // max(1, ready), room))
 
 
+def chains(wanted: list[Crate]) -> dict[str, int]:
+    """For each of these crates how many stand in the longest chain of them from it upwards: those of long chains go first."""
+    found: dict[str, int] = {}
+
+    def chain(crate: Crate) -> int:
+        if crate.name not in found:
+            found[crate.name] = 1 + max((chain(it) for it in wanted if crate.name in it.uses), default=0)
+        return found[crate.name]
+
+    for crate in wanted:
+        chain(crate)
+    return found
+
+
 def build_all(wanted: list[Crate], log: TextIO, tell: Callable[[str], None]) -> None:
     """Builds these crates, each after those that it uses, as many at a time as there are processors."""
     lanes = len(os.sched_getaffinity(0))
     names = {it.name for it in wanted}
-    left: list[Crate] = list(wanted)
+    chain = chains(wanted)
+    left = sorted(wanted, key=lambda it: -chain[it.name])
     done: set[str] = set()
     running: dict[Future[str], tuple[Crate, int, float]] = {}
     began = time.monotonic()
