@@ -6,14 +6,23 @@ import resource
 import shutil
 import subprocess
 import tempfile
-from typing import Callable
+from typing import Callable, NamedTuple
 
+from rows import rows_of
 from tree import PROGRAM, TOP
 
 CASES = f"{TOP}/tests/cli"
 EXAMPLES = f"{TOP}/examples"
-OWN_FILES = {"args", "stdout", "status", "stderr", "sizes", "repeats", "memory", "full"}
+OWN_FILES = {"args", "stdout", "status", "stderr", "sizes", "repeats", "memory", "full", "rows", "steps"}
 SECONDS = 60
+
+
+class Wanted(NamedTuple):
+    """What a run has to end with: its status, standard output to the byte, and lines that standard error contains."""
+
+    status: int
+    output: bytes
+    errors: list[str]
 
 
 def bytes_of(path: str, usual: bytes = b"") -> bytes:
@@ -57,41 +66,68 @@ def lay_out(folder: str, room: str) -> bytes:
     return front
 
 
+def words_of(folder: str) -> list[str]:
+    """The command line of a case."""
+    return bytes_of(f"{folder}/args").decode().split("\n")[:-1]
+
+
 def ran(folder: str, room: str) -> subprocess.CompletedProcess[bytes]:
     """The program's run in the room, with the case's words, limit of memory and ends that take nothing."""
-    words = bytes_of(f"{folder}/args").decode().split("\n")[:-1]
+    words = words_of(folder)
     limit = limited(int(bytes_of(f"{folder}/memory", b"0")))
     with open("/dev/full", "wb") as full:
         ends = {"stdout": subprocess.PIPE, "stderr": subprocess.PIPE, **{name: full for name in bytes_of(f"{folder}/full").decode().split()}}
         return subprocess.run([PROGRAM, *words], cwd=room, stdin=subprocess.DEVNULL, timeout=SECONDS, preexec_fn=limit, **ends)  # type: ignore[call-overload]
 
 
-def wrong_of(folder: str, front: bytes, it: subprocess.CompletedProcess[bytes]) -> list[str]:
-    """What of the run isn't as the case wants it."""
-    status = int(bytes_of(f"{folder}/status", b"0"))
+def wrong_of(wanted: Wanted, it: subprocess.CompletedProcess[bytes]) -> list[str]:
+    """What of the run isn't as it is wanted."""
     said, heard = it.stdout or b"", (it.stderr or b"").decode(errors="replace")
-    wanted = lines_of(f"{folder}/stderr")
     wrong = []
-    if said != front + bytes_of(f"{folder}/stdout"):
+    if said != wanted.output:
         wrong.append(f"standard output is {said[-300:]!r}")
-    if it.returncode != status:
-        wrong.append(f"the status is {it.returncode}, and not {status}")
-    wrong += [f"standard error lacks {line!r}" for line in wanted if line not in heard]
-    if not wanted and heard:
+    if it.returncode != wanted.status:
+        wrong.append(f"the status is {it.returncode}, and not {wanted.status}")
+    wrong += [f"standard error lacks {line!r}" for line in wanted.errors if line not in heard]
+    if not wanted.errors and heard:
         wrong.append(f"standard error is {heard[-300:]!r}")
     return wrong
+
+
+def play_rows(folder: str, room: str, kind: str) -> list[str]:
+    """Plays each row of the case: its change is made in the file that the last word of the command line names, of the case's text
+    (`rows`), or of what the row before it left (`steps`)."""
+    path = f"{room}/{words_of(folder)[-1]}"
+    text, wrong = bytes_of(path).decode(), []
+    for row in rows_of(lines_of(f"{folder}/{kind}")):
+        changed = row.changed(text)
+        with open(path, "wb") as file:
+            file.write(changed.encode())
+        found = wrong_of(Wanted(row.status, row.output.encode(), []), ran(folder, room))
+        wrong += [f"{row.name}: {it}" for it in found]
+        text = changed if kind == "steps" else text
+    return wrong
+
+
+def play_in(folder: str, room: str, kind: str) -> list[str]:
+    """Plays the case in this room. `kind` is the file that has what is wanted."""
+    front = lay_out(folder, room)
+    if kind != "stdout":
+        return play_rows(folder, room, kind)
+    wanted = Wanted(int(bytes_of(f"{folder}/status", b"0")), front + bytes_of(f"{folder}/stdout"), lines_of(f"{folder}/stderr"))
+    return wrong_of(wanted, ran(folder, room))
 
 
 def play(case: str) -> list[str]:
     """Plays one case, and returns what is wrong."""
     folder = f"{CASES}/{case}"
-    if not os.path.isfile(f"{folder}/args") or not os.path.isfile(f"{folder}/stdout"):
-        return ["it lacks `args` or `stdout`"]
+    kinds = [it for it in ("stdout", "rows", "steps") if os.path.isfile(f"{folder}/{it}")]
+    if not os.path.isfile(f"{folder}/args") or len(kinds) != 1:
+        return ["it lacks `args`, or one of `stdout`, `rows` and `steps`"]
     with tempfile.TemporaryDirectory(prefix="srtgw-case-") as room:
-        front = lay_out(folder, room)
         try:
-            return wrong_of(folder, front, ran(folder, room))
-        except (OSError, subprocess.TimeoutExpired) as why:
+            return play_in(folder, room, kinds[0])
+        except (OSError, ValueError, subprocess.TimeoutExpired) as why:
             return [str(why)]
 
 
