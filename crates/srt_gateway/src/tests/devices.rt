@@ -124,20 +124,3 @@ impl Write for Narrow {
         Ok(())
     }
 }
-
-/// Counts the bytes that it takes.
-#[derive(Drop)]
-pub(super) struct Counting {
-    pub(super) bytes: u64,
-}
-
-impl Write for Counting {
-    fn write(&mut self, buf: &[u8]) -> io::Result<usize> {
-        self.bytes = self.bytes.saturating_add(buf.len() as u64);
-        Ok(buf.len())
-    }
-
-    fn flush(&mut self) -> io::Result<()> {
-        Ok(())
-    }
-}

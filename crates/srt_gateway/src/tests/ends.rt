@@ -1,8 +1,10 @@
 //! How replays end.
 
-use super::devices::{Counting, Dripping, Narrow, Repeating, Stuck};
+use super::devices::{Dripping, Narrow, Repeating, Stuck};
 use super::{RIGHT, config_of};
-use crate::{Brought, CountedReader, CountedWriter, ReplayFault, Tried, replay, replay_over};
+use crate::{
+    Brought, Config, CountedReader, CountedWriter, ReplayFault, Tried, replay, replay_over,
+};
 use srt_hub::SrtGateway;
 use std::alloc::Global;
 use std::io::{BufRead, BufReader};
@@ -23,6 +25,27 @@ fn narrow(alloc: Global, room: usize) -> Narrow {
     }
 }
 
+/// Asserts the end of a replay whose reader fails in its second line, and the number of flushes so far.
+fn assert_failed<B: BufRead + Drop>(
+    rt: &(impl AllocGlobal + Abort),
+    config: &Config,
+    reader: &mut CountedReader<B>,
+    writer: &mut CountedWriter<Narrow>,
+    flushes: u32,
+) {
+    assert_eq!(rt;
+        replay(rt.alloc(), config, reader, writer),
+        Err(ReplayFault::Read)
+    );
+    assert_eq!(rt;
+        writer.get_ref().taken.as_slice(),
+        b"dropped 1\n".as_slice()
+    );
+    assert_eq!(rt; writer.get_ref().flushes, flushes);
+    assert_eq!(rt; reader.brought(), Brought::Failure);
+    assert_eq!(rt; reader.left(), (1 << 33) - 122);
+}
+
 #[test]
 fn a_reader_that_fails_in_a_line_ends_the_replay(rt: HostRuntime) -> Result<(), Fail> {
     let config = config_of(&rt, RIGHT)?;
@@ -34,19 +57,8 @@ fn a_reader_that_fails_in_a_line_ends_the_replay(rt: HostRuntime) -> Result<(), 
     let mut reader = CountedReader::new(BufReader::with_capacity(rt.alloc(), 7, reader)?);
     let mut writer = CountedWriter::new(narrow(rt.alloc(), 10));
     // It is flushed, and not called again.
-    for flushes in 1..3 {
-        assert_eq!(rt;
-            replay(rt.alloc(), &config, &mut reader, &mut writer),
-            Err(ReplayFault::Read)
-        );
-        assert_eq!(rt;
-            writer.get_ref().taken.as_slice(),
-            b"dropped 1\n".as_slice()
-        );
-        assert_eq!(rt; writer.get_ref().flushes, flushes);
-        assert_eq!(rt; reader.brought(), Brought::Failure);
-        assert_eq!(rt; reader.left(), (1 << 33) - 122);
-    }
+    assert_failed(&rt, &config, &mut reader, &mut writer, 1);
+    assert_failed(&rt, &config, &mut reader, &mut writer, 2);
     Ok(())
 }
 
@@ -126,18 +138,18 @@ fn an_endless_reader_ends_the_replay(rt: HostRuntime) -> Result<(), Fail> {
 
 #[test]
 fn the_end_takes_a_read_of_its_own(rt: HostRuntime) -> Result<(), Fail> {
-    for (reads, result, brought) in [
-        (2, Err(ReplayFault::Read), Brought::Bytes),
-        (3, Ok(()), Brought::End),
-    ] {
-        let ended = Ended {
-            text: "dropped 1\ndropped 3\n",
-            result,
-            brought,
-        };
-        assert_within(&rt, TWO_LINES, reads, &ended)?;
-    }
-    Ok(())
+    let cut = Ended {
+        text: "dropped 1\ndropped 3\n",
+        result: Err(ReplayFault::Read),
+        brought: Brought::Bytes,
+    };
+    assert_within(&rt, TWO_LINES, 2, &cut)?;
+    let ended = Ended {
+        text: "dropped 1\ndropped 3\n",
+        result: Ok(()),
+        brought: Brought::End,
+    };
+    assert_within(&rt, TWO_LINES, 3, &ended)
 }
 
 /// What a replay leaves of a writer: the bytes that it took, the result of its last try, and its number of flushes.
@@ -254,25 +266,5 @@ fn the_longest_line_is_written_byte_by_byte(rt: HostRuntime) -> Result<(), Fail>
         writer.get_ref().taken.as_slice().ends_with(line.as_slice()),
         "the longest line"
     );
-    Ok(())
-}
-
-#[test]
-fn a_tape_has_at_most_a_million_lines(rt: HostRuntime) -> Result<(), Fail> {
-    let config = config_of(&rt, RIGHT)?;
-    for (times, end) in [
-        (1_000_000, Ok(())),
-        (1_000_001, Err(ReplayFault::Tape(1_000_001))),
-    ] {
-        let reader = Repeating {
-            line: b"A 0 00000000000000000000ffff7f000001 0 \n",
-            at: 0,
-            times,
-        };
-        let mut reader = CountedReader::new(BufReader::new(rt.alloc(), reader)?);
-        let mut writer = CountedWriter::new(Counting { bytes: 0 });
-        assert_eq!(rt; replay(rt.alloc(), &config, &mut reader, &mut writer), end);
-        assert_eq!(rt; writer.get_ref().bytes, 10_000_000);
-    }
     Ok(())
 }
