@@ -24,22 +24,28 @@ use srt_hub::{Doors, Gateway, Hub, Lobby, OutOfMemory, RouteStep, SrtGateway};
 use srt_seq::{Entry, OpenFault, Peer};
 use std::alloc::Global;
 use std::io::{BufRead, Write};
+use thiserror::Error;
 
 /// The greatest number of lines of a tape.
 pub(crate) const LINES_MAX: u32 = 1_000_000;
 
-/// Why a replay ended early. What was written before stays written.
-#[derive(Clone, Copy, Debug, PartialEq, Eq)]
+/// Why a replay ended early. What was written before stays written. Its text is the line that the program prints,
+/// which prints none for `Write`.
+#[derive(Clone, Copy, Debug, Error, PartialEq, Eq)]
 pub enum ReplayFault {
     /// The line with this number, counted from 1, isn't an event, is longer than 4096 bytes, or comes after 1,000,000
     /// lines.
+    #[error("tape fault {0}")]
     Tape(u32),
     /// Memory was refused: for the gateway's routes, for the copy of a datagram to a route, or for a route that a line
     /// opens.
+    #[error("memory")]
     OutOfMemory,
     /// The reader failed, or its reads were used up before the end of the tape.
+    #[error("file fault")]
     Read,
     /// The writer failed, took none of the bytes that it was given, or was interrupted too often.
+    #[error("output fault")]
     Write,
 }
 

@@ -18,6 +18,7 @@ use std::os::fd::AsRawFd;
 use std::sync::Arc;
 use std::sync::atomic::{AtomicBool, AtomicU32, Ordering};
 use std::time::Duration;
+use thiserror::Error;
 
 // The receive buffer that is asked of the system, in bytes (SO_RCVBUF).
 const RECEIVE_BUFFER: u32 = 4_194_304;
@@ -25,12 +26,14 @@ const RECEIVE_BUFFER: u32 = 4_194_304;
 // A nap, in nanoseconds.
 const NAP: i64 = 100_000;
 
-/// Why a socket could not be bound. Nothing is kept then.
-#[derive(Clone, Copy, Debug, PartialEq, Eq)]
+/// Why a socket could not be bound. Nothing is kept then. Its text is the line that the program prints.
+#[derive(Clone, Copy, Debug, Error, PartialEq, Eq)]
 pub enum BindFault {
     /// The system refused a socket at this address, or refused to poll it.
+    #[error("socket fault")]
     Socket,
     /// Memory was refused.
+    #[error("memory")]
     OutOfMemory,
 }
 

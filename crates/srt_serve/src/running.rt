@@ -24,17 +24,21 @@ use srt_seq::{Entry, Schedule};
 use std::alloc::{AllocError, Global};
 use std::sync::Wait;
 use std::thread::Threads;
+use thiserror::Error;
 
-/// Why a run failed.
-#[derive(Clone, Copy, Debug, PartialEq, Eq)]
+/// Why a run failed. Its text is the line that the program prints.
+#[derive(Clone, Copy, Debug, Error, PartialEq, Eq)]
 pub enum RunFault {
     /// Memory was refused. Nothing was read.
+    #[error("memory")]
     OutOfMemory,
     /// A thread could not be started, or wasn't running after ten seconds. Nothing was read, and the threads that were
     /// started have ended.
+    #[error("thread fault")]
     Thread,
     /// A route could not be settled, since another call had claimed it. Datagrams were read and sent, but there are no
     /// report and no accounts.
+    #[error("busy")]
     Busy,
 }
 

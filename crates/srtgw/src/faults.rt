@@ -1,58 +1,54 @@
-//! The faults that end a run early, and the line that is printed for each.
+//! The faults that end a run early. The text of each is the line that is printed for it.
 
 use srt_gateway::{ConfigFault, ReplayFault};
-use std::io;
+use srt_poller::BindFault;
+use srt_serve::RunFault;
+use thiserror::Error;
 
-/// Why a run ended early. Each but `Output` prints one line on standard output; all give status 1.
-#[derive(Drop)]
+/// Why a run ended early. All give status 1, and all but an output that can't be written print one line, their text, on
+/// standard output.
+#[derive(Debug, Drop, Error)]
 pub enum Fault {
-    /// `file fault`: a file can't be read, or is larger than its limit.
+    /// A file can't be read, or is larger than its limit.
+    #[error("file fault")]
     File,
-    /// `config fault N KEY`: the configuration has this fault.
+    /// The configuration has this fault.
+    #[error(transparent)]
     Config(ConfigFault),
-    /// `tape fault L`: the tape's line with this number, counted from 1, isn't an event.
-    Tape(u32),
-    /// `memory`: memory was refused.
+    /// A replay ended with this fault.
+    #[error(transparent)]
+    Replay(ReplayFault),
+    /// No UDP socket was bound, for this reason.
+    #[error(transparent)]
+    Bind(BindFault),
+    /// The routes weren't served, or weren't taken back at the end, for this reason.
+    #[error(transparent)]
+    Run(RunFault),
+    /// Memory was refused.
+    #[error("memory")]
     Memory,
-    /// `socket fault`: no UDP socket could be bound to the configuration's address.
-    Socket,
-    /// `thread fault`: a thread couldn't be started.
-    Thread,
-    /// `busy`: at the end a route couldn't be taken back, because another thread still held it.
-    Busy,
     /// The output can't be written. Nothing is printed.
+    #[error("output fault")]
     Output,
-}
-
-impl From<ConfigFault> for Fault {
-    fn from(fault: ConfigFault) -> Fault {
-        Fault::Config(fault)
-    }
 }
 
 impl From<ReplayFault> for Fault {
     fn from(fault: ReplayFault) -> Fault {
-        match fault {
-            ReplayFault::Tape(line) => Fault::Tape(line),
-            ReplayFault::OutOfMemory => Fault::Memory,
-            ReplayFault::Read => Fault::File,
-            ReplayFault::Write => Fault::Output,
-        }
+        Fault::Replay(fault)
     }
 }
 
 impl Fault {
-    /// Prints the fault's line on standard output. The error is that the output can't be written.
-    pub fn print(&self, rt: &impl Print) -> io::Result<()> {
+    /// Whether the fault's text is printed as a line: for all faults but an output that can't be written.
+    pub fn is_printed(&self) -> bool {
         match self {
-            Fault::File => println!(rt; "file fault"),
-            Fault::Config(fault) => println!(rt; "config fault {} {}", fault.number(), fault.key()),
-            Fault::Tape(line) => println!(rt; "tape fault {line}"),
-            Fault::Memory => println!(rt; "memory"),
-            Fault::Socket => println!(rt; "socket fault"),
-            Fault::Thread => println!(rt; "thread fault"),
-            Fault::Busy => println!(rt; "busy"),
-            Fault::Output => Ok(()),
+            Fault::Output | Fault::Replay(ReplayFault::Write) => false,
+            Fault::File
+            | Fault::Config(_)
+            | Fault::Replay(_)
+            | Fault::Bind(_)
+            | Fault::Run(_)
+            | Fault::Memory => true,
         }
     }
 }

@@ -15,6 +15,8 @@
 mod faults;
 mod files;
 mod serving;
+#[cfg(test)]
+mod tests;
 mod words;
 
 use faults::Fault;
@@ -34,7 +36,7 @@ use words::{Task, command, task_of};
 fn config_at(rt: &(impl Files + AllocGlobal), path: &str) -> Result<Config, Fault> {
     let bytes = read_file(rt, path, CONFIG_MAX)?;
     match str::from_utf8(&bytes) {
-        Ok(text) => Ok(read_config(rt.alloc(), text)?),
+        Ok(text) => read_config(rt.alloc(), text).map_err(Fault::Config),
         Err(_) => Err(Fault::Config(ConfigFault::Toml)),
     }
 }
@@ -96,7 +98,9 @@ fn status_of(rt: &impl Print, ended: Result<(), Fault>) -> ExitCode {
     match ended {
         Ok(()) => ExitCode::SUCCESS,
         Err(fault) => {
-            let _ = fault.print(rt);
+            if fault.is_printed() {
+                let _ = rt.println(&fault);
+            }
             ExitCode::FAILURE
         }
     }

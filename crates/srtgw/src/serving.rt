@@ -5,8 +5,8 @@ ghost use Rattle.std.specs.Vec.{vec_len};
 
 use crate::faults::Fault;
 use srt_gateway::Config;
-use srt_poller::{BindFault, MioSource, Report, Ungated};
-use srt_serve::{Gates, RunFault, Ticker, run};
+use srt_poller::{MioSource, Report, Ungated};
+use srt_serve::{Gates, Ticker, run};
 use std::alloc::{AllocError, Global};
 use std::io;
 use std::net::{Ipv4Addr, Net, SocketAddrV4};
@@ -83,8 +83,8 @@ fn gates(alloc: Global, count: u32) -> Result<Vec<Ungated>, AllocError>
 
 /// Serves the routes of a configuration for this number of rounds of the poller, and returns its report. Routes open
 /// and close in the rounds of their schedules. Binds the UDP socket; starts a ticking thread and `workers` worker
-/// threads; the calling thread polls the socket. Errors: `Socket`, `Memory` and `Thread` before anything was read,
-/// `Busy` at the end. docs/OPERATING.md says how long a round is.
+/// threads; the calling thread polls the socket. Errors: `Bind`, `Memory` and `Run`, before anything was read; but
+/// `RunFault::Busy` comes at the end. docs/OPERATING.md says how long a round is.
 pub fn serve<R: AllocGlobal + Net + Clock + Threads + Wait + Sync>(
     rt: &R,
     config: &Config,
@@ -93,16 +93,12 @@ pub fn serve<R: AllocGlobal + Net + Clock + Threads + Wait + Sync>(
     let start = Instant::now(rt).ok();
     let [a, b, c, d] = config.bind.ip;
     let address = SocketAddrV4::new(Ipv4Addr::new(a, b, c, d), config.bind.port);
-    let (mut source, mut wire) = match MioSource::bind(
+    let (mut source, mut wire) = MioSource::bind(
         rt,
         rt.alloc(),
         address,
         Since::new(rt, start),
-    ) {
-        Ok(bound) => bound,
-        Err(BindFault::Socket) => return Err(Fault::Socket),
-        Err(BindFault::OutOfMemory) => return Err(Fault::Memory),
-    };
+    ).map_err(Fault::Bind)?;
     let Ok(workers) = gates(rt.alloc(), config.workers) else {
         return Err(Fault::Memory);
     };
@@ -126,9 +122,7 @@ pub fn serve<R: AllocGlobal + Net + Clock + Threads + Wait + Sync>(
         rounds,
     ) {
         Ok(ran) => Ok(ran.report),
-        Err(RunFault::OutOfMemory) => Err(Fault::Memory),
-        Err(RunFault::Thread) => Err(Fault::Thread),
-        Err(RunFault::Busy) => Err(Fault::Busy),
+        Err(fault) => Err(Fault::Run(fault)),
     }
 }
 

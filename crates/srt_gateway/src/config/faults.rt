@@ -3,6 +3,8 @@
 ghost use Rattle.std.specs.Prelude.{◌≡◌};
 ghost use Rattle.srt_gateway.specs.Faults.{key_name, key_text, number_of};
 
+use thiserror::Error;
+
 /// A key of the table or of a route in it.
 #[derive(Clone, Copy, Debug, PartialEq, Eq)]
 pub enum Key {
@@ -58,8 +60,9 @@ impl Key {
     }
 }
 
-/// The first thing that is wrong with a configuration.
-#[derive(Debug, Drop, PartialEq, Eq)]
+/// The first thing that is wrong with a configuration. Its text is the line that the program prints.
+#[derive(Debug, Drop, Error, PartialEq, Eq)]
+#[error("config fault {} {}", self.number(), self.key())]
 pub enum ConfigFault {
     /// The text isn't TOML.
     Toml,
