@@ -1,5 +1,8 @@
 //! The faults that end a run early. The text of each is the line that is printed for it.
 
+ghost use Rattle.std.specs.Prelude.{◌≡◌};
+ghost use Rattle.srtgw.specs.Ends.{is_printed};
+
 use srt_gateway::{ConfigFault, ReplayFault};
 use srt_poller::BindFault;
 use srt_serve::RunFault;
@@ -33,6 +36,10 @@ pub enum Fault {
 }
 
 impl From<ReplayFault> for Fault {
+    ghost use Rattle.srtgw.specs.declared.faults.Fault.TheVariants.{Replay};
+
+    ghost from_gives = { λ fault result. result ≡ Replay fault };
+
     fn from(fault: ReplayFault) -> Fault {
         Fault::Replay(fault)
     }
@@ -40,7 +47,9 @@ impl From<ReplayFault> for Fault {
 
 impl Fault {
     /// Whether the fault's text is printed as a line: for all faults but an output that can't be written.
-    pub fn is_printed(&self) -> bool {
+    pub fn is_printed(&self) -> bool
+        ensures { result ≡ is_printed self.now }
+    {
         match self {
             Fault::Output | Fault::Replay(ReplayFault::Write) => false,
             Fault::File

@@ -12,6 +12,10 @@
 //! of output and each status.
 #![tactic(auto)]
 
+ghost use Rattle.std.specs.Prelude.{◌≡◌};
+ghost use Rattle.std.specs.Process.{exit_status};
+ghost use Rattle.srtgw.specs.Ends.{status_after};
+
 mod faults;
 mod files;
 mod serving;
@@ -94,7 +98,9 @@ where
 }
 
 /// The exit status of a run: 0, or 1 after a fault, whose line is printed.
-fn status_of(rt: &impl Print, ended: Result<(), Fault>) -> ExitCode {
+fn status_of(rt: &impl Print, ended: Result<(), Fault>) -> ExitCode
+    ensures { exit_status result ≡ status_after ended }
+{
     match ended {
         Ok(()) => ExitCode::SUCCESS,
         Err(fault) => {
