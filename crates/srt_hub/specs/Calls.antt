@@ -8,6 +8,7 @@ use Rattle.srt_seq.specs.Items.{Datagram, Item}
 use Rattle.srt_seq.specs.Terms.{Terms}
 use Rattle.srt_lobby.specs.declared.classes.Class.{Class}
 use Rattle.srt_lobby.specs.Names.{RouteName}
+use Rattle.srt_lobby.specs.Changing.{fault_of_name}
 use Rattle.srt_hub.specs.declared.answers.Arrived.{Arrived}
 use Rattle.srt_hub.specs.declared.answers.Closing.{Closing}
 use Rattle.srt_hub.specs.declared.answers.OutOfMemory.{OutOfMemory}
@@ -33,6 +34,10 @@ SortingFor = (secret : List ℕ) → Sorting
 -- what a gateway may have behind it: the secret and the entries that it was opened with, and its events, the newest first
 abbrev pub Past : Type 1
 Past = (secret : List ℕ) → (entries : List Terms) → (events : List Event) → Type 0
+
+-- nothing happened after all that happened before
+abbrev pub IsUnchanged : {X : Type 0} → (Stands : X → Past) → (old new : X) → Type 0
+IsUnchanged Stands old new = (secret : List ℕ) (entries : List Terms) (events : List Event) → Stands old secret entries events → Stands new secret entries events
 
 -- a gateway of this number of routes
 abbrev pub HasRoutes : {X : Type 0} → (Stands : X → Past) → X → SortingFor → Meaning → (number : ℕ) → Type 0
@@ -68,7 +73,13 @@ OpeningAnswers Stands old class reply e result =
     (secret : List ℕ) (entries : List Terms) (events : List Event) → Stands old secret entries events →
     result ≡ opening (world_after (class secret) reply entries events) e (wants_memory result)
 
--- so is a closing's
+-- the first reason why a route of this name can't be opened, memory aside, is the model's, with the names in force
+abbrev pub FaultAnswers : {X : Type 0} → (Stands : X → Past) → X → SortingFor → Meaning → (name : List ℕ) → (within : Bool) → Option OpenFault → Type 0
+FaultAnswers Stands hub class reply name within result =
+    (secret : List ℕ) (entries : List Terms) (events : List Event) → Stands hub secret entries events →
+    result ≡ fault_of_name (names_at (class secret) reply entries events) name within
+
+-- a closing's result is the model's too
 abbrev pub ClosingAnswers : {X : Type 0} → (Stands : X → Past) → (old : X) → SortingFor → Meaning → (r : ℕ) → Closing → Type 0
 ClosingAnswers Stands old class reply r result =
     (secret : List ℕ) (entries : List Terms) (events : List Event) → Stands old secret entries events →

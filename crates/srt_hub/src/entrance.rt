@@ -41,8 +41,8 @@ impl Doors for Entrance {
         self.names.shows(r)
     }
 
-    fn fault(&self, entry: &Entry) -> Option<OpenFault> {
-        self.names.fault(entry)
+    fn fault(&self, name: &[u8], within: bool) -> Option<OpenFault> {
+        self.names.fault(name, within)
     }
 
     fn add(&mut self, alloc: Global, entry: &Entry) -> Result<(), OpenFault> {

@@ -1,6 +1,6 @@
 //! All routes of a gateway behind its lobby.
 
-ghost use Rattle.std.specs.Prelude.{◌≡◌, ℕ, ◌+◌, ◌<◌, ◌≤◌, ◌^◌, List, [], None, Some, Err, IfOk, IfErr, OnErr, IfSome, IfNone, map, drop, length, is_err, if◌then◌else◌};
+ghost use Rattle.std.specs.Prelude.{◌≡◌, ℕ, ◌+◌, ◌<◌, ◌≤◌, ◌^◌, List, [], false, None, Some, Err, IfOk, IfErr, OnErr, IfSome, IfNone, map, drop, length, is_err, if◌then◌else◌};
 ghost use Rattle.srt_hub.specs.World.{offered_to};
 
 use crate::answers::{Arrived, Closing, OutOfMemory, Ticked};
@@ -175,9 +175,20 @@ impl<R: RouteStep, L: Lobby> Hub<R, L> {
 }
 
 impl<R: RouteStep, L: Doors> Hub<R, L> {
-    ghost use Rattle.srt_seq.specs.Terms.{terms_of};
+    ghost use Rattle.srt_seq.specs.Terms.{Terms, terms_of};
     ghost use Rattle.srt_hub.specs.World.{Opens, Closes};
-    ghost use Rattle.srt_hub.specs.Calls.{Happened, OpeningAnswers, ClosingAnswers, wants_memory};
+    ghost use Rattle.srt_seq.specs.Entries.{in_limits};
+    ghost use Rattle.srt_hub.specs.Calls.{Happened, IsUnchanged, FaultAnswers, OpeningAnswers, ClosingAnswers, wants_memory};
+
+    /// The first reason why a route of this name can't be opened, memory aside, if the numbers of its entry are `within`
+    /// their limits or aren't: `Names` or `Limits`, as `open_route`. Takes no memory, not even for a copy of the name.
+    pub fn opening_fault(&self, name: &[u8], within: bool) -> Option<OpenFault>
+        ensures fault { FaultAnswers ⟦<Hub<R, L> as Gateway>⟧.stands self.now L.class R.reply name.now within result }
+        // An opening that has a fault changes nothing.
+        ensures stands { IfSome result (λ _. (e : Terms) → e.name ≡ name.now → in_limits e ≡ within → Happened ⟦<Hub<R, L> as Gateway>⟧.stands self.now self.now (Opens e false)) }
+    {
+        self.lobby.fault(name, within)
+    }
 
     /// Opens one more route and shows it. Returns its index, the next one; an index is never used again. Takes all
     /// memory that the route will need, except that for copies of datagrams. Errors: `Names` if the name has a wrong
@@ -189,8 +200,9 @@ impl<R: RouteStep, L: Doors> Hub<R, L> {
         ensures index { IfOk result (λ r. r ≡ ⟦<Hub<R, L> as Gateway>⟧.routes self.old) }
         ensures routes { IfOk result (λ r. ⟦<Hub<R, L> as Gateway>⟧.routes self.new ≡ r + 1) }
         ensures err { OnErr result (⟦<Hub<R, L> as Gateway>⟧.routes self.new ≡ ⟦<Hub<R, L> as Gateway>⟧.routes self.old) }
+        ensures unchanged { OnErr result (IsUnchanged ⟦<Hub<R, L> as Gateway>⟧.stands self.old self.new) }
     {
-        if let Some(fault) = self.lobby.fault(entry) {
+        if let Some(fault) = self.lobby.fault(entry.name.as_bytes(), entry.in_limits()) {
             return Err(fault);
         }
         let r = self.lanes.len();

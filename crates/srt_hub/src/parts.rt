@@ -12,7 +12,7 @@ ghost use Rattle.srt_seq.specs.Terms.{Terms, terms_of};
 ghost use Rattle.srt_route.specs.Written.{written};
 ghost use Rattle.srt_seq.specs.Entries.{is_name, in_limits};
 ghost use Rattle.srt_lobby.specs.Names.{RouteName, is_shown_at};
-ghost use Rattle.srt_lobby.specs.Changing.{fault_of_adding, added, hidden_at};
+ghost use Rattle.srt_lobby.specs.Changing.{fault_of_name, fault_of_adding, added, hidden_at};
 ghost use Rattle.srt_lobby.specs.Opening.{fault_of};
 ghost use Rattle.srt_hub.specs.Hubs.{names};
 ghost use Rattle.srt_hub.specs.Calls.{LobbyAnswers, RouteReplies, datagram};
@@ -56,12 +56,13 @@ pub trait Doors: Lobby {
     fn shows(&self, r: usize) -> bool
         ensures { (secret : List ℕ) (names : List RouteName) → Self.knows self.now secret names → result ≡ is_shown_at names r };
 
-    /// The first reason why a route of this entry can't be added, memory aside. Takes no memory.
-    fn fault(&self, entry: &Entry) -> Option<OpenFault>
-        ensures fault { (secret : List ℕ) (names : List RouteName) → Self.knows self.now secret names → result ≡ fault_of_adding names (terms_of entry.now) }
-        // Whatever the names are, the entry by itself has none.
-        ensures name { result ≡ None → is_name (terms_of entry.now).name ≡ true }
-        ensures limits { result ≡ None → in_limits (terms_of entry.now) ≡ true };
+    /// The first reason why a route of this name can't be added, memory aside, if the numbers of its entry are `within`
+    /// their limits or aren't. Takes no memory.
+    fn fault(&self, name: &[u8], within: bool) -> Option<OpenFault>
+        ensures fault { (secret : List ℕ) (names : List RouteName) → Self.knows self.now secret names → result ≡ fault_of_name names name.now within }
+        // Whatever the names are, the name and the numbers by themselves have none.
+        ensures formed { result ≡ None → is_name name.now ≡ true }
+        ensures limits { result ≡ None → within ≡ true };
 
     /// Adds the name of a route, which is shown. Takes memory for copies of the name. After an error the
     /// names are as before.

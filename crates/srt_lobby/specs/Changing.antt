@@ -30,12 +30,16 @@ IsUnused r names = IfSome (slice_get names r) (λ name. index_of (hidden_at r na
 abbrev pub added : Terms → List RouteName → List RouteName
 added e names = names ++ name_of e ∷ []
 
--- the first reason why a route can't be added, memory aside: a name of a wrong form or of a shown route, a 512th index
--- or a number outside its limits
+-- the first reason why a route of this name can't be added, memory aside, if its numbers are within their limits or
+-- aren't: a name of a wrong form or of a shown route, a 512th index or a number outside its limits
+abbrev pub fault_of_name : List RouteName → (name : List ℕ) → (within : Bool) → Option OpenFault
+fault_of_name names name within =
+    if is_name name && not (is_some (index_of names name))
+    then (if nat_lt (length names) 511 && within then None else Some faults.Limits) else Some faults.Names
+
+-- that of a route with these terms
 abbrev pub fault_of_adding : List RouteName → Terms → Option OpenFault
-fault_of_adding names e =
-    if is_name e.name && not (is_some (index_of names e.name))
-    then (if nat_lt (length names) 511 && in_limits e then None else Some faults.Limits) else Some faults.Names
+fault_of_adding names e = fault_of_name names e.name (in_limits e)
 
 -- no two shown routes ever have the same name
 abbrev pub AddingKeepsNames : Type 0

@@ -46,7 +46,7 @@ impl Names {
     ghost use Rattle.srt_seq.specs.Terms.{terms_of};
     ghost use Rattle.srt_lobby.specs.Opening.{are_names, fault_of};
     ghost use Rattle.srt_lobby.specs.Names.{name_of, names_of, shown, index_of, is_shown_at};
-    ghost use Rattle.srt_lobby.specs.Changing.{fault_of_adding, added, hidden_at, shown_at, IsUnused};
+    ghost use Rattle.srt_lobby.specs.Changing.{fault_of_name, fault_of_adding, added, hidden_at, shown_at, IsUnused};
 
     /// Adds a name that no shown route has. Takes memory for two copies of it. After an error nothing has changed.
     fn push(&mut self, alloc: Global, name: &[u8]) -> Result<(), AllocError>
@@ -123,17 +123,16 @@ impl Names {
         }
     }
 
-    /// The first reason why a route of this entry can't be added, memory aside: `Names` if its name has a wrong form or
-    /// is that of a shown route, else `Limits` if there are 511 routes, shown or not, or if a number of the entry is
-    /// outside its limits. One look-up in the hash table. Takes no memory.
-    pub fn fault(&self, entry: &Entry) -> Option<OpenFault>
-        ensures { result ≡ fault_of_adding (names_of self.now) (terms_of entry.now) }
+    /// The first reason why a route of this name can't be added, memory aside: `Names` if the name has a wrong form or
+    /// is that of a shown route, else `Limits` if there are 511 routes, shown or not, or if the numbers of its entry
+    /// aren't `within` their limits. One look-up in the hash table. Takes no memory.
+    pub fn fault(&self, name: &[u8], within: bool) -> Option<OpenFault>
+        ensures { result ≡ fault_of_name (names_of self.now) name.now within }
     {
-        let name = entry.name.as_bytes();
         if !is_name(name) || self.find(name).is_some() {
             return Some(OpenFault::Names);
         }
-        if self.routes.len() >= MAX_ROUTES || !entry.in_limits() {
+        if self.routes.len() >= MAX_ROUTES || !within {
             return Some(OpenFault::Limits);
         }
         None
@@ -149,7 +148,7 @@ impl Names {
         ensures memory { fault_of_adding (names_of self.old) (terms_of entry.now) ≡ None → IfErr result (λ fault. fault ≡ OpenFault.OutOfMemory) }
         ensures err { OnErr result (names_of self.new ≡ names_of self.old) }
     {
-        match self.fault(entry) {
+        match self.fault(entry.name.as_bytes(), entry.in_limits()) {
             Some(fault) => Err(fault),
             None => {
                 let r = self.routes.len();
