@@ -1,5 +1,5 @@
 -- The lines that are written are those of the model.
-use Rattle.std.proofs.Common.{◌≡◌, ℕ, Bool, false, List, ◌∷◌, Option, None, Some, Result, refl, ap, subst, ◌∙◌}
+use Rattle.std.proofs.Common.{◌≡◌, ℕ, Bool, true, false, List, ◌∷◌, length, Option, None, Some, Result, Ok, Err, OnErr, refl, sym, ap, subst, ◌∙◌}
 use Rattle.srt_seq.specs.declared.shared.OpenFault.{OpenFault}
 use Rattle.srt_seq.specs.declared.shared.Turned.{Turned}
 use Rattle.srt_hub.specs.declared.answers.Arrived.{Arrived}
@@ -9,7 +9,9 @@ use Rattle.srt_lobby.specs.declared.classes.Class.{Class}
 use Rattle.srt_lobby.specs.declared.classes.Class.TheVariants.{Answer, Route, Dropped}
 use Rattle.srt_seq.specs.Items.{Datagram}
 use Rattle.srt_seq.specs.Terms.{Terms}
-use Rattle.srt_hub.specs.World.{Event, Arrives, Ticks, Turns, Sends, Opens, Closes, Sorting, Meaning, arrival_of, tick, turn, first, opening, closing, world_after}
+use Rattle.srt_hub.specs.World.{Event, Arrives, Ticks, Turns, Sends, Opens, Closes, Sorting, Meaning, arrival_of, tick, turn, first, opening, opening_of, closing, world_after}
+use Rattle.srt_lobby.specs.Changing.{fault_of_adding}
+use Rattle.srt_hub.specs.Calls.{wants_memory}
 use Rattle.srt_hub.specs.Hubs.{names_at, entry_at, lane_at, room_at}
 use Rattle.srt_gateway.specs.Texts.{arrived_text, arrival_text, ticked_text, turned_text, sent_text, opened_text, closed_text, event_text}
 
@@ -45,6 +47,16 @@ opened_line class reply entries past e terms refused answer text same known t a 
 
 pub opened_stands : (After : List Event → Type 0) (past : List Event) (e terms : Terms) (refused : Bool) → e ≡ terms → refused ≡ false → After (Opens e refused ∷ past) → After (Opens terms false ∷ past)
 opened_stands After past e terms refused same known h = subst (λ (x : Terms). After (Opens x false ∷ past)) same (subst (λ (b : Bool). After (Opens e b ∷ past)) known h)
+
+-- an opening of an entry that has a fault
+pub fault_line : (class : Sorting) (reply : Meaning) (entries : List Terms) (past : List Event) (e : Terms) (fault : OpenFault) (found : Option OpenFault) (text : List ℕ) → text ≡ opened_text (Err fault) → found ≡ fault_of_adding (names_at class reply entries past) e → found ≡ Some fault → text ≡ event_text class reply entries past (Opens e false)
+fault_line class reply entries past e fault found text t told is =
+    opening_line class reply entries past e (Err fault) text t (sym (ap (opening_of (length (world_after class reply entries past).places) false) (sym told ∙ is)))
+
+-- what holds after an opening's error holds after want of memory
+pub after_want : {P : Type 0} (opened : Result ℕ OpenFault) → wants_memory opened ≡ true → OnErr opened P → P
+after_want (Ok r) wants p = absurd cc
+after_want (Err fault) wants p = p
 
 -- an arrival without an answer is for a route
 pub routed : (k : Class) (refused : Bool) (rooms : ℕ → Bool) → None ≡ arrival_of refused rooms k → (r : ℕ) × (k ≡ Route r)

@@ -3,6 +3,7 @@ use Rattle.std.specs.Prelude.{◌≡◌, ℕ, ◌+◌, nat_le, List, [], ◌∷�
 use Rattle.srt_seq.specs.Terms.{Terms}
 use Rattle.srt_lobby.specs.declared.classes.Class.TheVariants.{Route}
 use Rattle.srt_lobby.specs.Names.{RouteName}
+use Rattle.srt_lobby.specs.Changing.{fault_of_adding}
 use Rattle.srt_hub.specs.World.{Event, Arrives, Ticks, Turns, Sends, Opens, Closes, Sorting, Meaning}
 use Rattle.srt_hub.specs.Hubs.{names_at, routes_at}
 use Rattle.srt_gateway.specs.declared.replaying.ReplayFault.{ReplayFault}
@@ -73,13 +74,13 @@ front_text class reply entries tape lines = text_of class reply entries (take li
 abbrev pub fault_line : Sorting → Meaning → List Terms → (tape : List ℕ) → Option ℕ
 fault_line class reply entries tape = fault_from class reply entries [] 1 (lines_of tape)
 
--- an event that takes memory: an arrival that with the names in force is for a route, or an opening
+-- an event that takes memory: with the names in force an arrival is for a route, or an opening has no fault
 abbrev pub WantsCopy : Sorting → List RouteName → Event → Type 0
 WantsCopy class names (Arrives d moment refused) = (r : ℕ) × (class names d moment ≡ Route r)
 WantsCopy class names (Ticks r moment) = ⊥
 WantsCopy class names (Turns r) = ⊥
 WantsCopy class names (Sends r) = ⊥
-WantsCopy class names (Opens e refused) = Unit {0}
+WantsCopy class names (Opens e refused) = fault_of_adding names e ≡ None
 WantsCopy class names (Closes r moment) = ⊥
 
 -- after this number of lines, all events, comes a line with such an event

@@ -21,16 +21,17 @@ History = List Event → Type 0
 abbrev pub WasAnswered : Sorting → Meaning → List Terms → (past : List Event) (event : Event) (text : List ℕ) → History → Type 0
 WasAnswered class reply entries past event text After = (text ≡ event_text class reply entries past event) × After (event ∷ past)
 
--- an event's answer is at the front of a buffer, or memory was refused that it takes
+-- an event's answer is at the front of a buffer, or memory was refused that it takes, and nothing happened
 abbrev pub EventAnswered : Sorting → Meaning → List Terms → (past : List Event) (event : Event) (buffer : List ℕ) → History → Result ℕ NoMemory → Type 0
 EventAnswered class reply entries past event buffer After (Ok n) = WasAnswered class reply entries past event (take n buffer) After
-EventAnswered class reply entries past event buffer After (Err fault) = WantsCopy class (names_at class reply entries past) event
+EventAnswered class reply entries past event buffer After (Err fault) = WantsCopy class (names_at class reply entries past) event × After past
 
--- a line's answer is at the front of a buffer, or the line isn't an event, or memory was refused that its event takes
+-- a line's answer is at the front of a buffer, or the line isn't an event, or memory was refused that its event takes,
+-- and nothing happened
 abbrev pub LineAnswered : Sorting → Meaning → List Terms → (past : List Event) (line buffer : List ℕ) → History → Result (Option ℕ) NoMemory → Type 0
 LineAnswered class reply entries past line buffer After (Ok (Some n)) = (event : Event) × (event_of (routes_at class reply entries past) line ≡ Some event) × WasAnswered class reply entries past event (take n buffer) After
 LineAnswered class reply entries past line buffer After (Ok None) = event_of (routes_at class reply entries past) line ≡ None
-LineAnswered class reply entries past line buffer After (Err fault) = (event : Event) × (event_of (routes_at class reply entries past) line ≡ Some event) × WantsCopy class (names_at class reply entries past) event
+LineAnswered class reply entries past line buffer After (Err fault) = (event : Event) × (event_of (routes_at class reply entries past) line ≡ Some event) × WantsCopy class (names_at class reply entries past) event × After past
 
 -- if the bytes are known, their first line, with this number, isn't an event
 abbrev pub NoEvent : Option (List ℕ) → (routes number : ℕ) → Type 0
@@ -47,7 +48,7 @@ abbrev pub Answered : Sorting → Meaning → List Terms → (past : List Event)
 Answered class reply entries past After old new held holds number (Ok true) = (event : Event) × TookEvent old new (routes_at class reply entries past) number event × Wrote held holds (event_text class reply entries past event) × After (event ∷ past)
 Answered class reply entries past After old new held holds number (Ok false) = NoLine old × (holds ≡ held)
 Answered class reply entries past After old new held holds number (Err (Tape line)) = (line ≡ number) × NoEvent old (routes_at class reply entries past) number × (holds ≡ held)
-Answered class reply entries past After old new held holds number (Err OutOfMemory) = (event : Event) × (holds ≡ held) × TookEvent old new (routes_at class reply entries past) number event × WantsCopy class (names_at class reply entries past) event
+Answered class reply entries past After old new held holds number (Err OutOfMemory) = (event : Event) × (holds ≡ held) × TookEvent old new (routes_at class reply entries past) number event × WantsCopy class (names_at class reply entries past) event × After past
 Answered class reply entries past After old new held holds number (Err Read) = holds ≡ held
 Answered class reply entries past After old new held holds number (Err Write) = (event : Event) × TookEvent old new (routes_at class reply entries past) number event × ((n : ℕ) × Wrote held holds (take n (event_text class reply entries past event)))
 

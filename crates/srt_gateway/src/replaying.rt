@@ -1,9 +1,12 @@
 //! Tapes replayed over a hub: the event of each line is run, and its answer is written as a line.
 
-ghost use Rattle.std.specs.Prelude.{◌≡◌, ◌≤◌, ◌<◌, ◌^◌, ◌⊎◌, false, IfOk, IfSome, take};
+ghost use Rattle.std.specs.Prelude.{◌≡◌, ◌≤◌, ◌<◌, ◌^◌, ◌⊎◌, false, IfOk, IfSome, take, string_bytes};
 ghost use Rattle.srt_hub.specs.World.{Ticks, Turns, Sends, Opens, Closes};
-ghost use Rattle.srt_hub.specs.Calls.{wants_memory};
+ghost use Rattle.srt_hub.specs.Calls.{wants_memory, Happened, FaultAnswers};
 ghost use Rattle.srt_seq.specs.Terms.{terms_of};
+ghost use Rattle.srt_seq.specs.Entries.{in_limits};
+ghost use Rattle.srt_gateway.specs.Routes.{terms_with};
+ghost use Rattle.srt_gateway.specs.RouteParts.{numbers_of};
 ghost use Rattle.srt_gateway.specs.Said.{arrival, terms_said, event_said, IsSound};
 ghost use Rattle.srt_gateway.specs.Replay.{WasRefused};
 ghost use Rattle.srt_gateway.specs.Counted.{source, reads_left, last_brought, TurnRead, ReplayRead};
@@ -38,7 +41,7 @@ pub enum ReplayFault {
     #[error("tape fault {0}")]
     Tape(u32),
     /// Memory was refused: for the gateway's routes, for the copy of a datagram to a route, or for a route that a line
-    /// opens.
+    /// opens, and that has no fault.
     #[error("memory")]
     OutOfMemory,
     /// The reader failed, or its reads were used up before the end of the tape.
@@ -121,22 +124,43 @@ fn answer_send<R: RouteStep, L: Lobby>(
     }
 }
 
+/// The entry of a line, with this name.
+fn entry_with(name: String, opening: Opening<'_>) -> Entry
+    ensures { terms_of result ≡ terms_with (string_bytes name) opening.entry.mode (numbers_of opening.entry.numbers) }
+{
+    Entry {
+        name,
+        mode: opening.mode,
+        latency_ms: opening.numbers.latency_ms,
+        buffer: opening.numbers.buffer,
+        sessions: opening.numbers.sessions,
+        inbox: opening.numbers.inbox,
+        outbox: opening.numbers.outbox,
+    }
+}
+
 /// The entry of a line. Takes memory for a copy of the name.
 fn entry_of(alloc: Global, opening: Opening<'_>) -> Result<Entry, OutOfMemory>
     ensures { IfOk result (λ entry. terms_of entry ≡ terms_said opening.entry) }
 {
     match String::from_str(alloc, opening.name) {
-        Ok(name) => Ok(Entry {
-            name,
-            mode: opening.mode,
-            latency_ms: opening.numbers.latency_ms,
-            buffer: opening.numbers.buffer,
-            sessions: opening.numbers.sessions,
-            inbox: opening.numbers.inbox,
-            outbox: opening.numbers.outbox,
-        }),
+        Ok(name) => Ok(entry_with(name, opening)),
         Err(_) => Err(OutOfMemory),
     }
+}
+
+/// The first reason why the route of a line can't be opened, memory aside. Takes no memory.
+fn opening_fault<R: RouteStep, L: Doors>(
+    alloc: Global,
+    hub: &Hub<R, L>,
+    opening: Opening<'_>,
+) -> Option<OpenFault>
+    ensures fault { FaultAnswers ⟦<Hub<R, L> as Gateway>⟧.stands hub.now L.class R.reply (terms_said opening.entry).name (in_limits (terms_said opening.entry)) result }
+    // An opening that has a fault changes nothing.
+    ensures stands { IfSome result (λ _. Happened ⟦<Hub<R, L> as Gateway>⟧.stands hub.now hub.now (Opens (terms_said opening.entry) false)) }
+{
+    let nameless = entry_with(String::new(alloc), opening);
+    hub.opening_fault(opening.name.as_bytes(), nameless.in_limits())
 }
 
 fn is_refused(opened: Result<usize, OpenFault>) -> bool
@@ -151,7 +175,7 @@ fn is_refused(opened: Result<usize, OpenFault>) -> bool
 }
 
 /// Opens a route, and writes the answer as a line to the front of `out`. Returns the line's length. The error is that
-/// memory was refused: for the entry's name, or for the route.
+/// memory was refused, for the entry's name or for the route; an opening that has a fault takes none.
 fn answer_opening<R: RouteStep, L: Doors>(
     alloc: Global,
     hub: &mut Hub<R, L>,
@@ -161,6 +185,9 @@ fn answer_opening<R: RouteStep, L: Doors>(
     ensures within { IfOk result (λ n. n ≤ 4096) }
     ensures answered { Tries ⟦<Hub<R, L> as Gateway>⟧.stands hub.old hub.new L.class R.reply (Opens (terms_said opening.entry) false) out.new result }
 {
+    if let Some(fault) = opening_fault(alloc, hub, opening) {
+        return Ok(write_opened(Err(fault), out));
+    }
     let entry = match entry_of(alloc, opening) {
         Ok(entry) => entry,
         Err(fault) => return Err(fault),

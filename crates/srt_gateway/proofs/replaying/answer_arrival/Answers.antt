@@ -12,4 +12,4 @@ returns-in-Ok-clause-answered g c secret entries past h =
 pub returns-in-Err-clause-answered : goal.returns-in-Err-clause-answered
 returns-in-Err-clause-answered g c secret entries past h =
     let d : Datagram = record { peer = c.args.peer; bytes = c.args.bytes.now } in
-    routed (g.L.Lobby.class secret (names_at (g.L.Lobby.class secret) g.R.RouteStep.reply entries past) d c.args.moment) true (room_at (g.L.Lobby.class secret) g.R.RouteStep.reply entries past) (c.in-Err.ensures.answer secret entries past h)
+    (routed (g.L.Lobby.class secret (names_at (g.L.Lobby.class secret) g.R.RouteStep.reply entries past) d c.args.moment) true (room_at (g.L.Lobby.class secret) g.R.RouteStep.reply entries past) (c.in-Err.ensures.answer secret entries past h), rw c.in-Err.ensures.err h)

@@ -11,8 +11,10 @@ returns-in-Ok-clause-answered g c secret entries past h = (
 )
 
 pub returns-in-Err-clause-answered : goal.returns-in-Err-clause-answered
-returns-in-Err-clause-answered g c secret entries past h = (
-  event_said c.read_event.new.buffer c.in-Some.event,
-  sym (c.in-Some.ensures.value ∙ ap (λ (n : ℕ). event_of n c.args.line.now) (c.routes.ensures.number secret entries past h)),
-  c.in-Err.ensures.answered secret entries past h,
-)
+returns-in-Err-clause-answered g c secret entries past h =
+    let wants = c.in-Err.ensures.answered secret entries past h in (
+      event_said c.read_event.new.buffer c.in-Some.event,
+      sym (c.in-Some.ensures.value ∙ ap (λ (n : ℕ). event_of n c.args.line.now) (c.routes.ensures.number secret entries past h)),
+      wants.0,
+      wants.1,
+    )

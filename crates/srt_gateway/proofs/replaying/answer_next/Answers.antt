@@ -49,4 +49,5 @@ returns-in-Err-answer_line-clause-answered g c secret entries past h =
       refl,
       record { line = line; took = took.0; event_is = at_event (routes_at (g.L.Lobby.class secret) g.R.RouteStep.reply entries past) c.args.number line (omega arith) ∙ p.1 },
       p.2,
+      p.3,
     )
