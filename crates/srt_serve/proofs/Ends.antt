@@ -20,7 +20,7 @@ use Rattle.srt_serve.specs.Polled.{Polled}
 use Rattle.srt_serve.specs.Ran.{Ran, told_by}
 use Rattle.srt_serve.specs.Settled.{AreJoined, AreSettled}
 use Rattle.srt_serve.specs.Ticks.{Ticked}
-use Rattle.srt_serve.proofs.Routes.{all_joined, all_ran}
+use Rattle.srt_serve.proofs.Routes.{itself, untold, all_joined, all_ran}
 
 -- what was lent is put back whole
 put_whole : {X : Type 0} (was bs : List X) (len : ℕ) → len ≡ length was → length bs ≡ length was → take len (bs ++ drop (length bs) was) ≡ bs
@@ -36,14 +36,14 @@ polled_whole class schedules rounds names names' gave gave' to to' lent ends end
     rw (put_whole ends ends' len places pumped.1.ends.as_many) pumped
 
 pub run_joined : (class : Sorting) (schedules : List Schedule) (entries : List Terms) (rounds : ℕ) (names names' : List RouteName) (gave gave' : Option (List Arrival)) (to to' : Option (List Datagram)) (told told' : Option (List ℕ)) (ends ends' : List Ends) (clocks clocks' : List Producer) (cells : List RouteCell) (report : Report) →
-    AreOpened entries ends clocks cells → Polled class schedules rounds (before names gave to ends) (after names' gave' to' ends' report) → Ticked told told' clocks clocks' →
+    AreOpened entries ends clocks cells → Polled class schedules rounds (before names gave to ends) (after names' gave' to' ends' report) → Ticked itself untold told told' clocks clocks' →
     AreJoined ends' clocks' cells
 unfolding Polled
 run_joined class schedules entries rounds names names' gave gave' to to' told told' ends ends' clocks clocks' cells report opened polled ticked =
     all_joined entries ends ends' clocks clocks' cells polled.0 ticked.0 opened polled.1.ends ticked.2
 
 pub run_ran : (class : Sorting) (schedules : List Schedule) (entries : List Terms) (rounds : ℕ) (names names' : List RouteName) (gave gave' : Option (List Arrival)) (to to' : Option (List Datagram)) (told told' : Option (List ℕ)) (ends ends' : List Ends) (clocks clocks' : List Producer) (cells : List RouteCell) (report : Report) (accounts : List Account) →
-    fault_of entries ≡ None → names ≡ first_names schedules entries → AreOpened entries ends clocks cells → Polled class schedules rounds (before names gave to ends) (after names' gave' to' ends' report) → Ticked told told' clocks clocks' →
+    fault_of entries ≡ None → names ≡ first_names schedules entries → AreOpened entries ends clocks cells → Polled class schedules rounds (before names gave to ends) (after names' gave' to' ends' report) → Ticked itself untold told told' clocks clocks' →
     AreSettled accounts ends' clocks' cells →
     Ran class schedules entries rounds (told_by gave to told) (told_by gave' to' told') report accounts
 unfolding Polled

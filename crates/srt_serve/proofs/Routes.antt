@@ -32,27 +32,34 @@ use Rattle.srt_serve.specs.Ran.{RouteRan, Ran, told_by}
 use Rattle.srt_serve.specs.Settled.{AreJoined, AreSettled}
 use Rattle.srt_serve.specs.Ticks.{tick, WasTicked, WereTicked, Ticked}
 
+-- at the clock's ends of a run, which don't record what they were offered
+abbrev pub itself : Producer → Producer
+itself c = c
+
+abbrev pub untold : Producer → Option (List ℕ)
+untold c = None
+
 -- one route
 
-pub route_joined : (terms : Terms) (r : ℕ) (events : List Event) (moments : List ℕ) (e e' : Ends) (c c' : Producer) (k : RouteCell) → IsOpened terms r e c k → IsLater (accepted r events) (drained r events) e e' → WasTicked moments c c' → AreEndsOf (name_in k) e'.ingress c' e'.drain
+pub route_joined : (terms : Terms) (r : ℕ) (events : List Event) (moments : List ℕ) (e e' : Ends) (c c' : Producer) (k : RouteCell) → IsOpened terms r e c k → IsLater (accepted r events) (drained r events) e e' → WasTicked itself untold moments c c' → AreEndsOf (name_in k) e'.ingress c' e'.drain
 route_joined terms r events moments e e' c c' k opened later ticked = (
   later.inbox ∙ ap (λ p. p.queue) opened.ingress,
-  ap (λ p. p.queue) ticked.2 ∙ ap (λ p. p.queue) opened.clock_is,
+  ap (λ p. p.queue) ticked.3 ∙ ap (λ p. p.queue) opened.clock_is,
   later.outbox ∙ ap (λ p. p.queue) opened.drain,
 )
 
-pub route_ran : (terms : Terms) (r : ℕ) (events : List Event) (moments : List ℕ) (a : Account) (e e' : Ends) (c c' : Producer) (k : RouteCell) → IsOpened terms r e c k → IsLater (accepted r events) (drained r events) e e' → WasTicked moments c c' → HaveOrigins events → Settles a (name_in k) e'.ingress c' e'.drain → RouteRan terms r events moments a
+pub route_ran : (terms : Terms) (r : ℕ) (events : List Event) (moments : List ℕ) (a : Account) (e e' : Ends) (c c' : Producer) (k : RouteCell) → IsOpened terms r e c k → IsLater (accepted r events) (drained r events) e e' → WasTicked itself untold moments c c' → HaveOrigins events → Settles a (name_in k) e'.ingress c' e'.drain → RouteRan terms r events moments a
 route_ran terms r events moments a e e' c c' k opened later ticked origins s =
     let through : map written e'.drain.through ≡ drained r events = later.through ∙ ap (λ p. map written p.through ++ drained r events) opened.drain in
     record {
       taken = s.taken;
       left = s.left;
-      ticks = ticked.0;
+      ticks = ticked.1;
       queued = s.queued;
       waiting = s.waiting;
       polled = ap (map told) (sym s.polled) ∙ later.offered ∙ ap (λ p. map told p.offered ++ accepted r events) opened.ingress;
-      ticked = sym s.ticked ∙ ap (λ p. p.offered) ticked.2 ∙ ap (λ p. p.offered ++ map tick ticked.0) opened.clock_is;
-      within = ticked.1;
+      ticked = sym s.ticked ∙ ap (λ p. p.offered) ticked.3 ∙ ap (λ p. p.offered ++ map tick ticked.1) opened.clock_is;
+      within = ticked.2;
       replied =
           sym (append_assoc (of_route r (handed events)) (kept_of r (kept_after None events)) (map written s.queued ++ s.waiting))
           ∙ ap (λ ds. ds ++ (map written s.queued ++ s.waiting)) (origins.route r ∙ sym through)
@@ -75,14 +82,14 @@ some_of : {X : Type 0} (xs : List X) (r : ℕ) → r < length xs → X
 some_of [] r h = absurd (omega arith)
 some_of (x ∷ xs) r h = x
 
-ticked_at : (ms : List ℕ) (was bs : List Producer) → WereTicked ms was bs → (r : ℕ) (a b : Producer) → r < length was → WasTicked ms (slice_index_or was r a) (slice_index_or bs r b)
+ticked_at : (ms : List ℕ) (was bs : List Producer) → WereTicked itself untold ms was bs → (r : ℕ) (a b : Producer) → r < length was → WasTicked itself untold ms (slice_index_or was r a) (slice_index_or bs r b)
 ticked_at ms [] [] h r a b below = absurd (omega arith)
 ticked_at ms [] (y ∷ bs) h r a b below = absurd h
 ticked_at ms (x ∷ was) [] h r a b below = absurd h
 ticked_at ms (x ∷ was) (y ∷ bs) h zero a b below = h.0
 ticked_at ms (x ∷ was) (y ∷ bs) h (suc r) a b below = ticked_at ms was bs h.1 r a b (omega arith)
 
-ticked_length : (ms : List ℕ) (was bs : List Producer) → WereTicked ms was bs → length bs ≡ length was
+ticked_length : (ms : List ℕ) (was bs : List Producer) → WereTicked itself untold ms was bs → length bs ≡ length was
 ticked_length ms [] [] h = refl
 ticked_length ms [] (b ∷ bs) h = absurd h
 ticked_length ms (a ∷ was) [] h = absurd h
@@ -120,7 +127,7 @@ joined_at (e ∷ ends) (c ∷ clocks) [] m n h = absurd (omega (arith, m))
 joined_at (e ∷ ends) (c ∷ clocks) (k ∷ cells) m n h =
     (h zero e c k (omega arith), joined_at ends clocks cells (omega (arith, m)) (omega (arith, n)) (λ r e' c' k' below. h (suc r) e' c' k' (omega (arith, below))))
 
-pub all_joined : (entries : List Terms) (ends ends' : List Ends) (clocks clocks' : List Producer) (cells : List RouteCell) (events : List Event) (moments : List ℕ) → AreOpened entries ends clocks cells → AreLater events ends ends' → WereTicked moments clocks clocks' → AreJoined ends' clocks' cells
+pub all_joined : (entries : List Terms) (ends ends' : List Ends) (clocks clocks' : List Producer) (cells : List RouteCell) (events : List Event) (moments : List ℕ) → AreOpened entries ends clocks cells → AreLater events ends ends' → WereTicked itself untold moments clocks clocks' → AreJoined ends' clocks' cells
 all_joined entries ends ends' clocks clocks' cells events moments opened later ticked =
     joined_at ends' clocks' cells
     (later.as_many ∙ opened.as_many_ends ∙ sym opened.as_many_cells)
@@ -151,7 +158,7 @@ pub few_routes : (entries : List Terms) → fault_of entries ≡ None → length
 few_routes entries sound = few (length entries) (both (is_between 1 511 (length entries)) (list_all in_limits entries) (limited (are_names entries) (are_in_limits entries) sound)).0
 
 pub all_ran : (class : Sorting) (schedules : List Schedule) (entries : List Terms) (rounds : ℕ) (names names' : List RouteName) (gave gave' : Option (List Arrival)) (to to' : Option (List Datagram)) (told_before told_after : Option (List ℕ)) (ends ends' : List Ends) (clocks clocks' : List Producer) (cells : List RouteCell) (report : Report) (accounts : List Account) →
-    fault_of entries ≡ None → names ≡ first_names schedules entries → AreOpened entries ends clocks cells → Pumped class schedules rounds (before names gave to ends) (after names' gave' to' ends' report) → Ticked told_before told_after clocks clocks' → AreSettled accounts ends' clocks' cells →
+    fault_of entries ≡ None → names ≡ first_names schedules entries → AreOpened entries ends clocks cells → Pumped class schedules rounds (before names gave to ends) (after names' gave' to' ends' report) → Ticked itself untold told_before told_after clocks clocks' → AreSettled accounts ends' clocks' cells →
     Ran class schedules entries rounds (told_by gave to told_before) (told_by gave' to' told_after) report accounts
 all_ran class schedules entries rounds names names' gave gave' to to' told_before told_after ends ends' clocks clocks' cells report accounts sound named opened pumped ticked settled =
     let p = pumped.1 in (

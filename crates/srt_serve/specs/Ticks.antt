@@ -14,17 +14,27 @@ IsWithin (x ∷ xs) (y ∷ ys) = ((x ≡ y) × IsWithin xs ys) ⊎ IsWithin (x �
 abbrev pub tick : (moment : ℕ) → Item
 tick moment = Tick moment
 
--- this inbox accepted, in addition, ticks of some of these moments, in order
-abbrev pub WasTicked : (moments : List ℕ) → Producer → Producer → Type 0
-WasTicked moments a b = (accepted : List ℕ) × IsWithin accepted moments × (b ≡ producer a.queue a.capacity (a.offered ++ map tick accepted))
+-- the inbox once it has accepted ticks of these moments in addition, or a tick of one moment
+abbrev pub accepts_all : (moments : List ℕ) → Producer → Producer
+accepts_all moments a = producer a.queue a.capacity (a.offered ++ map tick moments)
 
--- each of these inboxes did
-abbrev pub WereTicked : (moments : List ℕ) → List Producer → List Producer → Type 0
-WereTicked moments [] [] = Unit {0}
-WereTicked moments [] (b ∷ bs) = ⊥
-WereTicked moments (a ∷ more) [] = ⊥
-WereTicked moments (a ∷ more) (b ∷ bs) = WasTicked moments a b × WereTicked moments more bs
+abbrev pub accepts : (moment : ℕ) → Producer → Producer
+accepts moment a = accepts_all (moment ∷ []) a
 
--- the ticker gave some moments, and these inboxes were ticked at them
-abbrev pub Ticked : Option (List ℕ) → Option (List ℕ) → List Producer → List Producer → Type 0
-Ticked gave given old new = (moments : List ℕ) × (given ≡ joined gave moments) × WereTicked moments old new
+-- A tick of each of these moments was offered to this end, in order and nothing else. The inbox accepted some of them. Of an end, `inbox` tells
+-- what its inbox accepted and `tried` which ticks it was offered
+abbrev pub WasTicked : {E : Type 0} → (inbox : E → Producer) → (tried : E → Option (List ℕ)) → (moments : List ℕ) → E → E → Type 0
+WasTicked inbox tried moments a b =
+    (tried b ≡ joined (tried a) moments)
+    × (accepted : List ℕ) × IsWithin accepted moments × (inbox b ≡ accepts_all accepted (inbox a))
+
+-- each of these ends was offered them
+abbrev pub WereTicked : {E : Type 0} → (inbox : E → Producer) → (tried : E → Option (List ℕ)) → (moments : List ℕ) → List E → List E → Type 0
+WereTicked inbox tried moments [] [] = Unit {0}
+WereTicked inbox tried moments [] (b ∷ bs) = ⊥
+WereTicked inbox tried moments (a ∷ more) [] = ⊥
+WereTicked inbox tried moments (a ∷ more) (b ∷ bs) = WasTicked inbox tried moments a b × WereTicked inbox tried moments more bs
+
+-- the ticker gave some moments, and each of these ends was offered a tick of each of them
+abbrev pub Ticked : {E : Type 0} → (inbox : E → Producer) → (tried : E → Option (List ℕ)) → Option (List ℕ) → Option (List ℕ) → List E → List E → Type 0
+Ticked inbox tried gave given old new = (moments : List ℕ) × (given ≡ joined gave moments) × WereTicked inbox tried moments old new

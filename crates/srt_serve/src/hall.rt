@@ -126,11 +126,6 @@ impl Hall {
         self.asked.next_from(route)
     }
 
-    /// Whether the route asks for a worker.
-    pub fn asks(&self, route: usize) -> bool {
-        self.asked.is_set(route)
-    }
-
     /// Makes the caller the route's visitor and clears the route's `asked` mark. False, with no change, if another
     /// worker is its visitor.
     pub fn enter(&self, route: usize) -> bool {

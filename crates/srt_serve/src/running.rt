@@ -115,10 +115,9 @@ fn open_stage(
 /// First all routes are opened, those that callers find in a later round too, which takes all memory but that of
 /// threads and of arriving datagrams. The names of later routes are hidden until their round. Then one thread for each
 /// worker and one ticking thread are started. Once all of them run, the calling thread polls the source and the wire,
-/// and opens and closes routes at the beginning of each round; the ticking thread ticks all routes, hidden ones too, at
-/// each moment that the ticker gives, but for those at which an item waits for a worker, since each item shows the time;
-/// and the workers serve all of them. After the rounds all threads end, and each route is settled. A ticker that waits
-/// delays that end.
+/// and opens and closes routes at the beginning of each round; the ticking thread offers a tick to all routes, hidden ones
+/// too, at each moment that the ticker gives; and the workers serve all of them. After the rounds all threads end, and
+/// each route is settled. A ticker that waits delays that end.
 #[tactic(auto, unfolding(crate::specs::Polled::AreUntouched))]
 pub fn run<R, S: Source, W: Wire, K, G>(
     rt: &R,

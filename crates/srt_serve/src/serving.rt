@@ -10,7 +10,7 @@ ghost use Rattle.srt_serve.specs.Ticks.{Ticked};
 
 use crate::hall::Hall;
 use crate::helping::Helper;
-use crate::ticking::{Clocks, Ticker, tick};
+use crate::ticking::{Clocks, TickEnd, Ticker, tick};
 use crate::working::work;
 use srt_cookie::Secret;
 use srt_lobby::Names;
@@ -54,9 +54,9 @@ pub struct Front<G: Drop> {
 
 /// What the threads besides the polling one have for themselves.
 #[derive(Drop)]
-pub struct Crew<K: Ticker + Drop, G: Drop> {
+pub struct Crew<K: Ticker + Drop, E: TickEnd + Drop, G: Drop> {
     /// The ticking thread's: the clock's ends of all routes, and the ticker.
-    pub clocks: Clocks<K>,
+    pub clocks: Clocks<K, E>,
     /// A gate for each worker. `serve_routes` takes them out.
     pub gates: Vec<G>,
 }
@@ -130,16 +130,17 @@ fn poll<R: Wait, S: Source, W: Wire, C: Serve, G: Gate + Drop>(
 }
 
 // Ticks in a new thread, and polls in this one. Returns when both have ended.
-fn tick_and_poll<R, S: Source, W: Wire, K, C, G>(
+fn tick_and_poll<R, S: Source, W: Wire, K, E, C, G>(
     context: &Context<R, C>,
     source: &mut S,
     wire: &mut W,
     front: &mut Front<G>,
-    clocks: &mut Clocks<K>,
+    clocks: &mut Clocks<K, E>,
 ) -> Option<Report>
 where
     R: Threads + Wait + Sync,
     K: Ticker + Send + Drop,
+    E: TickEnd + Send + Drop,
     C: Serve + Sync,
     G: Gate + Send + Drop,
     requires { AreReady context.now.schedules.now (names_of front.old.names) front.old.ends.items }
@@ -147,7 +148,8 @@ where
         Polled (class_of (secret_bytes context.now.secret.now)) context.now.schedules.now context.now.rounds
         (before (names_of front.old.names) (S.gave source.old) (W.handed wire.old) front.old.ends.items)
         (after (names_of front.new.names) (S.gave source.new) (W.handed wire.new) front.new.ends.items report)) }
-    ensures ticked { Ticked (K.gave clocks.old.ticker) (K.gave clocks.new.ticker) clocks.old.ends.items clocks.new.ends.items }
+    ensures ticked { Ticked E.inbox E.tried (K.gave clocks.old.ticker) (K.gave clocks.new.ticker)
+        clocks.old.ends.items clocks.new.ends.items }
     ensures unread { IfNone result (AreUntouched source.old source.new wire.old wire.new) }
 {
     let (_, report) = join_mut(
@@ -160,16 +162,17 @@ where
 
 /// Starts the workers and the ticking thread, and then polls. All threads have ended when it returns. `None` if one
 /// could not be started, or wasn't running after ten seconds; then nothing was read.
-pub fn serve_routes<R, S: Source, W: Wire, K, G, C>(
+pub fn serve_routes<R, S: Source, W: Wire, K, E, G, C>(
     context: &Context<R, C>,
     source: &mut S,
     wire: &mut W,
     front: &mut Front<G>,
-    crew: &mut Crew<K, G>,
+    crew: &mut Crew<K, E, G>,
 ) -> Option<Report>
 where
     R: Threads + Wait + Sync,
     K: Ticker + Send + Drop,
+    E: TickEnd + Send + Drop,
     G: Gate + Send + Drop,
     C: Serve + Sync,
     requires { AreReady context.now.schedules.now (names_of front.old.names) front.old.ends.items }
@@ -177,7 +180,7 @@ where
         Polled (class_of (secret_bytes context.now.secret.now)) context.now.schedules.now context.now.rounds
         (before (names_of front.old.names) (S.gave source.old) (W.handed wire.old) front.old.ends.items)
         (after (names_of front.new.names) (S.gave source.new) (W.handed wire.new) front.new.ends.items report)) }
-    ensures ticked { Ticked (K.gave crew.old.clocks.ticker) (K.gave crew.new.clocks.ticker)
+    ensures ticked { Ticked E.inbox E.tried (K.gave crew.old.clocks.ticker) (K.gave crew.new.clocks.ticker)
         crew.old.clocks.ends.items crew.new.clocks.ends.items }
     ensures unread { IfNone result (AreUntouched source.old source.new wire.old wire.new) }
 {

@@ -1,8 +1,7 @@
 //! The ticking thread: it offers the time to all routes.
 
-ghost use Rattle.std.specs.Prelude.{◌≡◌, ◌⊎◌, ◌<◌, ◌^◌, [], ◌∷◌, ◌++◌};
-ghost use Rattle.srt_mailbox.specs.Ends.{producer};
-ghost use Rattle.srt_serve.specs.Ticks.{tick, WereTicked, Ticked};
+ghost use Rattle.std.specs.Prelude.{◌<◌, ◌^◌, [], ◌∷◌};
+ghost use Rattle.srt_serve.specs.Ticks.{WereTicked, Ticked};
 
 use crate::hall::Hall;
 use srt_mailbox::ClockEnd;
@@ -13,7 +12,7 @@ use std::thread;
 /// Gives the moments at which the ticking thread ticks, and decides how often: `next` is called again at once after
 /// each tick, and may wait before it returns.
 pub trait Ticker {
-    ghost use Rattle.std.specs.Prelude.{◌<◌, ◌^◌, ℕ, Option, List, [], ◌∷◌};
+    ghost use Rattle.std.specs.Prelude.{◌≡◌, ◌<◌, ◌^◌, ℕ, Option, List, [], ◌∷◌};
     ghost use Rattle.srt_poller.specs.Devices.{joined};
 
     /// All moments that it gave, the oldest first, or `None` for a ticker that doesn't record them.
@@ -25,80 +24,93 @@ pub trait Ticker {
         ensures tells { gave self.new ≡ joined (gave self.old) (result ∷ []) };
 }
 
+/// The clock's end of an inbox, to which ticks are offered.
+pub trait TickEnd {
+    ghost use Rattle.std.specs.Prelude.{◌≡◌, ◌⊎◌, ◌<◌, ◌^◌, ℕ, Option, List, [], ◌∷◌};
+    ghost use Rattle.srt_mailbox.specs.Ends.{Producer};
+    ghost use Rattle.srt_poller.specs.Devices.{joined};
+    ghost use Rattle.srt_serve.specs.Ticks.{accepts};
+
+    /// Which inbox it is, its capacity, and the items of this end that it accepted.
+    ghost inbox: { Self → Producer };
+
+    /// The moments of all ticks that were offered, the oldest first, or `None` for an end that doesn't record them.
+    ghost tried: { Self → Option (List ℕ) };
+
+    /// Offers a tick, at a moment in microseconds, below 2^62. A full inbox discards it.
+    fn offer_tick<R: Wait>(&mut self, rt: &R, moment: u64)
+        requires timely { moment < 2 ^ 62 }
+        ensures accepted { (inbox self.new ≡ inbox self.old) ⊎ (inbox self.new ≡ accepts moment (inbox self.old)) }
+        ensures tells { tried self.new ≡ joined (tried self.old) (moment ∷ []) };
+
+    /// Reads what `offer_tick` will read, so that the processor has it at hand then. Changes nothing.
+    fn look(&mut self)
+        ensures same { self.new ≡ self.old };
+}
+
+impl TickEnd for ClockEnd {
+    ghost use Rattle.std.specs.Prelude.{None};
+
+    ghost inbox = { λ end. end };
+
+    ghost tried = { λ end. None };
+
+    fn offer_tick<R: Wait>(&mut self, rt: &R, moment: u64) {
+        let _ = self.offer(rt, Item::Tick { moment });
+    }
+
+    fn look(&mut self) {
+        let _ = self.is_full();
+    }
+}
+
 /// The clock's ends of all routes, and their ticker.
 #[derive(Drop)]
-pub struct Clocks<K: Ticker + Drop> {
+pub struct Clocks<K: Ticker + Drop, E: TickEnd + Drop> {
     /// In the order of the routes' indexes.
-    pub ends: Vec<ClockEnd>,
+    pub ends: Vec<E>,
     /// Gives the moments.
     pub ticker: K,
 }
 
-// Whether the route gets no tick now, since it asks for a worker: what waits for the worker shows the route the time as a
-// tick does, and two events so close cost twice as much. The mark is a hint. If nothing waits any more, a worker clears
-// it, and the route gets a later tick.
-fn is_left_out(hall: &Hall, route: usize) -> bool {
-    hall.asks(route)
-}
-
-// Offers a tick to one route, unless it is left out. If the inbox is full, the tick is discarded.
-fn tick_one<R: Wait>(rt: &R, end: &mut ClockEnd, moment: u64, hall: &Hall, route: usize)
-    requires { moment < 2 ^ 62 }
-    ensures { (end.new ≡ end.old) ⊎ (end.new ≡ producer end.old.queue end.old.capacity (end.old.offered ++ tick moment ∷ [])) }
+// Looks at all ends. They are mostly out of the caches, and here the processor fetches those of several routes at the
+// same time; `tick_each` then finds them.
+fn look_ahead<E: TickEnd>(ends: &mut [E])
+    ensures { WereTicked E.inbox E.tried [] ends.old ends.new }
 {
-    if is_left_out(hall, route) {
-        return;
-    }
-    let _ = end.offer(rt, Item::Tick { moment });
-}
-
-// Whether the route is left out or has no room in its inbox.
-fn takes_no_tick(end: &mut ClockEnd, hall: &Hall, route: usize) -> bool
-    ensures { end.new ≡ end.old }
-{
-    is_left_out(hall, route) || end.is_full()
-}
-
-// Whether no route takes a tick. The ends are mostly out of the caches, and here the processor fetches those of several
-// routes at the same time; `tick_each` then finds them.
-fn all_left_out(ends: &mut [ClockEnd], hall: &Hall) -> bool
-    ensures { WereTicked [] ends.old ends.new }
-{
-    let mut all = true;
-    let mut route = 0usize;
     for end in ends.iter_mut() {
-        all &= takes_no_tick(end, hall, route);
-        route = route.wrapping_add(1);
+        end.look();
     }
-    all
 }
 
-// Offers a tick to every route that isn't left out, in the order of their indexes.
-fn tick_each<R: Wait>(rt: &R, ends: &mut [ClockEnd], moment: u64, hall: &Hall)
+// Offers a tick to every route, in the order of their indexes.
+fn tick_each<R: Wait, E: TickEnd>(rt: &R, ends: &mut [E], moment: u64)
     requires { moment < 2 ^ 62 }
-    ensures { WereTicked (moment ∷ []) ends.old ends.new }
+    ensures { WereTicked E.inbox E.tried (moment ∷ []) ends.old ends.new }
 {
-    let mut route = 0usize;
     for end in ends.iter_mut() {
-        tick_one(rt, end, moment, hall, route);
-        route = route.wrapping_add(1);
+        end.offer_tick(rt, moment);
     }
 }
 
-// Offers a tick to every route that isn't left out, unless no route takes one.
-fn tick_all<R: Wait>(rt: &R, ends: &mut [ClockEnd], moment: u64, hall: &Hall)
+// Offers a tick to every route, after a look at all of them.
+fn tick_all<R: Wait, E: TickEnd>(rt: &R, ends: &mut [E], moment: u64)
     requires { moment < 2 ^ 62 }
-    ensures { WereTicked (moment ∷ []) ends.old ends.new }
+    ensures { WereTicked E.inbox E.tried (moment ∷ []) ends.old ends.new }
 {
-    if !all_left_out(ends, hall) {
-        tick_each(rt, ends, moment, hall);
-    }
+    look_ahead(ends);
+    tick_each(rt, ends, moment);
 }
 
-/// Ticks all routes at each moment that the ticker gives, until the run is over. A route that asks for a worker is left
-/// out: by its mark an item waits there, and each item shows the time.
-pub fn tick<R: Wait, K: Ticker + Drop>(rt: &R, clocks: &mut Clocks<K>, hall: &Hall)
-    ensures { Ticked (K.gave clocks.old.ticker) (K.gave clocks.new.ticker) clocks.old.ends.items clocks.new.ends.items }
+/// Offers a tick to every route at each moment that the ticker gives, until the run is over. No route is left out: one
+/// that asks for a worker gets its tick too, and one whose inbox is full is offered it in vain.
+pub fn tick<R: Wait, K: Ticker + Drop, E: TickEnd + Drop>(
+    rt: &R,
+    clocks: &mut Clocks<K, E>,
+    hall: &Hall,
+)
+    ensures { Ticked E.inbox E.tried (K.gave clocks.old.ticker) (K.gave clocks.new.ticker)
+        clocks.old.ends.items clocks.new.ends.items }
 {
     hall.arrive();
     for _ in rt.forever() {
@@ -106,7 +118,7 @@ pub fn tick<R: Wait, K: Ticker + Drop>(rt: &R, clocks: &mut Clocks<K>, hall: &Ha
             return;
         }
         let moment = clocks.ticker.next();
-        tick_all(rt, &mut clocks.ends, moment, hall);
+        tick_all(rt, &mut clocks.ends, moment);
         hall.ticked();
         thread::yield_now();
     }

@@ -5,7 +5,7 @@ use Rattle.srt_serve.proofs.Told.{joined_nothing, joined_again}
 use Rattle.srt_serve.proofs.ticking.tick.Goals as goal
 
 pub loop-init : goal.loop-init
-loop-init g c = (tt, tt, ([], joined_nothing _, were_not _))
+loop-init g c = (tt, tt, ([], joined_nothing _, were_not g.E.TickEnd.inbox g.E.TickEnd.tried _))
 
 pub loop-preserved : goal.loop-preserved
 loop-preserved g c =
@@ -15,7 +15,7 @@ loop-preserved g c =
       (
         before.0 ++ c.next-moment.result ∷ [],
         c.next-moment.ensures.tells ∙ ap (λ told. joined told (c.next-moment.result ∷ [])) before.1 ∙ joined_again _ before.0 _,
-        were_again before.0 _ _ _ _ before.2 (put_back _ _ c.tick_all.new.ends _ c.loop.clocks.ends.ok.0 (rw c.deref_mut.ensures.value at c.tick_all.ensures)),
+        were_again g.E.TickEnd.inbox g.E.TickEnd.tried before.0 _ _ _ _ before.2 (put_back g.E.TickEnd.inbox g.E.TickEnd.tried _ _ c.tick_all.new.ends _ c.loop.clocks.ends.ok.0 (rw c.deref_mut.ensures.value at c.tick_all.ensures)),
       ),
     )
 

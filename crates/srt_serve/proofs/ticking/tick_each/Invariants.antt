@@ -3,4 +3,4 @@ use Rattle.srt_serve.proofs.Moments.{FirstTicked}
 use Rattle.srt_serve.proofs.ticking.tick_each.Given as goal
 
 abbrev pub invariant-loop-end : goal.invariant-loop-end
-invariant-loop-end g l = FirstTicked l.end-index (l.moment ∷ []) l.fn.ends l.ends
+invariant-loop-end g l = FirstTicked g.E.TickEnd.inbox g.E.TickEnd.tried l.end-index (l.moment ∷ []) l.fn.ends l.ends
