@@ -1,6 +1,8 @@
 //! A route between its queues: turns of one thread, a full inbox, a full outbox, the account, and several workers at
 //! once. The expected bytes were worked out from the rules by hand.
 
+mod queues;
+
 ghost use Rattle.std.specs.Prelude.{◌≡◌, ◌<◌, ◌^◌, IfOk};
 ghost use Rattle.srt_seq.specs.Items.{told, moment_of};
 ghost use Rattle.srt_mailbox.specs.Cells.{AreEndsOf};
