@@ -3,6 +3,8 @@ pub mod Blocks
 pub mod Steps
 pub mod Ranges
 pub mod Asks
+pub mod Named
+pub mod Marking
 pub mod Fronts
 pub mod OneByOne
 pub mod Rows

@@ -1,16 +1,14 @@
 -- What each call does to the record that the fields represent.
-use Rattle.std.proofs.Common.{◌≡◌, ◌≢◌, ℕ, zero, suc, ◌+◌, ◌-◌, ◌%◌, ◌^◌, ◌<◌, ◌≤◌, ◌==◌, min, max, Bool, true, false, ◌&&◌, ◌||◌, if◌then◌else◌, Option, None, Some, List, [], ◌∷◌, ◌++◌, length, inl, inr, ◌⊎◌, refl, sym, ap, subst, ◌∙◌, arith}
-use Rattle.std.specs.Prelude.{All, filter, slice_get, nat_lt, nat_le}
+use Rattle.std.proofs.Common.{◌≡◌, ◌≢◌, ℕ, zero, suc, ◌+◌, ◌-◌, ◌%◌, ◌^◌, ◌<◌, ◌≤◌, ◌==◌, max, Bool, true, false, if◌then◌else◌, Option, None, Some, List, [], ◌∷◌, ◌++◌, length, inl, inr, ◌⊎◌, refl, sym, ap, subst, ◌∙◌, arith}
+use Rattle.std.specs.Prelude.{All, filter, slice_get, nat_lt}
 use Rattle.std.proofs.lemmas.Bool.{false_from_ne_true, cases_lt, cases_eq, eq-eqb, ne_eqb, lt-ltb, true≢false}
 use Rattle.std.proofs.lemmas.Bool.Decides.{nat_tests}
 use Rattle.std.proofs.lemmas.List.Elements.{All-head, All-tail, All-nil, All-push}
 use Rattle.srt_seq.specs.Counts.{message_number}
-use Rattle.srt_seq.specs.Runs.{Range, is_in, is_asked, numbers_from, range_from}
-use Rattle.srt_sendbuf.specs.Sending.{Queued, Mark, Sent, Asked, All_of, Sending, nothing_yet, front, next, sent_end, in_flight, lost, is_in_span, is_marked, queued, asked, all_lost, sent, due_number, IsTimely}
+use Rattle.srt_seq.specs.Runs.{numbers_from}
+use Rattle.srt_sendbuf.specs.Sending.{Queued, Mark, Sent, All_of, Sending, nothing_yet, front, next, sent_end, in_flight, lost, is_marked, queued, all_lost, sent, due_number, IsTimely}
 use Rattle.srt_sendbuf.specs.Places.{Kept}
 use Rattle.srt_sendbuf.specs.Stands.{IsInOrder, kept_as, IsKept, IsMoved}
-use Rattle.srt_loss.specs.Window.{IsPartOf}
-use Rattle.srt_seq.proofs.Ranges.{ranges_from_initial}
 use Rattle.srt_sendbuf.proofs.Rings.{get_left, get_last, length_last}
 
 pub started : (initial base_message end_message : ℕ) (kept : ℕ → Option Kept) (lost : ℕ → Bool) → initial < 2 ^ 31 → base_message ≡ message_number 0 → end_message ≡ message_number 0 → IsKept initial initial 0 0 0 0 0 base_message end_message kept lost nothing_yet
@@ -154,25 +152,6 @@ remarked initial word behind count flying low high base_message end_message low2
       in_order = h.in_order;
     }
 
-pub asked_more : (initial word behind count flying low high base_message end_message low2 high2 : ℕ) (x : Range) (taken : List Range) (kept kept2 : ℕ → Option Kept) (lost lost2 : ℕ → Bool) (r : Sending) → IsKept initial word behind count flying low high base_message end_message kept lost (asked taken r) → ((d : ℕ) → kept2 d ≡ kept d) → ((d : ℕ) → d < flying → lost2 d ≡ (is_in x (front r + d) || lost d)) → ((d : ℕ) → d < flying → lost2 d ≡ true → (low2 ≤ d) × (d < high2)) → (low2 < high2 → lost2 low2 ≡ true) → IsKept initial word behind count flying low2 high2 base_message end_message kept2 lost2 (asked (x ∷ taken) r)
-asked_more initial word behind count flying low high base_message end_message low2 high2 x taken kept kept2 lost lost2 r h ks ls wi lw =
-    remarked initial word behind count flying low high base_message end_message low2 high2 kept kept2 lost lost2 (Asked (front r) (next r) (x ∷ taken) ∷ r.marks) (asked taken r) h refl ks
-    (λ d k. ls d k ∙ ap (λ b. is_in x (front r + d) || b) (h.lost_is d k) ∙ mixed (is_in x (front r + d)) (is_asked taken (front r + d)) (is_in_span (front r) (next r) (front r + d)) (is_marked r.marks (front r + d)) (flies d k))
-    wi lw
-  where
-    flies : (d : ℕ) → d < flying → is_in_span (front r) (next r) (front r + d) ≡ true
-    flies d k = let n = h.flying_is in grind (arith, nat_tests, n, k)
-
-    mixed : (a b c m : Bool) → c ≡ true → (a || ((c && b) || m)) ≡ ((c && (a || b)) || m)
-    mixed true b true m e = refl
-    mixed false b true m e = refl
-    mixed a b false m e = absurd (true≢false (sym e))
-
--- only the marks differ, and not at numbers in flight
-pub marked_alike : (initial word behind count flying low high base_message end_message : ℕ) (kept : ℕ → Option Kept) (lost : ℕ → Bool) (marks marks2 : List Mark) (r : Sending) → IsKept initial word behind count flying low high base_message end_message kept lost (record r { marks = marks }) → sent_end marks2 ≡ sent_end marks → ((d : ℕ) → d < flying → is_marked marks2 (front r + d) ≡ is_marked marks (front r + d)) → IsKept initial word behind count flying low high base_message end_message kept lost (record r { marks = marks2 })
-marked_alike initial word behind count flying low high base_message end_message kept lost marks marks2 r h s m =
-    remarked initial word behind count flying low high base_message end_message low high kept kept lost lost marks2 (record r { marks = marks }) h s (λ d. refl) (λ d k. h.lost_is d k ∙ sym (m d k)) h.within h.lowest
-
 pub lost_are_all : (initial word behind count flying low high base_message end_message : ℕ) (kept kept2 : ℕ → Option Kept) (lost lost2 : ℕ → Bool) (r : Sending) → IsKept initial word behind count flying low high base_message end_message kept lost r → ((d : ℕ) → kept2 d ≡ kept d) → ((d : ℕ) → d < flying → lost2 d ≡ true) → IsKept initial word behind count flying 0 flying base_message end_message kept2 lost2 (all_lost r)
 lost_are_all initial word behind count flying low high base_message end_message kept kept2 lost lost2 r h ks ls =
     remarked initial word behind count flying low high base_message end_message 0 flying kept kept2 lost lost2 (All_of (front r) (next r) ∷ r.marks) r h refl ks
@@ -243,68 +222,6 @@ is_any_lost initial word behind count flying low high base_message end_message k
       let e : nat_lt low high ≡ false = grind (arith, nat_tests, ge) in
       e ∙ sym (ap (λ ns. nat_lt 0 (length ns)) none)
 ]
-
--- an empty loss list
-pub asked_nothing : (initial word behind count flying low high base_message end_message : ℕ) (kept : ℕ → Option Kept) (lost : ℕ → Bool) (r : Sending) → IsKept initial word behind count flying low high base_message end_message kept lost r → IsKept initial word behind count flying low high base_message end_message kept lost (asked [] r)
-asked_nothing initial word behind count flying low high base_message end_message kept lost r h =
-    marked_alike initial word behind count flying low high base_message end_message kept lost r.marks (Asked (front r) (next r) [] ∷ r.marks) r h refl (λ d k. off (is_in_span (front r) (next r) (front r + d)) (is_marked r.marks (front r + d)))
-  where
-    off : (b m : Bool) → ((b && false) || m) ≡ m
-    off true m = refl
-    off false m = refl
-
--- loss lists that name the same numbers
-pub asked_alike : (initial word behind count flying low high base_message end_message : ℕ) (kept : ℕ → Option Kept) (lost : ℕ → Bool) (xs ys : List Range) (r : Sending) → IsKept initial word behind count flying low high base_message end_message kept lost (asked xs r) → ((n : ℕ) → is_asked ys n ≡ is_asked xs n) → IsKept initial word behind count flying low high base_message end_message kept lost (asked ys r)
-asked_alike initial word behind count flying low high base_message end_message kept lost xs ys r h same =
-    marked_alike initial word behind count flying low high base_message end_message kept lost (Asked (front r) (next r) xs ∷ r.marks) (Asked (front r) (next r) ys ∷ r.marks) r h refl (λ d k. ap (λ b. (is_in_span (front r) (next r) (front r + d) && b) || is_marked r.marks (front r + d)) (same (front r + d)))
-
--- a range that has a part of the numbers in flight
-pub asked_part : (initial word behind count flying low high base_message end_message first last low2 high2 : ℕ) (x : Range) (taken : List Range) (kept kept2 : ℕ → Option Kept) (lost lost2 : ℕ → Bool) (r : Sending) → IsKept initial word behind count flying low high base_message end_message kept lost (asked taken r) → x.first < 2 ^ 31 → x.last < 2 ^ 31 → IsPartOf x (initial + front r) flying (Some (first, last)) → first ≤ last → last < flying → high ≤ flying → ((d : ℕ) → kept2 d ≡ kept d) → ((d : ℕ) → lost2 d ≡ (if nat_le first d && nat_lt d (last + 1) then true else lost d)) → (low < high → (low2 ≡ min low first) × (high2 ≡ max high (last + 1))) → (high ≤ low → (low2 ≡ first) × (high2 ≡ last + 1)) → IsKept initial word behind count flying low2 high2 base_message end_message kept2 lost2 (asked (range_from initial x ∷ taken) r)
-asked_part initial word behind count flying low high base_message end_message first last low2 high2 x taken kept kept2 lost lost2 r h xf xl part le lt hi ks ls some none =
-    asked_more initial word behind count flying low high base_message end_message low2 high2 (range_from initial x) taken kept kept2 lost lost2 r h ks
-    (λ d k. ls d ∙ either (nat_le first d) (nat_lt d (last + 1)) (nat_le d last) (lost d) (upto d) ∙ ap (λ b. b || lost d) (sym (ranges_from_initial initial (front r + d) x xf xl ∙ ap (is_in x) (omega arith) ∙ part d k)))
-    (λ d k b. inside d k (cases_lt d first) (cases_lt last d) (cases_lt low high) b)
-    (λ c. lowest (cases_lt low high) (cases_lt low first))
-  where
-    upto : (d : ℕ) → nat_lt d (last + 1) ≡ nat_le d last
-    upto d = grind (arith, nat_tests)
-
-    either : (a b c l : Bool) → b ≡ c → (if a && b then true else l) ≡ ((a && c) || l)
-    either true true c l e = ap (λ t. t || l) e
-    either true false c l e = ap (λ t. t || l) e
-    either false b c l e = refl
-
-    outside : (d : ℕ) → (d < first) ⊎ (last < d) → lost2 d ≡ lost d
-    outside d (inl a) = let e : nat_le first d ≡ false = grind (arith, nat_tests, a) in ls d ∙ ap (λ t. if t && nat_lt d (last + 1) then true else lost d) e
-    outside d (inr a) = let e : (nat_le first d && nat_lt d (last + 1)) ≡ false = grind (arith, nat_tests, a) in ls d ∙ ap (λ t. if t then true else lost d) e
-
-    within_old : (d : ℕ) → d < flying → lost d ≡ true → (low < high) ⊎ (high ≤ low) → (low2 ≤ d) × (d < high2)
-    within_old d k b (inl c) = let s = some c in let i = h.within d k b in (omega (arith, s.0, i.0), omega (arith, s.1, i.1))
-    within_old d k b (inr c) = let i = h.within d k b in absurd (omega (arith, c, i.0, i.1))
-
-    within_part : (d : ℕ) → first ≤ d → d ≤ last → (low < high) ⊎ (high ≤ low) → (low2 ≤ d) × (d < high2)
-    within_part d a b (inl c) = let s = some c in (omega (arith, s.0, a), omega (arith, s.1, b))
-    within_part d a b (inr c) = let s = none c in (omega (arith, s.0, a), omega (arith, s.1, b))
-
-    inside : (d : ℕ) → d < flying → (d < first) ⊎ (first ≤ d) → (last < d) ⊎ (d ≤ last) → (low < high) ⊎ (high ≤ low) → lost2 d ≡ true → (low2 ≤ d) × (d < high2)
-    inside d k (inl a) z c b = within_old d k (sym (outside d (inl a)) ∙ b) c
-    inside d k (inr a) (inl z) c b = within_old d k (sym (outside d (inr z)) ∙ b) c
-    inside d k (inr a) (inr z) c b = within_part d a z c
-
-    at_first : lost2 first ≡ true
-    at_first = let e : (nat_le first first && nat_lt first (last + 1)) ≡ true = grind (arith, nat_tests, le) in ls first ∙ ap (λ t. if t then true else lost first) e
-
-    lowest : (low < high) ⊎ (high ≤ low) → (low < first) ⊎ (first ≤ low) → lost2 low2 ≡ true
-    lowest (inl c) (inl a) = let s = some c in let e : low2 ≡ low = omega (arith, s.0, a) in ap lost2 e ∙ outside low (inl a) ∙ h.lowest c
-    lowest (inl c) (inr a) = let s = some c in let e : low2 ≡ first = omega (arith, s.0, a) in ap lost2 e ∙ at_first
-    lowest (inr c) a = let s = none c in ap lost2 s.0 ∙ at_first
-
--- a range that has none of them
-pub asked_outside : (initial word behind count flying low high base_message end_message : ℕ) (x : Range) (taken : List Range) (kept : ℕ → Option Kept) (lost : ℕ → Bool) (r : Sending) → IsKept initial word behind count flying low high base_message end_message kept lost (asked taken r) → x.first < 2 ^ 31 → x.last < 2 ^ 31 → IsPartOf x (initial + front r) flying None → IsKept initial word behind count flying low high base_message end_message kept lost (asked (range_from initial x ∷ taken) r)
-asked_outside initial word behind count flying low high base_message end_message x taken kept lost r h xf xl part =
-    asked_more initial word behind count flying low high base_message end_message low high (range_from initial x) taken kept kept lost lost r h (λ d. refl)
-    (λ d k. ap (λ b. b || lost d) (sym (ranges_from_initial initial (front r + d) x xf xl ∙ ap (is_in x) (omega arith) ∙ part d k)))
-    h.within h.lowest
 
 pub same_count : (initial word behind count count2 flying low high base_message end_message : ℕ) (kept : ℕ → Option Kept) (lost : ℕ → Bool) (r : Sending) → count2 ≡ count → IsKept initial word behind count flying low high base_message end_message kept lost r → IsKept initial word behind count2 flying low high base_message end_message kept lost r
 same_count initial word behind count count2 flying low high base_message end_message kept lost r e h =

@@ -3,5 +3,6 @@ pub mod Told
 pub mod Marks
 pub mod Hints
 pub mod Places
+pub mod Parts
 pub mod Stands
 pub mod OneByOne

@@ -37,6 +37,10 @@ length_of r = length r.places.items
 abbrev pub width_of : Ring → ℕ
 width_of r = r.places.capacity
 
+-- how often a place was marked as lost or as not lost
+abbrev pub marks_of : Ring → ℕ
+marks_of r = r.marks
+
 -- a packet was put behind the last one
 abbrev pub IsPut : Kept → (before after : Ring) → Type 0
 IsPut k before after =

@@ -1,10 +1,11 @@
 -- What a buffer's fields represent.
-use Rattle.std.specs.Prelude.{◌≡◌, ℕ, ◌+◌, ◌-◌, ◌%◌, ◌^◌, ◌<◌, ◌≤◌, ⊤, Bool, true, ◌||◌, Option, None, Some, List, [], ◌∷◌, ◌++◌, All, length, slice_get, min}
+use Rattle.std.specs.Prelude.{◌≡◌, ℕ, ◌+◌, ◌-◌, ◌%◌, ◌^◌, ◌<◌, ◌≤◌, ⊤, Bool, true, ◌||◌, Option, None, Some, List, [], ◌∷◌, All, length, slice_get, min}
 use Rattle.srt_seq.specs.Window.{word_of}
 use Rattle.srt_seq.specs.Counts.{message_number, message_of}
-use Rattle.srt_seq.specs.Runs.{Range, is_asked, ranges_from}
-use Rattle.srt_sendbuf.specs.Sending.{Queued, Sending, front, base, next, is_marked, asked}
-use Rattle.srt_sendbuf.specs.Places.{Kept, kept_at, lost_at, length_of, width_of}
+use Rattle.srt_seq.specs.Runs.{Range}
+use Rattle.srt_sendbuf.specs.Sending.{Queued, Sending, front, base, next, is_marked}
+use Rattle.srt_sendbuf.specs.Places.{Kept, kept_at, lost_at, length_of, width_of, marks_of, HasSame}
+use Rattle.srt_sendbuf.specs.Parts.{IsTaken}
 use Rattle.srt_sendbuf.specs.declared.buffer.SendBuf.{SendBuf}
 
 -- the payloads are in the order of their times
@@ -63,14 +64,23 @@ abbrev pub MovesFront : (count behind message : ℕ) → (before after : SendBuf
 MovesFront count behind message before after =
     (width initial : ℕ) (r moved : Sending) → StandsFor width initial before r → IsMoved count behind message r moved → StandsFor width initial after moved
 
--- a call took more ranges of a loss list, of which `taken` were taken before it
-abbrev pub TakesRanges : (before after : SendBuf) → (more : (initial : ℕ) → List Range) → Type 0
-TakesRanges before after more =
-    (width initial : ℕ) (r : Sending) (taken : List Range) → StandsFor width initial before (asked taken r) → StandsFor width initial after (asked (more initial ++ taken) r)
+-- how often a place was marked as lost or as not lost: the work of a loss list
+abbrev pub marks : SendBuf → ℕ
+marks b = marks_of b.ring
 
--- a call took some ranges of a loss list, in any order: those taken and those left name the same numbers as before it
-abbrev pub TakesSome : (before after : SendBuf) → (left left_after : List Range) → Type 0
-TakesSome before after left left_after =
-    (width initial : ℕ) (r : Sending) (taken : List Range) → StandsFor width initial before (asked taken r)
-    → (more : List Range) × StandsFor width initial after (asked more r)
-    × ((n : ℕ) → (is_asked taken n || is_asked (ranges_from initial left) n) ≡ (is_asked more n || is_asked (ranges_from initial left_after) n))
+-- a call marked the packets of the places that are named as lost, and changed nothing else
+pub record HasMarked (named : ℕ → Bool) (before after : SendBuf) : Type 0 where
+  pub same : HasSame before.ring after.ring
+  pub front_is : after.front ≡ before.front
+  pub behind_is : after.behind ≡ before.behind
+  pub sent_is : after.sent ≡ before.sent
+  pub message_is : after.message ≡ before.message
+  pub next_message_is : after.next_message ≡ before.next_message
+  pub lost_is : (d : ℕ) → d < before.sent → lost_at after.ring d ≡ (named d || lost_at before.ring d)
+  pub within : ((d : ℕ) → d < before.sent → lost_at before.ring d ≡ true → (before.low ≤ d) × (d < before.high)) → (d : ℕ) → d < before.sent → lost_at after.ring d ≡ true → (after.low ≤ d) × (d < after.high)
+  pub lowest : (before.low < before.high → lost_at before.ring before.low ≡ true) → after.low < after.high → lost_at after.ring after.low ≡ true
+
+-- a call took ranges off a loss list and marked the packets in flight that they name
+abbrev pub TakesParts : (before after : SendBuf) → (list left : List Range) → Type 0
+TakesParts before after list left =
+    (named : ℕ → Bool) × HasMarked named before after × IsTaken (word_of before.front) before.sent list left named

@@ -1,16 +1,18 @@
 //! The sender buffer: what is queued and neither acknowledged nor expired, and which packets of it are lost
 //! (draft-sharabayko-srt-01, sections 4.6 and 4.8.2).
 
-ghost use Rattle.std.specs.Prelude.{◌≡◌, ℕ, ◌+◌, ◌-◌, ◌^◌, ◌<◌, ◌≤◌, ◌↔◌, true, false, [], ◌∷◌, All, length, map, option_map, nat_lt, IsErr, IfOk, OnErr};
+ghost use Rattle.std.specs.Prelude.{◌≡◌, ℕ, ◌+◌, ◌-◌, ◌*◌, ◌/◌, ◌<◌, ◌≤◌, ◌↔◌, true, false, Some, [], length, max, option_map, nat_lt, IsErr, IfOk, OnErr};
+ghost use Rattle.std.specs.List.Sorted.{IsNonDecreasingBy};
 ghost use Rattle.srt_seq.specs.Window.{word_of};
 ghost use Rattle.srt_seq.specs.Counts.{message_of, message_number};
-ghost use Rattle.srt_seq.specs.Runs.{span, ranges_from, range_from};
-ghost use Rattle.srt_loss.specs.Text.{range_of};
-ghost use Rattle.srt_sendbuf.specs.Places.{length_of, lost_at};
+ghost use Rattle.srt_seq.specs.Runs.{ranges_from};
+ghost use Rattle.srt_loss.specs.Window.{is_in_part};
+ghost use Rattle.srt_sendbuf.specs.Places.{length_of, lost_at, marks_of};
+ghost use Rattle.srt_sendbuf.specs.Parts.{is_in_parts, AreWithin};
 
-use crate::parts::{next_part, split};
+use crate::parts::{PARTS, next_parts, split};
 use crate::ring::{Marked, Ring};
-use srt_loss::{LossRef, Ranges, part_in};
+use srt_loss::{LossRef, Ranges};
 use srt_seq::limits::ACK_REACH;
 use srt_seq::{Msg26, Payload, Seq31};
 use std::alloc::{AllocError, Global};
@@ -94,7 +96,7 @@ pub struct SendBuf {
 impl SendBuf {
     ghost use Rattle.srt_sendbuf.specs.Sending.{Sending, nothing_yet, front, room, in_flight, lost, queued, expired_before, asked, all_lost, IsTimely, IsLater};
     ghost use Rattle.srt_sendbuf.specs.Told.{gone_for, gone_by};
-    ghost use Rattle.srt_sendbuf.specs.Stands.{StandsFor, ForWhatever, Becomes, BecomesIf, MovesFront, TakesRanges, TakesSome};
+    ghost use Rattle.srt_sendbuf.specs.Stands.{StandsFor, ForWhatever, Becomes, BecomesIf, MovesFront, HasMarked, TakesParts, marks};
 
     /// An empty buffer of `width` packets, 32 to 8192, for a stream with the initial number 0; `start` begins any
     /// other. The only call that takes memory; the error is a refused allocation. O(width).
@@ -208,60 +210,66 @@ impl SendBuf {
         count as u32
     }
 
-    /// Marks the numbers of a range that are in flight as lost. Those in `run` are skipped if the range begins in it.
-    fn lose_range(&mut self, run: &mut Marked, range: (Seq31, Seq31))
-        requires short { span (range_of range) < 2 ^ 30 }
+    /// Marks the packets of a part as lost. Those in `run`, which doesn't begin later, are marked already.
+    fn lose_part(&mut self, run: &mut Marked, part: (u32, u32))
+        requires order { part.0 ≤ part.1 }
+        requires inside { part.1 < self.old.sent }
+        requires later { run.old.from ≤ part.0 }
         requires marked { (d : ℕ) → run.old.from ≤ d → d < run.old.end → lost_at self.old.ring d ≡ true }
-        ensures stands { TakesRanges self.old self.new (λ initial. range_from initial (range_of range) ∷ []) }
+        ensures lost { HasMarked (is_in_part (Some part)) self.old self.new }
         ensures marked { (d : ℕ) → run.new.from ≤ d → d < run.new.end → lost_at self.new.ring d ≡ true }
+        ensures from { run.new.from ≤ part.0 }
+        ensures end { run.new.end ≡ max run.old.end (part.1 + 1) }
+        ensures marks { marks_of self.new.ring + run.old.end ≤ marks_of self.old.ring + run.new.end }
     {
-        if let Some((first, last)) = part_in(range, self.front, self.sent as u32) {
-            let first = first as usize;
-            let end = last as usize + 1;
-            self.ring.mark_past(run, first, end);
-            if self.high > self.low {
-                self.low = self.low.min(first);
-                self.high = self.high.max(end);
-            } else {
-                self.low = first;
-                self.high = end;
-            }
+        let first = part.0 as usize;
+        let end = part.1 as usize + 1;
+        self.ring.mark_past(run, first, end);
+        if self.high > self.low {
+            self.low = self.low.min(first);
+            self.high = self.high.max(end);
+        } else {
+            self.low = first;
+            self.high = end;
         }
     }
 
-    /// Marks the numbers of some ranges that are in flight as lost. If the ranges are in ascending order, each number
-    /// is marked once, however much they overlap.
-    fn lose_part(&mut self, part: &[(Seq31, Seq31)])
-        requires { All (λ r. span (range_of r) < 2 ^ 30) part.now }
-        ensures { TakesRanges self.old self.new (λ initial. ranges_from initial (map range_of part.now)) }
+    /// Marks the packets of some parts as lost, each once, however much the parts overlap.
+    fn lose_parts(&mut self, parts: &[(u32, u32)])
+        requires within { AreWithin self.old.sent parts.now }
+        requires ascending { IsNonDecreasingBy (λ part. part.0) parts.now }
+        ensures lost { HasMarked (is_in_parts parts.now) self.old self.new }
+        ensures marks { marks_of self.new.ring ≤ marks_of self.old.ring + self.old.sent }
     {
         let mut run = Marked { from: 0, end: 0 };
-        let mut rest = part;
+        let mut rest = parts;
         while let Some(next) = split(rest) {
-            self.lose_range(&mut run, next.range);
+            self.lose_part(&mut run, next.part);
             rest = next.more;
         }
     }
 
-    /// Marks the numbers of a list's next ranges that are in flight as lost. Returns false if no range is left.
+    /// Marks the numbers of a list's next ranges that are in flight as lost. True if more ranges may be left.
     fn lose_next(&mut self, ranges: &mut Ranges<'_>) -> bool
-        ensures stands { TakesSome self.old self.new ranges.old ranges.new }
-        ensures shorter { result ≡ true → length ranges.new < length ranges.old }
+        ensures lost { TakesParts self.old self.new ranges.old ranges.new }
+        ensures marks { marks_of self.new.ring ≤ marks_of self.old.ring + self.old.sent }
+        ensures shorter { result ≡ true → length ranges.new + 365 ≤ length ranges.old }
         ensures none { result ≡ false → ranges.new ≡ [] }
     {
-        let part = next_part(ranges, self.front);
-        self.lose_part(part.as_slice());
-        part.len() > 0
+        let parts = next_parts(ranges, self.front, self.sent as u32);
+        self.lose_parts(parts.as_slice());
+        parts.len() == PARTS
     }
 
     /// A loss list (NAK, sections 3.2.5 and 4.8.2): marks the numbers in flight that it names as lost. If it names
     /// any number from the base up to the front, which are expired and not acknowledged, returns the run of all of
-    /// these, for a drop request (this profile). Linear in the list's ranges and in the numbers in flight that they
-    /// name. If the ranges name more than 8192 numbers in all, they are sorted first, so that each number is marked
-    /// once. Takes no memory.
+    /// these, for a drop request (this profile). Linear in the numbers in flight that it names and in its n ranges, or
+    /// O(n log n) if they neither ascend nor descend. However much up to 364 ranges overlap, as many as a datagram has,
+    /// each number in flight is marked at most once (`marks`). Takes no memory.
     pub fn lose(&mut self, losses: &LossRef<'_>) -> Option<DropRun>
         ensures stands { Becomes self.old self.new (λ initial r. asked (ranges_from initial losses.now) r) }
         ensures answer { ForWhatever self.old (λ width initial r. option_map gone_by result ≡ gone_for initial (ranges_from initial losses.now) r) }
+        ensures marks { ForWhatever self.old (λ width initial r. marks self.new ≤ marks self.old + (length losses.now / 365 + 1) * in_flight r) }
     {
         let gone = self.asks_any_gone(losses);
         let mut ranges = losses.ranges();

@@ -32,7 +32,7 @@ impl SendBuf {
         requires { self.old.low < self.old.high }
         ensures { Becomes self.old self.new (λ initial r. sent (front r + self.old.low) r) }
     {
-        self.ring.mark(self.low, false);
+        self.ring.unmark(self.low);
         self.low = self.ring.find_lost(self.low + 1, self.high);
     }
 
@@ -41,7 +41,7 @@ impl SendBuf {
         requires { self.old.sent < length_of self.old.ring }
         ensures { Becomes self.old self.new (λ initial r. sent (front r + self.old.sent) r) }
     {
-        self.ring.mark(self.sent, false);
+        self.ring.unmark(self.sent);
         self.sent += 1;
     }
 

@@ -1,95 +1,86 @@
-//! Loss lists in parts, each in an order in which few numbers are marked twice.
+//! Loss lists in parts: which places they name, in ascending order, so that no place is marked twice.
 
-ghost use Rattle.std.specs.Prelude.{◌≡◌, ◌+◌, ◌^◌, ◌<◌, ◌||◌, ◌∷◌, Bool, List, [], All, IfSome, IfNone, length, map};
-ghost use Rattle.std.specs.List.{list_any};
-ghost use Rattle.std.specs.List.Sorted.{IsPermutation};
-ghost use Rattle.srt_seq.specs.Runs.{Range, span};
-ghost use Rattle.srt_loss.specs.Text.{range_of};
+ghost use Rattle.std.specs.Prelude.{◌≡◌, ◌+◌, ◌^◌, ◌<◌, ◌≤◌, ◌∷◌, [], IfSome, IfNone, length};
+ghost use Rattle.std.specs.List.Sorted.{IsPermutation, IsNonDecreasingBy};
+ghost use Rattle.srt_seq.specs.Window.{word_of};
+ghost use Rattle.srt_sendbuf.specs.Parts.{is_in_parts, with_part, AreWithin, IsTaken};
 
 use arrayvec::ArrayVec;
-use srt_loss::Ranges;
+use srt_loss::{Ranges, part_in};
 use srt_seq::Seq31;
 
-/// The most ranges of a part: as many as one datagram's loss list has in 1456 bytes.
-pub const PART: usize = 364;
+/// The most parts that are taken off a list at once. One datagram's loss list has fewer: at most 364 ranges, in 1456
+/// bytes.
+pub const PARTS: usize = 365;
 
-/// The key by which ranges are sorted: the range's first number, counted from 2^30 before the front. No range that
-/// reaches the front begins earlier.
-fn beginning(range: &(Seq31, Seq31), front: u32) -> u32
-    ensures { result < 2 ^ 31 }
+/// Appends a part, if there is one.
+fn put(parts: &mut ArrayVec<(u32, u32), PARTS>, part: Option<(u32, u32)>)
+    requires { length parts.old.items < 365 }
+    ensures { parts.new.items ≡ with_part parts.old.items part }
 {
-    range.0.get().wrapping_sub(front).wrapping_add(1 << 30) & 0x7fff_ffff
+    if let Some(part) = part {
+        parts.push(part);
+    }
 }
 
-/// Takes the next ranges off a list, at most `PART`.
-fn first_ranges(ranges: &mut Ranges<'_>) -> ArrayVec<(Seq31, Seq31), PART>
-    ensures same { (test : Range → Bool) → list_any test ranges.old ≡ (list_any test (map range_of result.items) || list_any test ranges.new) }
-    ensures near { All (λ r. span (range_of r) < 2 ^ 30) result.items }
-    ensures shorter { length ranges.new + length result.items ≡ length ranges.old }
-    ensures none { length result.items ≡ 0 → ranges.new ≡ [] }
+/// Takes ranges off a list until there are `PARTS` that name places of a window, or none is left. The window begins at
+/// the number `front` and has `width` places.
+fn first_parts(ranges: &mut Ranges<'_>, front: Seq31, width: u32) -> ArrayVec<(u32, u32), PARTS>
+    requires narrow { width ≤ 2 ^ 30 }
+    ensures named { IsTaken (word_of front) width ranges.old ranges.new (is_in_parts result.items) }
+    ensures within { AreWithin width result.items }
+    ensures shorter { length ranges.new + length result.items ≤ length ranges.old }
+    ensures all { length result.items < 365 → ranges.new ≡ [] }
 {
-    let mut part = ArrayVec::new();
-    while part.len() < PART {
+    let mut parts = ArrayVec::new();
+    while parts.len() < PARTS {
         match ranges.next_range() {
-            Some(range) => part.push(range),
-            None => return part,
+            Some(range) => put(&mut parts, part_in(range, front, width)),
+            None => return parts,
         }
     }
-    part
+    parts
 }
 
-/// Whether the ranges name more than 8192 numbers in all, more than can be in flight: ranges that overlap much do.
-fn are_wide(part: &[(Seq31, Seq31)]) -> bool {
-    let mut count = 0u32;
-    for (first, last) in part {
-        let span = last.get().wrapping_sub(first.get()) & 0x7fff_ffff;
-        count = count.saturating_add(span).saturating_add(1);
-    }
-    count > 8192
-}
-
-/// Sorts ranges by their first numbers if they name more numbers than can be in flight; else leaves them as they are.
-fn sort(part: &mut ArrayVec<(Seq31, Seq31), PART>, front: Seq31)
-    ensures { IsPermutation part.old.items part.new.items }
+/// Sorts parts by their first places.
+fn sort(parts: &mut ArrayVec<(u32, u32), PARTS>)
+    ensures same { IsPermutation parts.old.items parts.new.items }
+    ensures ascending { IsNonDecreasingBy (λ part. part.0) parts.new.items }
 {
-    if !are_wide(part.as_slice()) {
-        return;
-    }
-    let front = front.get();
-    part.as_mut_slice()
-        .sort_unstable_by_key(|range| beginning(range, front));
+    parts.as_mut_slice().sort_unstable_by_key(|part| part.0);
 }
 
-/// Takes the next ranges off a list, at most `PART`, in an order in which few numbers are marked twice. Empty once
-/// the list is read. O(n log n) in the ranges of a part, at most; takes no memory.
-pub fn next_part(ranges: &mut Ranges<'_>, front: Seq31) -> ArrayVec<(Seq31, Seq31), PART>
-    ensures same { (test : Range → Bool) → list_any test ranges.old ≡ (list_any test (map range_of result.items) || list_any test ranges.new) }
-    ensures near { All (λ r. span (range_of r) < 2 ^ 30) result.items }
-    ensures shorter { length ranges.new + length result.items ≡ length ranges.old }
-    ensures none { length result.items ≡ 0 → ranges.new ≡ [] }
+/// Takes ranges off a list until there are `PARTS` that name places of a window, or none is left. The window begins at
+/// the number `front` and has `width` places, at most 2^30. The parts are those places, as the first and the last place
+/// of each range, and come in ascending order of their first places. O(n log n) in the ranges, and linear if the list
+/// ascends or descends; takes no memory.
+pub fn next_parts(ranges: &mut Ranges<'_>, front: Seq31, width: u32) -> ArrayVec<(u32, u32), PARTS>
+    requires narrow { width ≤ 2 ^ 30 }
+    ensures named { IsTaken (word_of front) width ranges.old ranges.new (is_in_parts result.items) }
+    ensures within { AreWithin width result.items }
+    ensures ascending { IsNonDecreasingBy (λ part. part.0) result.items }
+    ensures shorter { length ranges.new + length result.items ≤ length ranges.old }
+    ensures all { length result.items < 365 → ranges.new ≡ [] }
 {
-    let mut part = first_ranges(ranges);
-    sort(&mut part, front);
-    part
+    let mut parts = first_parts(ranges, front, width);
+    sort(&mut parts);
+    parts
 }
 
-/// A part, split after its first range.
+/// Parts, split after the first.
 #[derive(Clone, Copy)]
 pub struct Rest<'a> {
-    /// The first range, as its first and its last number.
-    pub range: (Seq31, Seq31),
-    /// The ranges after it.
-    pub more: &'a [(Seq31, Seq31)],
+    /// The first part, as its first and its last place.
+    pub part: (u32, u32),
+    /// The parts after it.
+    pub more: &'a [(u32, u32)],
 }
 
-/// Splits a part after its first range. None if the part is empty.
-pub fn split(part: &[(Seq31, Seq31)]) -> Option<Rest<'_>>
-    ensures some { IfSome result (λ r. part.now ≡ r.range ∷ r.more.now) }
-    ensures none { IfNone result (part.now ≡ []) }
+/// Splits parts after the first. None if there are none.
+pub fn split(parts: &[(u32, u32)]) -> Option<Rest<'_>>
+    ensures some { IfSome result (λ r. parts.now ≡ r.part ∷ r.more.now) }
+    ensures none { IfNone result (parts.now ≡ []) }
 {
-    let (range, more) = part.split_first()?;
-    Some(Rest {
-        range: *range,
-        more,
-    })
+    let (part, more) = parts.split_first()?;
+    Some(Rest { part: *part, more })
 }

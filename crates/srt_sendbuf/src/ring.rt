@@ -1,6 +1,6 @@
 //! The ring of packets that are kept, with their payloads.
 
-ghost use Rattle.std.specs.Prelude.{◌≡◌, ℕ, ◌+◌, ◌-◌, ◌<◌, ◌≤◌, ◌/◌, length, IfOk, vec_len, slice_get, nat_le, nat_lt, ◌==◌, ◌&&◌, true, false, Some, None, if◌then◌else◌};
+ghost use Rattle.std.specs.Prelude.{◌≡◌, ℕ, ◌+◌, ◌-◌, ◌^◌, ◌<◌, ◌≤◌, ◌/◌, min, max, length, IfOk, vec_len, slice_get, nat_le, nat_lt, ◌==◌, ◌&&◌, true, false, Some, None, if◌then◌else◌};
 ghost use Rattle.srt_seq.specs.Counts.{message_of};
 ghost use Rattle.srt_ring.specs.Buffers.{slot_of};
 ghost use Rattle.srt_ring.specs.Ring.{width_of as width_in, first_of, warm_of};
@@ -41,6 +41,9 @@ pub struct Ring {
     payloads: PayloadRing,
     /// Which blocks of slots the search for lost packets can skip.
     hints: Hints,
+    /// How often `mark` was called since `open`; stops at 2^64 - 1. No code reads it: contracts bound by it how much
+    /// work a loss list makes.
+    marks: u64,
     ghost fits: { length places.items ≤ places.capacity },
     ghost as_many: { width_in payloads ≡ places.capacity },
     ghost warm_free: { warm_of payloads + length places.items ≤ places.capacity },
@@ -49,7 +52,7 @@ pub struct Ring {
 
 impl Ring {
     ghost use Rattle.srt_ring.specs.Ring.{payload_at};
-    ghost use Rattle.srt_sendbuf.specs.Places.{kept_at, kept_of, lost_at, length_of, width_of, is_old, IsPut, IsFree};
+    ghost use Rattle.srt_sendbuf.specs.Places.{kept_at, kept_of, lost_at, length_of, width_of, marks_of, is_old, IsPut, IsFree};
 
     /// An empty ring of `width` places. The only call that takes memory; the error is a refused allocation. O(width).
     pub fn open(alloc: Global, width: usize) -> Result<Ring, AllocError>
@@ -61,6 +64,7 @@ impl Ring {
             places: HeapCircularBuffer::with_capacity(alloc, width)?,
             payloads: PayloadRing::open(alloc, width)?,
             hints: Hints::new(),
+            marks: 0,
         })
     }
 
@@ -160,13 +164,15 @@ impl Ring {
     }
 
     /// Sets whether the packet of a place is lost. O(1).
-    pub fn mark(&mut self, at: usize, lost: bool)
+    fn mark(&mut self, at: usize, lost: bool)
         requires { at < length_of self.old }
         ensures width { width_of self.new ≡ width_of self.old }
         ensures length { length_of self.new ≡ length_of self.old }
         ensures kept { (d : ℕ) → kept_at self.new d ≡ kept_at self.old d }
         ensures lost { (d : ℕ) → lost_at self.new d ≡ (if d == at then lost else lost_at self.old d) }
+        ensures marks { marks_of self.new ≡ min (marks_of self.old + 1) (2 ^ 64 - 1) }
     {
+        self.marks = self.marks.saturating_add(1);
         let slot = self.payloads.slot(at);
         if lost {
             self.hints.set(slot, true);
@@ -174,6 +180,17 @@ impl Ring {
         if let Some(place) = self.places.get_mut(at) {
             place.lost = lost;
         }
+    }
+
+    /// Sets that the packet of a place isn't lost. O(1).
+    pub fn unmark(&mut self, at: usize)
+        requires { at < length_of self.old }
+        ensures width { width_of self.new ≡ width_of self.old }
+        ensures length { length_of self.new ≡ length_of self.old }
+        ensures kept { (d : ℕ) → kept_at self.new d ≡ kept_at self.old d }
+        ensures lost { (d : ℕ) → lost_at self.new d ≡ (if d == at then false else lost_at self.old d) }
+    {
+        self.mark(at, false);
     }
 
     /// Whether the packet of a place is lost; false past the last. O(1).
@@ -313,26 +330,31 @@ impl Ring {
         ensures length { length_of self.new ≡ length_of self.old }
         ensures kept { (d : ℕ) → kept_at self.new d ≡ kept_at self.old d }
         ensures lost { (d : ℕ) → lost_at self.new d ≡ (if nat_le from d && nat_lt d end then true else lost_at self.old d) }
+        ensures marks { marks_of self.new ≤ marks_of self.old + (end - from) }
     {
         for at in from..end {
             self.mark(at, true);
         }
     }
 
-    /// Marks the places from `from` on and before `end` as lost. `run` is an interval that is marked already: if the
-    /// new one begins in it or just after it, only places past its end are marked, and it grows to the greater end;
-    /// else `run` becomes the new interval.
+    /// Marks the places from `from` on and before `end` as lost. `run` is an interval that is marked already and doesn't
+    /// begin later: only places past its end are marked. It grows to the greater end, or becomes the new interval if
+    /// that one begins past its end. So each place is marked once by calls with one `run`.
     pub fn mark_past(&mut self, run: &mut Marked, from: usize, end: usize)
         requires order { from ≤ end }
         requires inside { end ≤ length_of self.old }
+        requires later { run.old.from ≤ from }
         requires marked { (d : ℕ) → run.old.from ≤ d → d < run.old.end → lost_at self.old d ≡ true }
         ensures width { width_of self.new ≡ width_of self.old }
         ensures length { length_of self.new ≡ length_of self.old }
         ensures kept { (d : ℕ) → kept_at self.new d ≡ kept_at self.old d }
         ensures lost { (d : ℕ) → lost_at self.new d ≡ (if nat_le from d && nat_lt d end then true else lost_at self.old d) }
         ensures marked { (d : ℕ) → run.new.from ≤ d → d < run.new.end → lost_at self.new d ≡ true }
+        ensures from { run.new.from ≤ from }
+        ensures end { run.new.end ≡ max run.old.end end }
+        ensures marks { marks_of self.new + run.old.end ≤ marks_of self.old + run.new.end }
     {
-        if from < run.from || run.end < from {
+        if run.end < from {
             self.mark_all(from, end);
             run.from = from;
             run.end = end;

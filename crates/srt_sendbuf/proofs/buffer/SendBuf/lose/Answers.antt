@@ -1,47 +1,48 @@
-use Rattle.std.proofs.Common.{◌≡◌, ℕ, ◌-◌, ◌<◌, true, ◌||◌, Some, List, [], sym, ap, ◌∙◌, arith}
-use Rattle.srt_seq.specs.Runs.{Range, is_asked, ranges_from}
-use Rattle.srt_sendbuf.specs.Sending.{front, base, asked, asks_for_gone}
+use Rattle.std.proofs.Common.{◌≡◌, ◌+◌, ◌-◌, ◌<◌, true, Some, sym, ap, ◌∙◌, length, arith}
+use Rattle.srt_seq.specs.Runs.{is_asked, ranges_from}
+use Rattle.srt_sendbuf.specs.Sending.{front, base, next, asked, asks_for_gone}
 use Rattle.srt_sendbuf.proofs.Ranges.{some_asked}
-use Rattle.srt_sendbuf.proofs.Asks.{alone}
-use Rattle.srt_sendbuf.proofs.Steps.{asked_nothing, asked_alike}
+use Rattle.srt_sendbuf.proofs.Marking.{taken_nothing, taken_both, taken_all, one_turn_more, turns_in_all}
 use Rattle.srt_sendbuf.proofs.buffer.SendBuf.lose.Goals as goal
 
-all_taken : (initial : ℕ) (all rest taken : List Range) → ((n : ℕ) → is_asked (ranges_from initial all) n ≡ (is_asked taken n || is_asked (ranges_from initial rest) n)) → rest ≡ [] → (n : ℕ) → is_asked (ranges_from initial all) n ≡ is_asked taken n
-all_taken initial all rest taken h e n = h n ∙ ap (λ rs. is_asked taken n || is_asked (ranges_from initial rs) n) e ∙ alone (is_asked taken n)
-
 pub loop-ranges-init : goal.loop-ranges-init
-loop-ranges-init c width initial r h =
-    ([], record { width_is = h.width_is; fields = asked_nothing initial _ _ _ _ _ _ _ _ _ _ r h.fields }, λ n. ap (λ rs. is_asked (ranges_from initial rs) n) (sym c.ranges-ranges.ensures))
+loop-ranges-init c =
+    record {
+      lost = taken_nothing c.args.self.now c.args.losses.now c.ranges-ranges.result c.ranges-ranges.ensures;
+      marks = (0, let e = ap length c.ranges-ranges.ensures in omega (arith, e), omega arith);
+    }
 
 pub loop-ranges-preserved : goal.loop-ranges-preserved
-loop-ranges-preserved c width initial r h =
-    let i = c.loop-ranges.invariant width initial r h in
-    let next = c.lose_next.ensures.stands width initial r i.0 i.1 in
-    (next.0, next.1, λ n. i.2 n ∙ next.2 n)
+loop-ranges-preserved c =
+    let i = c.loop-ranges.invariant in
+    let n = c.lose_next.ensures in
+    record {
+      lost = taken_both c.args.self.now c.loop-ranges.self c.lose_next.new.self c.args.losses.now c.loop-ranges.ranges c.lose_next.new.ranges i.lost n.lost;
+      marks = (i.marks.0 + 1, let l = n.shorter c.loop-ranges-test.true in let m = i.marks.1 in omega (arith, l, m), one_turn_more i.marks.0 _ _ _ _ _ i.marks.2 n.marks i.lost.1.sent_is);
+    }
 
 pub returns-then-gone-clause-stands : goal.returns-then-gone-clause-stands
 returns-then-gone-clause-stands c width initial r h =
-    let i = c.loop-ranges.invariant width initial r h in
-    let next = c.lose_next.ensures.stands width initial r i.0 i.1 in
-    record {
-      width_is = next.1.width_is;
-      fields = asked_alike initial _ _ _ _ _ _ _ _ _ _ next.0 (ranges_from initial c.args.losses.now) r next.1.fields (all_taken initial c.args.losses.now c.lose_next.new.ranges next.0 (λ n. i.2 n ∙ next.2 n) (c.lose_next.ensures.none c.loop-ranges-test.false));
-    }
+    taken_all width initial c.args.self.now c.lose_next.new.self c.args.losses.now c.lose_next.new.ranges r h (taken_both c.args.self.now c.loop-ranges.self c.lose_next.new.self c.args.losses.now c.loop-ranges.ranges c.lose_next.new.ranges c.loop-ranges.invariant.lost c.lose_next.ensures.lost) (c.lose_next.ensures.none c.loop-ranges-test.false)
 
 pub returns-else-gone-clause-stands : goal.returns-else-gone-clause-stands
 returns-else-gone-clause-stands c width initial r h =
-    let i = c.loop-ranges.invariant width initial r h in
-    let next = c.lose_next.ensures.stands width initial r i.0 i.1 in
-    record {
-      width_is = next.1.width_is;
-      fields = asked_alike initial _ _ _ _ _ _ _ _ _ _ next.0 (ranges_from initial c.args.losses.now) r next.1.fields (all_taken initial c.args.losses.now c.lose_next.new.ranges next.0 (λ n. i.2 n ∙ next.2 n) (c.lose_next.ensures.none c.loop-ranges-test.false));
-    }
+    taken_all width initial c.args.self.now c.lose_next.new.self c.args.losses.now c.lose_next.new.ranges r h (taken_both c.args.self.now c.loop-ranges.self c.lose_next.new.self c.args.losses.now c.loop-ranges.ranges c.lose_next.new.ranges c.loop-ranges.invariant.lost c.lose_next.ensures.lost) (c.lose_next.ensures.none c.loop-ranges-test.false)
 
 pub returns-then-gone-clause-answer : goal.returns-then-gone-clause-answer
 returns-then-gone-clause-answer c width initial r h =
-    let i = c.loop-ranges.invariant width initial r h in
-    let next = c.lose_next.ensures.stands width initial r i.0 i.1 in
+    let after = taken_all width initial c.args.self.now c.lose_next.new.self c.args.losses.now c.lose_next.new.ranges r h (taken_both c.args.self.now c.loop-ranges.self c.lose_next.new.self c.args.losses.now c.loop-ranges.ranges c.lose_next.new.ranges c.loop-ranges.invariant.lost c.lose_next.ensures.lost) (c.lose_next.ensures.none c.loop-ranges-test.false) in
     let asks : asks_for_gone (ranges_from initial c.args.losses.now) r ≡ true = sym (c.asks_any_gone-gone.ensures width initial r h) ∙ c.if-gone.true in
     let some = some_asked (is_asked (ranges_from initial c.args.losses.now)) (base r) (front r - base r) asks in
     let below : base r < front r = omega (arith, some) in
-    rw asks (ap Some (c.gone.ensures width initial (asked next.0 r) next.1 below))
+    rw asks (ap Some (c.gone.ensures width initial (asked (ranges_from initial c.args.losses.now) r) after below))
+
+pub returns-then-gone-clause-marks : goal.returns-then-gone-clause-marks
+returns-then-gone-clause-marks c width initial r h =
+    let i = c.loop-ranges.invariant in
+    turns_in_all i.marks.0 (length c.args.losses.now) (length c.loop-ranges.ranges) _ _ _ (front r) (next r) i.marks.1 (one_turn_more i.marks.0 _ _ _ _ _ i.marks.2 c.lose_next.ensures.marks i.lost.1.sent_is) h.fields.flying_is
+
+pub returns-else-gone-clause-marks : goal.returns-else-gone-clause-marks
+returns-else-gone-clause-marks c width initial r h =
+    let i = c.loop-ranges.invariant in
+    turns_in_all i.marks.0 (length c.args.losses.now) (length c.loop-ranges.ranges) _ _ _ (front r) (next r) i.marks.1 (one_turn_more i.marks.0 _ _ _ _ _ i.marks.2 c.lose_next.ensures.marks i.lost.1.sent_is) h.fields.flying_is

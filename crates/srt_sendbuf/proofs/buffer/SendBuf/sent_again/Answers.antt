@@ -5,7 +5,7 @@ use Rattle.srt_sendbuf.proofs.buffer.SendBuf.sent_again.Goals as goal
 pub returns : goal.returns
 returns c width initial r h =
     let s = c.args.self.now in
-    let marked = c.mark.ensures in
+    let marked = c.unmark.ensures in
     let found = c.find_lost-self.ensures in
     record {
       width_is = found.width ∙ marked.width ∙ h.width_is;

@@ -6,6 +6,6 @@ pub returns : goal.returns
 returns c width initial r h =
     let s = c.args.self.now in
     record {
-      width_is = c.mark.ensures.width ∙ h.width_is;
-      fields = same_count initial _ _ _ _ _ _ _ _ _ _ _ _ c.mark.ensures.length (sent_next initial _ _ _ _ _ _ _ _ _ _ _ _ r h.fields s.low_in s.high_in c.mark.ensures.kept c.mark.ensures.lost);
+      width_is = c.unmark.ensures.width ∙ h.width_is;
+      fields = same_count initial _ _ _ _ _ _ _ _ _ _ _ _ c.unmark.ensures.length (sent_next initial _ _ _ _ _ _ _ _ _ _ _ _ r h.fields s.low_in s.high_in c.unmark.ensures.kept c.unmark.ensures.lost);
     }

@@ -24,5 +24,6 @@ loop-at-preserved c =
         length = c.mark.ensures.length ∙ i.same.length;
         kept = λ d. c.mark.ensures.kept d ∙ i.same.kept d;
       };
+      marks = let m = i.marks in let n = c.mark.ensures.marks in let le = c.loop-at.auto.at in omega (arith, m, n, le);
       lost = λ d. one_more c.args.from c.loop-at.at d _ _ _ c.loop-at.auto.at (c.mark.ensures.lost d) (i.lost d);
     }
