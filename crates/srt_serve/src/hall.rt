@@ -278,3 +278,6 @@ impl Hall {
         self.told.next_from(route)
     }
 }
+
+#[cfg(test)]
+mod tests;

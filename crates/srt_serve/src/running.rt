@@ -196,3 +196,6 @@ where
         ticker,
     })
 }
+
+#[cfg(test)]
+mod tests;

@@ -22,6 +22,8 @@ use std::test::Fail;
 use std::thread;
 use std::thread::Threads;
 
+mod workers;
+
 /// A CONCLUSION from port 5000 with caller ID 1 that asks to publish on the route `studio`.
 const STUDIO: &str =
     "80000000000000000000000000000000000000050000000500000005000005dc00002000ffffffff00000001ecc958a6000000000000000000000000000000000001000300010500000000bf00780078000500063a3a212374733d726f696475703d6d2c696c627500006873";
@@ -53,6 +55,9 @@ const PAUSE: u64 = 1_000;
 /// The number of answers after which no conclusion comes again.
 const ANSWERS: u64 = 100;
 
+/// The most workers that a run has.
+const WORKERS: u64 = 16;
+
 /// The bytes 0 to 31.
 const SECRET: [u8; 32] = [
     0, 1, 2, 3, 4, 5, 6, 7, 8, 9, 10, 11, 12, 13, 14, 15, 16, 17, 18, 19, 20, 21, 22, 23, 24, 25,
@@ -72,6 +77,8 @@ struct Meeting {
     is_late: AtomicBool,
     /// The number of replies that the wire took.
     taken: AtomicU64,
+    /// The number of gates that were asked.
+    inside: AtomicU64,
 }
 
 impl Meeting {
@@ -84,6 +91,7 @@ impl Meeting {
                 answered: AtomicBool::new(false),
                 is_late: AtomicBool::new(false),
                 taken: AtomicU64::new(0),
+                inside: AtomicU64::new(0),
             },
         )?)
     }
@@ -104,6 +112,17 @@ impl Meeting {
         }
         self.is_late.store(true, Ordering::SeqCst);
     }
+
+    /// Waits until this many gates were asked, for a limited number of turns.
+    fn await_inside(&self, count: u64) {
+        for _ in 0..LIMIT {
+            if self.inside.load(Ordering::SeqCst) >= count {
+                return;
+            }
+            thread::yield_now();
+        }
+        self.is_late.store(true, Ordering::SeqCst);
+    }
 }
 
 /// When callers call again after the first round.
@@ -114,6 +133,8 @@ enum Again {
     InWait(u64),
     /// After each answer that the wire took, and after a pause without one, until the wire took `ANSWERS` answers.
     Answered,
+    /// Never; but the second wait ends once as many gates were asked as there can be workers.
+    Inside,
 }
 
 /// A source whose waits yield. In its first round it gives one datagram of each of these texts, and later the first of
@@ -145,7 +166,7 @@ impl Callers {
     /// Whether the first datagram comes again now.
     fn is_time(&mut self) -> bool {
         match self.again {
-            Again::Never => false,
+            Again::Never | Again::Inside => false,
             Again::InWait(wait) => self.waits == wait,
             Again::Answered => self.is_answered(),
         }
@@ -183,6 +204,9 @@ impl Source for Callers {
         }
         if self.waits > 1 && self.is_time() {
             self.given = 0;
+        }
+        if let (2, Again::Inside) = (self.waits, self.again) {
+            self.meeting.await_inside(WORKERS);
         }
         thread::yield_now();
         Polled::Ready
@@ -302,6 +326,30 @@ impl Gate for Member {
         } else {
             meeting.await_all(&[&meeting.entered, &meeting.waited]);
         }
+        true
+    }
+
+    fn held(&self) -> u64 {
+        0
+    }
+}
+
+/// A gate that lets no turn pass before as many gates were asked as there can be workers.
+#[derive(Drop)]
+struct Door {
+    meeting: Arc<Meeting>,
+    is_inside: bool,
+}
+
+impl Gate for Door {
+    ghost held = { λ gate. 0 };
+
+    fn pass(&mut self, _route: usize) -> bool {
+        if !self.is_inside {
+            self.is_inside = true;
+            self.meeting.inside.fetch_add(1, Ordering::SeqCst);
+        }
+        self.meeting.await_inside(WORKERS);
         true
     }
 
@@ -573,17 +621,45 @@ fn as_many_routes_and_workers_as_there_can_be_run(rt: HostRuntime) -> Result<(),
     Ok(())
 }
 
-/// A ticker that ends the run with its first moment.
-#[derive(Drop)]
-struct Once<'a> {
-    hall: &'a Hall,
+/// Each of the sixteen workers is at a route at the same time as all the others.
+#[test]
+fn as_many_routes_are_served_at_once_as_there_are_workers(rt: HostRuntime) -> Result<(), Fail> {
+    let alloc = rt.alloc();
+    let mut routes = Routes::none(alloc);
+    let mut scene = scene_of(alloc, &[], Again::Inside)?;
+    let mut workers = Vec::with_capacity(alloc, 16)?;
+    for index in 0..16u32 {
+        let name = format!(in alloc; "r{index}")?;
+        routes.add(alloc, &name, 32, ALWAYS)?;
+        workers.push(Door {
+            meeting: Arc::try_clone(&scene.meeting)?,
+            is_inside: false,
+        })?;
+    }
+    if workers.len() != 16 {
+        return Err(Fail::from("a gate for each worker"));
+    }
+    let _ran = run_of(&rt, &routes, &mut scene, None, workers, 2)?;
+    assert!(rt; !scene.meeting.is_late.load(Ordering::SeqCst));
+    assert_eq!(rt; scene.meeting.inside.load(Ordering::SeqCst), WORKERS);
+    Ok(())
 }
 
-impl Ticker for Once<'_> {
+/// A ticker that ends the run with its last moment.
+#[derive(Drop)]
+struct Times<'a> {
+    hall: &'a Hall,
+    left: u32,
+}
+
+impl Ticker for Times<'_> {
     ghost gave = { λ ticker. None };
 
     fn next(&mut self) -> u64 {
-        self.hall.finish();
+        self.left = self.left.saturating_sub(1);
+        if self.left == 0 {
+            self.hall.finish();
+        }
         MOMENT
     }
 }
@@ -602,19 +678,62 @@ fn clocked(alloc: Global, routes: &Routes) -> Result<(Vec<ClockEnd>, Vec<RouteCe
     Ok((ends, cells))
 }
 
+/// The turns of a visit at each of these routes once the clock ticked so often, while those of `asking` ask for a worker.
+fn turns_after<R: AllocGlobal + Wait>(
+    rt: &R,
+    routes: &Routes,
+    asking: &[usize],
+    ticks: u32,
+) -> Result<Vec<u32>, Fail> {
+    let alloc = rt.alloc();
+    let (ends, cells) = clocked(alloc, routes)?;
+    let hall = Hall::open(alloc, cells.len(), 1)?;
+    for route in asking {
+        hall.ask(*route);
+    }
+    let ticker = Times {
+        hall: &hall,
+        left: ticks,
+    };
+    tick(rt, &mut Clocks { ends, ticker }, &hall);
+    let mut turns = Vec::new(alloc);
+    for cell in &cells {
+        turns.push(cell.visit(rt, &mut Ungated, 64).turns)?;
+    }
+    Ok(turns)
+}
+
 /// Of two routes the second one asks for a worker. Both get the tick.
 #[test]
 fn a_route_that_asks_gets_its_tick_too(rt: HostRuntime) -> Result<(), Fail> {
-    let alloc = rt.alloc();
-    let (ends, cells) = clocked(alloc, &Routes::two(alloc, ALWAYS)?)?;
-    let hall = Hall::open(alloc, cells.len(), 1)?;
-    hall.ask(1);
-    let ticker = Once { hall: &hall };
-    tick(&rt, &mut Clocks { ends, ticker }, &hall);
-    let mut turns = Vec::new(alloc);
-    for cell in &cells {
-        turns.push(cell.visit(&rt, &mut Ungated, 4).turns)?;
-    }
+    let routes = Routes::two(rt.alloc(), ALWAYS)?;
+    let turns = turns_after(&rt, &routes, &[1], 1)?;
     assert_eq!(rt; turns.as_slice(), [1, 1].as_slice());
+    Ok(())
+}
+
+/// An inbox has 16 places: of twenty ticks it accepts 16.
+#[test]
+fn a_tick_that_meets_a_full_inbox_is_given_up(rt: HostRuntime) -> Result<(), Fail> {
+    let routes = Routes::two(rt.alloc(), ALWAYS)?;
+    let turns = turns_after(&rt, &routes, &[], 20)?;
+    assert_eq!(rt; turns.as_slice(), [16, 16].as_slice());
+    Ok(())
+}
+
+/// More routes than two words of marks have bits.
+#[test]
+fn every_route_gets_each_tick(rt: HostRuntime) -> Result<(), Fail> {
+    let alloc = rt.alloc();
+    let mut routes = Routes::none(alloc);
+    for index in 0..130u32 {
+        let name = format!(in alloc; "r{index}")?;
+        routes.add(alloc, &name, 32, ALWAYS)?;
+    }
+    let turns = turns_after(&rt, &routes, &[0, 63, 64, 129], 3)?;
+    assert_eq!(rt; turns.len(), 130);
+    for count in &turns {
+        assert_eq!(rt; *count, 3);
+    }
     Ok(())
 }

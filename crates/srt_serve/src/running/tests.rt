@@ -1,0 +1,159 @@
+//! A run that is over before it begins.
+
+ghost use Rattle.std.specs.Prelude.{◌≡◌, None, map, length};
+ghost use Rattle.srt_seq.specs.Terms.{terms_of};
+ghost use Rattle.srt_lobby.specs.Opening.{fault_of};
+
+use crate::opening::Opened;
+use crate::running::{Stage, open_stage};
+use crate::serving::{Context, Crew, Front, serve_routes};
+use crate::ticking::{Clocks, Ticker};
+use srt_cookie::Secret;
+use srt_lobby::Names;
+use srt_mailbox::Ungated;
+use srt_poller::{Polled, Read, Report, Sent, Source, Wire};
+use srt_seq::{Entry, Mode, Peer, Schedule};
+use std::sync::Wait;
+use std::test::Fail;
+use std::thread::Threads;
+
+/// A source, a wire and a ticker that count their calls.
+#[derive(Drop)]
+struct Device {
+    calls: u64,
+}
+
+impl Device {
+    fn count(&mut self) {
+        self.calls = self.calls.saturating_add(1);
+    }
+}
+
+impl Source for Device {
+    ghost failures = { λ source. 0 };
+
+    ghost gave = { λ source. None };
+
+    fn wait(&mut self) -> Polled {
+        self.count();
+        Polled::Ready
+    }
+
+    fn next(&mut self, _buffer: &mut [u8; 2048]) -> Read {
+        self.count();
+        Read::Empty
+    }
+
+    fn failures(&self) -> u64 {
+        0
+    }
+}
+
+impl Wire for Device {
+    ghost failures = { λ wire. 0 };
+
+    ghost handed = { λ wire. None };
+
+    fn send(&mut self, _to: Peer, _bytes: &[u8]) -> Sent {
+        self.count();
+        Sent::Taken
+    }
+
+    fn failures(&self) -> u64 {
+        0
+    }
+}
+
+impl Ticker for Device {
+    ghost gave = { λ ticker. None };
+
+    fn next(&mut self) -> u64 {
+        self.count();
+        0
+    }
+}
+
+/// Begins a run of five rounds with one worker, once it is over: so it is if a thread couldn't be started. Returns what
+/// the poller reports.
+fn serve_once_over<R>(
+    rt: &R,
+    entries: &[Entry],
+    schedules: &[Schedule],
+    source: &mut Device,
+    wire: &mut Device,
+) -> Result<Option<Report>, Fail>
+where
+    R: AllocGlobal + Threads + Wait + Sync,
+    requires entries { fault_of (map terms_of entries.now) ≡ None }
+    requires schedules { length schedules.now ≡ length entries.now }
+{
+    let alloc = rt.alloc();
+    let Ok(stage) = open_stage(alloc, entries, schedules, 1) else {
+        return Err(Fail::from("memory"));
+    };
+    let Stage {
+        names,
+        routes,
+        hall,
+        accounts: _,
+    } = stage;
+    let Opened {
+        ends,
+        clocks,
+        cells,
+    } = routes;
+    let gates = vec![in alloc; Ungated]?;
+    let context = Context {
+        rt,
+        alloc,
+        secret: &Secret::new([7; 32]),
+        schedules,
+        cells: cells.as_slice(),
+        hall: &hall,
+        rounds: 5,
+    };
+    let mut front: Front<Ungated> = Front {
+        names,
+        ends,
+        gate: None,
+    };
+    let mut crew = Crew {
+        clocks: Clocks {
+            ends: clocks,
+            ticker: Device { calls: 0 },
+        },
+        gates,
+    };
+    hall.finish();
+    Ok(serve_routes(&context, source, wire, &mut front, &mut crew))
+}
+
+#[test]
+fn without_all_threads_nothing_is_read(rt: HostRuntime) -> Result<(), Fail> {
+    let entries = vec![in rt.alloc();
+        Entry {
+            name: String::from_str(rt.alloc(), "studio")?,
+            mode: Mode::Live,
+            latency_ms: 120,
+            buffer: 32,
+            sessions: 1,
+            inbox: 16,
+            outbox: 16,
+        },
+    ]?;
+    let schedules = [Schedule {
+        open_round: 0,
+        close_round: None,
+    }];
+    let Ok(_names) = Names::open(rt.alloc(), &entries) else {
+        return Err(Fail::from("the entry is right"));
+    };
+    if schedules.len() != entries.len() {
+        return Err(Fail::from("there is a schedule for each entry"));
+    }
+    let mut source = Device { calls: 0 };
+    let mut wire = Device { calls: 0 };
+    let report = serve_once_over(&rt, &entries, &schedules, &mut source, &mut wire)?;
+    assert!(rt; report.is_none() && source.calls == 0 && wire.calls == 0);
+    Ok(())
+}

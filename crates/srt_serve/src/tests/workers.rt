@@ -1,0 +1,207 @@
+//! Workers and the polling thread at routes that only count, so that a run may last long.
+
+use crate::hall::Hall;
+use crate::helping::Helper;
+use crate::working::work;
+use srt_mailbox::{Gate, Serve, Served, Ungated, Visit};
+use srt_poller::Signals;
+use srt_seq::Turned;
+use std::alloc::{AllocError, Global};
+use std::sync::Wait;
+use std::sync::atomic::{AtomicU64, Ordering};
+use std::test::Fail;
+use std::thread;
+use std::thread::join;
+use std::time::{Clock, Instant};
+
+/// The number of the bell's calls before a worker is asked. The program's bell is called some hundred times a second.
+const RINGS: u32 = 200_000;
+
+/// The seconds within which a worker that is asked must come. It sleeps for a tenth of one at most.
+const SOON: u64 = 5;
+
+/// What a route has to do at each visit.
+#[derive(Clone, Copy)]
+enum Load {
+    /// This many turns.
+    Turns(u32),
+    /// Another worker has it.
+    Busy,
+}
+
+/// A route that counts its visits.
+#[derive(Drop)]
+struct Desk {
+    load: Load,
+    visits: AtomicU64,
+}
+
+impl Desk {
+    fn visits(&self) -> u64 {
+        self.visits.load(Ordering::SeqCst)
+    }
+}
+
+impl Serve for Desk {
+    fn visit<R: Wait, G: Gate>(&self, _rt: &R, _gate: &mut G, most: u32) -> Visit {
+        self.visits.fetch_add(1, Ordering::SeqCst);
+        match self.load {
+            Load::Busy => Visit {
+                turns: 0,
+                moved: 0,
+                end: Some(Served::Busy),
+            },
+            Load::Turns(turns) if turns < most => Visit {
+                turns,
+                moved: 0,
+                end: Some(Served::Turned(Turned::Idle)),
+            },
+            Load::Turns(_) => Visit {
+                turns: most,
+                moved: 0,
+                end: None,
+            },
+        }
+    }
+
+    fn serve<R: Wait, G: Gate>(&self, _rt: &R, _gate: &mut G) -> Served {
+        Served::Turned(Turned::Idle)
+    }
+}
+
+/// A route for each of these loads.
+fn desks(alloc: Global, loads: &[Load]) -> Result<Vec<Desk>, AllocError> {
+    let mut desks = Vec::with_capacity(alloc, loads.len())?;
+    for load in loads {
+        desks.push(Desk {
+            load: *load,
+            visits: AtomicU64::new(0),
+        })?;
+    }
+    Ok(desks)
+}
+
+/// The seconds since a start; the most there can be if the clock can't be read.
+fn seconds_since(rt: &impl Clock, start: Option<Instant>) -> u64 {
+    let Some(start) = start else {
+        return u64::MAX;
+    };
+    match start.elapsed(rt) {
+        Ok(time) => time.as_secs(),
+        Err(_) => u64::MAX,
+    }
+}
+
+/// Asks for a worker at the first route. Whether one comes soon.
+fn is_served<R: Wait + Clock>(rt: &R, hall: &Hall, desk: &Desk) -> bool {
+    let start = Instant::now(rt).ok();
+    let visits = desk.visits();
+    hall.ask(0);
+    hall.share();
+    for _ in rt.forever() {
+        if desk.visits() > visits {
+            return true;
+        }
+        if seconds_since(rt, start) >= SOON {
+            return false;
+        }
+        thread::yield_now();
+    }
+    false
+}
+
+/// Calls the bell many times, and then asks for a worker several times. Whether one came each time.
+fn ring_and_ask<R: Wait + Clock>(rt: &R, hall: &Hall, desks: &[Desk]) -> bool {
+    for _ in 0..RINGS {
+        hall.ticked();
+    }
+    let mut is_good = true;
+    if let Some(desk) = desks.first() {
+        for _ in 0..8 {
+            is_good = is_good && is_served(rt, hall, desk);
+        }
+    }
+    hall.finish();
+    is_good
+}
+
+/// A worker of a run that lasts serves as one of a run that began.
+#[test]
+fn a_worker_serves_after_hundreds_of_thousands_of_rings(rt: HostRuntime) -> Result<(), Fail> {
+    let desks = desks(rt.alloc(), &[Load::Turns(1)])?;
+    let hall = Hall::open(rt.alloc(), 1, 1)?;
+    let (_, is_good) = join(
+        &rt,
+        || work(&rt, desks.as_slice(), Ungated, 0, &hall),
+        || ring_and_ask(&rt, &hall, desks.as_slice()),
+    );
+    assert!(rt; is_good && hall.heard() > u64::from(RINGS));
+    Ok(())
+}
+
+/// Without a gate, after many datagrams and after some for many routes, the polling thread serves nothing, and each
+/// route to which it offered something asks for a worker.
+#[test]
+fn the_polling_thread_asks_for_workers(rt: HostRuntime) -> Result<(), Fail> {
+    let desks = desks(rt.alloc(), &[Load::Turns(1); 12])?;
+    let hall = Hall::open(rt.alloc(), 12, 1)?;
+    let ungated: Helper<'_, HostRuntime, Desk, Ungated> = Helper::new(&rt, &desks, &hall, None);
+    ungated.offered(7);
+    ungated.read_ended(1);
+    assert_eq!(rt;
+        (
+            hall.next_that_asks(0),
+            hall.next_that_asks(8),
+            hall.next_offered(0)
+        ),
+        (7, 12, 12)
+    );
+    let helper = Helper::new(&rt, &desks, &hall, Some(Ungated));
+    helper.offered(3);
+    helper.read_ended(64);
+    assert_eq!(rt; (hall.next_that_asks(0), hall.next_that_asks(4)), (3, 7));
+    for route in 0..9usize {
+        helper.offered(route);
+    }
+    helper.read_ended(9);
+    for route in 0..9usize {
+        assert!(rt; hall.enter(route) && hall.next_offered(0) == 12);
+    }
+    assert_eq!(rt; hall.next_that_asks(0), 12);
+    for desk in &desks {
+        assert_eq!(rt; desk.visits(), 0);
+    }
+    Ok(())
+}
+
+/// The polling thread serves a few routes itself, and leaves to the workers what it doesn't get done: a route with more
+/// turns than it may make, the routes after that, and one that another worker has.
+#[test]
+fn the_polling_thread_leaves_what_it_does_not_get_done(rt: HostRuntime) -> Result<(), Fail> {
+    let loads = [
+        Load::Turns(3),
+        Load::Busy,
+        Load::Turns(1000),
+        Load::Turns(1),
+    ];
+    let desks = desks(rt.alloc(), &loads)?;
+    let hall = Hall::open(rt.alloc(), 4, 1)?;
+    let helper = Helper::new(&rt, &desks, &hall, Some(Ungated));
+    helper.offered(0);
+    helper.read_ended(1);
+    assert_eq!(rt; (hall.next_that_asks(0), hall.next_offered(0)), (4, 4));
+    helper.offered(1);
+    helper.read_ended(1);
+    assert_eq!(rt; (hall.next_that_asks(0), hall.next_that_asks(2)), (1, 4));
+    assert!(rt; hall.enter(1));
+    helper.offered(2);
+    helper.offered(3);
+    helper.read_ended(2);
+    assert!(rt; hall.next_that_asks(0) == 2 && hall.next_that_asks(3) == 3);
+    let mut visits = Vec::new(rt.alloc());
+    for desk in &desks {
+        visits.push(desk.visits())?;
+    }
+    assert_eq!(rt; visits.as_slice(), [1, 1, 1, 0].as_slice());
+    Ok(())
+}
