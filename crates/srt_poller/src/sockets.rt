@@ -20,6 +20,9 @@ use std::sync::atomic::{AtomicBool, AtomicU32, Ordering};
 use std::time::Duration;
 use thiserror::Error;
 
+#[cfg(test)]
+mod refused;
+
 // The receive buffer that is asked of the system, in bytes (SO_RCVBUF).
 const RECEIVE_BUFFER: u32 = 4_194_304;
 

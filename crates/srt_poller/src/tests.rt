@@ -7,6 +7,8 @@ ghost use Rattle.srt_poller.specs.Schedules.{AllDiffer};
 
 mod copies;
 mod faults;
+mod hints;
+mod limits;
 mod rounds;
 mod waits;
 
@@ -40,6 +42,18 @@ const CONCLUSION: &str =
 /// Its answer, also to the same conclusion again.
 const CONCLUSION_ANSWER: &str =
     "80000000000000000000000000000001000000050000000100000005000005dc00000400ffffffff00100000000000000000000000000000000000000000000000020003000105000000003f00780078";
+
+/// The answer to the second publisher, which stands by in the second slot; as to the caller with ID 1.
+const STANDBY: &str =
+    "80000000000000000000000000000001000000050000000100000005000005dc00000400ffffffff00100001000000000000000000000000000000000000000000020003000105000000003f00780078";
+
+/// The same to the caller with ID 2.
+const STANDBY_OF_2: &str =
+    "80000000000000000000000000000002000000050000000100000005000005dc00000400ffffffff00100001000000000000000000000000000000000000000000020003000105000000003f00780078";
+
+/// The refusal of a third publisher, with reason 1002, to the caller with ID 0.
+const REFUSAL: &str =
+    "80000000000000000000000000000000000000050000000000000005000005dc00002000000003ea000000010000000000000000000000000000000000000000";
 
 /// A SHUTDOWN to a socket ID that is no route's.
 const STRAY: &str = "80050000000000000000000000400000";
@@ -88,13 +102,12 @@ fn entry(alloc: Global, route: &(&str, Mode, u32)) -> Result<Entry, Fail> {
     })
 }
 
-/// Two routes, of which the first has this schedule and the second is always open: the poller's ends, and the first
-/// route's cell.
+/// Two routes with these schedules: the poller's ends and the cells.
 #[derive(Drop)]
 struct Routes {
-    first: Schedule,
+    schedules: [Schedule; 2],
     ends: [Ends; 2],
-    cell: RouteCell,
+    cells: [RouteCell; 2],
 }
 
 /// The schedule of a route that is always open.
@@ -116,37 +129,45 @@ fn named(alloc: Global, entries: &[Entry], first: Schedule) -> Result<Names, Fai
     Ok(names)
 }
 
-/// The poller's ends and the cell of a route.
-fn opened(alloc: Global, r: usize) -> Result<(Ends, RouteCell), Fail> {
+/// The poller's ends and the cell of a route whose inbox and outbox have this many places each.
+fn opened(alloc: Global, r: usize, places: u32) -> Result<(Ends, RouteCell), Fail> {
     let Some(route) = ROUTES.get(r) else {
         return Err(Fail::from("a route"));
     };
-    let Ok((ingress, _, cell, drain)) = open_route(alloc, &entry(alloc, route)?, r) else {
+    let mut entry = entry(alloc, route)?;
+    entry.inbox = places;
+    entry.outbox = places;
+    let Ok((ingress, _, cell, drain)) = open_route(alloc, &entry, r) else {
         return Err(Fail::from("the route opens"));
     };
     Ok((Ends { ingress, drain }, cell))
 }
 
-/// The routes `studio`, with this schedule, and `files`, which is always open.
-fn scheduled(alloc: Global, first: Schedule) -> Result<Routes, Fail> {
-    let (studio, cell) = opened(alloc, 0)?;
-    let (files, _) = opened(alloc, 1)?;
+/// The routes `studio` and `files` with these schedules, whose inboxes and outboxes have this many places each.
+fn with_places(alloc: Global, schedules: [Schedule; 2], places: u32) -> Result<Routes, Fail> {
+    let (studio, studio_cell) = opened(alloc, 0, places)?;
+    let (files, files_cell) = opened(alloc, 1, places)?;
     Ok(Routes {
-        first,
+        schedules,
         ends: [studio, files],
-        cell,
+        cells: [studio_cell, files_cell],
     })
+}
+
+/// The routes `studio` and `files` with these schedules, whose inboxes and outboxes have 16 places each.
+fn scheduled(alloc: Global, schedules: [Schedule; 2]) -> Result<Routes, Fail> {
+    with_places(alloc, schedules, 16)
 }
 
 /// The routes `studio` and `files`, always open.
 fn open_routes(alloc: Global) -> Result<Routes, Fail> {
-    scheduled(alloc, ALWAYS)
+    scheduled(alloc, [ALWAYS; 2])
 }
 
 /// The report of this many rounds over these devices.
 fn pumped<S: Source, W: Wire>(
     rt: &(impl AllocGlobal + Wait),
-    first: Schedule,
+    schedules: [Schedule; 2],
     ends: &mut [Ends; 2],
     source: &mut S,
     wire: &mut W,
@@ -154,13 +175,13 @@ fn pumped<S: Source, W: Wire>(
 ) -> Result<Report, Fail> {
     let alloc = rt.alloc();
     let entries = [entry(alloc, &ROUTES[0])?, entry(alloc, &ROUTES[1])?];
-    let mut names = named(alloc, &entries, first)?;
+    let mut names = named(alloc, &entries, schedules[0])?;
     Ok(pump(
         rt,
         alloc,
         &Secret::new(SECRET),
         &mut names,
-        &[first, ALWAYS],
+        &schedules,
         source,
         wire,
         ends,
@@ -179,7 +200,7 @@ fn reported(
     let mut source = SourceScript::new(steps);
     pumped(
         rt,
-        routes.first,
+        routes.schedules,
         &mut routes.ends,
         &mut source,
         wire,
@@ -187,12 +208,61 @@ fn reported(
     )
 }
 
-/// Serves the first route this many times.
-fn serve(rt: &impl Wait, routes: &Routes, times: u32) {
+/// Serves each route this many times.
+fn serve(rt: &impl Wait, routes: &Routes, times: usize) {
     let mut gate = Ungated;
-    for _ in 0..times {
-        let _ = routes.cell.serve(rt, &mut gate);
+    for cell in &routes.cells {
+        for _ in 0..times {
+            let _ = cell.serve(rt, &mut gate);
+        }
     }
+}
+
+/// The bytes of these hex digits, with the byte at `at` replaced. The last byte of the caller's ID is byte 43 in a
+/// handshake, and byte 15 in its answer.
+fn with(alloc: Global, text: &str, at: usize, byte: u8) -> Result<Vec<u8>, Fail> {
+    let mut bytes = hex::decode(alloc, text)?;
+    if let Some(place) = bytes.as_mut_slice().get_mut(at) {
+        *place = byte;
+    }
+    Ok(bytes)
+}
+
+/// This handshake, from the caller whose ID ends with this byte.
+fn comes_of(alloc: Global, text: &str, caller: u8) -> Result<SourceStep, Fail> {
+    let mut step = comes(alloc, text)?;
+    if let SourceStep::Datagram(datagram) = &mut step {
+        datagram.bytes = with(alloc, text, 43, caller)?;
+    }
+    Ok(step)
+}
+
+/// The reply of the first route to the conclusion of the caller with this ID, if those with the IDs 1 and 2 came first,
+/// in this order: two publishers are let in.
+fn reply_to(alloc: Global, caller: u8) -> Result<Vec<u8>, Fail> {
+    let text = match caller {
+        1 => CONCLUSION_ANSWER,
+        2 => STANDBY,
+        _ => REFUSAL,
+    };
+    with(alloc, text, 15, caller)
+}
+
+/// Asserts that the wire was handed the replies of the first route to the callers with the IDs 1 to `last`, in order,
+/// and nothing else.
+fn assert_replies(
+    rt: &(impl AllocGlobal + Abort),
+    wire: &WireScript,
+    last: u8,
+) -> Result<(), Fail> {
+    assert_eq!(rt; wire.handed().len(), last as usize);
+    for caller in 1..=last {
+        let Some(sent) = wire.handed().get(caller as usize - 1) else {
+            return Err(Fail::from("a reply"));
+        };
+        assert_eq!(rt; sent.bytes, reply_to(rt.alloc(), caller)?);
+    }
+    Ok(())
 }
 
 /// Asserts that the wire was handed these and nothing else, all to port 5000.
@@ -292,19 +362,33 @@ fn what_comes_is_answered_offered_or_dropped_and_a_full_inbox_loses_it(
     assert_handed(&rt, &wire, &[INDUCTION_ANSWER])
 }
 
-/// Routes, the first of which has `count` replies in its outbox.
-fn with_replies(rt: &(impl AllocGlobal + Wait), count: u32) -> Result<Routes, Fail> {
+/// Routes with 16 places each, the first of which has the replies to the callers with the IDs 1 to `count` in its
+/// outbox.
+fn with_replies(rt: &(impl AllocGlobal + Wait), count: u8) -> Result<Routes, Fail> {
+    let mut routes = open_routes(rt.alloc())?;
+    conclude(rt, &mut routes, &[(CONCLUSION, count)])?;
+    Ok(routes)
+}
+
+/// In one round, callers send these conclusions: each as many as its number says, with the IDs from 1 on. Then all routes
+/// are served. Nothing is sent.
+fn conclude(
+    rt: &(impl AllocGlobal + Wait),
+    routes: &mut Routes,
+    conclusions: &[(&str, u8)],
+) -> Result<(), Fail> {
     let alloc = rt.alloc();
-    let mut routes = open_routes(alloc)?;
     let mut wire = WireScript::new(alloc, Vec::new(alloc));
     let mut steps = Vec::new(alloc);
-    for _ in 0..count {
-        steps.push(comes(alloc, CONCLUSION)?)?;
+    for (conclusion, count) in conclusions {
+        for caller in 1..=*count {
+            steps.push(comes_of(alloc, conclusion, caller)?)?;
+        }
     }
-    // No reply waits before the route is served.
-    let _ = reported(rt, &mut routes, steps, &mut wire, 1)?;
-    serve(rt, &routes, count.saturating_mul(2));
-    Ok(routes)
+    let times = steps.len().saturating_mul(2);
+    let _ = reported(rt, routes, steps, &mut wire, 1)?;
+    serve(rt, routes, times);
+    Ok(())
 }
 
 #[test]
@@ -320,11 +404,28 @@ fn a_reply_that_is_put_off_goes_first_and_once(rt: HostRuntime) -> Result<(), Fa
             ..Report::NOTHING
         }
     );
-    assert_handed(
-        &rt,
-        &wire,
-        &[CONCLUSION_ANSWER, CONCLUSION_ANSWER, CONCLUSION_ANSWER],
-    )
+    assert_replies(&rt, &wire, 3)
+}
+
+/// Five of the first ten sends are put off: the second reply twice, the fourth once, the fifth twice.
+#[test]
+fn replies_that_are_put_off_now_and_then_keep_their_order(rt: HostRuntime) -> Result<(), Fail> {
+    let alloc = rt.alloc();
+    let mut routes = with_replies(&rt, 6)?;
+    let (taken, later) = (Sent::Taken, Sent::Later);
+    let answers = vec![in alloc;
+        taken, later, later, taken, taken, later, taken, later, later, taken,
+    ]?;
+    let mut wire = WireScript::new(alloc, answers);
+    let report = reported(&rt, &mut routes, Vec::new(alloc), &mut wire, 6)?;
+    assert_eq!(&rt;
+        report,
+        Report {
+            sent: 6,
+            ..Report::NOTHING
+        }
+    );
+    assert_replies(&rt, &wire, 6)
 }
 
 #[test]
@@ -350,7 +451,7 @@ fn a_reply_that_is_kept_at_the_end_is_lost(rt: HostRuntime) -> Result<(), Fail> 
             ..Report::NOTHING
         }
     );
-    assert_handed(&rt, &wire, &[CONCLUSION_ANSWER])
+    assert_handed(&rt, &wire, &[STANDBY_OF_2])
 }
 
 #[test]
@@ -369,7 +470,7 @@ fn a_reply_that_meets_a_failure_is_lost(rt: HostRuntime) -> Result<(), Fail> {
         }
     );
     assert_eq!(&rt; wire.failures(), 1);
-    Ok(())
+    assert_replies(&rt, &wire, 2)
 }
 
 /// Serves a route until it has nothing to do or is blocked, and returns whether it is blocked. Counts the items that
@@ -387,26 +488,45 @@ fn serve_all<R: Wait>(rt: &R, cell: &RouteCell, applied: &mut u32) -> bool {
     false
 }
 
-/// A source that serves a route whenever it waits, and does what its script says.
+/// A source that serves all routes whenever it waits, and does what its script says.
 #[derive(Drop)]
 struct Serving<'a, R: Wait> {
     rt: &'a R,
-    cell: &'a RouteCell,
+    cells: &'a [RouteCell; 2],
     script: SourceScript,
+    // the number of waits before the first one that serves
+    idle: u32,
+    // how often a wait left a route blocked
     blocked: u32,
     applied: u32,
 }
 
 impl<'a, R: Wait> Serving<'a, R> {
-    /// A source that does these steps, and serves this route.
-    fn new(rt: &'a R, cell: &'a RouteCell, steps: Vec<SourceStep>) -> Serving<'a, R> {
+    /// A source that does these steps, and serves these routes.
+    fn new(rt: &'a R, cells: &'a [RouteCell; 2], steps: Vec<SourceStep>) -> Serving<'a, R> {
         Serving {
             rt,
-            cell,
+            cells,
             script: SourceScript::new(steps),
+            idle: 0,
             blocked: 0,
             applied: 0,
         }
+    }
+
+    /// Serves both routes, unless this wait is an idle one. Returns the number of routes that are blocked, and the number
+    /// of items that were applied.
+    fn serve(&self) -> (u32, u32) {
+        let (mut blocked, mut applied) = (0u32, 0u32);
+        if self.idle > 0 {
+            return (blocked, applied);
+        }
+        for cell in self.cells {
+            if serve_all(self.rt, cell, &mut applied) {
+                blocked = blocked.saturating_add(1);
+            }
+        }
+        (blocked, applied)
     }
 }
 
@@ -416,9 +536,10 @@ impl<'a, R: Wait> Source for Serving<'a, R> {
     ghost gave = { λ s. ⟦<SourceScript as Source>⟧.gave s.script };
 
     fn wait(&mut self) -> Polled {
-        if serve_all(self.rt, self.cell, &mut self.applied) {
-            self.blocked = self.blocked.saturating_add(1);
-        }
+        let (blocked, applied) = self.serve();
+        self.idle = self.idle.saturating_sub(1);
+        self.blocked = self.blocked.saturating_add(blocked);
+        self.applied = self.applied.saturating_add(applied);
         self.script.wait()
     }
 
@@ -443,10 +564,10 @@ fn a_wire_that_puts_off_blocks_turns_and_fills_inboxes(rt: HostRuntime) -> Resul
         steps.push(comes(alloc, CONCLUSION)?)?;
         steps.push(SourceStep::Empty)?;
     }
-    let mut source = Serving::new(&rt, &routes.cell, steps);
+    let mut source = Serving::new(&rt, &routes.cells, steps);
     let report = pumped(
         &rt,
-        ALWAYS,
+        [ALWAYS; 2],
         &mut routes.ends,
         &mut source,
         &mut wire,
@@ -507,6 +628,18 @@ fn received(
     None
 }
 
+/// The moment of the next datagram within 100 waits.
+fn moment_received(source: &mut MioSource<ClockScript>) -> Option<u64> {
+    let mut buffer = [0u8; 2048];
+    for _ in 0..100u32 {
+        if let Read::Datagram(_, _, moment) = source.next(&mut buffer) {
+            return Some(moment);
+        }
+        let _ = source.wait();
+    }
+    None
+}
+
 /// A peer sends datagrams of several sizes that repeat a byte, and each is read.
 fn assert_reads(
     rt: &(impl Net + Abort),
@@ -556,7 +689,7 @@ fn assert_answers(
     let target = address(source)?;
     let client = UdpSocket::bind(rt, SocketAddr::V4(local(0)))?;
     client.send_to(&hex::decode(rt.alloc(), INDUCTION)?, target)?;
-    assert_eq!(rt; pumped(rt, ALWAYS, ends, source, wire, 10)?, ANSWERED);
+    assert_eq!(rt; pumped(rt, [ALWAYS; 2], ends, source, wire, 10)?, ANSWERED);
     let mut answer = [0u8; 100];
     let (len, from) = client.recv_from(&mut answer)?;
     assert_eq!(rt; len, 64);
@@ -592,6 +725,35 @@ fn a_send_to_a_peer_without_an_ipv4_address_fails(rt: HostRuntime) -> Result<(),
     };
     assert_eq!(&rt; wire.send(elsewhere, &[1, 2, 3]), Sent::Failed);
     assert_eq!(&rt; wire.failures(), 1);
+    Ok(())
+}
+
+/// The system sends nothing to port 0.
+#[test]
+fn a_send_that_the_system_refuses_fails(rt: HostRuntime) -> Result<(), Fail> {
+    let (_source, mut wire) = bound(&rt, rt.alloc(), 0)?;
+    assert_eq!(&rt; wire.send(peer(0), &[1, 2, 3]), Sent::Failed);
+    assert_eq!(&rt; wire.send(peer(0), &[1, 2, 3]), Sent::Failed);
+    assert_eq!(&rt; wire.failures(), 2);
+    assert_sends(&rt, &mut wire)
+}
+
+/// Reads that find nothing take no moment from the clock.
+#[test]
+fn each_datagram_of_a_socket_has_its_clocks_next_moment(rt: HostRuntime) -> Result<(), Fail> {
+    let alloc = rt.alloc();
+    let clock = ClockScript::new(vec![in alloc; 1_000_001, 1_000_003, 5_000_000]?);
+    let Ok((mut source, _wire)) = MioSource::bind(&rt, alloc, local(0), clock) else {
+        return Err(Fail::from("the socket is bound"));
+    };
+    let mut buffer = [0u8; 2048];
+    assert_eq!(&rt; source.next(&mut buffer), Read::Empty);
+    let client = UdpSocket::bind(&rt, SocketAddr::V4(local(0)))?;
+    let target = address(&source)?;
+    for moment in [1_000_001, 1_000_003, 5_000_000] {
+        client.send_to(&[7], target)?;
+        assert_eq!(&rt; moment_received(&mut source), Some(moment));
+    }
     Ok(())
 }
 

@@ -3,22 +3,14 @@
 //! send loses that datagram alone. A send that returns Later loses an answer, and delays a reply by a round.
 
 use super::{
-    ALWAYS, CONCLUSION, CONCLUSION_ANSWER, INDUCTION, INDUCTION_ANSWER, STRAY, Serving, comes,
-    open_routes, pumped,
+    ALWAYS, CONCLUSION, CONCLUSION_ANSWER, INDUCTION, INDUCTION_ANSWER, REFUSAL, STANDBY, STRAY,
+    Serving, comes, comes_of, open_routes, pumped, with,
 };
 use crate::{Report, Sent, Source, SourceStep, Wire, WireScript};
 use std::alloc::Global;
 use std::process::Abort;
 use std::sync::Wait;
 use std::test::Fail;
-
-/// The answer to the second publisher, which stands by in the second slot; as to the caller with ID 1.
-const STANDBY: &str =
-    "80000000000000000000000000000001000000050000000100000005000005dc00000400ffffffff00100001000000000000000000000000000000000000000000020003000105000000003f00780078";
-
-/// The refusal of a third publisher, with reason 1002, to the caller with ID 0.
-const REFUSAL: &str =
-    "80000000000000000000000000000000000000050000000000000005000005dc00002000000003ea000000010000000000000000000000000000000000000000";
 
 /// Which call fails or returns Later, counted from 0.
 #[derive(Clone, Copy, PartialEq)]
@@ -39,25 +31,6 @@ struct Outcome {
     source: u64,
     wire: u64,
     handed: u32,
-}
-
-/// The bytes of these hex digits, with the byte at `at` replaced. The last byte of the caller's ID is byte 43 in a
-/// handshake, and byte 15 in its answer.
-fn with(alloc: Global, text: &str, at: usize, byte: u8) -> Result<Vec<u8>, Fail> {
-    let mut bytes = hex::decode(alloc, text)?;
-    if let Some(place) = bytes.as_mut_slice().get_mut(at) {
-        *place = byte;
-    }
-    Ok(bytes)
-}
-
-/// This handshake, from the caller whose ID ends with this byte.
-fn comes_of(alloc: Global, text: &str, caller: u8) -> Result<SourceStep, Fail> {
-    let mut step = comes(alloc, text)?;
-    if let SourceStep::Datagram(datagram) = &mut step {
-        datagram.bytes = with(alloc, text, 43, caller)?;
-    }
-    Ok(step)
 }
 
 /// Three rounds: in each a wait, and four reads that give three datagrams. What a failed call would have given, a later
@@ -132,8 +105,8 @@ fn played(rt: &(impl AllocGlobal + Wait), fault: Fault) -> Result<Outcome, Fail>
     let alloc = rt.alloc();
     let mut routes = open_routes(alloc)?;
     let mut wire = WireScript::new(alloc, answers(alloc, fault)?);
-    let mut source = Serving::new(rt, &routes.cell, script(alloc, fault)?);
-    let report = pumped(rt, ALWAYS, &mut routes.ends, &mut source, &mut wire, 6)?;
+    let mut source = Serving::new(rt, &routes.cells, script(alloc, fault)?);
+    let report = pumped(rt, [ALWAYS; 2], &mut routes.ends, &mut source, &mut wire, 6)?;
     let mut handed = 0u32;
     for sent in wire.handed() {
         handed = handed
