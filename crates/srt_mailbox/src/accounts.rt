@@ -3,11 +3,13 @@
 ghost use Rattle.std.specs.Prelude.{◌≡◌, IfOk, IfErr};
 ghost use Rattle.srt_mailbox.specs.Cells.{AreEndsOf};
 ghost use Rattle.srt_mailbox.specs.Names.{name_in};
-ghost use Rattle.srt_mailbox.specs.Settled.{Settles};
+ghost use Rattle.srt_mailbox.specs.Runs.{Replays};
+ghost use Rattle.srt_mailbox.specs.Settled.{IsAccountOf, Settles};
 
 use crate::cells::RouteCell;
 use crate::inbox::{ClockEnd, Ingress};
 use crate::outbox::Drain;
+use crate::running::Running;
 use std::sync::Wait;
 
 /// The final counts of a route: items applied and replies drained; then what is left in its queues.
@@ -38,6 +40,28 @@ pub struct Unsettled {
     pub drain: Drain,
 }
 
+impl Running {
+    /// Ends the route and returns its account. The three ends must be of its two queues. What is left in the queues is
+    /// counted and discarded. Takes no memory.
+    pub fn settle<R: Wait>(self, rt: &R, ingress: Ingress, clock: ClockEnd, drain: Drain) -> Account
+        requires inbox { (ingress.queue ≡ self.inbox.queue) × (clock.queue ≡ self.inbox.queue) }
+        requires outbox { drain.queue ≡ self.outbox.queue }
+        ensures account { IsAccountOf result self ingress clock drain }
+        ensures replays { Replays self }
+    {
+        let parts = self.into_parts();
+        let left = parts.taker.settle(rt, ingress, clock);
+        let (queued, drained) = parts.putter.settle(rt, drain);
+        Account {
+            taken: parts.taken,
+            left: left as u64,
+            waiting: parts.waiting as u64,
+            queued: queued as u64,
+            drained,
+        }
+    }
+}
+
 /// Ends a route and returns its account. The four ends must come from one `open_route`. If another call has claimed the
 /// route, `Unsettled` hands them back unchanged. What is left in the queues is counted and discarded. Takes no memory.
 pub fn settle<R: Wait>(
@@ -51,22 +75,13 @@ pub fn settle<R: Wait>(
     ensures settled { IfOk result (λ account. Settles account (name_in cell) ingress clock drain) }
     ensures busy { IfErr result (λ ends. (ends.ingress ≡ ingress) × (ends.clock ≡ clock) × (ends.cell ≡ cell) × (ends.drain ≡ drain)) }
 {
-    let Some(boxed) = cell.claim() else {
-        return Err(Unsettled {
+    match cell.into_running() {
+        Ok(running) => Ok(running.settle(rt, ingress, clock, drain)),
+        Err(cell) => Err(Unsettled {
             ingress,
             clock,
             cell,
             drain,
-        });
-    };
-    let parts = Box::into_inner(boxed.running).into_parts();
-    let left = parts.taker.settle(rt, ingress, clock);
-    let (queued, drained) = parts.putter.settle(rt, drain);
-    Ok(Account {
-        taken: parts.taken,
-        left: left as u64,
-        waiting: parts.waiting as u64,
-        queued: queued as u64,
-        drained,
-    })
+        }),
+    }
 }

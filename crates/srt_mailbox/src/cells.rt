@@ -1,7 +1,7 @@
 //! The cell in which workers find a route: the route and a claim word. A worker that finds the route claimed doesn't
 //! wait for it.
 
-ghost use Rattle.std.specs.Prelude.{◌≡◌, ◌≢◌, ◌≤◌, Some, None, IfSome};
+ghost use Rattle.std.specs.Prelude.{◌≡◌, ◌≢◌, ◌≤◌, Some, None, IfSome, IfOk, IfErr};
 ghost use Rattle.srt_seq.specs.Terms.{terms_of};
 ghost use Rattle.srt_mailbox.specs.Counts.{Grew};
 ghost use Rattle.srt_mailbox.specs.Cells.{Name, Bears};
@@ -126,7 +126,7 @@ impl RouteCell {
     }
 
     // Takes the route out of the slot. `None` if another call has it. One compare-exchange; never waits.
-    pub(crate) fn claim(&self) -> Option<Boxed>
+    fn claim(&self) -> Option<Boxed>
         ensures { IfSome result (λ r. Bears (name_in self.now) r.running.value) }
     {
         let (found, claim) = self.slot.turn(FREE, TAKEN);
@@ -135,6 +135,17 @@ impl RouteCell {
             return None;
         }
         claim.put(None, PRESENT)
+    }
+
+    /// Ends the cell and returns its route. If another call has the route, the cell comes back unchanged. Never waits.
+    pub fn into_running(self) -> Result<Running, RouteCell>
+        ensures route { IfOk result (λ running. Bears (name_in self) running) }
+        ensures busy { IfErr result (λ cell. cell ≡ self) }
+    {
+        match self.claim() {
+            Some(boxed) => Ok(Box::into_inner(boxed.running)),
+            None => Err(self),
+        }
     }
 
     // Puts the route back and frees the claim word. While a call has the route, no other call changes the word, so the

@@ -590,6 +590,30 @@ fn an_account_tells_where_all_is(rt: HostRuntime) -> Result<(), Fail> {
     Ok(())
 }
 
+/// A route that took one of two ticks, neither of which brings a reply, is settled by itself.
+#[test]
+fn an_account_tells_an_item_without_a_reply(rt: HostRuntime) -> Result<(), Fail> {
+    let (ingress, mut clock, cell, drain) = studio(rt.alloc())?;
+    assert!(rt; tick(&rt, &mut clock, 5));
+    assert!(rt; tick(&rt, &mut clock, 6));
+    assert_served(&rt, &cell, &[APPLIED]);
+    let Ok(running) = cell.into_running() else {
+        return Err(Fail::from("nobody has the route"));
+    };
+    let account = running.settle(&rt, ingress, clock, drain);
+    assert_eq!(rt;
+        account,
+        Account {
+            taken: 1,
+            left: 1,
+            waiting: 0,
+            queued: 0,
+            drained: 0
+        }
+    );
+    Ok(())
+}
+
 /// Serves a route until the flag is set, at most a million times.
 fn serve_until<C: Serve, R: Wait>(rt: &R, cell: &C, stop: &AtomicBool) {
     let mut gate = Fixed::open();

@@ -52,27 +52,27 @@ pub route_ran : (terms : Terms) (r : ℕ) (events : List Event) (moments : List 
 route_ran terms r events moments a e e' c c' k opened later ticked origins s =
     let through : map written e'.drain.through ≡ drained r events = later.through ∙ ap (λ p. map written p.through ++ drained r events) opened.drain in
     record {
-      taken = s.taken;
-      left = s.left;
+      taken = s.route.inbox.taken;
+      left = s.account.left;
       ticks = ticked.1;
-      queued = s.queued;
-      waiting = s.waiting;
-      polled = ap (map told) (sym s.polled) ∙ later.offered ∙ ap (λ p. map told p.offered ++ accepted r events) opened.ingress;
-      ticked = sym s.ticked ∙ ap (λ p. p.offered) ticked.3 ∙ ap (λ p. p.offered ++ map tick ticked.1) opened.clock_is;
+      queued = s.account.queued;
+      waiting = s.route.waiting;
+      polled = ap (map told) (sym s.account.polled) ∙ later.offered ∙ ap (λ p. map told p.offered ++ accepted r events) opened.ingress;
+      ticked = sym s.account.ticked ∙ ap (λ p. p.offered) ticked.3 ∙ ap (λ p. p.offered ++ map tick ticked.1) opened.clock_is;
       within = ticked.2;
       replied =
-          sym (append_assoc (of_route r (handed events)) (kept_of r (kept_after None events)) (map written s.queued ++ s.waiting))
-          ∙ ap (λ ds. ds ++ (map written s.queued ++ s.waiting)) (origins.route r ∙ sym through)
-          ∙ sym (append_assoc (map written e'.drain.through) (map written s.queued) s.waiting)
-          ∙ ap (λ ds. ds ++ s.waiting) (sym (map-append written e'.drain.through s.queued))
-          ∙ s.replied
-          ∙ ap (λ t. solo t (name_in k).index (applied s.taken)) opened.terms_are
-          ∙ ap (λ (j : ℕ). solo terms j (applied s.taken)) opened.index_is;
-      taken_is = s.taken_is;
-      left_is = s.left_is;
-      waiting_is = s.waiting_is;
-      queued_is = s.queued_is;
-      drained_is = s.drained_is ∙ ap counted (sym (length-map e'.drain.through written) ∙ ap length through);
+          sym (append_assoc (of_route r (handed events)) (kept_of r (kept_after None events)) (map written s.account.queued ++ s.route.waiting))
+          ∙ ap (λ ds. ds ++ (map written s.account.queued ++ s.route.waiting)) (origins.route r ∙ sym through)
+          ∙ sym (append_assoc (map written e'.drain.through) (map written s.account.queued) s.route.waiting)
+          ∙ ap (λ ds. ds ++ s.route.waiting) (sym (map-append written e'.drain.through s.account.queued) ∙ ap (map written) (sym s.account.put))
+          ∙ s.replays
+          ∙ ap (λ t. solo t s.route.index (applied s.route.inbox.taken)) (s.bears.0 ∙ opened.terms_are)
+          ∙ ap (λ (j : ℕ). solo terms j (applied s.route.inbox.taken)) (s.bears.1 ∙ opened.index_is);
+      taken_is = s.account.taken_is;
+      left_is = s.account.left_is;
+      waiting_is = s.account.waiting_is;
+      queued_is = s.account.queued_is;
+      drained_is = s.account.drained_is ∙ ap counted (sym (length-map e'.drain.through written) ∙ ap length through);
     }
 
 -- all routes
