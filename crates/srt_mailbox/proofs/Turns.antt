@@ -1,6 +1,6 @@
 -- What a turn adds to what was taken and to what was put.
-use Rattle.std.proofs.Common.{◌≡◌, ℕ, ◌+◌, ◌-◌, ◌^◌, min, arith, Option, None, Some, List, [], ◌∷◌, ◌++◌, map, option_to_list, refl, sym, ap, ◌∙◌, append_assoc, append-nil, subst}
-use Rattle.std.proofs.lemmas.List.{map-append}
+use Rattle.std.proofs.Common.{◌≡◌, ℕ, suc, true, ◌+◌, ◌-◌, ◌^◌, min, arith, Option, None, Some, List, [], ◌∷◌, ◌++◌, length, map, option_map, option_to_list, refl, sym, ap, ◌∙◌, append_assoc, append-nil, subst}
+use Rattle.std.proofs.lemmas.List.{map-append, length-append}
 use Rattle.std.specs.Global.{Box}
 use Rattle.srt_seq.specs.declared.shared.Item.{Item as TheItem}
 use Rattle.srt_seq.specs.Items.{Datagram, Item, told}
@@ -17,7 +17,9 @@ use Rattle.srt_mailbox.specs.Counts.{counted}
 use Rattle.srt_mailbox.specs.Inbox.{told_before}
 use Rattle.srt_mailbox.specs.Outbox.{replies_in}
 use Rattle.srt_mailbox.specs.Cells.{Name, Bears}
-use Rattle.srt_mailbox.specs.Runs.{Run, waiting_at, TurnedAs}
+use Rattle.srt_mailbox.specs.Runs.{Run, waiting_at, AppliedOne, MovedOne, TurnedAs}
+use Rattle.srt_mailbox.specs.Asked.{Answer, answer, passes}
+use Rattle.srt_mailbox.specs.Visits.{turns_of}
 
 pub told_last : (earlier : List Item) (taken : List Marked) (x : Marked) → told_before earlier (taken ++ x ∷ []) ≡ told x.item ∷ told_before earlier taken
 told_last earlier [] x = refl
@@ -48,3 +50,28 @@ still_bears Applied a b turned n bears = subst (λ (r : Run). Bears n r) (sym tu
 still_bears Moved a b turned n bears = subst (λ (r : Run). Bears n r) (sym turned.3) bears
 still_bears Blocked a b turned n bears = subst (λ (r : Run). Bears n r) (sym turned.3) bears
 still_bears Idle a b turned n bears = subst (λ (r : Run). Bears n r) (sym turned.1) bears
+
+-- an item that was taken is one turn more
+pub taken_more : (t : Turned) (a b : Run) → t ≡ Applied → TurnedAs t a b → (length b.outbox.put ≡ length a.outbox.put) × (turns_of b ≡ turns_of a + 1)
+taken_more t a b is turned =
+    let one : AppliedOne a b = subst (λ (u : Turned). TurnedAs u a b) is turned in
+    let put : length b.outbox.put ≡ length a.outbox.put = ap (λ (r : Run). length r.outbox.put) one.2 in
+    let taken : length b.inbox.taken ≡ length a.inbox.taken + 1 = ap (λ (r : Run). length r.inbox.taken) one.2 ∙ length-append a.inbox.taken (one.0 ∷ []) in
+    (put, omega (arith, put, taken))
+
+-- so is a reply that was put
+pub put_more : (t : Turned) (a b : Run) → t ≡ Moved → TurnedAs t a b → (length b.outbox.put ≡ length a.outbox.put + 1) × (turns_of b ≡ turns_of a + 1)
+put_more t a b is turned =
+    let one : MovedOne a b = subst (λ (u : Turned). TurnedAs u a b) is turned in
+    let taken : length b.inbox.taken ≡ length a.inbox.taken = ap (λ (r : Run). length r.inbox.taken) one.3 in
+    let put : length b.outbox.put ≡ length a.outbox.put + 1 = ap (λ (r : Run). length r.outbox.put) one.3 ∙ length-append a.outbox.put (one.0 ∷ []) in
+    (put, omega (arith, put, taken))
+
+passes_more : (r n : ℕ) (earlier : List Answer) → passes r (n + 1) earlier ≡ answer r true ∷ passes r n earlier
+passes_more r n earlier = let next : n + 1 ≡ suc n = omega arith in ap (λ (m : ℕ). passes r m earlier) next
+
+-- a gate that let n turns pass lets another one pass
+pub asked_more : (r n : ℕ) (old mid new : Option (List Answer)) → mid ≡ option_map (passes r n) old → new ≡ option_map (λ xs. answer r true ∷ xs) mid → new ≡ option_map (passes r (n + 1)) old
+asked_more r n None mid new first next = next ∙ ap (option_map (λ (xs : List Answer). answer r true ∷ xs)) first
+asked_more r n (Some xs) mid new first next =
+    next ∙ ap (option_map (λ (ys : List Answer). answer r true ∷ ys)) first ∙ ap (λ (ys : List Answer). Some ys) (sym (passes_more r n xs))

@@ -4,6 +4,8 @@ pub mod Outbox
 pub mod Ends
 pub mod Counts
 pub mod Runs
+pub mod Asked
+pub mod Visits
 pub mod Cells
 pub mod Settled
 pub mod Names

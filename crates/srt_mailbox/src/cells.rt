@@ -1,11 +1,10 @@
 //! The cell in which workers find a route: the route and a claim word. A worker that finds the route claimed doesn't
 //! wait for it.
 
-ghost use Rattle.std.specs.Prelude.{◌≡◌, ◌≢◌, ◌≤◌, Some, None, IfSome, IfOk, IfErr};
+ghost use Rattle.std.specs.Prelude.{◌≡◌, ◌≢◌, ◌≤◌, Some, None, IfSome, IfOk, IfErr, option_map};
 ghost use Rattle.srt_seq.specs.Terms.{terms_of};
 ghost use Rattle.srt_mailbox.specs.Counts.{Grew};
 ghost use Rattle.srt_mailbox.specs.Cells.{Name, Bears};
-ghost use Rattle.srt_mailbox.specs.Names.{name_in};
 ghost use Rattle.srt_mailbox.specs.declared.gates.Served.TheVariants.{Held, Busy};
 
 use crate::gates::{Gate, Served, Visit};
@@ -13,7 +12,7 @@ use crate::inbox_rule::Inbox;
 use crate::outbox_rule::Outbox;
 use crate::running::Running;
 use counted_slot::{Counted, FREE, Fits, PRESENT, TAKEN};
-use srt_seq::{Entry, Turned};
+use srt_seq::Entry;
 use std::marker::Model;
 use std::snapshot::Snapshot;
 use std::sync::{Arc, Wait};
@@ -52,70 +51,24 @@ impl Fits for Boxed {
     ghost fits = { λ label boxed. Bears label boxed.running.value };
 }
 
-// Makes turns, at most `most`, until one finds nothing to do or a full outbox, or the gate refuses.
-fn make_turns<R: Wait, G: Gate>(
-    rt: &R,
-    running: &mut Running,
-    route: usize,
-    gate: &mut G,
-    most: u32,
-) -> Visit
-    ensures bears { (n : Name) → Bears n running.old → Bears n running.new }
-    ensures most { result.turns ≤ most }
-    ensures moved { result.moved ≤ result.turns }
-    ensures all { result.end ≡ None → result.turns ≡ most }
-    ensures held { result.end ≡ Some Held → Grew (G.held gate.old) (G.held gate.new) }
-    ensures passed { result.end ≢ Some Held → G.held gate.new ≡ G.held gate.old }
-    ensures claimed { result.end ≢ Some Busy }
-{
-    let mut moved = 0;
-    for turns in 0..most {
-        if !gate.pass(route) {
-            return Visit {
-                turns,
-                moved,
-                end: Some(Served::Held),
-            };
-        }
-        match running.turn(rt) {
-            Turned::Applied => {}
-            Turned::Moved => moved += 1,
-            Turned::Idle => {
-                return Visit {
-                    turns,
-                    moved,
-                    end: Some(Served::Turned(Turned::Idle)),
-                };
-            }
-            Turned::Blocked => {
-                return Visit {
-                    turns,
-                    moved,
-                    end: Some(Served::Turned(Turned::Blocked)),
-                };
-            }
-        }
-    }
-    Visit {
-        turns: most,
-        moved,
-        end: None,
-    }
-}
-
 /// A route that workers share. At most one call has the route at a time; the slot is empty meanwhile.
 #[derive(Drop)]
 pub struct RouteCell {
     index: usize,
     slot: Counted<Option<Boxed>>,
+    ghost named: { index ≡ slot.index },
     // 64 bytes of padding, so that the claim words of two neighbouring cells share no cache line
     _apart: [u64; 8],
 }
 
 impl RouteCell {
-    /// A cell that holds this route, with a free claim word. `index` is what gates are asked about.
+    ghost use Rattle.srt_mailbox.specs.Names.{name_in};
+    ghost use Rattle.srt_mailbox.specs.Visits.{asked_in, asked_last};
+
+    /// A cell that holds this route, with a free claim word. `index` is the route's; gates are asked about it.
     pub(crate) fn new(index: usize, boxed: Boxed, label: &Label) -> RouteCell
-        requires { Bears label.now boxed.running.value }
+        requires bears { Bears label.now boxed.running.value }
+        requires index { index ≡ label.now.index }
         ensures { name_in result ≡ label.now }
     {
         RouteCell {
@@ -168,15 +121,12 @@ impl RouteCell {
     /// back in every case. Takes no memory and doesn't wait for the route.
     pub fn serve<R: Wait, G: Gate>(&self, rt: &R, gate: &mut G) -> Served
         ensures held { result ≡ Held → Grew (G.held gate.old) (G.held gate.new) }
+        ensures asked { G.asked gate.new ≡ option_map (asked_last (name_in self.now).index result) (G.asked gate.old) }
     {
         let Some(mut boxed) = self.claim() else {
             return Served::Busy;
         };
-        let served = if gate.pass(self.index) {
-            Served::Turned(boxed.running.turn(rt))
-        } else {
-            Served::Held
-        };
+        let served = boxed.running.serve(rt, self.index, gate);
         self.give_back(rt, boxed);
         served
     }
@@ -191,6 +141,7 @@ impl RouteCell {
         ensures held { result.end ≡ Some Held → Grew (G.held gate.old) (G.held gate.new) }
         ensures passed { result.end ≢ Some Held → G.held gate.new ≡ G.held gate.old }
         ensures busy { result.end ≡ Some Busy → (result.turns ≡ 0) × (gate.new ≡ gate.old) }
+        ensures asked { G.asked gate.new ≡ option_map (asked_in (name_in self.now).index result) (G.asked gate.old) }
     {
         let Some(mut boxed) = self.claim() else {
             return Visit {
@@ -199,7 +150,7 @@ impl RouteCell {
                 end: Some(Served::Busy),
             };
         };
-        let visit = make_turns(rt, &mut boxed.running, self.index, gate, most);
+        let visit = boxed.running.visit(rt, self.index, gate, most);
         self.give_back(rt, boxed);
         visit
     }

@@ -1,6 +1,7 @@
 //! Whether a turn may be made, and the outcome of serving a route.
 
-ghost use Rattle.std.specs.Prelude.{◌≡◌, ℕ, IsTrue, IsFalse};
+ghost use Rattle.std.specs.Prelude.{◌≡◌, ℕ, Option, List, ◌∷◌, option_map, IsTrue, IsFalse};
+ghost use Rattle.srt_mailbox.specs.Asked.{Answer, answer};
 ghost use Rattle.srt_mailbox.specs.Counts.{Grew};
 
 use srt_seq::Turned;
@@ -11,10 +12,14 @@ pub trait Gate {
     /// The number of refusals. Saturates at 2^64 - 1.
     ghost held: { Self → ℕ };
 
+    /// The routes that it was asked about and its answers, the newest first; `None` for a gate that keeps no record.
+    ghost asked: { Self → Option (List Answer) };
+
     /// Whether a turn of the route with this index may be made now. If not, the refusals grow by one.
     fn pass(&mut self, route: usize) -> bool
         ensures refused { IsFalse result → Grew (held self.old) (held self.new) }
-        ensures passed { IsTrue result → held self.new ≡ held self.old };
+        ensures passed { IsTrue result → held self.new ≡ held self.old }
+        ensures asked { asked self.new ≡ option_map (λ answers. answer route result ∷ answers) (asked self.old) };
 
     /// The number of refusals. Saturates at 2^64 - 1.
     fn held(&self) -> u64
@@ -26,7 +31,11 @@ pub trait Gate {
 pub struct Ungated;
 
 impl Gate for Ungated {
+    ghost use Rattle.std.specs.Prelude.{None};
+
     ghost held = { λ gate. 0 };
+
+    ghost asked = { λ gate. None };
 
     fn pass(&mut self, _route: usize) -> bool {
         true

@@ -1,13 +1,17 @@
 //! A route with its ends of both queues: what a worker has while it has claimed the route, and one turn of it.
 
-ghost use Rattle.std.specs.Prelude.{◌≡◌, ◌<◌, ◌+◌, ℕ, List, [], ◌∷◌, None, length};
+ghost use Rattle.std.specs.Prelude.{◌≡◌, ◌≢◌, ◌<◌, ◌≤◌, ◌+◌, ℕ, List, [], ◌∷◌, Some, None, length, option_map};
 ghost use Rattle.srt_seq.specs.Terms.{Terms, terms_of};
 ghost use Rattle.srt_seq.specs.Items.{Item as TheItem};
 ghost use Rattle.srt_route.specs.Stands.{stands, waiting};
 ghost use Rattle.srt_route.specs.Written.{written};
-ghost use Rattle.srt_mailbox.specs.Counts.{counted};
+ghost use Rattle.srt_mailbox.specs.Counts.{counted, Grew};
 ghost use Rattle.srt_mailbox.specs.Runs.{run, waiting_at, Replays, TurnedAs};
+ghost use Rattle.srt_mailbox.specs.Cells.{Name, Bears};
+ghost use Rattle.srt_mailbox.specs.Visits.{asked_in, asked_last, turns_of, ServedAs};
+ghost use Rattle.srt_mailbox.specs.declared.gates.Served.TheVariants.{Held, Busy};
 
+use crate::gates::{Gate, Served, Visit};
 use crate::inbox::Taker;
 use crate::outbox::Putter;
 use crate::outbox_rule::Parcel;
@@ -190,6 +194,75 @@ impl Running {
             self.move_reply(rt)
         } else {
             self.apply_item(rt)
+        }
+    }
+
+    /// Makes one turn if the gate lets it pass, and none if it refuses (`Held`). `route` is the index that the gate is
+    /// asked about. Never answers `Busy`. Takes no memory.
+    pub fn serve<R: Wait, G: Gate>(&mut self, rt: &R, route: usize, gate: &mut G) -> Served
+        ensures turned { ServedAs result self.old self.new }
+        ensures held { result ≡ Held → Grew (G.held gate.old) (G.held gate.new) }
+        ensures asked { G.asked gate.new ≡ option_map (asked_last route result) (G.asked gate.old) }
+    {
+        if gate.pass(route) {
+            Served::Turned(self.turn(rt))
+        } else {
+            Served::Held
+        }
+    }
+
+    /// Makes turns, at most `most`, until one finds nothing to do or a full outbox, or the gate refuses one; it is asked
+    /// before each. `route` is the index that the gate is asked about. Takes no memory.
+    pub fn visit<R: Wait, G: Gate>(
+        &mut self,
+        rt: &R,
+        route: usize,
+        gate: &mut G,
+        most: u32,
+    ) -> Visit
+        ensures bears { (n : Name) → Bears n self.old → Bears n self.new }
+        ensures most { result.turns ≤ most }
+        ensures part { result.moved ≤ result.turns }
+        ensures moved { length self.new.outbox.put ≡ length self.old.outbox.put + result.moved }
+        ensures turns { turns_of self.new ≡ turns_of self.old + result.turns }
+        ensures all { result.end ≡ None → result.turns ≡ most }
+        ensures held { result.end ≡ Some Held → Grew (G.held gate.old) (G.held gate.new) }
+        ensures passed { result.end ≢ Some Held → G.held gate.new ≡ G.held gate.old }
+        ensures claimed { result.end ≢ Some Busy }
+        ensures asked { G.asked gate.new ≡ option_map (asked_in route result) (G.asked gate.old) }
+    {
+        let mut moved = 0;
+        for turns in 0..most {
+            if !gate.pass(route) {
+                return Visit {
+                    turns,
+                    moved,
+                    end: Some(Served::Held),
+                };
+            }
+            match self.turn(rt) {
+                Turned::Applied => {}
+                Turned::Moved => moved += 1,
+                Turned::Idle => {
+                    return Visit {
+                        turns,
+                        moved,
+                        end: Some(Served::Turned(Turned::Idle)),
+                    };
+                }
+                Turned::Blocked => {
+                    return Visit {
+                        turns,
+                        moved,
+                        end: Some(Served::Turned(Turned::Blocked)),
+                    };
+                }
+            }
+        }
+        Visit {
+            turns: most,
+            moved,
+            end: None,
         }
     }
 

@@ -2,6 +2,7 @@
 //! once. The expected bytes were worked out from the rules by hand.
 
 mod queues;
+mod visits;
 
 ghost use Rattle.std.specs.Prelude.{◌≡◌, ◌<◌, ◌^◌, IfOk};
 ghost use Rattle.srt_seq.specs.Items.{told, moment_of};
@@ -157,7 +158,11 @@ impl Fixed {
 }
 
 impl Gate for Fixed {
+    ghost use Rattle.std.specs.Prelude.{None};
+
     ghost held = { λ gate. gate.held };
+
+    ghost asked = { λ _. None };
 
     fn pass(&mut self, _route: usize) -> bool {
         if !self.passes {
@@ -720,7 +725,11 @@ fn wait_for(flag: &AtomicBool) {
 }
 
 impl Gate for Staying<'_> {
+    ghost use Rattle.std.specs.Prelude.{None};
+
     ghost held = { λ _. 0 };
+
+    ghost asked = { λ _. None };
 
     fn pass(&mut self, _route: usize) -> bool {
         self.entered.store(true, Ordering::SeqCst);

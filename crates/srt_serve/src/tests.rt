@@ -316,7 +316,11 @@ impl Ticker for Member {
 /// It lets a turn of the first route pass once the second caller was answered, and a turn of the second route once a
 /// gate was asked about the first.
 impl Gate for Member {
+    ghost use Rattle.std.specs.Prelude.{None};
+
     ghost held = { λ gate. 0 };
+
+    ghost asked = { λ gate. None };
 
     fn pass(&mut self, route: usize) -> bool {
         let meeting = &self.meeting;

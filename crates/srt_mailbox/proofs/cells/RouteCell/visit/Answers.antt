@@ -6,5 +6,5 @@ use Rattle.srt_mailbox.proofs.cells.RouteCell.visit.Goals as goal
 
 pub give_back-requires : goal.give_back-requires
 give_back-requires g c =
-    c.make_turns-visit.ensures.bears (name_in c.args.self.now)
+    c.visit-visit.ensures.bears (name_in c.args.self.now)
     (subst (λ (r : Run). Bears (name_in c.args.self.now) r) (sym c.deref_mut.ensures.value) c.in-Some.ensures)

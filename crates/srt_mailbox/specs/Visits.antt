@@ -1,0 +1,31 @@
+-- What a gate was asked for the turns of a route, and how many turns the route made.
+use Rattle.std.specs.Prelude.{◌≡◌, ℕ, true, false, Option, None, Some, List, ◌∷◌, ◌+◌, length}
+use Rattle.srt_mailbox.specs.declared.gates.Served.{Served}
+use Rattle.srt_mailbox.specs.declared.gates.Served.TheVariants.{Turned, Held, Busy}
+use Rattle.srt_mailbox.specs.declared.gates.Visit.{Visit}
+use Rattle.srt_mailbox.specs.Asked.{Answer, answer, passes}
+use Rattle.srt_mailbox.specs.Runs.{Run, TurnedAs}
+
+-- what the gate was asked for the turn that ended a visit, or that was alone, in front of the earlier answers
+abbrev pub asked_last : (route : ℕ) → Served → List Answer → List Answer
+asked_last r (Turned t) earlier = answer r true ∷ earlier
+asked_last r Held earlier = answer r false ∷ earlier
+asked_last r Busy earlier = earlier
+
+abbrev pub asked_at_end : (route : ℕ) → Option Served → List Answer → List Answer
+asked_at_end r None earlier = earlier
+asked_at_end r (Some end) earlier = asked_last r end earlier
+
+-- what the gate was asked in a visit: once for each turn, and for that which ended it
+abbrev pub asked_in : (route : ℕ) → Visit → List Answer → List Answer
+asked_in r visit earlier = asked_at_end r visit.end (passes r visit.turns earlier)
+
+-- the number of turns that a route has made: of items that it took, and of replies that it put
+abbrev pub turns_of : Run → ℕ
+turns_of r = length r.inbox.taken + length r.outbox.put
+
+-- one turn was made, or none where the gate refused it
+abbrev pub ServedAs : Served → Run → Run → Type 0
+ServedAs (Turned t) a b = TurnedAs t a b
+ServedAs Held a b = b ≡ a
+ServedAs Busy a b = ⊥
