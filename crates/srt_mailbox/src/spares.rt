@@ -101,6 +101,14 @@ impl Boxes {
         }
     }
 
+    /// A free box, if one is here or where the drain leaves them and hasn't got the lock. Its old contents are to be
+    /// overwritten.
+    #[inline(always)]
+    pub fn try_box(&mut self) -> Option<Box<Reply>> {
+        self.collect();
+        self.stock.pop()
+    }
+
     /// A free box, whose old contents are to be overwritten. There are three boxes more than the outbox and a batch
     /// hold. The drain has at most two (the one that it took last and the one before) and less than a batch, so one is
     /// here or where the drain leaves them. A drain that has more met the lock: the route had it then, and got a batch.
@@ -108,8 +116,7 @@ impl Boxes {
     /// all that it has. Nothing proves this, hence the loop.
     pub fn empty_box<R: Wait>(&mut self, rt: &R) -> Box<Reply> {
         for _ in rt.forever() {
-            self.collect();
-            if let Some(place) = self.stock.pop() {
+            if let Some(place) = self.try_box() {
                 return place;
             }
             thread::yield_now();

@@ -1,6 +1,7 @@
 //! A route between its queues: turns of one thread, a full inbox, a full outbox, the account, and several workers at
 //! once. The expected bytes were worked out from the rules by hand.
 
+mod boxes;
 mod queues;
 mod visits;
 
