@@ -346,7 +346,11 @@ struct Door {
 }
 
 impl Gate for Door {
+    ghost use Rattle.std.specs.Prelude.{None};
+
     ghost held = { λ gate. 0 };
+
+    ghost asked = { λ gate. None };
 
     fn pass(&mut self, _route: usize) -> bool {
         if !self.is_inside {
