@@ -9,7 +9,7 @@ from concurrent.futures import ThreadPoolExecutor
 
 import trying
 from machine import Meter
-from parts import OF_FILES, PARTS, QUICK, Count, all_of
+from parts import OF_FILES, PARTS, QUICK, Count, all_of, counted
 from tree import PROGRAM, TOP, Crate, above, crates, files_of, read
 
 TEST = re.compile(r"(?m)^\s*#\[test\]")
@@ -30,15 +30,7 @@ def has_tests(crate: Crate) -> bool:
 
 def verdict() -> Count:
     """Runs `rt ci`, which proves all crates and their tests from nothing, runs them, and tries the edits of must-fail/."""
-    last = ""
-    with subprocess.Popen(["rt", "ci"], cwd=TOP, stdout=subprocess.PIPE, stderr=subprocess.STDOUT, text=True, errors="replace") as it:
-        assert it.stdout
-        for line in it.stdout:
-            print(line, end="", flush=True)
-            last = line.strip() or last
-    found = re.fullmatch(r"(\d+) passed, (\d+) failed", last)
-    passed, failed = map(int, found.groups()) if found else (0, 1)
-    return Count(passed, failed or int(it.returncode != 0))
+    return counted(["rt", "ci"], r"(\d+) passed, (\d+) failed")
 
 
 def wrong_bodies(wanted: list[Crate], outside_only: bool) -> Count:

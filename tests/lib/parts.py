@@ -43,17 +43,22 @@ def subjects(name: str, *words: str) -> Count:
     return Count(passed, failed or int(it.returncode != 0))
 
 
-def callers() -> Count:
-    """Plays the callers of tests/callers, whose last line counts them."""
+def counted(words: list[str], last_line: str) -> Count:
+    """Runs a program, prints what it says, and returns what its last line counts: one failure if that has another form."""
     last = ""
-    with subprocess.Popen([f"{TOP}/tests/callers/run"], stdout=subprocess.PIPE, stderr=subprocess.STDOUT, text=True, errors="replace") as it:
+    with subprocess.Popen(words, cwd=TOP, stdout=subprocess.PIPE, stderr=subprocess.STDOUT, text=True, errors="replace") as it:
         assert it.stdout
         for line in it.stdout:
             print(line, end="", flush=True)
             last = line.strip() or last
-    found = re.fullmatch(r"callers: (\d+) passed, (\d+) failed, \d+ skipped", last)
+    found = re.fullmatch(last_line, last)
     passed, failed = map(int, found.groups()) if found else (0, 1)
     return Count(passed, failed or int(it.returncode != 0))
+
+
+def callers() -> Count:
+    """Plays the callers of tests/callers, whose last line counts them."""
+    return counted([f"{TOP}/tests/callers/run"], r"callers: (\d+) passed, (\d+) failed, \d+ skipped")
 
 
 def cases(word: str = "") -> Count:
