@@ -37,6 +37,7 @@ use Rattle.srt_mailbox.specs.contracts.running.Running as running
 use Rattle.srt_mailbox.specs.contracts.running.Running.TheInside as running_in
 use Rattle.std.specs.contracts.snapshot.Snapshot as snapshot
 use Rattle.srt_route.proofs.state.Route.TheSendSync as route_is
+use Rattle.srt_mailbox.proofs.evidence.Refusals.TheSendSync as refusals_is
 use Rattle.srt_mailbox.proofs.inbox.Taker.TheSendSync as taker_is
 use Rattle.srt_mailbox.proofs.outbox.Putter.TheSendSync as putter_is
 use Rattle.srt_mailbox.specs.contracts.cells.RouteCell as cell
@@ -91,13 +92,13 @@ putter_sync : IsSync putter.the_row
 putter_sync = view_sync _ _ _ _ _ putter_in_sync
 
 running_in_send : IsSend running_in.the_row
-running_in_send = recorded_send (running_in.the_field).row _ _ running_in.the_type.to_one (struct_send (shape running_in.the_type) (taker_is.the_send, (putter_is.the_send, (boxes_is.the_field_send, (option_is.the_field_send _ (heap.Box-send _ reply_is.the_send), (search (sendable, heap.crosses, option_is.the_field_send) depth 30, (search sendable, (search sendable, (search sendable, (search sendable, (route_is.the_field_send, (snapshot_send entry.the_row, (snapshot_send builtin.usize, tt)))))))))))))
+running_in_send = recorded_send (running_in.the_field).row _ _ running_in.the_type.to_one (struct_send (shape running_in.the_type) (taker_is.the_send, (putter_is.the_send, (boxes_is.the_field_send, (option_is.the_field_send _ (heap.Box-send _ reply_is.the_send), (search (sendable, heap.crosses, option_is.the_field_send) depth 30, (search sendable, (search sendable, (refusals_is.the_send, (search sendable, (search sendable, (route_is.the_field_send, (snapshot_send entry.the_row, (snapshot_send builtin.usize, tt))))))))))))))
 
 running_send : IsSend running.the_row
 running_send = view_send _ _ _ _ _ running_in_send
 
 running_in_sync : IsSync running_in.the_row
-running_in_sync = recorded_sync (running_in.the_field).row _ _ running_in.the_type.to_one (struct_sync (shape running_in.the_type) (taker_sync, (putter_sync, (boxes_is.the_field_sync, (option_is.the_field_sync _ (heap.Box-sync _ reply_is.the_sync), (search (sendable, heap.crosses, option_is.the_field_sync) depth 30, (search sendable, (search sendable, (search sendable, (search sendable, (route_is.the_field_sync, (snapshot_sync entry.the_row, (snapshot_sync builtin.usize, tt)))))))))))))
+running_in_sync = recorded_sync (running_in.the_field).row _ _ running_in.the_type.to_one (struct_sync (shape running_in.the_type) (taker_sync, (putter_sync, (boxes_is.the_field_sync, (option_is.the_field_sync _ (heap.Box-sync _ reply_is.the_sync), (search (sendable, heap.crosses, option_is.the_field_sync) depth 30, (search sendable, (search sendable, (refusals_is.the_sync, (search sendable, (search sendable, (route_is.the_field_sync, (snapshot_sync entry.the_row, (snapshot_sync builtin.usize, tt))))))))))))))
 
 running_sync : IsSync running.the_row
 running_sync = view_sync _ _ _ _ _ running_in_sync

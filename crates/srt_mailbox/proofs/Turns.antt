@@ -17,7 +17,8 @@ use Rattle.srt_mailbox.specs.Counts.{counted}
 use Rattle.srt_mailbox.specs.Inbox.{told_before}
 use Rattle.srt_mailbox.specs.Outbox.{replies_in}
 use Rattle.srt_mailbox.specs.Cells.{Name, Bears}
-use Rattle.srt_mailbox.specs.Runs.{Run, waiting_at, AppliedOne, MovedOne, TurnedAs}
+use Rattle.srt_mailbox.specs.Evidence.{Refused, EmptyOnceMore, FullOnceMore}
+use Rattle.srt_mailbox.specs.Runs.{Run, waiting_at, AppliedOne, MovedOne, WasBlocked, WasIdle, TurnedAs}
 use Rattle.srt_mailbox.specs.Asked.{Answer, answer, passes}
 use Rattle.srt_mailbox.specs.Visits.{turns_of}
 
@@ -52,20 +53,32 @@ still_bears Blocked a b turned n bears = subst (λ (r : Run). Bears n r) (sym tu
 still_bears Idle a b turned n bears = subst (λ (r : Run). Bears n r) (sym turned.1) bears
 
 -- an item that was taken is one turn more
-pub taken_more : (t : Turned) (a b : Run) → t ≡ Applied → TurnedAs t a b → (length b.outbox.put ≡ length a.outbox.put) × (turns_of b ≡ turns_of a + 1)
+pub taken_more : (t : Turned) (a b : Run) → t ≡ Applied → TurnedAs t a b → (length b.outbox.put ≡ length a.outbox.put) × (turns_of b ≡ turns_of a + 1) × (b.refusals ≡ a.refusals)
 taken_more t a b is turned =
     let one : AppliedOne a b = subst (λ (u : Turned). TurnedAs u a b) is turned in
     let put : length b.outbox.put ≡ length a.outbox.put = ap (λ (r : Run). length r.outbox.put) one.2 in
     let taken : length b.inbox.taken ≡ length a.inbox.taken + 1 = ap (λ (r : Run). length r.inbox.taken) one.2 ∙ length-append a.inbox.taken (one.0 ∷ []) in
-    (put, omega (arith, put, taken))
+    (put, omega (arith, put, taken), ap (λ (r : Run). r.refusals) one.2)
 
 -- so is a reply that was put
-pub put_more : (t : Turned) (a b : Run) → t ≡ Moved → TurnedAs t a b → (length b.outbox.put ≡ length a.outbox.put + 1) × (turns_of b ≡ turns_of a + 1)
+pub put_more : (t : Turned) (a b : Run) → t ≡ Moved → TurnedAs t a b → (length b.outbox.put ≡ length a.outbox.put + 1) × (turns_of b ≡ turns_of a + 1) × (b.refusals ≡ a.refusals)
 put_more t a b is turned =
     let one : MovedOne a b = subst (λ (u : Turned). TurnedAs u a b) is turned in
     let taken : length b.inbox.taken ≡ length a.inbox.taken = ap (λ (r : Run). length r.inbox.taken) one.3 in
     let put : length b.outbox.put ≡ length a.outbox.put + 1 = ap (λ (r : Run). length r.outbox.put) one.3 ∙ length-append a.outbox.put (one.0 ∷ []) in
-    (put, omega (arith, put, taken))
+    (put, omega (arith, put, taken), ap (λ (r : Run). r.refusals) one.3)
+
+-- after turns without a refusal, an idle one finds the inbox empty once more
+pub idle_at_last : (t : Turned) (n : Refused) (a b : Run) → t ≡ Idle → TurnedAs t a b → a.refusals ≡ n → EmptyOnceMore n b.refusals
+idle_at_last t n a b is turned same =
+    let one : WasIdle a b = subst (λ (u : Turned). TurnedAs u a b) is turned in
+    subst (λ (m : Refused). EmptyOnceMore m b.refusals) same one.3
+
+-- and a blocked one the outbox full
+pub blocked_at_last : (t : Turned) (n : Refused) (a b : Run) → t ≡ Blocked → TurnedAs t a b → a.refusals ≡ n → FullOnceMore n b.refusals
+blocked_at_last t n a b is turned same =
+    let one : WasBlocked a b = subst (λ (u : Turned). TurnedAs u a b) is turned in
+    subst (λ (m : Refused). FullOnceMore m b.refusals) same one.5
 
 passes_more : (r n : ℕ) (earlier : List Answer) → passes r (n + 1) earlier ≡ answer r true ∷ passes r n earlier
 passes_more r n earlier = let next : n + 1 ≡ suc n = omega arith in ap (λ (m : ℕ). passes r m earlier) next

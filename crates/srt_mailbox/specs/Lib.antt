@@ -3,6 +3,7 @@ pub mod Inbox
 pub mod Outbox
 pub mod Ends
 pub mod Counts
+pub mod Evidence
 pub mod Runs
 pub mod Asked
 pub mod Visits

@@ -15,17 +15,24 @@ use Rattle.srt_mailbox.specs.declared.inbox_rule.Marked.{Marked}
 use Rattle.srt_mailbox.specs.Inbox.{applied, StoodAsTaken}
 use Rattle.srt_mailbox.specs.Outbox.{replies_in, StoodAsPut}
 use Rattle.srt_mailbox.specs.Ends.{Consumer, consumer, Pipe, pipe}
+use Rattle.srt_mailbox.specs.Evidence.{Refused, EmptyOnceMore, FullOnceMore}
 
--- a route of these terms and this index, its ends of the two queues, and the datagrams that wait, the oldest first
+-- a route of these terms and this index, its ends of the two queues, the datagrams that wait, the oldest first, and how often it found its
+-- inbox empty and its outbox full
 pub record Run : Type 0 where
   pub terms : Terms
   pub index : ℕ
   pub inbox : Consumer
   pub outbox : Pipe
   pub waiting : List Datagram
+  pub refusals : Refused
 
-abbrev pub run : Terms → (index : ℕ) → Consumer → Pipe → (waiting : List Datagram) → Run
-run e r c p ws = record { terms = e; index = r; inbox = c; outbox = p; waiting = ws }
+abbrev pub run : Terms → (index : ℕ) → Consumer → Pipe → (waiting : List Datagram) → Refused → Run
+run e r c p ws counts = record { terms = e; index = r; inbox = c; outbox = p; waiting = ws; refusals = counts }
+
+-- the same route, with other counts of refusals
+abbrev pub but_for : Run → Refused → Run
+but_for a counts = run a.terms a.index a.inbox a.outbox a.waiting counts
 
 -- the datagrams that wait: the reply that a full outbox handed back, if any, followed by those in the route
 abbrev pub waiting_at : Option (Box Reply) → TheRoute → List Datagram
@@ -39,23 +46,26 @@ Replays r = map written r.outbox.put ++ r.waiting ≡ solo r.terms r.index (appl
 abbrev pub AppliedOne : Run → Run → Type 0
 AppliedOne a b =
     (x : Marked) × (a.waiting ≡ [])
-    × (b ≡ run a.terms a.index (consumer a.inbox.queue a.inbox.capacity (a.inbox.taken ++ x ∷ [])) a.outbox (reply a.terms a.index (told x.item ∷ applied a.inbox.taken)))
+    × (b ≡ run a.terms a.index (consumer a.inbox.queue a.inbox.capacity (a.inbox.taken ++ x ∷ [])) a.outbox (reply a.terms a.index (told x.item ∷ applied a.inbox.taken)) a.refusals)
 
 -- the oldest reply that waited was put
 abbrev pub MovedOne : Run → Run → Type 0
 MovedOne a b =
     (y : Reply) × (rest : List Datagram) × (a.waiting ≡ written y ∷ rest)
-    × (b ≡ run a.terms a.index a.inbox (pipe a.outbox.queue a.outbox.capacity (a.outbox.put ++ y ∷ [])) rest)
+    × (b ≡ run a.terms a.index a.inbox (pipe a.outbox.queue a.outbox.capacity (a.outbox.put ++ y ∷ [])) rest a.refusals)
 
--- a reply waits, and the outbox was full at some moment of the call; nothing changed
+-- a reply waits, and the outbox was full at some moment of the call; nothing changed, but that it was found full once more
 abbrev pub WasBlocked : Run → Run → Type 0
 WasBlocked a b =
     (first : Datagram) × (rest : List Datagram) × (a.waiting ≡ first ∷ rest)
-    × (b ≡ a) × Held a.outbox.capacity (StoodAsPut a.outbox.put)
+    × (b ≡ but_for a b.refusals) × Held a.outbox.capacity (StoodAsPut a.outbox.put)
+    × FullOnceMore a.refusals b.refusals
 
--- none waits, and the inbox was empty at some moment of the call; nothing changed
+-- none waits, and the inbox was empty at some moment of the call; nothing changed, but that it was found empty once more
 abbrev pub WasIdle : Run → Run → Type 0
-WasIdle a b = (a.waiting ≡ []) × (b ≡ a) × Held 0 (StoodAsTaken a.inbox.taken)
+WasIdle a b =
+    (a.waiting ≡ []) × (b ≡ but_for a b.refusals) × Held 0 (StoodAsTaken a.inbox.taken)
+    × EmptyOnceMore a.refusals b.refusals
 
 -- what each outcome of a turn means
 abbrev pub TurnedAs : Turned → Run → Run → Type 0

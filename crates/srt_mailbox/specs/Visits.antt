@@ -1,9 +1,11 @@
 -- What a gate was asked for the turns of a route, and how many turns the route made.
 use Rattle.std.specs.Prelude.{◌≡◌, ℕ, true, false, Option, None, Some, List, ◌∷◌, ◌+◌, length}
+use Rattle.srt_seq.specs.declared.shared.Turned.TheVariants.{Moved, Applied, Blocked, Idle}
 use Rattle.srt_mailbox.specs.declared.gates.Served.{Served}
 use Rattle.srt_mailbox.specs.declared.gates.Served.TheVariants.{Turned, Held, Busy}
 use Rattle.srt_mailbox.specs.declared.gates.Visit.{Visit}
 use Rattle.srt_mailbox.specs.Asked.{Answer, answer, passes}
+use Rattle.srt_mailbox.specs.Evidence.{EmptyOnceMore, FullOnceMore}
 use Rattle.srt_mailbox.specs.Runs.{Run, TurnedAs}
 
 -- what the gate was asked for the turn that ended a visit, or that was alone, in front of the earlier answers
@@ -29,3 +31,13 @@ abbrev pub ServedAs : Served → Run → Run → Type 0
 ServedAs (Turned t) a b = TurnedAs t a b
 ServedAs Held a b = b ≡ a
 ServedAs Busy a b = ⊥
+
+-- what the end of a visit says of the refusals: the last turn found the inbox empty, or the outbox full, or there was none
+abbrev pub EndedAs : Option Served → Run → Run → Type 0
+EndedAs (Some (Turned Idle)) a b = EmptyOnceMore a.refusals b.refusals
+EndedAs (Some (Turned Blocked)) a b = FullOnceMore a.refusals b.refusals
+EndedAs (Some (Turned Applied)) a b = ⊥
+EndedAs (Some (Turned Moved)) a b = ⊥
+EndedAs (Some Held) a b = b.refusals ≡ a.refusals
+EndedAs (Some Busy) a b = ⊥
+EndedAs None a b = b.refusals ≡ a.refusals

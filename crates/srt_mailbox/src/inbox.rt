@@ -1,6 +1,6 @@
 //! The three ends of an inbox: two offer items (the poller, the clock), one takes them (the route).
 
-ghost use Rattle.std.specs.Prelude.{◌≡◌, ◌<◌, ◌^◌, [], ◌∷◌, ◌++◌, true, false, IfOk, OnOk, IfErr, MatchOption};
+ghost use Rattle.std.specs.Prelude.{◌≡◌, ◌<◌, ◌^◌, [], ◌∷◌, ◌++◌, IfOk, OnOk, IfErr, IfSome, MatchResult};
 ghost use Rattle.std.specs.Arc.{arc_value};
 ghost use Rattle.crossbeam_queue.specs.Fifo.{Held};
 ghost use Rattle.srt_seq.specs.Items.{told, moment_of};
@@ -8,8 +8,9 @@ ghost use Rattle.srt_seq.specs.declared.shared.Item.TheVariants.{Datagram};
 ghost use Rattle.srt_mailbox.specs.Ends.{producer, consumer, AreNew, AreLeft};
 ghost use Rattle.srt_mailbox.specs.Inbox.{StoodAsPolled, StoodAsTicked, StoodAsTaken};
 
+use crate::evidence::{InboxFull, WasEmpty, find_empty, find_full, pop, push};
 use crate::inbox_rule::{
-    Clock, Inbox, InboxPass, Left, Marked, Poller, Polls, PollsDatagram, Takes, Ticks,
+    Clock, Inbox, InboxPass, InboxView, Left, Marked, Poller, Polls, PollsDatagram, Takes, Ticks,
 };
 use srt_seq::{Item, Peer};
 use std::alloc::{AllocError, Global};
@@ -21,6 +22,8 @@ use std::sync::{Arc, Wait};
 pub struct Full {
     /// The item that was offered, unchanged.
     pub item: Item,
+    /// That the inbox was full.
+    pub evidence: InboxFull,
 }
 
 /// The poller's end of a route's inbox. Contracts see which inbox it is, its capacity, and the items of this end that
@@ -94,20 +97,22 @@ impl Ingress {
         requires timely { moment_of (told item) < 2 ^ 62 }
         ensures ok { OnOk result (self.new ≡ producer self.old.queue self.old.capacity (self.old.offered ++ item ∷ [])) }
         ensures full { IfErr result (λ full. (full.item ≡ item) × (self.new ≡ self.old) × Held self.old.capacity (StoodAsPolled self.old.offered)) }
+        ensures evidence { IfErr result (λ full. (full.evidence.queue ≡ self.old.queue) × (full.evidence.polled ≡ self.old.offered)) }
     {
         let marked = Marked::new(self.alloc, true, item);
-        match self.queue.push_as::<Polls, R>(rt, &mut self.pass, marked) {
+        match push::<Polls, _, _, _, R>(&self.queue, rt, &mut self.pass, marked) {
             Ok(()) => Ok(()),
-            Err(back) => Err(Full {
+            Err((back, full)) => Err(Full {
                 item: back.into_item(),
+                evidence: InboxFull::new(full),
             }),
         }
     }
 
-    /// Appends a datagram to the inbox, as `offer` does with its item. False only if the inbox was full at some moment of
-    /// the call; then nothing changed, and the datagram is discarded. Its moment is in microseconds, below 2^62. Takes
-    /// no memory. The datagram comes by its parts: an `Item` that is passed on is copied four times by words that
-    /// overlap, and the processor waits at each copy.
+    /// Appends a datagram to the inbox, as `offer` does with its item. The error is evidence that the inbox was full at
+    /// some moment of the call; then nothing changed, and the datagram is discarded. Its moment is in microseconds, below
+    /// 2^62. Takes no memory. The datagram comes by its parts: an `Item` that is passed on is copied four times by words
+    /// that overlap, and the processor waits at each copy.
     #[inline(always)]
     pub fn offer_datagram<R: Wait>(
         &mut self,
@@ -116,18 +121,16 @@ impl Ingress {
         moment: u64,
         head: [u8; 16],
         body: Vec<u8>,
-    ) -> bool
+    ) -> Result<(), InboxFull>
         requires timely { moment < 2 ^ 62 }
-        ensures accepted { result ≡ true → self.new ≡ producer self.old.queue self.old.capacity (self.old.offered ++ Datagram peer moment head body ∷ []) }
-        ensures full { result ≡ false → (self.new ≡ self.old) × Held self.old.capacity (StoodAsPolled self.old.offered) }
+        ensures accepted { OnOk result (self.new ≡ producer self.old.queue self.old.capacity (self.old.offered ++ Datagram peer moment head body ∷ [])) }
+        ensures full { IfErr result (λ _. (self.new ≡ self.old) × Held self.old.capacity (StoodAsPolled self.old.offered)) }
+        ensures evidence { IfErr result (λ full. (full.queue ≡ self.old.queue) × (full.polled ≡ self.old.offered)) }
     {
         let marked = Marked::datagram(true, peer, moment, head, body);
-        match self
-            .queue
-            .push_as::<PollsDatagram, R>(rt, &mut self.pass, marked)
-        {
-            Ok(()) => true,
-            Err(_) => false,
+        match push::<PollsDatagram, _, _, _, R>(&self.queue, rt, &mut self.pass, marked) {
+            Ok(()) => Ok(()),
+            Err((_, full)) => Err(InboxFull::new(full)),
         }
     }
 }
@@ -139,38 +142,46 @@ impl ClockEnd {
         requires timely { moment_of (told item) < 2 ^ 62 }
         ensures ok { OnOk result (self.new ≡ producer self.old.queue self.old.capacity (self.old.offered ++ item ∷ [])) }
         ensures full { IfErr result (λ full. (full.item ≡ item) × (self.new ≡ self.old) × Held self.old.capacity (StoodAsTicked self.old.offered)) }
+        ensures evidence { IfErr result (λ full. (full.evidence.queue ≡ self.old.queue) × (full.evidence.ticked ≡ self.old.offered)) }
     {
         let marked = Marked::new(self.alloc, false, item);
-        match self.queue.push_as::<Ticks, R>(rt, &mut self.pass, marked) {
+        match push::<Ticks, _, _, _, R>(&self.queue, rt, &mut self.pass, marked) {
             Ok(()) => Ok(()),
-            Err(back) => Err(Full {
+            Err((back, full)) => Err(Full {
                 item: back.into_item(),
+                evidence: InboxFull::new(full),
             }),
         }
     }
 
-    /// True only if the inbox was full at some moment of the call. Changes nothing. It only reads, so calls at several
-    /// inboxes one after the other wait for memory at the same time, where one `offer` waits for the one before it.
-    pub fn is_full(&mut self) -> bool
+    /// Evidence that the inbox was full at some moment of the call, if it was. Changes nothing. It only reads, so calls at
+    /// several inboxes one after the other wait for memory at the same time, where one `offer` waits for the one before
+    /// it.
+    pub fn is_full(&mut self) -> Option<InboxFull>
         ensures same { self.new ≡ self.old }
-        ensures full { result ≡ true → Held self.old.capacity (StoodAsTicked self.old.offered) }
+        ensures full { IfSome result (λ _. Held self.old.capacity (StoodAsTicked self.old.offered)) }
+        ensures evidence { IfSome result (λ full. (full.queue ≡ self.old.queue) × (full.ticked ≡ self.old.offered)) }
     {
-        self.queue.is_full_as::<Ticks>(&mut self.pass)
+        match find_full::<Ticks, _, _, _>(&self.queue, &mut self.pass) {
+            Some(full) => Some(InboxFull::new(full)),
+            None => None,
+        }
     }
 }
 
 impl Taker {
-    /// Takes the oldest item. `None` only if the inbox was empty at some moment of the call. Takes no memory.
-    pub fn take<R: Wait>(&mut self, rt: &R) -> Option<Marked>
-        ensures { MatchOption result
-            ((self.new ≡ self.old) × Held 0 (StoodAsTaken self.old.taken))
-            (λ x. self.new ≡ consumer self.old.queue self.old.capacity (self.old.taken ++ x ∷ [])) }
+    /// Takes the oldest item. The error is evidence that the inbox was empty at some moment of the call. Takes no memory.
+    pub fn take<R: Wait>(&mut self, rt: &R) -> Result<Marked, WasEmpty<Marked, InboxView>>
+        ensures took { MatchResult result
+            (λ x. self.new ≡ consumer self.old.queue self.old.capacity (self.old.taken ++ x ∷ []))
+            (λ _. (self.new ≡ self.old) × Held 0 (StoodAsTaken self.old.taken)) }
+        ensures evidence { IfErr result (λ empty. (empty.asked.value.table_id ≡ self.old.queue) × (empty.asked.value.me.0.client.taken ≡ self.old.taken)) }
     {
         // Two loads tell whether the inbox is empty. A pop copies a whole cell of the queue even if it finds nothing.
-        if self.queue.is_empty_as::<Takes>(&mut self.pass) {
-            return None;
+        if let Some(empty) = find_empty::<Takes, _, _, _>(&self.queue, &mut self.pass) {
+            return Err(empty);
         }
-        self.queue.pop_as::<Takes, R>(rt, &mut self.pass)
+        pop::<Takes, _, _, _, R>(&self.queue, rt, &mut self.pass)
     }
 
     /// Returns the number of items left in the inbox, and ends it; the other two ends must be of the same inbox. The

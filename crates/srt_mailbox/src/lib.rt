@@ -7,7 +7,7 @@
 //! Types: the four ends of a route, which are `Ingress` (the poller offers datagrams), `ClockEnd` (the ticking thread
 //! offers ticks), `RouteCell` (workers serve the route) and `Drain` (the poller takes replies). A `Gate` may refuse a
 //! turn (`Ungated` never does), `Served` is the outcome of a turn that was asked for, `Visit` that of several, and
-//! `Account` has the counts of a route that has ended.
+//! `Account` has the counts of a route that has ended. `InboxFull` and `OutboxEmpty` are evidence of a refusal.
 //!
 //! Calls: `open_route`; then, each from its own thread, `offer` on `Ingress` (for a datagram also `offer_datagram`) and
 //! on `ClockEnd`, `RouteCell::visit` or `RouteCell::serve` (any number of workers), and `Drain::take` with
@@ -15,11 +15,13 @@
 //!
 //! Files: the claim word is in `cells.rt`, one turn of a route in `running.rt`, the queues in `inbox.rt` and
 //! `outbox.rt`, what passes through them in `inbox_rule.rt` and `outbox_rule.rt` (`specs/Inbox.antt`,
-//! `specs/Outbox.antt`). That the replies don't depend on which worker serves is `Replays` in `specs/Runs.antt`.
+//! `specs/Outbox.antt`), and the evidence that one of them was full or empty in `evidence.rt`. That the replies don't
+//! depend on which worker serves is `Replays` in `specs/Runs.antt`.
 #![tactic(auto)]
 
 mod accounts;
 mod cells;
+mod evidence;
 mod gates;
 mod inbox;
 mod inbox_rule;
@@ -31,6 +33,7 @@ mod spares;
 
 pub use accounts::{Account, Unsettled, settle};
 pub use cells::{RouteCell, Serve};
+pub use evidence::{InboxFull, OutboxEmpty};
 pub use gates::{Gate, Served, Ungated, Visit};
 pub use inbox::{ClockEnd, Full, Ingress};
 pub use openings::open_route;

@@ -1,14 +1,15 @@
 //! The two ends of an outbox: the route puts replies, the poller drains them.
 
-ghost use Rattle.std.specs.Prelude.{◌≡◌, ◌<◌, ◌≤◌, List, [], ◌∷◌, ◌++◌, length, true, false, IfOk, OnOk, IfErr};
+ghost use Rattle.std.specs.Prelude.{◌≡◌, ◌<◌, ◌≤◌, List, [], ◌∷◌, ◌++◌, length, IfOk, OnOk, IfErr, IfSome};
 ghost use Rattle.std.specs.Arc.{arc_value};
 ghost use Rattle.crossbeam_queue.specs.Fifo.{Held};
 ghost use Rattle.srt_route.specs.declared.replies.Reply.{Reply as TheReply};
 ghost use Rattle.srt_mailbox.specs.Counts.{counted};
 ghost use Rattle.srt_mailbox.specs.Ends.{pipe, drained};
-ghost use Rattle.srt_mailbox.specs.Outbox.{StoodAsPut, StoodAsDrained};
+ghost use Rattle.srt_mailbox.specs.Outbox.{StoodAsPut, StoodAsDrained, replies_in};
 
-use crate::outbox_rule::{Draining, Drains, Left, Outbox, OutboxPass, Parcel, Puts};
+use crate::evidence::{OutboxEmpty, WasFull, find_empty, pop, push};
+use crate::outbox_rule::{Draining, Drains, Left, Outbox, OutboxPass, OutboxView, Parcel, Puts};
 use crate::spares::{Boxes, Spent, open_boxes};
 use srt_route::Reply;
 use std::alloc::{AllocError, Global};
@@ -67,13 +68,18 @@ impl Model for Drain {
 }
 
 impl Putter {
-    /// Appends a reply to the outbox. The error hands it back; it comes only if the outbox was full at some moment of
+    /// Appends a reply to the outbox. The error hands it back, with evidence that the outbox was full at some moment of
     /// the call. Takes no memory.
-    pub fn put<R: Wait>(&mut self, rt: &R, parcel: Parcel) -> Result<(), Parcel>
+    pub fn put<R: Wait>(
+        &mut self,
+        rt: &R,
+        parcel: Parcel,
+    ) -> Result<(), (Parcel, WasFull<Parcel, OutboxView>)>
         ensures ok { OnOk result (self.new ≡ pipe self.old.queue self.old.capacity (self.old.put ++ parcel.value ∷ [])) }
-        ensures full { IfErr result (λ back. (back ≡ parcel) × (self.new ≡ self.old) × Held self.old.capacity (StoodAsPut self.old.put)) }
+        ensures full { IfErr result (λ back. (back.0 ≡ parcel) × (self.new ≡ self.old) × Held self.old.capacity (StoodAsPut self.old.put)) }
+        ensures evidence { IfErr result (λ back. (back.1.asked.value.table_id ≡ self.old.queue) × (replies_in back.1.asked.value.me.0.client.put ≡ self.old.put)) }
     {
-        self.queue.push_as::<Puts, R>(rt, &mut self.pass, parcel)
+        push::<Puts, _, _, _, R>(&self.queue, rt, &mut self.pass, parcel)
     }
 
     /// Returns the number of replies left and the number drained (saturated at 2^64 - 1), and ends the outbox; `drain`
@@ -105,37 +111,44 @@ impl Putter {
 }
 
 impl Drain {
-    /// Takes the oldest reply out of the outbox, to be read by `reply`. False only if the outbox was empty at some
-    /// moment of the call; then nothing changed. Takes no memory: the box of the reply before goes back to the route.
+    /// Takes the oldest reply out of the outbox, to be read by `reply`. The error is evidence that the outbox was empty
+    /// at some moment of the call; then nothing changed. Takes no memory: the box of the reply before goes back to the
+    /// route.
     #[inline(always)]
-    pub fn take<R: Wait>(&mut self, rt: &R) -> bool
-        ensures some { result ≡ true → self.new ≡ drained self.old.queue self.old.capacity (self.old.through ++ self.new.hand ∷ []) self.new.hand }
-        ensures none { result ≡ false → (self.new ≡ self.old) × Held 0 (StoodAsDrained self.old.through) }
+    pub fn take<R: Wait>(&mut self, rt: &R) -> Result<(), OutboxEmpty>
+        ensures some { OnOk result (self.new ≡ drained self.old.queue self.old.capacity (self.old.through ++ self.new.hand ∷ []) self.new.hand) }
+        ensures none { IfErr result (λ _. (self.new ≡ self.old) × Held 0 (StoodAsDrained self.old.through)) }
+        ensures evidence { IfErr result (λ empty. (empty.queue ≡ self.old.queue) × (empty.through ≡ self.old.through)) }
     {
-        match self.queue.pop_as::<Drains, R>(rt, &mut self.pass) {
-            Some(parcel) => {
+        match pop::<Drains, _, _, _, R>(&self.queue, rt, &mut self.pass) {
+            Ok(parcel) => {
                 let (reply, body) = parcel.into_parts();
                 self.body = body;
                 let empty = mem::replace(&mut self.hand, reply);
                 self.spent.give(empty);
                 self.count = self.count.saturating_add(1);
-                true
+                Ok(())
             }
-            None => {
+            Err(empty) => {
                 self.spent.flush();
-                false
+                Err(OutboxEmpty::new(empty))
             }
         }
     }
 
-    /// True only if the outbox was empty at some moment of the call. Changes nothing. It only reads, so calls at several
-    /// outboxes one after the other wait for memory at the same time, where one `take` waits for the one before it.
+    /// Evidence that the outbox was empty at some moment of the call, if it was. Changes nothing. It only reads, so calls
+    /// at several outboxes one after the other wait for memory at the same time, where one `take` waits for the one before
+    /// it.
     #[inline(always)]
-    pub fn is_empty(&mut self) -> bool
+    pub fn is_empty(&mut self) -> Option<OutboxEmpty>
         ensures same { self.new ≡ self.old }
-        ensures empty { result ≡ true → Held 0 (StoodAsDrained self.old.through) }
+        ensures empty { IfSome result (λ _. Held 0 (StoodAsDrained self.old.through)) }
+        ensures evidence { IfSome result (λ empty. (empty.queue ≡ self.old.queue) × (empty.through ≡ self.old.through)) }
     {
-        self.queue.is_empty_as::<Drains>(&mut self.pass)
+        match find_empty::<Drains, _, _, _>(&self.queue, &mut self.pass) {
+            Some(empty) => Some(OutboxEmpty::new(empty)),
+            None => None,
+        }
     }
 
     /// The body of some datagram that the route has applied, if one came with the reply that `take` took last. It has

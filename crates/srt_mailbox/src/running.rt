@@ -6,11 +6,13 @@ ghost use Rattle.srt_seq.specs.Items.{Item as TheItem};
 ghost use Rattle.srt_route.specs.Stands.{stands, waiting};
 ghost use Rattle.srt_route.specs.Written.{written};
 ghost use Rattle.srt_mailbox.specs.Counts.{counted, Grew};
+ghost use Rattle.srt_mailbox.specs.Evidence.{refused};
 ghost use Rattle.srt_mailbox.specs.Runs.{run, waiting_at, Replays, TurnedAs};
 ghost use Rattle.srt_mailbox.specs.Cells.{Name, Bears};
-ghost use Rattle.srt_mailbox.specs.Visits.{asked_in, asked_last, turns_of, ServedAs};
+ghost use Rattle.srt_mailbox.specs.Visits.{asked_in, asked_last, turns_of, EndedAs, ServedAs};
 ghost use Rattle.srt_mailbox.specs.declared.gates.Served.TheVariants.{Held, Busy};
 
+use crate::evidence::Refusals;
 use crate::gates::{Gate, Served, Visit};
 use crate::inbox::Taker;
 use crate::outbox::Putter;
@@ -48,6 +50,8 @@ pub struct Running {
     waiting: usize,
     // the number of items taken; saturates at 2^64 - 1
     taken: u64,
+    // how often the inbox was found empty and the outbox full
+    refusals: Refusals,
     // the route's clock and its publishers when the inbox was last looked at; see `apply_item`
     clock: u64,
     publishers: usize,
@@ -68,10 +72,10 @@ impl Model for Running {
 
     ghost Value = { Run };
 
-    ghost view = { λ s. run (terms_of s.entry.value) s.index.value s.taker s.putter (waiting_at s.held s.route) };
+    ghost view = { λ s. run (terms_of s.entry.value) s.index.value s.taker s.putter (waiting_at s.held s.route) s.refusals };
 
     // The route is in the state that the taken items lead to, and what it replied is what it would reply alone.
-    ghost invariant = { λ s. stands s.route (terms_of s.entry.value) s.index.value (applied s.taker.taken) × Replays (run (terms_of s.entry.value) s.index.value s.taker s.putter (waiting_at s.held s.route)) × (s.waiting ≡ length (waiting_at s.held s.route)) × (s.taken ≡ counted (length s.taker.taken)) };
+    ghost invariant = { λ s. stands s.route (terms_of s.entry.value) s.index.value (applied s.taker.taken) × Replays (run (terms_of s.entry.value) s.index.value s.taker s.putter (waiting_at s.held s.route) s.refusals) × (s.waiting ≡ length (waiting_at s.held s.route)) × (s.taken ≡ counted (length s.taker.taken)) };
 }
 
 /// The length of the longest body of a packet, in bytes: that of a data packet's payload.
@@ -119,7 +123,7 @@ impl Running {
         requires fresh { stands route (terms_of entry.now) index [] }
         requires none_waits { waiting route ≡ [] }
         requires empty { (ends.taker.taken ≡ []) × (ends.putter.put ≡ []) }
-        ensures { result ≡ run (terms_of entry.now) index ends.taker ends.putter [] }
+        ensures { result ≡ run (terms_of entry.now) index ends.taker ends.putter [] (refused 0 0) }
     {
         let Ends {
             taker,
@@ -135,6 +139,7 @@ impl Running {
             body: None,
             waiting: 0,
             taken: 0,
+            refusals: Refusals::new(),
             clock: 0,
             publishers: 0,
             entry: Snapshot::of(entry),
@@ -154,10 +159,11 @@ impl Running {
                 self.waiting -= 1;
                 Turned::Moved
             }
-            Err(back) => {
+            Err((back, full)) => {
                 let (reply, body) = back.into_parts();
                 self.held = Some(reply);
                 self.body = body;
+                self.refusals.note_full(full);
                 Turned::Blocked
             }
         }
@@ -174,19 +180,23 @@ impl Running {
         self.clock = self.route.clock();
         self.publishers = self.route.publishers();
         match self.taker.take(rt) {
-            Some(marked) => {
+            Ok(marked) => {
                 let item = marked.into_item();
                 self.waiting = self.route.step(&item);
                 self.taken = self.taken.saturating_add(1);
                 keep_body(&mut self.body, item);
                 Turned::Applied
             }
-            None => Turned::Idle,
+            Err(empty) => {
+                self.refusals.note_empty(empty);
+                Turned::Idle
+            }
         }
     }
 
     /// Makes one turn: moves the oldest reply that waits to the outbox, or, if none waits, applies the oldest item of
-    /// the inbox. `Blocked` (full outbox) and `Idle` (empty inbox) change nothing. Takes no memory.
+    /// the inbox. `Blocked` (full outbox) and `Idle` (empty inbox) change nothing but the count of such refusals. Takes no
+    /// memory.
     pub fn turn<R: Wait>(&mut self, rt: &R) -> Turned
         ensures { TurnedAs result self.old self.new }
     {
@@ -229,6 +239,7 @@ impl Running {
         ensures held { result.end ≡ Some Held → Grew (G.held gate.old) (G.held gate.new) }
         ensures passed { result.end ≢ Some Held → G.held gate.new ≡ G.held gate.old }
         ensures claimed { result.end ≢ Some Busy }
+        ensures ended { EndedAs result.end self.old self.new }
         ensures asked { G.asked gate.new ≡ option_map (asked_in route result) (G.asked gate.old) }
     {
         let mut moved = 0;
@@ -290,6 +301,7 @@ impl Running {
             body: _,
             waiting,
             taken,
+            refusals: _,
             clock: _,
             publishers: _,
             entry: _,

@@ -11,7 +11,10 @@ ghost use Rattle.srt_mailbox.specs.Cells.{AreEndsOf};
 ghost use Rattle.srt_mailbox.specs.Names.{name_in};
 
 use crate::gates::{Gate, Served, Visit};
-use crate::{Account, BODY_ROOM, ClockEnd, Drain, Ingress, RouteCell, Serve, open_route, settle};
+use crate::{
+    Account, BODY_ROOM, ClockEnd, Drain, Full, Ingress, RouteCell, Serve, open_route, settle,
+};
+use srt_route::{Reply, Route};
 use srt_seq::{Entry, Item, MOMENT_END, Mode, OpenFault, Peer, Turned};
 use std::alloc::Global;
 use std::process::Abort;
@@ -201,8 +204,8 @@ fn assert_drained(
 ) -> Result<(), Fail>
     ensures { drain.new.queue ≡ drain.old.queue }
 {
-    assert!(rt; !drain.is_empty());
-    assert!(rt; drain.take(rt));
+    assert!(rt; drain.is_empty().is_none());
+    assert!(rt; drain.take(rt).is_ok());
     assert_at_hand(rt, drain, wanted)
 }
 
@@ -259,6 +262,18 @@ fn drain_times(
     Ok(())
 }
 
+/// Drains a reply for each of these, and asserts that it is this one.
+fn drain_each(
+    rt: &(impl AllocGlobal + Wait + Abort),
+    drain: &mut Drain,
+    rows: &[Expected],
+) -> Result<(), Fail> {
+    for wanted in rows {
+        assert_drained(rt, drain, *wanted)?;
+    }
+    Ok(())
+}
+
 /// The account of a route whose ends came from one opening.
 fn settled<R: Wait>(
     rt: &R,
@@ -283,7 +298,7 @@ fn a_held_route_makes_no_turn(rt: HostRuntime) -> Result<(), Fail> {
     assert_eq!(rt; cell.serve(&rt, &mut shut), Served::Held);
     assert_eq!(rt; shut.held(), 1);
     assert_served(&rt, &cell, &[APPLIED, IDLE]);
-    assert!(rt; !drain.take(&rt));
+    assert!(rt; drain.take(&rt).is_err());
     Ok(())
 }
 
@@ -319,8 +334,8 @@ fn a_visit_makes_the_turns_that_it_may(rt: HostRuntime) -> Result<(), Fail> {
     drain_times(&rt, &mut drain, ANSWER, 16)?;
     assert_visited(&rt, &cell, 1, (1, 1, None));
     drain_times(&rt, &mut drain, ANSWER, 1)?;
-    assert!(rt; drain.is_empty());
-    assert!(rt; !drain.take(&rt));
+    assert!(rt; drain.is_empty().is_some());
+    assert!(rt; drain.take(&rt).is_err());
     Ok(())
 }
 
@@ -375,7 +390,8 @@ fn answer_with_room(
     head.copy_from_slice(&bytes[..16]);
     let mut body = Vec::with_capacity(rt.alloc(), BODY_ROOM)?;
     body.extend_from_slice(&bytes[16..])?;
-    assert!(rt; ingress.offer_datagram(rt, peer(PUBLISHER.port), 1_000_000, head, body));
+    let offered = ingress.offer_datagram(rt, peer(PUBLISHER.port), 1_000_000, head, body);
+    assert!(rt; offered.is_ok());
     cell.visit(rt, &mut Fixed::open(), 64);
     assert_drained(rt, drain, ANSWER)
 }
@@ -396,6 +412,11 @@ fn a_body_with_room_comes_back_with_a_reply(rt: HostRuntime) -> Result<(), Fail>
     Ok(())
 }
 
+/// Asserts that a route of this entry and this index isn't opened, and by which fault.
+fn assert_refused(rt: &(impl AllocGlobal + Abort), entry: &Entry, index: usize, fault: OpenFault) {
+    assert!(rt; matches!(&open_route(rt.alloc(), entry, index), Err(found) if *found == fault));
+}
+
 #[test]
 fn an_entry_out_of_its_limits_is_refused(rt: HostRuntime) -> Result<(), Fail> {
     let alloc = rt.alloc();
@@ -403,58 +424,68 @@ fn an_entry_out_of_its_limits_is_refused(rt: HostRuntime) -> Result<(), Fail> {
     late.latency_ms = 10;
     let mut nameless = entry(alloc)?;
     nameless.name = String::new(alloc);
-    for (entry, index, fault) in [
-        (&late, 0, OpenFault::Limits),
-        (&entry(alloc)?, 511, OpenFault::Limits),
-        (&nameless, 511, OpenFault::Names),
-    ] {
-        assert!(rt; matches!(&open_route(alloc, entry, index), Err(found) if *found == fault));
-    }
+    assert_refused(&rt, &late, 0, OpenFault::Limits);
+    assert_refused(&rt, &entry(alloc)?, 511, OpenFault::Limits);
+    assert_refused(&rt, &nameless, 511, OpenFault::Names);
     Ok(())
 }
 
-/// Offers a datagram to a full inbox, and asserts that it comes back as it was.
-fn assert_comes_back(
+/// Whether this is the data packet, with its sender and its moment.
+fn is_data(alloc: Global, item: &Item) -> Result<bool, Fail> {
+    let bytes = hex::decode(alloc, DATA.text)?;
+    match item {
+        Item::Datagram {
+            peer: from,
+            moment,
+            head,
+            body,
+        } => {
+            let is_whole = bytes.len() == 18
+                && &head[..] == &bytes[..16]
+                && body.as_slice() == &bytes[16..];
+            Ok(is_whole && *from == peer(DATA.port) && *moment == DATA.moment)
+        }
+        _ => Ok(false),
+    }
+}
+
+/// Offers a datagram to a full inbox, asserts that it comes back as it was, and after a turn offers what came back, which
+/// the inbox accepts.
+fn assert_goes_in_after_a_turn(
     rt: &(impl AllocGlobal + Wait + Abort),
     ingress: &mut Ingress,
+    cell: &RouteCell,
 ) -> Result<(), Fail> {
     let alloc = rt.alloc();
-    let back = match ingress.offer(rt, DATA.item(alloc)?) {
-        Err(full) => full.item,
+    let item = DATA.item(alloc)?;
+    let back = match ingress.offer(rt, item) {
+        Err(Full { item, evidence: _ }) => item,
         Ok(()) => return Err(Fail::from("the inbox is full")),
     };
-    let Item::Datagram {
-        peer: from,
-        moment,
-        head,
-        body,
-    } = back
-    else {
-        return Err(Fail::from("the datagram comes back"));
-    };
-    assert!(rt; from == peer(DATA.port) && moment == DATA.moment);
-    assert_eq!(rt; &head[..], hex::decode(alloc, &DATA.text[..32])?.as_slice());
-    assert_eq!(rt; body.as_slice(), [0x68, 0x69].as_slice());
+    assert!(rt; is_data(alloc, &back)?);
+    assert_served(rt, cell, &[APPLIED]);
+    assert!(rt; ingress.offer(rt, back).is_ok());
     Ok(())
 }
 
-/// An inbox of 16 places accepts 16 items and refuses one more; after a turn it accepts that one.
+/// An inbox of 16 places accepts 16 items and refuses one more, of the poller and of the clock; after a turn it accepts
+/// the one that came back, and is full again.
 fn assert_full_inbox(
     rt: &(impl AllocGlobal + Wait + Abort),
     ingress: &mut Ingress,
     clock: &mut ClockEnd,
     cell: &RouteCell,
 ) -> Result<(), Fail> {
-    for coming in [PUBLISHER, DATA, SUBSCRIBER] {
-        offer_times(rt, ingress, coming, 1)?;
-    }
+    offer_times(rt, ingress, PUBLISHER, 1)?;
+    offer_times(rt, ingress, DATA, 1)?;
+    offer_times(rt, ingress, SUBSCRIBER, 1)?;
     for _ in 0..13 {
         assert!(rt; tick(rt, clock, DELIVERY));
     }
-    assert_comes_back(rt, ingress)?;
     assert!(rt; !tick(rt, clock, DELIVERY));
-    assert_served(rt, cell, &[APPLIED]);
-    offer_times(rt, ingress, DATA, 1)
+    assert_goes_in_after_a_turn(rt, ingress, cell)?;
+    assert!(rt; !tick(rt, clock, DELIVERY));
+    Ok(())
 }
 
 /// Serves the route until the stream's items are applied, and asserts each reply.
@@ -468,12 +499,10 @@ fn assert_stream(
         cell,
         &[MOVED, APPLIED, APPLIED, MOVED, MOVED, APPLIED, MOVED, MOVED],
     );
-    for wanted in REPLIES {
-        assert_drained(rt, drain, wanted)?;
-    }
+    drain_each(rt, drain, &REPLIES)?;
     assert_served(rt, cell, &[APPLIED; 13]);
     assert_served(rt, cell, &[IDLE]);
-    assert!(rt; !drain.take(rt));
+    assert!(rt; drain.take(rt).is_err());
     Ok(())
 }
 
@@ -512,7 +541,7 @@ fn assert_full_outbox(
 fn a_full_outbox_blocks_the_route(rt: HostRuntime) -> Result<(), Fail> {
     let (mut ingress, mut clock, cell, mut drain) = studio(rt.alloc())?;
     assert_full_outbox(&rt, &mut ingress, &mut clock, &cell, &mut drain)?;
-    assert!(rt; !drain.take(&rt));
+    assert!(rt; drain.take(&rt).is_err());
     let account = settled(&rt, ingress, clock, cell, drain)?;
     assert_eq!(rt;
         account,
@@ -542,58 +571,70 @@ fn account_after(
     settled(rt, ingress, clock, cell, drain)
 }
 
+/// The number of turns of a route with one item, the number of replies that are drained, and its account then.
+type Accounting = (usize, usize, Account);
+
+const ACCOUNTINGS: [Accounting; 4] = [
+    (
+        0,
+        0,
+        Account {
+            taken: 0,
+            left: 1,
+            waiting: 0,
+            queued: 0,
+            drained: 0,
+        },
+    ),
+    (
+        1,
+        0,
+        Account {
+            taken: 1,
+            left: 0,
+            waiting: 1,
+            queued: 0,
+            drained: 0,
+        },
+    ),
+    (
+        2,
+        0,
+        Account {
+            taken: 1,
+            left: 0,
+            waiting: 0,
+            queued: 1,
+            drained: 0,
+        },
+    ),
+    (
+        2,
+        1,
+        Account {
+            taken: 1,
+            left: 0,
+            waiting: 0,
+            queued: 0,
+            drained: 1,
+        },
+    ),
+];
+
+fn assert_accounts(
+    rt: &(impl AllocGlobal + Wait + Abort),
+    rows: &[Accounting],
+) -> Result<(), Fail> {
+    for (turns, n, wanted) in rows {
+        assert_eq!(rt; account_after(rt, *turns, *n)?, *wanted);
+    }
+    Ok(())
+}
+
 /// The account counts each item and each reply where it is.
 #[test]
 fn an_account_tells_where_all_is(rt: HostRuntime) -> Result<(), Fail> {
-    for (turns, n, wanted) in [
-        (
-            0,
-            0,
-            Account {
-                taken: 0,
-                left: 1,
-                waiting: 0,
-                queued: 0,
-                drained: 0,
-            },
-        ),
-        (
-            1,
-            0,
-            Account {
-                taken: 1,
-                left: 0,
-                waiting: 1,
-                queued: 0,
-                drained: 0,
-            },
-        ),
-        (
-            2,
-            0,
-            Account {
-                taken: 1,
-                left: 0,
-                waiting: 0,
-                queued: 1,
-                drained: 0,
-            },
-        ),
-        (
-            2,
-            1,
-            Account {
-                taken: 1,
-                left: 0,
-                waiting: 0,
-                queued: 0,
-                drained: 1,
-            },
-        ),
-    ] {
-        assert_eq!(rt; account_after(&rt, turns, n)?, wanted);
-    }
-    Ok(())
+    assert_accounts(&rt, &ACCOUNTINGS)
 }
 
 /// A route that took one of two ticks, neither of which brings a reply, is settled by itself.
@@ -634,40 +675,104 @@ fn serve_until<C: Serve, R: Wait>(rt: &R, cell: &C, stop: &AtomicBool) {
     }
 }
 
-/// Waits for the next reply, and asserts that it is this one.
-fn await_drained(
-    rt: &(impl AllocGlobal + Wait + Abort),
-    drain: &mut Drain,
-    wanted: Expected,
-) -> Result<(), Fail> {
+/// Waits for the next reply.
+fn await_reply<R: Wait>(rt: &R, drain: &mut Drain) -> Result<(), Fail> {
     for _ in 0..10_000_000 {
-        if drain.take(rt) {
-            return assert_at_hand(rt, drain, wanted);
+        if drain.take(rt).is_ok() {
+            return Ok(());
         }
         thread::yield_now();
     }
     Err(Fail::from("a reply comes"))
 }
 
-/// Offers the stream's items, then the publisher's conclusion 800 times, and asserts each reply: a conclusion that
-/// comes again gets the same answer again.
+/// The same route without queues, and a box for its replies.
+#[derive(Drop)]
+struct Alone {
+    route: Route,
+    place: Box<Reply>,
+}
+
+impl Alone {
+    fn open(alloc: Global) -> Result<Alone, Fail> {
+        match Route::open(alloc, &entry(alloc)?, 0) {
+            Ok(route) => Ok(Alone {
+                route,
+                place: Box::new(alloc, Reply::blank())?,
+            }),
+            Err(_) => Err(Fail::from("the route opens")),
+        }
+    }
+
+    /// Applies an item, and returns the number of replies.
+    fn apply<R: Abort>(&mut self, rt: &R, item: &Item) -> usize
+        requires timely { moment_of (told item.now) < 2 ^ 62 }
+    {
+        assert!(rt; !self.route.waits());
+        self.route.step(item)
+    }
+
+    /// Whether its next reply is the one that was drained last.
+    fn replies(&mut self, drain: &Drain) -> bool {
+        let reply = drain.reply();
+        self.route.next_reply(&mut self.place)
+            && self.place.peer == reply.peer
+            && self.place.packet.bytes() == reply.packet.bytes()
+    }
+}
+
+/// Applies a datagram at the route alone, waits for as many replies of the other one, and asserts that they are the same.
+/// Returns their number.
+fn await_the_same(
+    rt: &(impl AllocGlobal + Wait + Abort),
+    alone: &mut Alone,
+    drain: &mut Drain,
+    item: &Item,
+) -> Result<usize, Fail>
+    requires timely { moment_of (told item.now) < 2 ^ 62 }
+{
+    let count = alone.apply(rt, item);
+    for _ in 0..count {
+        await_reply(rt, drain)?;
+        assert!(rt; alone.replies(drain));
+    }
+    Ok(count)
+}
+
+/// Offers a datagram n times, and asserts that each brings the replies of the route alone, and this many.
+fn offer_and_compare(
+    rt: &(impl AllocGlobal + Wait + Abort),
+    ingress: &mut Ingress,
+    drain: &mut Drain,
+    alone: &mut Alone,
+    coming: Coming,
+    counts: (usize, usize),
+) -> Result<(), Fail> {
+    let (n, replies) = counts;
+    offer_times(rt, ingress, coming, n)?;
+    for _ in 0..n {
+        let item = coming.item(rt.alloc())?;
+        assert_eq!(rt; await_the_same(rt, alone, drain, &item)?, replies);
+    }
+    Ok(())
+}
+
+/// Offers the stream's items, then the publisher's conclusion 800 times, and asserts that the replies are those of the
+/// route alone.
 fn offer_and_await(
     rt: &(impl AllocGlobal + Wait + Abort),
     ingress: &mut Ingress,
     drain: &mut Drain,
 ) -> Result<(), Fail> {
-    for coming in [PUBLISHER, DATA, SUBSCRIBER] {
-        offer_times(rt, ingress, coming, 1)?;
-    }
+    let mut alone = Alone::open(rt.alloc())?;
+    offer_and_compare(rt, ingress, drain, &mut alone, PUBLISHER, (1, 1))?;
+    offer_and_compare(rt, ingress, drain, &mut alone, DATA, (1, 0))?;
+    offer_and_compare(rt, ingress, drain, &mut alone, SUBSCRIBER, (1, 2))?;
+    let late = Item::Tick { moment: DELIVERY };
     assert!(rt; ingress.offer(rt, Item::Tick { moment: DELIVERY }).is_ok());
-    for wanted in REPLIES {
-        await_drained(rt, drain, wanted)?;
-    }
+    assert_eq!(rt; await_the_same(rt, &mut alone, drain, &late)?, 2);
     for _ in 0..100 {
-        offer_times(rt, ingress, PUBLISHER, 8)?;
-        for _ in 0..8 {
-            await_drained(rt, drain, ANSWER)?;
-        }
+        offer_and_compare(rt, ingress, drain, &mut alone, PUBLISHER, (8, 1))?;
     }
     Ok(())
 }
@@ -704,7 +809,7 @@ fn serve_by_two<C: Serve + Sync, R: AllocGlobal + Threads + Wait + Abort + Sync>
 fn two_workers_serve_as_one(rt: HostRuntime) -> Result<(), Fail> {
     let (mut ingress, _clock, cell, mut drain) = studio(rt.alloc())?;
     serve_by_two(&rt, &mut ingress, &cell, &mut drain)?;
-    assert!(rt; !drain.take(&rt));
+    assert!(rt; drain.take(&rt).is_err());
     Ok(())
 }
 

@@ -20,22 +20,29 @@ fn free_boxes(boxes: &mut Boxes) -> usize {
     count
 }
 
+/// The places of an outbox, and its free boxes.
+const FREE: [(usize, usize); 7] = [
+    (16, 19),
+    (17, 20),
+    (64, 70),
+    (255, 272),
+    (256, 274),
+    (1024, 1042),
+    (4096, 4114),
+];
+
+fn assert_free(rt: &(impl AllocGlobal + Abort), rows: &[(usize, usize)]) -> Result<(), Fail> {
+    for (places, wanted) in rows {
+        let (mut boxes, _spent) = open_boxes(rt.alloc(), *places)?;
+        assert_eq!(rt; free_boxes(&mut boxes), *wanted);
+    }
+    Ok(())
+}
+
 /// As many boxes are free at first as the outbox has places, a batch (a sixteenth of that, 1 to 16), and two.
 #[test]
 fn a_new_route_has_a_box_for_each_place_a_batch_and_two(rt: HostRuntime) -> Result<(), Fail> {
-    for (places, wanted) in [
-        (16, 19),
-        (17, 20),
-        (64, 70),
-        (255, 272),
-        (256, 274),
-        (1024, 1042),
-        (4096, 4114),
-    ] {
-        let (mut boxes, _spent) = open_boxes(rt.alloc(), places)?;
-        assert_eq!(rt; free_boxes(&mut boxes), wanted);
-    }
-    Ok(())
+    assert_free(&rt, &FREE)
 }
 
 /// The boxes of a route, its outbox, and the reply that its drain has at hand.
@@ -97,16 +104,18 @@ impl Round {
     }
 }
 
-/// Whatever part of a batch the drain has, there are boxes for a full outbox and for the reply that waits.
-#[test]
-fn a_box_is_free_behind_a_full_outbox(rt: HostRuntime) -> Result<(), Fail> {
-    for places in [16, 17, 64, 300] {
+/// Fills an outbox of each of these numbers of places, after 0 to 39 replies.
+fn assert_fills(rt: &(impl AllocGlobal + Abort), rows: &[usize]) -> Result<(), Fail> {
+    for places in rows {
         for n in 0..40 {
-            assert!(rt;
-                Round::open(rt.alloc(), places)?.fills_after(n)?,
-                "{places} {n}"
-            );
+            assert!(rt; Round::open(rt.alloc(), *places)?.fills_after(n)?, "{n}");
         }
     }
     Ok(())
+}
+
+/// Whatever part of a batch the drain has, there are boxes for a full outbox and for the reply that waits.
+#[test]
+fn a_box_is_free_behind_a_full_outbox(rt: HostRuntime) -> Result<(), Fail> {
+    assert_fills(&rt, &[16, 17, 64, 300])
 }

@@ -1,6 +1,6 @@
 //! Random offers, turns, visits and takes on a route's four ends and on a plain program, which must agree at each step:
 //! an offer is refused, a turn is blocked or idle and a take brings nothing exactly where the plain program's queue is
-//! full or empty. No contract says this, since what is known of a queue that refused is true of any list.
+//! full or empty. That a refusal comes of the queue a contract says, but not at which moment.
 
 ghost use Rattle.std.specs.Prelude.{◌<◌, ◌^◌, IfOk};
 ghost use Rattle.srt_seq.specs.Items.{told, moment_of};
@@ -241,7 +241,8 @@ impl Both {
         let body = Vec::from_slice(self.alloc, &caller.body)?;
         let went_in = self
             .ingress
-            .offer_datagram(rt, from, moment, caller.head, body);
+            .offer_datagram(rt, from, moment, caller.head, body)
+            .is_ok();
         Ok(went_in == self.plain.offer(asks)?)
     }
 
@@ -258,7 +259,7 @@ impl Both {
 
     fn offer_tick<R: Wait>(&mut self, rt: &R) -> Result<bool, Fail> {
         let moment = self.moment();
-        let is_full = self.clock.is_full();
+        let is_full = self.clock.is_full().is_some();
         let went_in = self.clock.offer(rt, Item::Tick { moment }).is_ok();
         let is_taken = self.plain.offer(Asks::Nothing)?;
         Ok(went_in == is_taken && is_full != is_taken)
@@ -279,8 +280,8 @@ impl Both {
     }
 
     fn take<R: Wait>(&mut self, rt: &R) -> bool {
-        let is_empty = self.drain.is_empty();
-        let came = self.drain.take(rt);
+        let is_empty = self.drain.is_empty().is_some();
+        let came = self.drain.take(rt).is_ok();
         match self.plain.outbox.pop_front() {
             None => is_empty && !came,
             Some(asks) => !is_empty && came && self.is_at_hand(asks),
@@ -296,10 +297,15 @@ impl Both {
 
     /// The two callers open their sessions.
     fn begin<R: Wait>(&mut self, rt: &R) -> Result<bool, Fail> {
-        let offered = self.offer_datagram(rt, Asks::Publisher)?
-            && self.offer_datagram(rt, Asks::Subscriber)?;
-        let turned = self.turn(rt)? && self.turn(rt)? && self.turn(rt)? && self.turn(rt)?;
-        Ok(offered && turned && self.take(rt) && self.take(rt) && self.take(rt))
+        let mut is_same = self.offer_datagram(rt, Asks::Publisher)?;
+        is_same &= self.offer_datagram(rt, Asks::Subscriber)?;
+        for _ in 0..4 {
+            is_same &= self.turn(rt)?;
+        }
+        for _ in 0..3 {
+            is_same &= self.take(rt);
+        }
+        Ok(is_same)
     }
 
     /// Does one operation. `offers` and `takes` of ten are offers and takes. Returns whether both programs gave the same
@@ -307,12 +313,7 @@ impl Both {
     fn step<R: Wait>(&mut self, rt: &R, offers: u32, takes: u32) -> Result<bool, Fail> {
         let what = self.dice.below(10);
         if what < offers {
-            return match self.dice.below(4) {
-                0 => self.offer_datagram(rt, Asks::Publisher),
-                1 => self.offer_datagram(rt, Asks::Subscriber),
-                2 => self.offer_item(rt, Asks::Publisher),
-                _ => self.offer_tick(rt),
-            };
+            return self.offer(rt);
         }
         if what < offers.wrapping_add(takes) {
             return Ok(self.take(rt));
@@ -321,6 +322,29 @@ impl Both {
             0 => self.visit(rt),
             _ => self.turn(rt),
         }
+    }
+
+    /// Offers something to the inbox.
+    fn offer<R: Wait>(&mut self, rt: &R) -> Result<bool, Fail> {
+        match self.dice.below(4) {
+            0 => self.offer_datagram(rt, Asks::Publisher),
+            1 => self.offer_datagram(rt, Asks::Subscriber),
+            2 => self.offer_item(rt, Asks::Publisher),
+            _ => self.offer_tick(rt),
+        }
+    }
+
+    /// Does a hundred operations, in which each end is used as often as two numbers of the dice say. Returns how many
+    /// there were before both programs differed.
+    fn phase<R: Wait>(&mut self, rt: &R) -> Result<u32, Fail> {
+        let offers = self.dice.below(7);
+        let takes = self.dice.below(5);
+        for at in 0..100u32 {
+            if !self.step(rt, offers, takes)? {
+                return Ok(at);
+            }
+        }
+        Ok(100)
     }
 }
 
@@ -334,11 +358,8 @@ fn assert_same(
     let mut both = Both::open(rt.alloc(), seed, inbox, outbox)?;
     assert!(rt; both.begin(rt)?);
     for phase in 0..250u32 {
-        let offers = both.dice.below(7);
-        let takes = both.dice.below(5);
-        for at in 0..100u32 {
-            assert!(rt; both.step(rt, offers, takes)?, "{seed} {phase} {at}");
-        }
+        let same = both.phase(rt)?;
+        assert!(rt; same == 100, "{phase} {same}");
     }
     Ok(())
 }

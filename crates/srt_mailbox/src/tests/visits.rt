@@ -124,10 +124,20 @@ fn assert_asked_about(
     Ok(())
 }
 
-#[test]
-fn a_gate_is_asked_about_the_route_that_is_served(rt: HostRuntime) -> Result<(), Fail> {
-    for (index, twice) in [(0, 0), (1, 11), (2, 22), (3, 33), (7, 77)] {
-        assert_asked_about(&rt, index, twice)?;
+/// An index, and its digit twice.
+const INDEXES: [(usize, u64); 5] = [(0, 0), (1, 11), (2, 22), (3, 33), (7, 77)];
+
+fn assert_all_asked_about(
+    rt: &(impl AllocGlobal + Wait + Abort),
+    rows: &[(usize, u64)],
+) -> Result<(), Fail> {
+    for (index, twice) in rows {
+        assert_asked_about(rt, *index, *twice)?;
     }
     Ok(())
+}
+
+#[test]
+fn a_gate_is_asked_about_the_route_that_is_served(rt: HostRuntime) -> Result<(), Fail> {
+    assert_all_asked_about(&rt, &INDEXES)
 }

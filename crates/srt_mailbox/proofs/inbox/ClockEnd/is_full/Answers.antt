@@ -1,5 +1,5 @@
 use Rattle.srt_mailbox.proofs.Offers.{learns_ticked}
 use Rattle.srt_mailbox.proofs.inbox.ClockEnd.is_full.Goals as goal
 
-pub is_full_as-requires-clause-rule : goal.is_full_as-requires-clause-rule
-is_full_as-requires-clause-rule c = learns_ticked _ _ c.self.invariant.1
+pub find_full-requires-clause-rule : goal.find_full-requires-clause-rule
+find_full-requires-clause-rule c = learns_ticked _ _ c.self.invariant.1

@@ -3,5 +3,5 @@ use Rattle.srt_mailbox.specs.Marks.{MarkedItem}
 use Rattle.srt_mailbox.proofs.Offers.{ticks, learns_ticked}
 use Rattle.srt_mailbox.proofs.inbox.ClockEnd.offer.Goals as goal
 
-pub push_as-requires-clause-rule : goal.push_as-requires-clause-rule
-push_as-requires-clause-rule g c = (ticks _ _ _ _ c.self.invariant.1 (ap (λ (m : MarkedItem). m.polled) c.new-marked.ensures), learns_ticked _ _ c.self.invariant.1)
+pub push-requires-clause-rule : goal.push-requires-clause-rule
+push-requires-clause-rule g c = (ticks _ _ _ _ c.self.invariant.1 (ap (λ (m : MarkedItem). m.polled) c.new-marked.ensures), learns_ticked _ _ c.self.invariant.1)

@@ -8,18 +8,18 @@ use Rattle.srt_mailbox.specs.declared.inbox_rule.InboxView.{InboxView}
 use Rattle.srt_mailbox.proofs.Offers.{takes, learns_rest}
 use Rattle.srt_mailbox.proofs.inbox.Taker.take.Goals as goal
 
-pub is_empty_as-requires-clause-rule : goal.is_empty_as-requires-clause-rule
-is_empty_as-requires-clause-rule g c = learns_rest _ _ c.self.invariant.1
+pub find_empty-requires-clause-rule : goal.find_empty-requires-clause-rule
+find_empty-requires-clause-rule g c = learns_rest _ _ c.self.invariant.1
 
-pub returns-then-is_empty_as : goal.returns-then-is_empty_as
-returns-then-is_empty_as g c =
+pub returns-in-Some-clause-took : goal.returns-in-Some-clause-took
+returns-in-Some-clause-took g c =
     let inside = c.self.inside in
-    let same = c.is_empty_as.ensures.queue in (
+    let same = c.find_empty.ensures.queue in (
       (λ i. consumer (same.0.0 i) (ruled_capacity (arc_value inside.queue)) (same.1 i).taken) ∙ c.self.view_is,
-      subst (λ (d : Consumer). Held 0 (StoodAsTaken d.taken)) c.self.view_is (c.is_empty_as.ensures.rule c.if-is_empty_as.true),
+      subst (λ (d : Consumer). Held 0 (StoodAsTaken d.taken)) c.self.view_is c.in-Some.ensures.rule,
     )
 
-pub pop_as-requires-clause-rule : goal.pop_as-requires-clause-rule
-pop_as-requires-clause-rule g c =
-    let may = subst (λ (v : InboxView). v.takes ≡ true) (sym c.is_empty_as.ensures.queue.1) c.self.invariant.1 in
+pub pop-requires-clause-rule : goal.pop-requires-clause-rule
+pop-requires-clause-rule g c =
+    let may = subst (λ (v : InboxView). v.takes ≡ true) (sym c.find_empty.ensures.queue.1) c.self.invariant.1 in
     (takes _ _ may, learns_rest _ _ may)

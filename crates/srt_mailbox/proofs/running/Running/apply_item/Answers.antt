@@ -10,7 +10,8 @@ use Rattle.srt_route.specs.Written.{written}
 use Rattle.srt_mailbox.specs.Counts.{counted}
 use Rattle.srt_mailbox.specs.Inbox.{applied, StoodAsTaken}
 use Rattle.srt_mailbox.specs.Ends.{Consumer, consumer}
-use Rattle.srt_mailbox.specs.Runs.{Run, run, waiting_at}
+use Rattle.srt_mailbox.specs.Evidence.{EmptyOnceMore}
+use Rattle.srt_mailbox.specs.Runs.{Run, run, but_for, waiting_at}
 use Rattle.srt_mailbox.proofs.Turns.{told_last, none_held, waits_next, applied_replays, counted_more}
 use Rattle.srt_mailbox.proofs.running.Running.apply_item.Goals as goal
 
@@ -20,37 +21,39 @@ invariant_of-self g c =
     let e = terms_of inside.entry.value in
     let r = inside.index.value in
     let items = applied inside.taker.taken in
-    let x = c.in-Some.marked in
+    let x = c.in-Ok.marked in
     let none = ap (λ (w : Run). w.waiting) c.self.view_is ∙ c.requires in
-    let taken = ap (λ (k : Consumer). applied k.taken) c.in-Some.ensures ∙ told_last [] inside.taker.taken x in
+    let taken = ap (λ (k : Consumer). applied k.taken) c.in-Ok.ensures.took ∙ told_last [] inside.taker.taken x in
     let stood : stands inside.route e r items = c.self.invariant.0 in
     let waits = waits_next e r items inside.held inside.route c.step-self-inside.new.self _ _ none (c.step-self-inside.ensures.replies e r items stood) c.into_item-item.ensures.item in (
       rw taken (subst (λ (i : Item). stands c.step-self-inside.new.self e r (told i ∷ items)) c.into_item-item.ensures.item (c.step-self-inside.ensures.stands e r items stood)),
       rw taken (applied_replays e r (map written inside.putter.put) (waiting_at inside.held inside.route) (waiting_at inside.held c.step-self-inside.new.self) items (told x.item) c.self.invariant.1 none waits),
       c.step-self-inside.ensures.count ∙ ap (λ l. length (l ++ waiting c.step-self-inside.new.self)) (sym (none_held inside.held inside.route none)),
-      c.saturating_add-self-inside.ensures ∙ counted_more (length inside.taker.taken) inside.taken c.self.invariant.3 ∙ sym (ap counted (ap (λ (k : Consumer). length k.taken) c.in-Some.ensures ∙ length-append inside.taker.taken (x ∷ []))),
+      c.saturating_add-self-inside.ensures ∙ counted_more (length inside.taker.taken) inside.taken c.self.invariant.3 ∙ sym (ap counted (ap (λ (k : Consumer). length k.taken) c.in-Ok.ensures.took ∙ length-append inside.taker.taken (x ∷ []))),
     )
 
-pub returns-in-Some : goal.returns-in-Some
-returns-in-Some g c =
+pub returns-in-Ok : goal.returns-in-Ok
+returns-in-Ok g c =
     let inside = c.self.inside in
     let now = c.step-self-inside.new.self in
     let run_of = run (terms_of inside.entry.value) inside.index.value in
     let stood : stands inside.route (terms_of inside.entry.value) inside.index.value (applied inside.taker.taken) = c.self.invariant.0 in
     let waits = waits_next (terms_of inside.entry.value) inside.index.value (applied inside.taker.taken) inside.held inside.route now _ _ (ap (λ (w : Run). w.waiting) c.self.view_is ∙ c.requires) (c.step-self-inside.ensures.replies (terms_of inside.entry.value) inside.index.value (applied inside.taker.taken) stood) c.into_item-item.ensures.item in (
-      c.in-Some.marked,
+      c.in-Ok.marked,
       c.requires,
       subst
-          (λ (w : Run). run_of c.take.new.self inside.putter (waiting_at inside.held now) ≡ run w.terms w.index (consumer w.inbox.queue w.inbox.capacity (w.inbox.taken ++ c.in-Some.marked ∷ [])) w.outbox (reply w.terms w.index (told c.in-Some.marked.item ∷ applied w.inbox.taken)))
+          (λ (w : Run). run_of c.take.new.self inside.putter (waiting_at inside.held now) inside.refusals ≡ run w.terms w.index (consumer w.inbox.queue w.inbox.capacity (w.inbox.taken ++ c.in-Ok.marked ∷ [])) w.outbox (reply w.terms w.index (told c.in-Ok.marked.item ∷ applied w.inbox.taken)) w.refusals)
           c.self.view_is
-          (λ i. run_of (c.in-Some.ensures i) inside.putter (waits i)),
+          (λ i. run_of (c.in-Ok.ensures.took i) inside.putter (waits i) inside.refusals),
     )
 
-pub returns-in-None : goal.returns-in-None
-returns-in-None g c =
+pub returns-in-Err : goal.returns-in-Err
+returns-in-Err g c =
     let inside = c.self.inside in
-    let empty = c.in-None.ensures in (
+    let empty = c.in-Err.ensures.took in
+    let counts = c.note_empty.new.self in (
       c.requires,
-      (λ i. run (terms_of inside.entry.value) inside.index.value (empty.0 i) inside.putter (waiting_at inside.held inside.route)) ∙ c.self.view_is,
+      (λ i. run (terms_of inside.entry.value) inside.index.value (empty.0 i) inside.putter (waiting_at inside.held inside.route) counts) ∙ ap (λ (w : Run). but_for w counts) c.self.view_is,
       subst (λ (w : Run). Held 0 (StoodAsTaken w.inbox.taken)) c.self.view_is empty.1,
+      subst (λ (w : Run). EmptyOnceMore w.refusals counts) c.self.view_is c.note_empty.ensures,
     )

@@ -44,7 +44,7 @@ returns-in-Ok g c =
       waiting route,
       ap (λ (w : Run). w.waiting) (sym c.self.view_is) ∙ c.next_waiting-reply.ensures.first ∙ ap (λ (b : Box Reply). written b.value ∷ waiting route) (sym c.new-parcel.ensures),
       subst
-          (λ (w : Run). run (terms_of inside.entry.value) inside.index.value inside.taker c.put.new.self (waiting_at c.next_waiting-reply.new.held route) ≡ run w.terms w.index w.inbox (pipe w.outbox.queue w.outbox.capacity (w.outbox.put ++ y ∷ [])) (waiting route))
+          (λ (w : Run). run (terms_of inside.entry.value) inside.index.value inside.taker c.put.new.self (waiting_at c.next_waiting-reply.new.held route) inside.refusals ≡ run w.terms w.index w.inbox (pipe w.outbox.queue w.outbox.capacity (w.outbox.put ++ y ∷ [])) (waiting route) w.refusals)
           c.self.view_is
-          (λ i. run (terms_of inside.entry.value) inside.index.value inside.taker (c.in-Ok.ensures.ok i) (waiting_at (c.next_waiting-reply.ensures.held i) route)),
+          (λ i. run (terms_of inside.entry.value) inside.index.value inside.taker (c.in-Ok.ensures.ok i) (waiting_at (c.next_waiting-reply.ensures.held i) route) inside.refusals),
     )

@@ -1,5 +1,5 @@
 use Rattle.std.proofs.Common.{arith, refl, ◌∙◌}
-use Rattle.srt_mailbox.proofs.Turns.{still_bears, taken_more, put_more, asked_more}
+use Rattle.srt_mailbox.proofs.Turns.{still_bears, taken_more, put_more, idle_at_last, blocked_at_last, asked_more}
 use Rattle.srt_mailbox.proofs.running.Running.visit.Goals as goal
 use Rattle.srt_mailbox.proofs.running.Running.visit.Goals.{in-Applied, in-Moved}
 
@@ -8,6 +8,12 @@ returns-in-Idle-clause-bears g c n bears = still_bears _ _ _ c.turn.ensures n (c
 
 pub returns-in-Blocked-clause-bears : goal.returns-in-Blocked-clause-bears
 returns-in-Blocked-clause-bears g c n bears = still_bears _ _ _ c.turn.ensures n (c.loop-turns.invariant.0 n bears)
+
+pub returns-in-Idle-clause-ended : goal.returns-in-Idle-clause-ended
+returns-in-Idle-clause-ended g c = idle_at_last _ _ _ _ c.in-Idle.is c.turn.ensures c.loop-turns.invariant.5
+
+pub returns-in-Blocked-clause-ended : goal.returns-in-Blocked-clause-ended
+returns-in-Blocked-clause-ended g c = blocked_at_last _ _ _ _ c.in-Blocked.is c.turn.ensures c.loop-turns.invariant.5
 
 pub loop-turns-preserved : goal.loop-turns-preserved
 loop-turns-preserved g c =
@@ -23,5 +29,9 @@ loop-turns-preserved g c =
         | in-Moved w ↦ omega (arith, (put_more _ _ _ w.in-Moved.is c.turn.ensures).1, before.3)
       ],
       c.if-not-pass.ensures.passed refl ∙ before.4,
-      asked_more _ _ _ _ _ before.5 c.if-not-pass.ensures.asked,
+      elim c.match-turn.branch [
+        | in-Applied w ↦ (taken_more _ _ _ w.in-Applied.is c.turn.ensures).2 ∙ before.5
+        | in-Moved w ↦ (put_more _ _ _ w.in-Moved.is c.turn.ensures).2 ∙ before.5
+      ],
+      asked_more _ _ _ _ _ before.6 c.if-not-pass.ensures.asked,
     )

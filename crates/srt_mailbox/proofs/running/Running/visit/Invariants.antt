@@ -11,4 +11,5 @@ invariant-loop-turns g l =
     × (length l.self.outbox.put ≡ length l.fn.self.outbox.put + l.moved)
     × (turns_of l.self ≡ turns_of l.fn.self + l.turns)
     × (g.G.Gate.held l.gate ≡ g.G.Gate.held l.fn.gate)
+    × (l.self.refusals ≡ l.fn.self.refusals)
     × (g.G.Gate.asked l.gate ≡ option_map (passes l.fn.route l.turns) (g.G.Gate.asked l.fn.gate))
