@@ -58,12 +58,12 @@ route_origin class schedules r s (Accepts a k ∷ events) h = route_origin class
 route_origin class schedules r s (Overflows a k ∷ events) h = route_origin class schedules r (state_by schedules s (Overflows a k)) events h.1
 route_origin class schedules r s (Refuses a k ∷ events) h = route_origin class schedules r (state_by schedules s (Refuses a k)) events h.1
 route_origin class schedules r s (Drops a cause ∷ events) h = route_origin class schedules r (state_by schedules s (Drops a cause)) events h.1
-route_origin class schedules r s (Sends k d Taken ∷ events) h = rw h.0 (gone class r k d None events (route_origin class schedules r (state_by schedules s (Sends k d Taken)) events h.1))
-route_origin class schedules r s (Sends k d Failed ∷ events) h = rw h.0 (gone class r k d None events (route_origin class schedules r (state_by schedules s (Sends k d Failed)) events h.1))
-route_origin class schedules r s (Sends k d Later ∷ events) h = rw h.0 (route_origin class schedules r (state_by schedules s (Sends k d Later)) events h.1)
-route_origin class schedules r s (Resends k d Taken ∷ events) h = rw h.0 (gone class r k d None events (route_origin class schedules r (state_by schedules s (Resends k d Taken)) events h.1))
-route_origin class schedules r s (Resends k d Failed ∷ events) h = rw h.0 (gone class r k d None events (route_origin class schedules r (state_by schedules s (Resends k d Failed)) events h.1))
-route_origin class schedules r s (Resends k d Later ∷ events) h = rw h.0 (route_origin class schedules r (state_by schedules s (Resends k d Later)) events h.1)
+route_origin class schedules r s (Sends k d Taken ∷ events) h = rw h.0.1 (gone class r k d None events (route_origin class schedules r (state_by schedules s (Sends k d Taken)) events h.1))
+route_origin class schedules r s (Sends k d Failed ∷ events) h = rw h.0.1 (gone class r k d None events (route_origin class schedules r (state_by schedules s (Sends k d Failed)) events h.1))
+route_origin class schedules r s (Sends k d Later ∷ events) h = rw h.0.1 (route_origin class schedules r (state_by schedules s (Sends k d Later)) events h.1)
+route_origin class schedules r s (Resends k d Taken ∷ events) h = rw h.0.1 (gone class r k d None events (route_origin class schedules r (state_by schedules s (Resends k d Taken)) events h.1))
+route_origin class schedules r s (Resends k d Failed ∷ events) h = rw h.0.1 (gone class r k d None events (route_origin class schedules r (state_by schedules s (Resends k d Failed)) events h.1))
+route_origin class schedules r s (Resends k d Later ∷ events) h = rw h.0.1 (route_origin class schedules r (state_by schedules s (Resends k d Later)) events h.1)
 
 -- the kept reply of the state
 pub kept_is : (schedules : List Schedule) (s : State) (events : List Event) → (state_after schedules s events).kept ≡ kept_after s.kept events

@@ -1,5 +1,5 @@
 -- One event, and one after the other.
-use Rattle.std.proofs.Common.{◌≡◌, ◌≢◌, ℕ, zero, suc, ◌+◌, ◌*◌, ◌<◌, ◌≤◌, ◌==◌, Bool, true, false, Option, None, Some, List, [], ◌∷◌, ◌++◌, length, map, slice_index_or, slice_set, refl, sym, ap, ◌∙◌, subst, append_assoc, append-nil, arith, add-mul}
+use Rattle.std.proofs.Common.{◌≡◌, ◌≢◌, ◌⊎◌, inl, inr, ℕ, zero, suc, ◌+◌, ◌*◌, ◌<◌, ◌≤◌, ◌==◌, Bool, true, false, Option, None, Some, List, [], ◌∷◌, ◌++◌, length, map, slice_index_or, slice_set, refl, sym, ap, ◌∙◌, subst, append_assoc, append-nil, arith, add-mul}
 use Rattle.std.specs.Prelude.{if◌then◌else◌}
 use Rattle.srt_seq.specs.declared.shared.Schedule.{Schedule}
 use Rattle.std.specs.Option.{is_some}
@@ -14,11 +14,10 @@ use Rattle.srt_mailbox.specs.Ends.{Producer, Drained, drained as drained_to}
 use Rattle.srt_poller.specs.declared.devices.Sent.{Sent}
 use Rattle.srt_poller.specs.declared.ends.Ends.{Ends}
 use Rattle.srt_poller.specs.declared.devices.Sent.TheVariants.{Taken, Later, Failed}
-use Rattle.srt_poller.specs.declared.ends.Offered.TheVariants.{Accepted}
-use Rattle.srt_poller.specs.Devices.{Arrival, handed_by_send, joined}
-use Rattle.srt_poller.specs.Pollers.{OfferedAs, ClosedAs}
+use Rattle.srt_poller.specs.Devices.{Arrival, Heard, heard, Carried, Call, heard_more, handed_by_send, joined}
+use Rattle.srt_poller.specs.Pollers.{Turn, IsUpTo, Replies, ClosedAs}
 use Rattle.srt_poller.specs.Schedules.{CloseOffer, offered}
-use Rattle.srt_poller.specs.History.{Sorting, Event, State, Fits, Follow, state_by, state_after, Begins, closing_by, closings, given_by, given, Handed, handed_by, handed, datagrams, accepted_by, accepted, drained_by, drained, at_route, waits_by, ready_by, reads_by, Waits, WaitFails, ReadsNothing, ReadFails, Answers, Accepts, Overflows, Refuses, Drops, Sends, Resends}
+use Rattle.srt_poller.specs.History.{Sorting, Event, State, Fits, Follow, state_by, state_after, Begins, closing_by, closings, given_by, given, calls_by, calls, attempts_by, attempts, Phase, Between, Begun, Reading, Sending, reading, sent_on, IsOver, MaySend, Handed, handed_by, handed, datagrams, accepted_by, accepted, drained_by, drained, at_route, waits_by, ready_by, reads_by, Waits, WaitFails, ReadsNothing, ReadFails, Answers, Accepts, Overflows, Refuses, Drops, Sends, Resends}
 use Rattle.srt_poller.specs.Reports.{counted_by, counted}
 use Rattle.srt_poller.specs.Rounds.{World, IsLater, AreLater, Happened, Went}
 
@@ -62,9 +61,11 @@ are_later_then us vs x y z h k = record {
 pub happened_then : {class : Sorting} {schedules : List Schedule} {m n w v r s : ℕ} (us vs : List Event) (x y z : World) → Happened class schedules m w r us x y → Happened class schedules n v s vs y z → Happened class schedules (m + n) (w + v) (r + s) (us ++ vs) x z
 happened_then {class} {schedules} {m} {n} {w} {v} {r} {s} us vs x y z h k = record {
   follow = follow_then x.state us (subst (λ (o : State). Follow class schedules o vs) h.state k.follow) h.follow;
-  gave = k.gave ∙ ap (λ o. joined o (given vs)) h.gave ∙ joined_twice x.gave (given us) (given vs) ∙ ap (joined x.gave) (sym (flat_map-append given_by us vs));
-  handed = k.handed ∙ ap (λ o. joined o (datagrams (handed vs))) h.handed ∙ joined_twice x.handed (datagrams (handed us)) (datagrams (handed vs))
-      ∙ ap (joined x.handed) (sym (ap datagrams (flat_map-append handed_by us vs) ∙ map-append (λ (d : Handed). d.datagram) (handed us) (handed vs)));
+  gave = k.gave ∙ ap (λ o. joined o (given vs)) h.gave ∙ joined_twice x.source.gave (given us) (given vs) ∙ ap (joined x.source.gave) (sym (flat_map-append given_by us vs));
+  called = k.called ∙ ap (λ o. joined o (calls vs)) h.called ∙ joined_twice x.source.calls (calls us) (calls vs) ∙ ap (joined x.source.calls) (sym (flat_map-append calls_by us vs));
+  handed = k.handed ∙ ap (λ o. joined o (datagrams (handed vs))) h.handed ∙ joined_twice x.wire.handed (datagrams (handed us)) (datagrams (handed vs))
+      ∙ ap (joined x.wire.handed) (sym (ap datagrams (flat_map-append handed_by us vs) ∙ map-append (λ (d : Handed). d.datagram) (handed us) (handed vs)));
+  attempted = k.attempted ∙ ap (λ o. joined o (attempts vs)) h.attempted ∙ joined_twice x.wire.attempts (attempts us) (attempts vs) ∙ ap (joined x.wire.attempts) (sym (flat_map-append attempts_by us vs));
   ends = are_later_then us vs x.ends y.ends z.ends h.ends k.ends;
   state = k.state ∙ ap (λ o. state_after schedules o vs) h.state ∙ sym (fold-append (state_by schedules) x.state us vs);
   report = k.report ∙ ap (λ c. counted c vs) h.report ∙ sym (fold-append counted_by x.report us vs);
@@ -82,8 +83,10 @@ went_none class schedules most x = (
   [],
   record {
     follow = tt;
-    gave = sym (joined_none x.gave);
-    handed = sym (joined_none x.handed);
+    gave = sym (joined_none x.source.gave);
+    called = sym (joined_none x.source.calls);
+    handed = sym (joined_none x.wire.handed);
+    attempted = sym (joined_none x.wire.attempts);
     ends = are_later_none [] x.ends (λ r. refl) (λ r. refl);
     state = refl;
     report = refl;
@@ -102,7 +105,9 @@ went_more le less h = (
   record {
     follow = h.1.follow;
     gave = h.1.gave;
+    called = h.1.called;
     handed = h.1.handed;
+    attempted = h.1.attempted;
     ends = h.1.ends;
     state = h.1.state;
     report = h.1.report;
@@ -112,14 +117,23 @@ went_more le less h = (
   },
 )
 
+-- what one event makes of the records of the devices
+pub record HasRecorded (event : Event) (source source' : Heard) (wire wire' : Carried) : Type 0 where
+  pub gave : source'.gave ≡ joined source.gave (given_by event)
+  pub called : source'.calls ≡ joined source.calls (calls_by event)
+  pub handed : wire'.handed ≡ joined wire.handed (datagrams (handed_by event))
+  pub attempted : wire'.attempts ≡ joined wire.attempts (attempts_by event)
+
 pub went_once : (class : Sorting) (schedules : List Schedule) (event : Event) (w r : ℕ) (x y : World) → waits_by event ≡ w → ready_by event + r ≤ reads_by event + w →
-    Fits class schedules x.state event → y.gave ≡ joined x.gave (given_by event) → y.handed ≡ joined x.handed (datagrams (handed_by event)) → AreLater (event ∷ []) x.ends y.ends → y.state ≡ state_by schedules x.state event → y.report ≡ counted_by x.report event → Went class schedules 1 w r x y
-went_once class schedules event w r x y waits reads fits gave handed ends state report = (
+    Fits class schedules x.state event → HasRecorded event x.source y.source x.wire y.wire → AreLater (event ∷ []) x.ends y.ends → y.state ≡ state_by schedules x.state event → y.report ≡ counted_by x.report event → Went class schedules 1 w r x y
+went_once class schedules event w r x y waits reads fits recorded ends state report = (
   event ∷ [],
   record {
     follow = (fits, tt);
-    gave = gave ∙ ap (joined x.gave) (sym (append-nil (given_by event)));
-    handed = handed ∙ ap (λ hs. joined x.handed (datagrams hs)) (sym (append-nil (handed_by event)));
+    gave = recorded.gave ∙ ap (joined x.source.gave) (sym (append-nil (given_by event)));
+    called = recorded.called ∙ ap (joined x.source.calls) (sym (append-nil (calls_by event)));
+    handed = recorded.handed ∙ ap (λ hs. joined x.wire.handed (datagrams hs)) (sym (append-nil (handed_by event)));
+    attempted = recorded.attempted ∙ ap (joined x.wire.attempts) (sym (append-nil (attempts_by event)));
     ends = ends;
     state = state;
     report = report;
@@ -129,8 +143,8 @@ went_once class schedules event w r x y waits reads fits gave handed ends state 
   },
 )
 
-pub went_one : (class : Sorting) (schedules : List Schedule) (event : Event) (x y : World) → Fits class schedules x.state event → y.gave ≡ joined x.gave (given_by event) → y.handed ≡ joined x.handed (datagrams (handed_by event)) → AreLater (event ∷ []) x.ends y.ends → y.state ≡ state_by schedules x.state event → y.report ≡ counted_by x.report event → Went class schedules 1 (waits_by event) (reads_by event) x y
-went_one class schedules event x y fits gave handed ends state report = went_once class schedules event (waits_by event) (reads_by event) x y refl (owed event) fits gave handed ends state report
+pub went_one : (class : Sorting) (schedules : List Schedule) (event : Event) (x y : World) → Fits class schedules x.state event → HasRecorded event x.source y.source x.wire y.wire → AreLater (event ∷ []) x.ends y.ends → y.state ≡ state_by schedules x.state event → y.report ≡ counted_by x.report event → Went class schedules 1 (waits_by event) (reads_by event) x y
+went_one class schedules event x y fits recorded ends state report = went_once class schedules event (waits_by event) (reads_by event) x y refl (owed event) fits recorded ends state report
   where
     owed : (e : Event) → ready_by e + reads_by e ≤ reads_by e + waits_by e
     owed (Begins m os) = omega arith
@@ -145,6 +159,78 @@ went_one class schedules event x y fits gave handed ends state report = went_onc
     owed (Drops a c) = omega arith
     owed (Sends r d s) = omega arith
     owed (Resends r d s) = omega arith
+
+-- nothing was recorded by the source, or by the wire
+pub unheard : (event : Event) (source : Heard) (wire wire' : Carried) → given_by event ≡ [] → calls_by event ≡ [] → wire'.handed ≡ joined wire.handed (datagrams (handed_by event)) → wire'.attempts ≡ joined wire.attempts (attempts_by event) → HasRecorded event source source wire wire'
+unheard event source wire wire' gave calls handed attempted = record {
+  gave = sym (joined_none source.gave) ∙ ap (joined source.gave) (sym gave);
+  called = sym (joined_none source.calls) ∙ ap (joined source.calls) (sym calls);
+  handed = handed;
+  attempted = attempted;
+}
+
+pub unsent : (event : Event) (source source' : Heard) (wire : Carried) → handed_by event ≡ [] → attempts_by event ≡ [] → source'.gave ≡ joined source.gave (given_by event) → source'.calls ≡ joined source.calls (calls_by event) → HasRecorded event source source' wire wire
+unsent event source source' wire handed attempted gave called = record {
+  gave = gave;
+  called = called;
+  handed = sym (joined_none wire.handed) ∙ ap (λ hs. joined wire.handed (datagrams hs)) (sym handed);
+  attempted = sym (joined_none wire.attempts) ∙ ap (joined wire.attempts) (sym attempted);
+}
+
+pub heard_as : (h : Heard) (arrivals : List Arrival) (call : Call) (gave : Option (List Arrival)) (calls : Option (List Call)) → gave ≡ joined h.gave arrivals → calls ≡ joined h.calls (call ∷ []) → heard_more h arrivals call ≡ heard gave calls
+heard_as h arrivals call gave calls e k = ap (λ (g : Option (List Arrival)). heard g (joined h.calls (call ∷ []))) (sym e) ∙ ap (heard gave) (sym k)
+
+-- phases
+pub reading_below : (reads : ℕ) → reads < 256 → reading reads ≡ Reading reads
+reading_below reads below = by_test (reads == 256) refl
+  where
+    by_test : (b : Bool) → (reads == 256) ≡ b → (if b then Sending 0 0 else Reading reads) ≡ Reading reads
+    by_test true is = absurd (grind (arith, nat_tests))
+    by_test false is = refl
+
+is_below : (a c : ℕ) → a ≤ c → (a == c) ≡ false → a < c
+is_below a c le is = grind (arith, nat_tests)
+
+pub up_to_more : {a b c d : ℕ} {phase : Phase} → a ≤ c → (a ≡ c → b ≤ d) → IsUpTo a b phase → IsUpTo c d phase
+up_to_more {a} {b} {c} {d} le more up = (up.0, up.1, up.2, by_place up.3 (a == c) refl)
+  where
+    by_place : (up.0 < a) ⊎ ((up.0 ≡ a) × (up.1 ≤ b)) → (t : Bool) → (a == c) ≡ t → (up.0 < c) ⊎ ((up.0 ≡ c) × (up.1 ≤ d))
+    by_place (inl h) t e = inl (omega (arith, le, h))
+    by_place (inr h) true e = let same : a ≡ c = grind (arith, nat_tests) in inr (h.0 ∙ same, omega (arith, h.1, more same))
+    by_place (inr h) false e = inl (omega (arith, h.0, is_below a c le e))
+
+pub up_to_over : {a b : ℕ} {phase : Phase} → IsUpTo a b phase → IsOver phase
+up_to_over up = subst IsOver (sym up.2) tt
+
+pub up_to_sends : {r n : ℕ} {phase : Phase} → n < 64 → IsUpTo r n phase → MaySend phase r
+up_to_sends {r} {n} below up = subst (λ (p : Phase). MaySend p r) (sym up.2) (by_place up.3)
+  where
+    by_place : (up.0 < r) ⊎ ((up.0 ≡ r) × (up.1 ≤ n)) → (up.0 < r) ⊎ ((up.0 ≡ r) × (up.1 < 64))
+    by_place (inl h) = inl h
+    by_place (inr h) = inr (h.0, omega (arith, h.1, below))
+
+pub up_to_sent : {r n : ℕ} {phase : Phase} → IsUpTo r n phase → IsUpTo r (n + 1) (sent_on r phase)
+up_to_sent {r} {n} up = (r, (if up.0 == r then up.1 + 1 else 1), ap (sent_on r) up.2, inr (refl, by_test (up.0 == r) refl up.3))
+  where
+    by_test : (b : Bool) → (up.0 == r) ≡ b → (up.0 < r) ⊎ ((up.0 ≡ r) × (up.1 ≤ n)) → (if b then up.1 + 1 else 1) ≤ n + 1
+    by_test true e (inl lt) = absurd (grind (arith, nat_tests))
+    by_test true e (inr k) = omega (arith, k.1)
+    by_test false e k = omega arith
+
+-- replies after others
+pub replies_then : {a b c d e f m n : ℕ} {x y z : Turn → Phase → Heard → World} → Replies a b c d m x y → Replies c d e f n y z → Replies a b e f (m + n) x z
+replies_then h k class schedules t phase source up =
+    let first = h class schedules t phase source up in
+    let second = k class schedules t first.0 source first.1 in
+    (second.0, second.1, went_then first.2 second.2)
+
+pub replies_more : {a b c d e f m n : ℕ} {x y : Turn → Phase → Heard → World} → c ≤ e → (c ≡ e → d ≤ f) → m ≤ n → Replies a b c d m x y → Replies a b e f n x y
+replies_more le more few h class schedules t phase source up =
+    let done = h class schedules t phase source up in
+    (done.0, up_to_more le more done.1, went_more few (omega arith) done.2)
+
+pub replies_from : {a b c d e f m : ℕ} {x y : Turn → Phase → Heard → World} → a ≤ c → (a ≡ c → b ≤ d) → Replies c d e f m x y → Replies a b e f m x y
+replies_from le more h class schedules t phase source up = h class schedules t phase source (up_to_more le more up)
 
 -- if one element of a list of ends changed
 pub one_changed : (event : Event) (k : ℕ) (es : List Ends) (d z : Ends) → k < length es →
@@ -238,7 +324,8 @@ nothing_here event k es d z below a b ingress drain =
       through = ap (λ (x : Drained). map written x.through) drain ∙ sym (append-nil _);
     }))
 
-pub accepted_now : (a : Arrival) (x y : Ends) → OfferedAs Accepted a x.ingress y.ingress → y.drain ≡ x.drain → IsLater (Received a.datagram a.moment ∷ []) [] x y
+pub accepted_now : (a : Arrival) (x y : Ends) →
+    (y.ingress.queue ≡ x.ingress.queue) × (y.ingress.capacity ≡ x.ingress.capacity) × (map told y.ingress.offered ≡ map told x.ingress.offered ++ Received a.datagram a.moment ∷ []) → y.drain ≡ x.drain → IsLater (Received a.datagram a.moment ∷ []) [] x y
 accepted_now a x y h drain = record {
   inbox = h.0;
   inbox_capacity = h.1;

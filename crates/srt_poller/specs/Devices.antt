@@ -3,6 +3,8 @@ use Rattle.std.specs.Prelude.{ℕ, ◌<◌, ◌≤◌, ◌^◌, Option, List, []
 use Rattle.srt_seq.specs.declared.shared.Peer.{Peer}
 use Rattle.srt_seq.specs.Items.{Datagram as TheDatagram}
 use Rattle.srt_mailbox.specs.Counts.{Grew}
+use Rattle.srt_poller.specs.declared.devices.Polled.{Polled}
+use Rattle.srt_poller.specs.declared.devices.Polled.TheVariants as polled
 use Rattle.srt_poller.specs.declared.devices.Read.{Read}
 use Rattle.srt_poller.specs.declared.devices.Read.TheVariants.{Datagram, Empty, Failed}
 use Rattle.srt_poller.specs.declared.devices.Sent.{Sent}
@@ -37,6 +39,53 @@ handed_by_send sent.Taken x = x ∷ []
 handed_by_send sent.Later x = []
 handed_by_send sent.Failed x = x ∷ []
 
+-- a send, and its outcome
+pub record Attempt : Type 0 where
+  pub datagram : TheDatagram
+  pub sent : Sent
+
+abbrev pub attempt : TheDatagram → Sent → Attempt
+attempt d sent = record { datagram = d; sent = sent }
+
+-- what a source was asked in one call, and what it answered
+pub data Call : Type 0 where
+  -- a wait ended, and one failed
+  WaitEnded : Call
+  WaitFailed : Call
+  -- a read gave this datagram, one found none, and one failed
+  ReadGave : (arrival : Arrival) → Call
+  ReadEmpty : Call
+  ReadFailed : Call
+
+abbrev pub call_of_wait : Polled → Call
+call_of_wait polled.Ready = WaitEnded
+call_of_wait polled.Failed = WaitFailed
+
+abbrev pub call_of_read : Read → (buffer : List ℕ) → Call
+call_of_read (Datagram peer len moment) buffer = ReadGave (arrival peer (take len buffer) moment)
+call_of_read Empty buffer = ReadEmpty
+call_of_read Failed buffer = ReadFailed
+
 -- the record of a device, the oldest first, with these added; None stays None
 abbrev pub joined : {A : Type 0} → (told : Option (List A)) → (more : List A) → Option (List A)
 joined told more = option_map (λ xs. xs ++ more) told
+
+-- what a source has recorded: the datagrams that it gave, and all calls
+pub record Heard : Type 0 where
+  pub gave : Option (List Arrival)
+  pub calls : Option (List Call)
+
+abbrev pub heard : Option (List Arrival) → Option (List Call) → Heard
+heard gave calls = record { gave = gave; calls = calls }
+
+-- the same after one call more, which gave these datagrams
+abbrev pub heard_more : Heard → List Arrival → Call → Heard
+heard_more h arrivals call = heard (joined h.gave arrivals) (joined h.calls (call ∷ []))
+
+-- what a wire has recorded: the datagrams that were handed to it, and all sends
+pub record Carried : Type 0 where
+  pub handed : Option (List TheDatagram)
+  pub attempts : Option (List Attempt)
+
+abbrev pub carried : Option (List TheDatagram) → Option (List Attempt) → Carried
+carried handed attempts = record { handed = handed; attempts = attempts }

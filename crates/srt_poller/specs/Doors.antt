@@ -1,14 +1,13 @@
 -- The beginning of a round.
-use Rattle.std.specs.Prelude.{◌≡◌, ℕ, ◌<◌, ◌≤◌, ◌==◌, Bool, false, Option, List, [], ◌∷◌, ◌&&◌, map}
+use Rattle.std.specs.Prelude.{◌≡◌, ℕ, ◌<◌, ◌≤◌, ◌==◌, Bool, false, List, [], ◌∷◌, ◌&&◌, map}
 use Rattle.srt_seq.specs.declared.shared.Schedule.{Schedule}
-use Rattle.srt_seq.specs.Items.{Datagram}
 use Rattle.srt_lobby.specs.Names.{RouteName, shown}
 use Rattle.srt_poller.specs.declared.ends.Ends.{Ends}
 use Rattle.srt_poller.specs.declared.poller.Poller.{Poller}
-use Rattle.srt_poller.specs.Devices.{Arrival}
+use Rattle.srt_poller.specs.Devices.{Heard, Carried}
 use Rattle.srt_poller.specs.Schedules.{CloseOffer, offered_routes, opened, due, has_come, hidden_by, closed}
-use Rattle.srt_poller.specs.History.{Sorting, Begins}
-use Rattle.srt_poller.specs.Pollers.{begun_turn, next_turn, world_of}
+use Rattle.srt_poller.specs.History.{Sorting, Phase, IsOver, Begins}
+use Rattle.srt_poller.specs.Pollers.{turn, begun_phase, world_of}
 use Rattle.srt_poller.specs.Rounds.{AreLater, Went}
 
 -- the names as if all routes were shown
@@ -40,8 +39,8 @@ pub record ClosedBy (moment round : ℕ) (schedules : List Schedule) (offers : L
 abbrev pub AreClosed : (moment round : ℕ) → List Schedule → (old new : List RouteName) → (before after : List Ends) → Type 0
 AreClosed moment round schedules old new before after = (offers : List CloseOffer) × ClosedBy moment round schedules offers old new before after
 
--- the round began
+-- the round began, the one before being over
 abbrev pub Began : (round latest : ℕ) → List Schedule → (old new : List RouteName) → (before after : List Ends) → Type 0
 Began round latest schedules old new before after =
-    (class : Sorting) (gave : Option (List Arrival)) (handed : Option (List Datagram)) (p : Poller) →
-    Went class schedules 1 0 0 (world_of gave handed before (next_turn old round latest) p) (world_of gave handed after (begun_turn new round latest) p)
+    (class : Sorting) (source : Heard) (wire : Carried) (p : Poller) (phase : Phase) → IsOver phase →
+    Went class schedules 1 0 0 (world_of source wire before (turn old round latest) phase p) (world_of source wire after (turn new round latest) (begun_phase p) p)

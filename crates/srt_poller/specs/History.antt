@@ -1,5 +1,6 @@
 -- The events of a poller, the oldest first, and what follows from them alone.
-use Rattle.std.specs.Prelude.{◌≡◌, ℕ, suc, ◌==◌, Bool, true, false, Option, None, Some, List, [], ◌∷◌, map, max, filter, if◌then◌else◌}
+use Rattle.std.specs.Prelude.{◌≡◌, ◌⊎◌, ℕ, suc, ◌+◌, ◌<◌, ◌==◌, Bool, true, false, Option, None, Some, List, [], ◌∷◌, map, max, filter, if◌then◌else◌}
+use Rattle.std.specs.Option.{is_some}
 use Rattle.std.specs.List.{flat_map, fold, sum_by}
 use Rattle.srt_seq.specs.declared.shared.Schedule.{Schedule}
 use Rattle.srt_seq.specs.Items.{Datagram, Item, Received, Close}
@@ -9,7 +10,7 @@ use Rattle.srt_lobby.specs.declared.classes.Class.TheVariants.{Answer, Route, Dr
 use Rattle.srt_lobby.specs.declared.classes.Cause.{Cause}
 use Rattle.srt_poller.specs.declared.devices.Sent.{Sent}
 use Rattle.srt_poller.specs.declared.devices.Sent.TheVariants.{Taken, Later, Failed}
-use Rattle.srt_poller.specs.Devices.{Arrival, handed_by_send}
+use Rattle.srt_poller.specs.Devices.{Arrival, handed_by_send, Attempt, attempt, Call, WaitEnded, WaitFailed, ReadGave, ReadEmpty, ReadFailed}
 use Rattle.srt_poller.specs.Schedules.{CloseOffer, offered_routes, opened, due, begun}
 
 -- the class that a lobby with these names gives to a datagram that comes at a moment
@@ -66,6 +67,54 @@ kept_by k _ = k
 abbrev pub kept_after : Option Kept → List Event → Option Kept
 kept_after k events = fold kept_by k events
 
+-- how far a round has come
+pub data Phase : Type 0 where
+  -- no round has begun yet
+  Between : Phase
+  -- the round began, and its wait is still to come; a reply was kept then that hasn't been sent again yet
+  Begun : (owes : Bool) → Phase
+  -- the source waited and was read this often, and is read again
+  Reading : (reads : ℕ) → Phase
+  -- nothing more is read in this round: this many replies of this route were sent in it, and none of later routes
+  Sending : (route sends : ℕ) → Phase
+
+-- the phase after this many reads that gave a datagram: the 256th is the last one
+abbrev pub reading : (reads : ℕ) → Phase
+reading reads = if reads == 256 then Sending 0 0 else Reading reads
+
+abbrev pub read_on : Phase → Phase
+read_on (Reading reads) = reading (reads + 1)
+read_on Between = Between
+read_on (Begun owes) = Begun owes
+read_on (Sending route sends) = Sending route sends
+
+-- the phase after a reply of this route was sent
+abbrev pub sent_on : (route : ℕ) → Phase → Phase
+sent_on r (Sending route sends) = Sending r (if route == r then sends + 1 else 1)
+sent_on r Between = Sending r 1
+sent_on r (Begun owes) = Sending r 1
+sent_on r (Reading reads) = Sending r 1
+
+-- no round has begun, or the last one may end here
+abbrev pub IsOver : Phase → Type 0
+IsOver Between = Unit {0}
+IsOver (Begun owes) = ⊥
+IsOver (Reading reads) = ⊥
+IsOver (Sending route sends) = Unit {0}
+
+abbrev pub IsReading : Phase → Type 0
+IsReading Between = ⊥
+IsReading (Begun owes) = ⊥
+IsReading (Reading reads) = Unit {0}
+IsReading (Sending route sends) = ⊥
+
+-- a reply of this route may be sent: it is a later one than the last, or the same and fewer than 64 of it were sent in this round
+abbrev pub MaySend : Phase → (route : ℕ) → Type 0
+MaySend Between r = ⊥
+MaySend (Begun owes) r = ⊥
+MaySend (Reading reads) r = ⊥
+MaySend (Sending route sends) r = (route < r) ⊎ ((route ≡ r) × (sends < 64))
+
 -- what the next event depends on
 pub record State : Type 0 where
   -- the names in force
@@ -74,17 +123,16 @@ pub record State : Type 0 where
   pub kept : Option Kept
   -- the number of the source's waits so far: that of the round that began last until its wait, and of the next round after it
   pub round : ℕ
-  -- whether a round began whose wait is still to come
-  pub has_begun : Bool
+  pub phase : Phase
   -- the greatest moment that the source has given in these rounds, 0 if it has given none
   pub latest : ℕ
 
-abbrev pub state : List RouteName → Option Kept → (round : ℕ) → (has_begun : Bool) → (latest : ℕ) → State
-state names k round has_begun latest = record { names = names; kept = k; round = round; has_begun = has_begun; latest = latest }
+abbrev pub state : List RouteName → Option Kept → (round : ℕ) → Phase → (latest : ℕ) → State
+state names k round phase latest = record { names = names; kept = k; round = round; phase = phase; latest = latest }
 
 -- before the first event of a poller
 abbrev pub at_first : List RouteName → State
-at_first names = state names None 0 false 0
+at_first names = state names None 0 Between 0
 
 abbrev pub names_by : List Schedule → State → Event → List RouteName
 names_by schedules s (Begins moment offers) = begun s.round schedules offers s.names
@@ -95,11 +143,20 @@ round_by round Waits = suc round
 round_by round WaitFails = suc round
 round_by round _ = round
 
-abbrev pub has_begun_by : (has_begun : Bool) → Event → Bool
-has_begun_by has_begun (Begins moment offers) = true
-has_begun_by has_begun Waits = false
-has_begun_by has_begun WaitFails = false
-has_begun_by has_begun _ = has_begun
+-- the phase after an event, which finds a reply kept or none
+abbrev pub phase_by : (is_kept : Bool) → Phase → Event → Phase
+phase_by is_kept phase (Begins moment offers) = Begun is_kept
+phase_by is_kept phase Waits = Reading 0
+phase_by is_kept phase WaitFails = Sending 0 0
+phase_by is_kept phase ReadsNothing = Sending 0 0
+phase_by is_kept phase ReadFails = Sending 0 0
+phase_by is_kept phase (Answers arrival bytes sent) = read_on phase
+phase_by is_kept phase (Accepts arrival route) = read_on phase
+phase_by is_kept phase (Overflows arrival route) = read_on phase
+phase_by is_kept phase (Refuses arrival route) = read_on phase
+phase_by is_kept phase (Drops arrival cause) = read_on phase
+phase_by is_kept phase (Sends route reply sent) = sent_on route phase
+phase_by is_kept phase (Resends route reply sent) = Begun false
 
 abbrev pub latest_by : (latest : ℕ) → Event → ℕ
 latest_by latest (Answers arrival bytes sent) = max latest arrival.moment
@@ -112,7 +169,7 @@ latest_by latest _ = latest
 -- the state after an event
 abbrev pub state_by : List Schedule → State → Event → State
 state_by schedules s event =
-    state (names_by schedules s event) (kept_by s.kept event) (round_by s.round event) (has_begun_by s.has_begun event) (latest_by s.latest event)
+    state (names_by schedules s event) (kept_by s.kept event) (round_by s.round event) (phase_by (is_some s.kept) s.phase event) (latest_by s.latest event)
 
 abbrev pub state_after : List Schedule → State → List Event → State
 state_after schedules s events = fold (state_by schedules) s events
@@ -121,22 +178,25 @@ state_after schedules s events = fold (state_by schedules) s events
 abbrev pub class_in : Sorting → State → Arrival → Class
 class_in class s arrival = class s.names arrival.datagram arrival.moment
 
--- A round begins once, before its wait. It shows the routes that open in it, and then offers Close, of the greatest moment that the source has
--- given, once in each round to each shown route whose round of closing has come, in the order of their indexes. What happens to a datagram is what its class
--- says. A reply is taken only if none is kept, and only the kept one is sent again
+-- A round begins where none has begun or the one before is over. It shows the routes that open in it, and then offers Close, of the greatest
+-- moment that the source has given, once to each shown route whose round of closing has come, in the order of their indexes. If a reply is kept
+-- then, it is sent again, once, before the wait. The source waits once. Unless that failed, it is read until a read gives nothing or fails, or 256
+-- datagrams came; what happens to a datagram is what its class says. Then replies are sent in the order of their routes' indexes, at most 64 of a
+-- route, and none while one is kept
 abbrev pub Fits : Sorting → List Schedule → State → Event → Type 0
 Fits class schedules s (Begins moment offers) =
-    (s.has_begun ≡ false) × (moment ≡ s.latest) × (offered_routes offers ≡ due s.round schedules (opened s.round schedules s.names))
-Fits class schedules s Waits = s.has_begun ≡ true
-Fits class schedules s WaitFails = s.has_begun ≡ true
-Fits class schedules s (Answers arrival bytes sent) = class_in class s arrival ≡ Answer bytes
-Fits class schedules s (Accepts arrival route) = class_in class s arrival ≡ Route route
-Fits class schedules s (Overflows arrival route) = class_in class s arrival ≡ Route route
-Fits class schedules s (Refuses arrival route) = class_in class s arrival ≡ Route route
-Fits class schedules s (Drops arrival cause) = class_in class s arrival ≡ Dropped cause
-Fits class schedules s (Sends route reply sent) = s.kept ≡ None
-Fits class schedules s (Resends route reply sent) = s.kept ≡ Some (kept route reply)
-Fits class schedules s _ = Unit {0}
+    IsOver s.phase × (moment ≡ s.latest) × (offered_routes offers ≡ due s.round schedules (opened s.round schedules s.names))
+Fits class schedules s Waits = s.phase ≡ Begun false
+Fits class schedules s WaitFails = s.phase ≡ Begun false
+Fits class schedules s ReadsNothing = IsReading s.phase
+Fits class schedules s ReadFails = IsReading s.phase
+Fits class schedules s (Answers arrival bytes sent) = IsReading s.phase × (class_in class s arrival ≡ Answer bytes)
+Fits class schedules s (Accepts arrival route) = IsReading s.phase × (class_in class s arrival ≡ Route route)
+Fits class schedules s (Overflows arrival route) = IsReading s.phase × (class_in class s arrival ≡ Route route)
+Fits class schedules s (Refuses arrival route) = IsReading s.phase × (class_in class s arrival ≡ Route route)
+Fits class schedules s (Drops arrival cause) = IsReading s.phase × (class_in class s arrival ≡ Dropped cause)
+Fits class schedules s (Sends route reply sent) = MaySend s.phase route × (s.kept ≡ None)
+Fits class schedules s (Resends route reply sent) = (s.phase ≡ Begun true) × (s.kept ≡ Some (kept route reply))
 
 -- each event fits the state in which it happens
 abbrev pub Follow : Sorting → List Schedule → State → List Event → Type 0
@@ -154,6 +214,34 @@ given_by _ = []
 
 abbrev pub given : List Event → List Arrival
 given events = flat_map given_by events
+
+-- the calls of the source, with its answers
+abbrev pub calls_by : Event → List Call
+calls_by Waits = WaitEnded ∷ []
+calls_by WaitFails = WaitFailed ∷ []
+calls_by ReadsNothing = ReadEmpty ∷ []
+calls_by ReadFails = ReadFailed ∷ []
+calls_by (Answers arrival bytes sent) = ReadGave arrival ∷ []
+calls_by (Accepts arrival route) = ReadGave arrival ∷ []
+calls_by (Overflows arrival route) = ReadGave arrival ∷ []
+calls_by (Refuses arrival route) = ReadGave arrival ∷ []
+calls_by (Drops arrival cause) = ReadGave arrival ∷ []
+calls_by (Begins moment offers) = []
+calls_by (Sends route reply sent) = []
+calls_by (Resends route reply sent) = []
+
+abbrev pub calls : List Event → List Call
+calls events = flat_map calls_by events
+
+-- the sends of the wire, with their outcomes
+abbrev pub attempts_by : Event → List Attempt
+attempts_by (Answers arrival bytes sent) = attempt (record { peer = arrival.datagram.peer; bytes = bytes }) sent ∷ []
+attempts_by (Sends route reply sent) = attempt reply sent ∷ []
+attempts_by (Resends route reply sent) = attempt reply sent ∷ []
+attempts_by _ = []
+
+abbrev pub attempts : List Event → List Attempt
+attempts events = flat_map attempts_by events
 
 -- this alone, if the two routes are the same
 abbrev pub at_route : {A : Type 0} → (route r : ℕ) → A → List A

@@ -2,10 +2,13 @@ pub mod Devices
 pub mod Schedules
 pub mod History
 pub mod Reports
+pub mod Tallies
 pub mod Rounds
+pub mod Bodies
 pub mod Pollers
 pub mod Doors
 pub mod Pumped
+pub mod Notes
 pub mod Scripts
 pub mod Pauses
 pub mod Sockets

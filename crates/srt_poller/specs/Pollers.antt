@@ -1,5 +1,7 @@
 -- A poller between the calls of its devices.
-use Rattle.std.specs.Prelude.{◌≡◌, ℕ, suc, Bool, true, false, Option, List, ◌++◌, [], ◌∷◌, map, take, max, option_map}
+use Rattle.std.specs.Prelude.{◌≡◌, ◌⊎◌, ℕ, suc, ◌+◌, ◌<◌, ◌≤◌, Bool, true, false, Option, List, ◌++◌, [], ◌∷◌, map, take, max, option_map}
+use Rattle.std.specs.Option.{is_some}
+use Rattle.crossbeam_queue.specs.Fifo.{Held}
 use Rattle.srt_seq.specs.declared.shared.Schedule.{Schedule}
 use Rattle.srt_seq.specs.Items.{Datagram, Received, Close, told}
 use Rattle.srt_cookie.specs.declared.secret.Secret.{Secret}
@@ -7,14 +9,18 @@ use Rattle.srt_cookie.specs.Cookie.{secret_bytes}
 use Rattle.srt_lobby.specs.Names.{RouteName, names_of}
 use Rattle.srt_lobby.specs.Lobby.{class_of}
 use Rattle.srt_mailbox.specs.Ends.{Producer}
+use Rattle.srt_mailbox.specs.Evidence.{FoundFull}
+use Rattle.srt_mailbox.specs.Inbox.{StoodAsPolled}
+use Rattle.srt_poller.specs.declared.bodies.Bodies.{Bodies}
 use Rattle.srt_poller.specs.declared.ends.Ends.{Ends}
 use Rattle.srt_poller.specs.declared.ends.Offered.{Offered}
 use Rattle.srt_poller.specs.declared.ends.Offered.TheVariants.{Accepted, Full, Refused}
 use Rattle.srt_poller.specs.declared.context.Lobby.{Lobby}
 use Rattle.srt_poller.specs.declared.poller.Incoming.{Incoming}
 use Rattle.srt_poller.specs.declared.poller.Poller.{Poller}
-use Rattle.srt_poller.specs.Devices.{Arrival, arrival, joined}
-use Rattle.srt_poller.specs.History.{Sorting, Kept, kept, state}
+use Rattle.srt_poller.specs.Bodies.{TakesMemory}
+use Rattle.srt_poller.specs.Devices.{Arrival, arrival, Heard, heard_more, Carried, ReadGave}
+use Rattle.srt_poller.specs.History.{Sorting, Kept, kept, Phase, Begun, Reading, Sending, reading, state}
 use Rattle.srt_poller.specs.Rounds.{World, world, Went}
 
 -- the classes that the lobby of this secret gives to datagrams
@@ -36,72 +42,91 @@ came incoming p = arrival incoming.peer (take incoming.len p.datagram) incoming.
 abbrev pub kept_in : Poller → Option Kept
 kept_in p = option_map (λ k. kept k.route (record { peer = k.peer; bytes = take k.len p.text })) p.kept
 
--- what the next event depends on besides the kept reply: the names in force, the number of the round, whether it has begun, and the
--- greatest moment that the source has given
+-- what the next event depends on besides the kept reply and the phase: the names in force, the number of the round, and the greatest moment
+-- that the source has given
 pub record Turn : Type 0 where
   pub names : List RouteName
   pub round : ℕ
-  pub has_begun : Bool
   pub latest : ℕ
 
--- a round that has begun
-abbrev pub begun_turn : List RouteName → (round latest : ℕ) → Turn
-begun_turn names round latest = record { names = names; round = round; has_begun = true; latest = latest }
+abbrev pub turn : List RouteName → (round latest : ℕ) → Turn
+turn names round latest = record { names = names; round = round; latest = latest }
 
--- a round that hasn't begun
-abbrev pub next_turn : List RouteName → (round latest : ℕ) → Turn
-next_turn names round latest = record { names = names; round = round; has_begun = false; latest = latest }
+abbrev pub world_of : Heard → Carried → List Ends → Turn → Phase → Poller → World
+world_of source wire ends t phase p = world source wire ends (state t.names (kept_in p) t.round phase t.latest) p.report
 
-abbrev pub world_of : Option (List Arrival) → Option (List Datagram) → List Ends → Turn → Poller → World
-world_of gave handed ends t p = world gave handed ends (state t.names (kept_in p) t.round t.has_begun t.latest) p.report
+-- the phase of a round that has just begun, and whose wait is next unless a reply is kept
+abbrev pub begun_phase : Poller → Phase
+begun_phase p = Begun (is_some (kept_in p))
 
 -- the same, with what a wait leaves open: what the wire recorded, and the ends
-abbrev pub reading : Option (List Arrival) → Poller → Turn → Option (List Datagram) → List Ends → World
-reading gave p t handed ends = world_of gave handed ends t p
+abbrev pub waiting : Heard → Poller → Turn → Phase → Carried → List Ends → World
+waiting source p t phase wire ends = world_of source wire ends t phase p
 
 -- the same, with what a send leaves open: what the source recorded
-abbrev pub sending : Option (List Datagram) → List Ends → Poller → Turn → Option (List Arrival) → World
-sending handed ends p t gave = world_of gave handed ends t p
+abbrev pub sending : Carried → List Ends → Poller → Turn → Phase → Heard → World
+sending wire ends p t phase source = world_of source wire ends t phase p
 
 -- the same, with what the reads of a round change
-abbrev pub listening : Option (List Arrival) → Option (List Datagram) → List Ends → Poller → Turn → World
-listening gave handed ends p t = world_of gave handed ends t p
+abbrev pub listening : Heard → Carried → List Ends → Poller → Turn → Phase → World
+listening source wire ends p t phase = world_of source wire ends t phase p
 
--- the source waited once, and a read is owed unless the wait failed
-abbrev pub Waited : (old new : Turn → Option (List Datagram) → List Ends → World) → Type 0
+-- the source waited once, a read is owed, and it is read next
+abbrev pub Waited : (old new : Turn → Phase → Carried → List Ends → World) → Type 0
 Waited old new =
-    (class : Sorting) (schedules : List Schedule) (names : List RouteName) (round latest : ℕ) (handed : Option (List Datagram)) (ends : List Ends) →
-    Went class schedules 1 1 0 (old (begun_turn names round latest) handed ends) (new (next_turn names (suc round) latest) handed ends)
+    (class : Sorting) (schedules : List Schedule) (names : List RouteName) (round latest : ℕ) (wire : Carried) (ends : List Ends) →
+    Went class schedules 1 1 0 (old (turn names round latest) (Begun false) wire ends) (new (turn names (suc round) latest) (Reading 0) wire ends)
 
--- the source waited once, and the wait failed
-abbrev pub WaitFailed : (old new : Turn → Option (List Datagram) → List Ends → World) → Type 0
+-- the source waited once, and the wait failed: nothing is read in this round
+abbrev pub WaitFailed : (old new : Turn → Phase → Carried → List Ends → World) → Type 0
 WaitFailed old new =
-    (class : Sorting) (schedules : List Schedule) (names : List RouteName) (round latest : ℕ) (handed : Option (List Datagram)) (ends : List Ends) →
-    Went class schedules 1 1 1 (old (begun_turn names round latest) handed ends) (new (next_turn names (suc round) latest) handed ends)
+    (class : Sorting) (schedules : List Schedule) (names : List RouteName) (round latest : ℕ) (wire : Carried) (ends : List Ends) →
+    Went class schedules 1 1 1 (old (turn names round latest) (Begun false) wire ends) (new (turn names (suc round) latest) (Sending 0 0) wire ends)
 
--- this datagram was read with these names in force, and what happened to it is what its class says
-abbrev pub Came : Sorting → List RouteName → Arrival → (old new : Turn → Option (List Arrival) → World) → Type 0
+-- this datagram was read with these names in force, as the first of a round or a later one, and what happened to it is what its class says
+abbrev pub Came : Sorting → List RouteName → Arrival → (old new : Turn → Phase → Heard → World) → Type 0
 Came class names a old new =
-    (schedules : List Schedule) (round latest : ℕ) (gave : Option (List Arrival)) →
-    Went class schedules 1 0 1 (old (next_turn names round latest) gave) (new (next_turn names round (max latest a.moment)) (joined gave (a ∷ [])))
+    (schedules : List Schedule) (round latest reads : ℕ) (source : Heard) →
+    Went class schedules 1 0 1 (old (turn names round latest) (Reading reads) source)
+    (new (turn names round (max latest a.moment)) (reading (reads + 1)) (heard_more source (a ∷ []) (ReadGave a)))
 
 -- a round waited and read with these names in force, with at most this many events
-abbrev pub Listened : Sorting → List RouteName → (most : ℕ) → (old new : Turn → World) → (before after : ℕ) → Type 0
+abbrev pub Listened : Sorting → List RouteName → (most : ℕ) → (old new : Turn → Phase → World) → (before after : ℕ) → Type 0
 Listened class names most old new before after =
-    (schedules : List Schedule) (round : ℕ) → Went class schedules most 1 1 (old (begun_turn names round before)) (new (next_turn names (suc round) after))
+    (schedules : List Schedule) (round : ℕ) → Went class schedules most 1 1 (old (turn names round before) (Begun false)) (new (turn names (suc round) after) (Sending 0 0))
 
--- replies were sent, with at most this many events, none of them a wait or a datagram that came
-abbrev pub Replies : (most : ℕ) → (old new : Turn → Option (List Arrival) → World) → Type 0
-Replies most old new =
-    (class : Sorting) (schedules : List Schedule) (t : Turn) (gave : Option (List Arrival)) → Went class schedules most 0 0 (old t gave) (new t gave)
+-- the kept reply, if there was one, was sent again
+abbrev pub Resent : (owes : Phase) → (old new : Turn → Phase → Heard → World) → Type 0
+Resent owes old new =
+    (class : Sorting) (schedules : List Schedule) (t : Turn) (source : Heard) → Went class schedules 1 0 0 (old t owes source) (new t (Begun false) source)
 
--- the poller's end before and after an offer of an arrival: the item is in the inbox, or nothing changed
-abbrev pub OfferedAs : Offered → Arrival → Producer → Producer → Type 0
-OfferedAs Accepted a old new = (new.queue ≡ old.queue) × (new.capacity ≡ old.capacity) × (map told new.offered ≡ map told old.offered ++ Received a.datagram a.moment ∷ [])
-OfferedAs Full a old new = new ≡ old
-OfferedAs Refused a old new = new ≡ old
+-- nothing is read any more in this round, at most this many replies of this route were sent in it, and none of later routes
+abbrev pub IsUpTo : (route sends : ℕ) → Phase → Type 0
+IsUpTo r n phase = (route : ℕ) × (sends : ℕ) × (phase ≡ Sending route sends) × ((route < r) ⊎ ((route ≡ r) × (sends ≤ n)))
 
--- the same of an offer of Close: it is in the inbox, or nothing changed
+-- Replies were sent, with at most this many events, none of them a wait or a datagram that came. Before, at most `few` of route `first` and none of
+-- later routes had been sent in this round; afterwards at most `many` of route `last` and none of later ones
+abbrev pub Replies : (first few last many most : ℕ) → (old new : Turn → Phase → Heard → World) → Type 0
+Replies first few last many most old new =
+    (class : Sorting) (schedules : List Schedule) (t : Turn) (phase : Phase) (source : Heard) → IsUpTo first few phase →
+    (next : Phase) × IsUpTo last many next × Went class schedules most 0 0 (old t phase source) (new t next source)
+
+-- the inbox was full at some moment, with these items of the poller's accepted
+abbrev pub WasFull : Producer → Type 0
+WasFull p = Held p.capacity (StoodAsPolled p.offered)
+
+-- this evidence is of that inbox, found full after just these items of the poller's
+abbrev pub IsOf : Producer → FoundFull → Type 0
+IsOf p full = (full.queue ≡ p.queue) × (full.polled ≡ p.offered)
+
+-- the poller's end before and after an offer of an arrival: the item is in the inbox; or nothing changed, and the inbox was full, or a copy of the
+-- bytes after the first 16 takes memory. That this was asked for and refused is told by no clause
+abbrev pub OfferedAs : Offered → Arrival → Bodies → (body : List ℕ) → Producer → Producer → Type 0
+OfferedAs Accepted a bodies body old new = (new.queue ≡ old.queue) × (new.capacity ≡ old.capacity) × (map told new.offered ≡ map told old.offered ++ Received a.datagram a.moment ∷ [])
+OfferedAs (Full full) a bodies body old new = (new ≡ old) × WasFull old × IsOf old full
+OfferedAs Refused a bodies body old new = (new ≡ old) × TakesMemory bodies body
+
+-- the same of an offer of Close: it is in the inbox; or nothing changed, and the inbox was full
 abbrev pub ClosedAs : (is_accepted : Bool) → (moment : ℕ) → Producer → Producer → Type 0
 ClosedAs true moment old new = (new.queue ≡ old.queue) × (new.capacity ≡ old.capacity) × (map told new.offered ≡ map told old.offered ++ Close moment ∷ [])
-ClosedAs false moment old new = new ≡ old
+ClosedAs false moment old new = (new ≡ old) × WasFull old

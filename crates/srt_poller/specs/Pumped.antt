@@ -1,13 +1,13 @@
 -- The contract of a poller's rounds.
-use Rattle.std.specs.Prelude.{◌≡◌, ℕ, ◌+◌, ◌*◌, ◌≤◌, false, Option, None, List, ◌++◌, length}
+use Rattle.std.specs.Prelude.{◌≡◌, ℕ, ◌+◌, ◌*◌, ◌≤◌, Option, None, List, ◌++◌, length}
 use Rattle.srt_seq.specs.declared.shared.Schedule.{Schedule}
-use Rattle.srt_seq.specs.Items.{Datagram}
 use Rattle.srt_lobby.specs.Names.{RouteName}
 use Rattle.srt_poller.specs.declared.ends.Ends.{Ends}
 use Rattle.srt_poller.specs.declared.report.Report.{Report}
-use Rattle.srt_poller.specs.Devices.{Arrival, joined}
-use Rattle.srt_poller.specs.History.{Sorting, Event, Follow, at_first, state_after, kept_after, kept_of, given, handed, datagrams, of_lobby, of_route, answered, drained, waits_in, ready_in, reads_in}
+use Rattle.srt_poller.specs.Devices.{Heard, Carried, joined}
+use Rattle.srt_poller.specs.History.{Sorting, Event, Follow, at_first, state_after, IsOver, kept_after, kept_of, given, calls, handed, datagrams, attempts, of_lobby, of_route, answered, drained, waits_in, ready_in, reads_in}
 use Rattle.srt_poller.specs.Reports.{nothing, counted, with_kept, total}
+use Rattle.srt_poller.specs.Tallies.{TalliesWith}
 use Rattle.srt_poller.specs.Rounds.{AreLater}
 
 -- Of the datagrams that were sent, those of the lobby are its answers whose send didn't return Later. Those of a route, followed by the
@@ -16,42 +16,46 @@ pub record HaveOrigins (events : List Event) : Type 0 where
   pub lobby : of_lobby (handed events) ≡ answered events
   pub route : (r : ℕ) → of_route r (handed events) ++ kept_of r (kept_after None events) ≡ drained r events
 
--- the names in force, what the source recorded as given, what the wire recorded as handed to it, and the ends of all routes
+-- the names in force, what the source and the wire have recorded, and the ends of all routes
 pub record Before : Type 0 where
   pub names : List RouteName
-  pub gave : Option (List Arrival)
-  pub handed : Option (List Datagram)
+  pub source : Heard
+  pub wire : Carried
   pub ends : List Ends
 
-abbrev pub before : List RouteName → Option (List Arrival) → Option (List Datagram) → List Ends → Before
-before names gave handed ends = record { names = names; gave = gave; handed = handed; ends = ends }
+abbrev pub before : List RouteName → Heard → Carried → List Ends → Before
+before names source wire ends = record { names = names; source = source; wire = wire; ends = ends }
 
 -- the same afterwards, and the report
 pub record After : Type 0 where
   pub names : List RouteName
-  pub gave : Option (List Arrival)
-  pub handed : Option (List Datagram)
+  pub source : Heard
+  pub wire : Carried
   pub ends : List Ends
   pub report : Report
 
-abbrev pub after : List RouteName → Option (List Arrival) → Option (List Datagram) → List Ends → Report → After
-after names gave handed ends report = record { names = names; gave = gave; handed = handed; ends = ends; report = report }
+abbrev pub after : List RouteName → Heard → Carried → List Ends → Report → After
+after names source wire ends report = record { names = names; source = source; wire = wire; ends = ends; report = report }
 
--- These events happened, the oldest first: each round began once, before its wait, and showed and hid routes as its schedule says, and what
--- happened to each datagram is what its class says, with the names then in force; `names` are those after the last round. The source gave the datagrams of the events, and the wire was handed theirs. Each route's inbox
--- accepted the items, and each outbox gave the replies, of the events. The report counts them; with at most 511 routes no count reaches its
--- limit. The source waited once in each round, and was read at least as often as it waited without a failure. No record tells the waits, or
--- that an inbox was full: in which round a datagram came, and that a Close was refused, the events alone say
+-- These events happened, the oldest first, in whole rounds (`Fits`): each round began once and showed and hid routes as its schedule says, waited
+-- once and read, and what happened to each datagram is what its class says, with the names then in force; `names` are those after the last round.
+-- The source gave the datagrams of the events, and its calls, with its answers, are just theirs. The wire was handed the datagrams of the
+-- events, and its sends, with their outcomes, are just theirs. Each route's inbox accepted the items, and each outbox gave the replies, of the events. The report
+-- counts the events; with at most 511 routes no count reaches its limit, and then it has the numbers of the devices' records. The source waited once in each
+-- round, and was read at least as often as it waited without a failure
 pub record PumpedBy (class : Sorting) (schedules : List Schedule) (rounds : ℕ) (before : Before) (after : After) (events : List Event) : Type 0 where
   pub follow : Follow class schedules (at_first before.names) events
   pub names : after.names ≡ (state_after schedules (at_first before.names) events).names
-  pub over : (state_after schedules (at_first before.names) events).has_begun ≡ false
-  pub gave : after.gave ≡ joined before.gave (given events)
-  pub handed : after.handed ≡ joined before.handed (datagrams (handed events))
+  pub over : IsOver (state_after schedules (at_first before.names) events).phase
+  pub gave : after.source.gave ≡ joined before.source.gave (given events)
+  pub called : after.source.calls ≡ joined before.source.calls (calls events)
+  pub handed : after.wire.handed ≡ joined before.wire.handed (datagrams (handed events))
+  pub attempted : after.wire.attempts ≡ joined before.wire.attempts (attempts events)
   pub ends : AreLater events before.ends after.ends
   pub origins : HaveOrigins events
   pub report : after.report ≡ with_kept (counted nothing events) (kept_after None events)
   pub sums : length before.ends ≤ 511 → after.report ≡ total events (kept_after None events)
+  pub tallies : length before.ends ≤ 511 → TalliesWith events after.report
   pub waits : waits_in events ≡ rounds
   pub reads : ready_in events ≤ reads_in events
   pub few : length events ≤ rounds * (259 + 64 * length before.ends)

@@ -5,21 +5,20 @@ use Rattle.srt_seq.specs.Items.{Datagram, Item, told}
 use Rattle.srt_route.specs.Written.{written}
 use Rattle.srt_poller.specs.declared.ends.Ends.{Ends}
 use Rattle.srt_poller.specs.declared.report.Report.{Report}
-use Rattle.srt_poller.specs.Devices.{Arrival, joined}
-use Rattle.srt_poller.specs.History.{Sorting, Event, State, Follow, state_after, given, handed, datagrams, accepted, drained, waits_in, ready_in, reads_in}
+use Rattle.srt_poller.specs.Devices.{Heard, Carried, joined}
+use Rattle.srt_poller.specs.History.{Sorting, Event, State, Follow, state_after, given, calls, handed, datagrams, attempts, accepted, drained, waits_in, ready_in, reads_in}
 use Rattle.srt_poller.specs.Reports.{counted}
 
--- what the source recorded as given, what the wire recorded as handed to it, the ends of all routes, what the next event depends on,
--- and the report
+-- what the source and the wire have recorded, the ends of all routes, what the next event depends on, and the report
 pub record World : Type 0 where
-  pub gave : Option (List Arrival)
-  pub handed : Option (List Datagram)
+  pub source : Heard
+  pub wire : Carried
   pub ends : List Ends
   pub state : State
   pub report : Report
 
-abbrev pub world : Option (List Arrival) → Option (List Datagram) → List Ends → State → Report → World
-world gave handed ends state report = record { gave = gave; handed = handed; ends = ends; state = state; report = report }
+abbrev pub world : Heard → Carried → List Ends → State → Report → World
+world source wire ends state report = record { source = source; wire = wire; ends = ends; state = state; report = report }
 
 -- the ends of a route are of the same queues; the inbox accepted these items in addition, and the outbox gave these replies
 pub record IsLater (accepted : List Item) (drained : List Datagram) (old new : Ends) : Type 0 where
@@ -38,8 +37,10 @@ pub record AreLater (events : List Event) (old new : List Ends) : Type 0 where
 -- `waits` is at least the number of waits without a failure plus `reads`
 pub record Happened (class : Sorting) (schedules : List Schedule) (most waits reads : ℕ) (events : List Event) (old new : World) : Type 0 where
   pub follow : Follow class schedules old.state events
-  pub gave : new.gave ≡ joined old.gave (given events)
-  pub handed : new.handed ≡ joined old.handed (datagrams (handed events))
+  pub gave : new.source.gave ≡ joined old.source.gave (given events)
+  pub called : new.source.calls ≡ joined old.source.calls (calls events)
+  pub handed : new.wire.handed ≡ joined old.wire.handed (datagrams (handed events))
+  pub attempted : new.wire.attempts ≡ joined old.wire.attempts (attempts events)
   pub ends : AreLater events old.ends new.ends
   pub state : new.state ≡ state_after schedules old.state events
   pub report : new.report ≡ counted old.report events

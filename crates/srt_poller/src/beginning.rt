@@ -117,9 +117,9 @@ impl<'a> Doors<'a> {
         requires route { route < length ends.old }
         ensures { Closes self.now.latest.moment (offered route result) (names_of names.old) (names_of names.new) ends.old ends.new }
     {
-        if !ends[route].offer_close(rt, self.latest) {
+        let Ok(()) = ends[route].offer_close(rt, self.latest) else {
             return false;
-        }
+        };
         signals.offered(route);
         names.hide(route);
         true

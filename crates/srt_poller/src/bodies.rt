@@ -1,7 +1,8 @@
 //! The bodies of datagrams that routes have applied, which come back with replies. They are filled again, so that the
 //! copies of a steady stream seldom take memory: what one thread takes and another one gives back costs both a lock.
 
-ghost use Rattle.std.specs.Prelude.{◌≡◌, IfSome};
+ghost use Rattle.std.specs.Prelude.{◌≡◌, IfSome, IfNone};
+ghost use Rattle.srt_poller.specs.Bodies.{TakesMemory};
 
 use arrayvec::ArrayVec;
 use srt_mailbox::BODY_ROOM;
@@ -33,11 +34,12 @@ impl Bodies {
         }
     }
 
-    /// A copy of these bytes. Takes memory if no body is kept, or if the bytes are more than a packet's; `None` if it
-    /// was refused. A new body has room for any packet's, however few bytes these are, so that it can be filled again.
+    /// A copy of these bytes. Takes memory if there are any and no body is kept, or the one that was kept last has less
+    /// room; `None` if it was refused. A new body has room for any packet's, however few bytes these are, so that it can be filled again.
     #[inline(always)]
     pub(crate) fn copy_of(&mut self, alloc: Global, bytes: &[u8]) -> Option<Vec<u8>>
-        ensures { IfSome result (λ body. body.items ≡ bytes.now) }
+        ensures copied { IfSome result (λ body. body.items ≡ bytes.now) }
+        ensures refused { IfNone result (TakesMemory self.old bytes.now) }
     {
         if bytes.is_empty() {
             return Some(Vec::new(alloc));

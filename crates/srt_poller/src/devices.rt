@@ -40,7 +40,8 @@ pub enum Sent {
 pub trait Source {
     ghost use Rattle.std.specs.Prelude.{ℕ, Option, List};
     ghost use Rattle.srt_mailbox.specs.Counts.{Grew};
-    ghost use Rattle.srt_poller.specs.Devices.{Arrival, ReadsWell, given_by_read, joined};
+    ghost use Rattle.std.specs.Prelude.{[], ◌∷◌};
+    ghost use Rattle.srt_poller.specs.Devices.{Arrival, Call, ReadsWell, given_by_read, call_of_wait, call_of_read, joined};
     ghost use Rattle.srt_poller.specs.declared.devices.Polled.TheVariants.{Failed as PollFailed};
 
     /// The number of failures of waits and reads. Saturates at 2^64 - 1.
@@ -49,16 +50,22 @@ pub trait Source {
     /// All datagrams that it gave, the oldest first, or `None` for a device that doesn't record them, as a socket.
     ghost gave: { Self → Option (List Arrival) };
 
+    /// All its waits and reads, each with what it answered, the oldest first, or `None` for a device that doesn't record
+    /// them, as a socket.
+    ghost calls: { Self → Option (List Call) };
+
     /// Waits until there may be datagrams, or until the source's own limit of time is over.
     fn wait(&mut self) -> Polled
         ensures failed { result ≡ PollFailed → Grew (failures self.old) (failures self.new) }
-        ensures tells { gave self.new ≡ gave self.old };
+        ensures tells { gave self.new ≡ gave self.old }
+        ensures called { calls self.new ≡ joined (calls self.old) (call_of_wait result ∷ []) };
 
     /// Reads the next datagram to the front of the buffer, and doesn't wait for one. A datagram of more than 2048 bytes
     /// may be cut to its first 2048.
     fn next(&mut self, buffer: &mut [u8; 2048]) -> Read
         ensures well { ReadsWell result (failures self.old) (failures self.new) }
-        ensures tells { gave self.new ≡ joined (gave self.old) (given_by_read result buffer.new) };
+        ensures tells { gave self.new ≡ joined (gave self.old) (given_by_read result buffer.new) }
+        ensures called { calls self.new ≡ joined (calls self.old) (call_of_read result buffer.new ∷ []) };
 
     /// The number of failures of waits and reads. Saturates at 2^64 - 1.
     fn failures(&self) -> u64
@@ -70,7 +77,8 @@ pub trait Wire {
     ghost use Rattle.std.specs.Prelude.{ℕ, Option, List};
     ghost use Rattle.srt_seq.specs.Items.{Datagram};
     ghost use Rattle.srt_mailbox.specs.Counts.{Grew};
-    ghost use Rattle.srt_poller.specs.Devices.{datagram, handed_by_send, joined};
+    ghost use Rattle.std.specs.Prelude.{[], ◌∷◌};
+    ghost use Rattle.srt_poller.specs.Devices.{datagram, handed_by_send, Attempt, attempt, joined};
     ghost use Rattle.srt_poller.specs.declared.devices.Sent.TheVariants.{Failed as SendFailed};
 
     /// The number of failed sends. Saturates at 2^64 - 1.
@@ -80,10 +88,14 @@ pub trait Wire {
     /// record them, as a socket.
     ghost handed: { Self → Option (List Datagram) };
 
+    /// All sends, each with its outcome, the oldest first, or `None` for a device that doesn't record them, as a socket.
+    ghost attempts: { Self → Option (List Attempt) };
+
     /// Sends a datagram, and doesn't wait for room.
     fn send(&mut self, to: Peer, bytes: &[u8]) -> Sent
         ensures failed { result ≡ SendFailed → Grew (failures self.old) (failures self.new) }
-        ensures tells { handed self.new ≡ joined (handed self.old) (handed_by_send result (datagram to bytes.now)) };
+        ensures tells { handed self.new ≡ joined (handed self.old) (handed_by_send result (datagram to bytes.now)) }
+        ensures attempted { attempts self.new ≡ joined (attempts self.old) (attempt (datagram to bytes.now) result ∷ []) };
 
     /// The number of failed sends. Saturates at 2^64 - 1.
     fn failures(&self) -> u64

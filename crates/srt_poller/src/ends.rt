@@ -1,11 +1,11 @@
 //! The poller's ends of a route's queues.
 
-ghost use Rattle.std.specs.Prelude.{◌≡◌, ◌<◌, ◌≤◌, ◌^◌, length};
+ghost use Rattle.std.specs.Prelude.{◌≡◌, ◌<◌, ◌≤◌, ◌^◌, true, false, OnOk, IfErr, drop, length};
 
 use crate::beginning::Latest;
 use crate::bodies::Bodies;
 use crate::context::Context;
-use srt_mailbox::{Drain, Ingress};
+use srt_mailbox::{Drain, InboxFull, Ingress};
 use srt_seq::{Item, Peer};
 use std::sync::Wait;
 
@@ -19,19 +19,19 @@ pub struct Ends {
 }
 
 /// The outcome of an offer to a route.
-#[derive(Clone, Copy)]
+#[derive(Drop)]
 pub(crate) enum Offered {
     /// The inbox accepted it.
     Accepted,
-    /// The inbox was full; the datagram is lost.
-    Full,
+    /// The inbox was full, by this evidence; the datagram is lost.
+    Full(InboxFull),
     /// The memory for its copy was refused; the datagram is lost.
     Refused,
 }
 
 impl Ends {
     ghost use Rattle.srt_poller.specs.Devices.{arrival};
-    ghost use Rattle.srt_poller.specs.Pollers.{OfferedAs, ClosedAs};
+    ghost use Rattle.srt_poller.specs.Pollers.{OfferedAs, ClosedAs, IsOf};
 
     /// Offers a copy of a datagram of 16 bytes or more to the route. The moment is in microseconds. The bytes after the
     /// first 16 are copied into a body that came back, or into new memory, which is all that a poller takes.
@@ -46,7 +46,7 @@ impl Ends {
     ) -> Offered
         requires header { 16 ≤ length bytes.now }
         requires timely { moment < 2 ^ 62 }
-        ensures offered { OfferedAs result (arrival peer bytes.now moment) self.old.ingress self.new.ingress }
+        ensures offered { OfferedAs result (arrival peer bytes.now moment) bodies.old (drop 16 bytes.now) self.old.ingress self.new.ingress }
         ensures drain { self.new.drain ≡ self.old.drain }
     {
         let mut head = [0; 16];
@@ -54,25 +54,27 @@ impl Ends {
         let Some(body) = bodies.copy_of(context.alloc, &bytes[16..]) else {
             return Offered::Refused;
         };
-        if self
+        match self
             .ingress
             .offer_datagram(context.rt, peer, moment, head, body)
         {
-            Offered::Accepted
-        } else {
-            Offered::Full
+            Ok(()) => Offered::Accepted,
+            Err(full) => Offered::Full(full),
         }
     }
 
-    /// Offers Close to the route. Returns whether the inbox accepted it; if it was full, nothing changed. Takes no
-    /// memory.
-    pub(crate) fn offer_close<R: Wait>(&mut self, rt: &R, latest: Latest) -> bool
-        ensures offered { ClosedAs result latest.moment self.old.ingress self.new.ingress }
+    /// Offers Close to the route. An error is evidence that the inbox was full; then nothing changed. Takes no memory.
+    pub(crate) fn offer_close<R: Wait>(&mut self, rt: &R, latest: Latest) -> Result<(), InboxFull>
+        ensures ok { OnOk result (ClosedAs true latest.moment self.old.ingress self.new.ingress) }
+        ensures full { IfErr result (λ full. ClosedAs false latest.moment self.old.ingress self.new.ingress × IsOf self.old.ingress full) }
         ensures drain { self.new.drain ≡ self.old.drain }
     {
         let item = Item::Close {
             moment: latest.moment,
         };
-        self.ingress.offer(rt, item).is_ok()
+        match self.ingress.offer(rt, item) {
+            Ok(()) => Ok(()),
+            Err(full) => Err(full.evidence),
+        }
     }
 }

@@ -13,7 +13,7 @@
 //!
 //! Files: the beginning of a round is in `beginning.rt`, its other steps are in `poller.rt` (limits, the reply that is
 //! kept), what they use in `context.rt`, the memory of copies in `bodies.rt`, the rounds in `pumping.rt`, what is
-//! counted in `report.rt`, how a socket's source waits in `pace.rt` and `density.rt`. `specs/History.antt` has the
+//! counted in `report.rt`, what devices in memory tell of their calls in `journal.rt`, how a socket's source waits in `pace.rt` and `density.rt`. `specs/History.antt` has the
 //! events of a poller.
 #![tactic(auto)]
 
@@ -23,6 +23,7 @@ mod context;
 mod density;
 mod devices;
 mod ends;
+mod journal;
 mod pace;
 mod poller;
 mod pumping;
@@ -33,7 +34,7 @@ mod sockets;
 
 pub use devices::{Clock, Polled, Read, Sent, Source, Wire};
 pub use ends::Ends;
-pub use pumping::{pump, pump_under};
+pub use pumping::{Pumping, pump, pump_under};
 pub use report::Report;
 pub use scripts::{
     ClockScript, ScriptDatagram, SentDatagram, SourceScript, SourceStep, WireScript,

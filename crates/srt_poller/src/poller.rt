@@ -1,8 +1,8 @@
 //! The steps of a poller's round after its beginning: `resend`, then `listen`, then `drain`.
 
-ghost use Rattle.std.specs.Prelude.{◌≡◌, ◌<◌, ◌≤◌, ◌+◌, ◌*◌, ◌^◌, true, false, None, Option, List, length};
-ghost use Rattle.srt_seq.specs.Items.{Datagram};
+ghost use Rattle.std.specs.Prelude.{◌≡◌, ℕ, ◌<◌, ◌≤◌, ◌+◌, ◌*◌, ◌^◌, true, false, None, List, length};
 ghost use Rattle.srt_lobby.specs.Names.{RouteName};
+ghost use Rattle.srt_poller.specs.Devices.{Carried, heard, carried};
 ghost use Rattle.srt_poller.specs.History.{Sorting};
 
 use crate::beginning::Latest;
@@ -73,7 +73,7 @@ impl Poller {
     ghost use Rattle.srt_poller.specs.declared.ends.Ends.{Ends as TheEnds};
     ghost use Rattle.srt_poller.specs.declared.poller.Drained.TheVariants.{Empty, Gone};
     ghost use Rattle.srt_poller.specs.Reports.{nothing, with_kept};
-    ghost use Rattle.srt_poller.specs.Pollers.{sorted_by, named_in, came, kept_in, reading, sending, listening, Waited, WaitFailed, Came, Listened, Replies};
+    ghost use Rattle.srt_poller.specs.Pollers.{sorted_by, named_in, came, kept_in, begun_phase, waiting, sending, listening, Waited, WaitFailed, Came, Listened, Resent, Replies};
 
     /// A poller with no reply kept and all counts 0. Takes no memory.
     pub(crate) fn new(alloc: Global) -> Poller
@@ -99,7 +99,8 @@ impl Poller {
     #[inline(always)]
     pub(crate) fn resend<W: Wire>(&mut self, wire: &mut W)
         ensures { (ends : List TheEnds) →
-            Replies 1 (sending (W.handed wire.old) ends self.old) (sending (W.handed wire.new) ends self.new) }
+            Resent (begun_phase self.old) (sending (carried (W.handed wire.old) (W.attempts wire.old)) ends self.old)
+            (sending (carried (W.handed wire.new) (W.attempts wire.new)) ends self.new) }
     {
         let Some(kept) = self.kept else {
             return;
@@ -116,9 +117,9 @@ impl Poller {
     #[inline(always)]
     fn wait<S: Source>(&mut self, source: &mut S) -> bool
         ensures ready { result ≡ true →
-            Waited (reading (S.gave source.old) self.old) (reading (S.gave source.new) self.new) }
+            Waited (waiting (heard (S.gave source.old) (S.calls source.old)) self.old) (waiting (heard (S.gave source.new) (S.calls source.new)) self.new) }
         ensures failed { result ≡ false →
-            WaitFailed (reading (S.gave source.old) self.old) (reading (S.gave source.new) self.new) }
+            WaitFailed (waiting (heard (S.gave source.old) (S.calls source.old)) self.old) (waiting (heard (S.gave source.new) (S.calls source.new)) self.new) }
     {
         match source.wait() {
             Polled::Ready => true,
@@ -140,9 +141,9 @@ impl Poller {
     )
         requires header { 16 ≤ incoming.len }
         requires route { route < length ends.old }
-        ensures { (class : Sorting) (names : List RouteName) (handed : Option (List Datagram)) → let arrival = came incoming self.old in
+        ensures { (class : Sorting) (names : List RouteName) (wire : Carried) → let arrival = came incoming self.old in
             class names arrival.datagram arrival.moment ≡ Route route →
-            Came class names arrival (sending handed ends.old self.old) (sending handed ends.new self.new) }
+            Came class names arrival (sending wire ends.old self.old) (sending wire ends.new self.new) }
     {
         let bytes = &self.datagram[..incoming.len];
         let Incoming { peer, moment, .. } = incoming;
@@ -151,7 +152,7 @@ impl Poller {
                 self.report.count_accepted();
                 context.signals.offered(route);
             }
-            Offered::Full => self.report.count_full(),
+            Offered::Full(_) => self.report.count_full(),
             Offered::Refused => self.report.count_refused(),
         }
     }
@@ -167,7 +168,8 @@ impl Poller {
     )
         requires { length ends.old ≡ length (named_in context.now.lobby) }
         ensures { Came (sorted_by context.now.lobby) (named_in context.now.lobby) (came incoming self.old)
-            (sending (W.handed wire.old) ends.old self.old) (sending (W.handed wire.new) ends.new self.new) }
+            (sending (carried (W.handed wire.old) (W.attempts wire.old)) ends.old self.old)
+            (sending (carried (W.handed wire.new) (W.attempts wire.new)) ends.new self.new) }
     {
         let Lobby { secret, names } = context.lobby;
         let bytes = &self.datagram[..incoming.len];
@@ -194,8 +196,8 @@ impl Poller {
     )
         requires { length ends.old ≡ length (named_in context.now.lobby) }
         ensures { Listened (sorted_by context.now.lobby) (named_in context.now.lobby) 257
-            (listening (S.gave source.old) (W.handed wire.old) ends.old self.old)
-            (listening (S.gave source.new) (W.handed wire.new) ends.new self.new)
+            (listening (heard (S.gave source.old) (S.calls source.old)) (carried (W.handed wire.old) (W.attempts wire.old)) ends.old self.old)
+            (listening (heard (S.gave source.new) (S.calls source.new)) (carried (W.handed wire.new) (W.attempts wire.new)) ends.new self.new)
             latest.old.moment latest.new.moment }
     {
         if !self.wait(source) {
@@ -233,14 +235,16 @@ impl Poller {
     ) -> Drained
         requires route { route < length ends.old }
         requires kept { self.old.kept ≡ None }
-        ensures went { Replies 1 (sending (W.handed wire.old) ends.old self.old) (sending (W.handed wire.new) ends.new self.new) }
+        ensures went { (sends : ℕ) → sends < 64 → Replies route sends route (sends + 1) 1
+            (sending (carried (W.handed wire.old) (W.attempts wire.old)) ends.old self.old)
+            (sending (carried (W.handed wire.new) (W.attempts wire.new)) ends.new self.new) }
         ensures more { result ≡ Gone → self.new.kept ≡ None }
         ensures none { result ≡ Empty → self.new.kept ≡ None }
     {
         let end = &mut ends[route];
-        if !end.drain.take(rt) {
+        let Ok(()) = end.drain.take(rt) else {
             return Drained::Empty;
-        }
+        };
         self.bodies.keep(end.drain.take_body());
         let reply = end.drain.reply();
         let peer = reply.peer;
@@ -268,7 +272,9 @@ impl Poller {
     ) -> bool
         requires route { route < length ends.old }
         requires kept { self.old.kept ≡ None }
-        ensures went { Replies 64 (sending (W.handed wire.old) ends.old self.old) (sending (W.handed wire.new) ends.new self.new) }
+        ensures went { Replies route 0 route 64 64
+            (sending (carried (W.handed wire.old) (W.attempts wire.old)) ends.old self.old)
+            (sending (carried (W.handed wire.new) (W.attempts wire.new)) ends.new self.new) }
         ensures none { result ≡ true → self.new.kept ≡ None }
     {
         if !context.signals.may_have(route) && !context.all {
@@ -315,8 +321,9 @@ impl Poller {
         wire: &mut W,
         ends: &mut [Ends],
     )
-        ensures { Replies (64 * length ends.old)
-            (sending (W.handed wire.old) ends.old self.old) (sending (W.handed wire.new) ends.new self.new) }
+        ensures { Replies 0 0 (length ends.old) 0 (64 * length ends.old)
+            (sending (carried (W.handed wire.old) (W.attempts wire.old)) ends.old self.old)
+            (sending (carried (W.handed wire.new) (W.attempts wire.new)) ends.new self.new) }
     {
         if self.kept.is_some() {
             return;

@@ -1,9 +1,10 @@
 //! The poller's rounds.
 
-ghost use Rattle.std.specs.Prelude.{◌≡◌, length};
+ghost use Rattle.std.specs.Prelude.{◌≡◌, ◌≤◌, ◌⊎◌, length};
 ghost use Rattle.srt_poller.specs.Schedules.{AllDiffer};
 ghost use Rattle.srt_lobby.specs.Names.{names_of};
 ghost use Rattle.srt_poller.specs.Pollers.{sorting};
+ghost use Rattle.srt_poller.specs.Devices.{heard, carried};
 ghost use Rattle.srt_poller.specs.Pumped.{Pumped, before, after};
 
 use crate::beginning::Doors;
@@ -18,6 +19,15 @@ use srt_lobby::Names;
 use srt_seq::Schedule;
 use std::alloc::Global;
 use std::sync::Wait;
+
+/// What a poller did.
+#[derive(Clone, Copy, Debug, PartialEq, Eq)]
+pub struct Pumping {
+    /// The counts.
+    pub report: Report,
+    /// The number of rounds that were made.
+    pub rounds: u32,
+}
 
 /// Does `rounds` rounds and returns the counts. `schedules` and `ends` are those of the routes of `names`, in the order
 /// of their indexes, hidden routes included.
@@ -50,10 +60,10 @@ pub fn pump<R: Wait, S: Source, W: Wire>(
     requires schedules { length schedules.now ≡ length (names_of names.old) }
     requires differ { AllDiffer (names_of names.old) }
     ensures { Pumped (sorting secret.now) schedules.now rounds
-        (before (names_of names.old) (S.gave source.old) (W.handed wire.old) ends.old)
-        (after (names_of names.new) (S.gave source.new) (W.handed wire.new) ends.new result) }
+        (before (names_of names.old) (heard (S.gave source.old) (S.calls source.old)) (carried (W.handed wire.old) (W.attempts wire.old)) ends.old)
+        (after (names_of names.new) (heard (S.gave source.new) (S.calls source.new)) (carried (W.handed wire.new) (W.attempts wire.new)) ends.new result) }
 {
-    pump_under(
+    let pumping = pump_under(
         rt,
         alloc,
         secret,
@@ -64,11 +74,13 @@ pub fn pump<R: Wait, S: Source, W: Wire>(
         ends,
         rounds,
         &Unsignalled,
-    )
+    );
+    pumping.report
 }
 
-/// As `pump`, with hints. A route whose outbox has nothing by the hints is passed over, except in every 64th round, the
-/// first among them, and in the round after one that left an outbox before it was found empty.
+/// As `pump`, with hints, and with fewer rounds if `goes_on` returns false before one: then that is the end. A route
+/// whose outbox has nothing by the hints is passed over, except in every 64th round, the first among them, and in the
+/// round after one that left an outbox before it was found empty.
 pub fn pump_under<R: Wait, S: Source, W: Wire, G: Signals>(
     rt: &R,
     alloc: Global,
@@ -80,17 +92,26 @@ pub fn pump_under<R: Wait, S: Source, W: Wire, G: Signals>(
     ends: &mut [Ends],
     rounds: u32,
     signals: &G,
-) -> Report
+) -> Pumping
     requires ends { length ends.old ≡ length (names_of names.old) }
     requires schedules { length schedules.now ≡ length (names_of names.old) }
     requires differ { AllDiffer (names_of names.old) }
-    ensures { Pumped (sorting secret.now) schedules.now rounds
-        (before (names_of names.old) (S.gave source.old) (W.handed wire.old) ends.old)
-        (after (names_of names.new) (S.gave source.new) (W.handed wire.new) ends.new result) }
+    ensures pumped { Pumped (sorting secret.now) schedules.now result.rounds
+        (before (names_of names.old) (heard (S.gave source.old) (S.calls source.old)) (carried (W.handed wire.old) (W.attempts wire.old)) ends.old)
+        (after (names_of names.new) (heard (S.gave source.new) (S.calls source.new)) (carried (W.handed wire.new) (W.attempts wire.new)) ends.new result.report) }
+    ensures rounds { result.rounds ≤ rounds }
+    ensures whole { (result.rounds ≡ rounds) ⊎ G.stops signals.now }
 {
     let mut poller = Poller::new(alloc);
     let mut doors = Doors::new(schedules);
     for round in 0..rounds {
+        if !signals.goes_on() {
+            let counts = poller.report();
+            return Pumping {
+                report: counts,
+                rounds: round,
+            };
+        }
         doors.begin(rt, signals, names, ends, round);
         let due = round % 64 == 0;
         let context = Context {
@@ -107,5 +128,9 @@ pub fn pump_under<R: Wait, S: Source, W: Wire, G: Signals>(
         poller.listen(&context, source, wire, ends, &mut doors.latest);
         poller.drain(&context, wire, ends);
     }
-    poller.report()
+    let all = poller.report();
+    Pumping {
+        report: all,
+        rounds,
+    }
 }

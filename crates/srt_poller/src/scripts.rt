@@ -2,8 +2,10 @@
 
 ghost use Rattle.std.specs.Prelude.{◌≡◌, ◌⊎◌, ℕ, ◌<◌, ◌≤◌, ◌+◌, ◌-◌, ◌^◌, Some, true, false, [], ◌∷◌, ◌++◌};
 ghost use Rattle.std.specs.Prelude.{option_copied, length, map, min, slice_get, take};
+ghost use Rattle.srt_poller.specs.Notes.{outcome};
 
 use crate::devices::{Clock, Polled, Read, Sent, Source, Wire};
+use crate::journal::Journal;
 use srt_seq::Peer;
 use std::alloc::Global;
 
@@ -53,7 +55,20 @@ pub struct SourceScript {
     steps: Vec<SourceStep>,
     at: usize,
     failures: u64,
+    // its waits and reads
+    journal: Journal,
 }
+
+// Which call of a source a note is of.
+const WAITED: u64 = 0;
+
+const FAILED_TO_WAIT: u64 = 1;
+
+const GAVE: u64 = 2;
+
+const GAVE_NOTHING: u64 = 3;
+
+const FAILED_TO_READ: u64 = 4;
 
 impl SourceScript {
     ghost use Rattle.srt_poller.specs.Scripts.{steps_of, steps_done};
@@ -63,12 +78,14 @@ impl SourceScript {
         ensures steps { steps_of result ≡ steps.items }
         ensures done { steps_done result ≡ 0 }
         ensures tells { ⟦<SourceScript as Source>⟧.gave result ≡ Some [] }
+        ensures called { ⟦<SourceScript as Source>⟧.calls result ≡ Some [] }
         ensures failures { ⟦<SourceScript as Source>⟧.failures result ≡ 0 }
     {
         SourceScript {
             steps,
             at: 0,
             failures: 0,
+            journal: Journal::new(),
         }
     }
 
@@ -81,9 +98,10 @@ impl SourceScript {
 }
 
 impl Source for SourceScript {
-    ghost use Rattle.std.specs.Prelude.{Some, take};
+    ghost use Rattle.std.specs.Prelude.{Some, [], ◌∷◌, map, take};
     ghost use Rattle.srt_mailbox.specs.Counts.{Grew};
-    ghost use Rattle.srt_poller.specs.Devices.{ReadsWell, given_by_read, joined};
+    ghost use Rattle.srt_poller.specs.Devices.{ReadsWell, given_by_read, call_of_wait, call_of_read, joined};
+    ghost use Rattle.srt_poller.specs.Notes.{call_of};
     ghost use Rattle.srt_poller.specs.declared.devices.Polled.TheVariants.{Failed as PollFailed};
     ghost use Rattle.srt_poller.specs.Scripts.{given_in, next_step, wait_at, read_at, after_wait, after_read, steps_of, steps_done};
 
@@ -91,9 +109,13 @@ impl Source for SourceScript {
 
     ghost gave = { λ s. Some (given_in (take s.at s.steps.items)) };
 
+    ghost calls = { λ s. Some (map call_of s.journal.notes) };
+
     fn wait(&mut self) -> Polled
         ensures failed { result ≡ PollFailed → Grew self.old.failures self.new.failures }
         ensures tells { ⟦<SourceScript as Source>⟧.gave self.new ≡ ⟦<SourceScript as Source>⟧.gave self.old }
+        ensures called { ⟦<SourceScript as Source>⟧.calls self.new ≡
+            joined (⟦<SourceScript as Source>⟧.calls self.old) (call_of_wait result ∷ []) }
         ensures does { result ≡ wait_at (next_step self.old) }
         ensures done { steps_done self.new ≡ after_wait (next_step self.old) (steps_done self.old) }
         ensures steps { steps_of self.new ≡ steps_of self.old }
@@ -102,13 +124,18 @@ impl Source for SourceScript {
             Some(SourceStep::WaitFails) => {
                 self.at += 1;
                 self.failures = self.failures.saturating_add(1);
+                self.journal.note(&[FAILED_TO_WAIT], &[], &[]);
                 Polled::Failed
             }
             Some(SourceStep::Wait) => {
                 self.at += 1;
+                self.journal.note(&[WAITED], &[], &[]);
                 Polled::Ready
             }
-            _ => Polled::Ready,
+            _ => {
+                self.journal.note(&[WAITED], &[], &[]);
+                Polled::Ready
+            }
         }
     }
 
@@ -116,6 +143,8 @@ impl Source for SourceScript {
         ensures well { ReadsWell result self.old.failures self.new.failures }
         ensures tells { ⟦<SourceScript as Source>⟧.gave self.new ≡
             joined (⟦<SourceScript as Source>⟧.gave self.old) (given_by_read result buffer.new) }
+        ensures called { ⟦<SourceScript as Source>⟧.calls self.new ≡
+            joined (⟦<SourceScript as Source>⟧.calls self.old) (call_of_read result buffer.new ∷ []) }
         ensures does { result ≡ read_at (next_step self.old) }
         ensures done { steps_done self.new ≡ after_read (next_step self.old) (steps_done self.old) }
         ensures steps { steps_of self.new ≡ steps_of self.old }
@@ -125,19 +154,27 @@ impl Source for SourceScript {
                 let len = datagram.copy_to(buffer);
                 let moment = datagram.moment.min((1 << 62) - 1);
                 let peer = datagram.peer;
+                let port = datagram.peer.port;
                 self.at += 1;
+                self.journal
+                    .note(&[GAVE, u64::from(port), moment], &peer.ip, &buffer[..len]);
                 Read::Datagram(peer, len, moment)
             }
             Some(SourceStep::Empty) => {
                 self.at += 1;
+                self.journal.note(&[GAVE_NOTHING], &[], &[]);
                 Read::Empty
             }
             Some(SourceStep::ReadFails) => {
                 self.at += 1;
                 self.failures = self.failures.saturating_add(1);
+                self.journal.note(&[FAILED_TO_READ], &[], &[]);
                 Read::Failed
             }
-            Some(SourceStep::Wait) | Some(SourceStep::WaitFails) | None => Read::Empty,
+            Some(SourceStep::Wait) | Some(SourceStep::WaitFails) | None => {
+                self.journal.note(&[GAVE_NOTHING], &[], &[]);
+                Read::Empty
+            }
         }
     }
 
@@ -164,17 +201,22 @@ pub struct WireScript {
     at: usize,
     handed: Vec<SentDatagram>,
     failures: u64,
+    // its sends
+    journal: Journal,
 }
 
 impl WireScript {
-    ghost use Rattle.srt_poller.specs.Devices.{datagram};
-    ghost use Rattle.srt_poller.specs.Scripts.{sent_as, answer_at, answers_of, answers_given};
+    ghost use Rattle.srt_mailbox.specs.Counts.{Grew};
+    ghost use Rattle.srt_poller.specs.Devices.{datagram, handed_by_send, joined};
+    ghost use Rattle.srt_poller.specs.declared.devices.Sent.TheVariants.{Later, Failed as SendFailed};
+    ghost use Rattle.srt_poller.specs.Scripts.{sent_as, answer_at, next_answer, answers_of, answers_given};
 
     /// A wire whose sends return these outcomes, in order.
     pub fn new(alloc: Global, answers: Vec<Sent>) -> WireScript
         ensures answers { answers_of result ≡ answers.items }
         ensures given { answers_given result ≡ 0 }
         ensures tells { ⟦<WireScript as Wire>⟧.handed result ≡ Some [] }
+        ensures attempted { ⟦<WireScript as Wire>⟧.attempts result ≡ Some [] }
         ensures failures { ⟦<WireScript as Wire>⟧.failures result ≡ 0 }
     {
         WireScript {
@@ -183,6 +225,7 @@ impl WireScript {
             at: 0,
             handed: Vec::new(alloc),
             failures: 0,
+            journal: Journal::new(),
         }
     }
 
@@ -198,6 +241,7 @@ impl WireScript {
         ensures answer { result ≡ answer_at (slice_get self.old.answers.items self.old.at) }
         ensures handed { self.new.handed ≡ self.old.handed }
         ensures failures { self.new.failures ≡ self.old.failures }
+        ensures journal { self.new.journal ≡ self.old.journal }
     {
         match self.answers.get(self.at) {
             Some(sent) => {
@@ -215,30 +259,21 @@ impl WireScript {
             map sent_as self.old.handed.items ++ datagram to bytes.now ∷ [] }
         ensures refused { result ≡ false → self.new.handed.items ≡ self.old.handed.items }
         ensures failures { self.new.failures ≡ self.old.failures }
+        ensures journal { self.new.journal ≡ self.old.journal }
     {
         let Ok(bytes) = Vec::from_slice(self.alloc, bytes) else {
             return false;
         };
         self.handed.push(SentDatagram { to, bytes }).is_ok()
     }
-}
 
-impl Wire for WireScript {
-    ghost use Rattle.std.specs.Prelude.{Some, map};
-    ghost use Rattle.srt_mailbox.specs.Counts.{Grew};
-    ghost use Rattle.srt_poller.specs.Devices.{datagram, handed_by_send, joined};
-    ghost use Rattle.srt_poller.specs.declared.devices.Sent.TheVariants.{Later, Failed as SendFailed};
-    ghost use Rattle.srt_poller.specs.Scripts.{sent_as, next_answer};
-
-    ghost failures = { λ w. w.failures };
-
-    ghost handed = { λ w. Some (map sent_as w.handed.items) };
-
-    fn send(&mut self, to: Peer, bytes: &[u8]) -> Sent
+    /// Does what the script says for a send.
+    fn act(&mut self, to: Peer, bytes: &[u8]) -> Sent
         ensures failed { result ≡ SendFailed → Grew self.old.failures self.new.failures }
         ensures tells { ⟦<WireScript as Wire>⟧.handed self.new ≡
             joined (⟦<WireScript as Wire>⟧.handed self.old) (handed_by_send result (datagram to bytes.now)) }
         ensures does { (result ≡ Later) ⊎ (result ≡ next_answer self.old) }
+        ensures journal { self.new.journal ≡ self.old.journal }
     {
         let sent = self.answer();
         if sent == Sent::Later {
@@ -250,6 +285,46 @@ impl Wire for WireScript {
         if sent == Sent::Failed {
             self.failures = self.failures.saturating_add(1);
         }
+        sent
+    }
+}
+
+// The number of an outcome in a note.
+fn number_of(sent: Sent) -> u64
+    ensures { outcome result ≡ sent }
+{
+    match sent {
+        Sent::Taken => 0,
+        Sent::Later => 1,
+        Sent::Failed => 2,
+    }
+}
+
+impl Wire for WireScript {
+    ghost use Rattle.std.specs.Prelude.{Some, [], ◌∷◌, map};
+    ghost use Rattle.srt_mailbox.specs.Counts.{Grew};
+    ghost use Rattle.srt_poller.specs.Devices.{datagram, handed_by_send, attempt, joined};
+    ghost use Rattle.srt_poller.specs.Notes.{attempt_of};
+    ghost use Rattle.srt_poller.specs.declared.devices.Sent.TheVariants.{Later, Failed as SendFailed};
+    ghost use Rattle.srt_poller.specs.Scripts.{sent_as, next_answer};
+
+    ghost failures = { λ w. w.failures };
+
+    ghost handed = { λ w. Some (map sent_as w.handed.items) };
+
+    ghost attempts = { λ w. Some (map attempt_of w.journal.notes) };
+
+    fn send(&mut self, to: Peer, bytes: &[u8]) -> Sent
+        ensures failed { result ≡ SendFailed → Grew self.old.failures self.new.failures }
+        ensures tells { ⟦<WireScript as Wire>⟧.handed self.new ≡
+            joined (⟦<WireScript as Wire>⟧.handed self.old) (handed_by_send result (datagram to bytes.now)) }
+        ensures attempted { ⟦<WireScript as Wire>⟧.attempts self.new ≡
+            joined (⟦<WireScript as Wire>⟧.attempts self.old) (attempt (datagram to bytes.now) result ∷ []) }
+        ensures does { (result ≡ Later) ⊎ (result ≡ next_answer self.old) }
+    {
+        let sent = self.act(to, bytes);
+        self.journal
+            .note(&[to.port as u64, number_of(sent)], &to.ip, bytes);
         sent
     }
 

@@ -50,7 +50,7 @@ struct Shared {
     sent: AtomicU32,
 }
 
-/// A source over a UDP socket. It doesn't record its datagrams, so `gave` is `None`.
+/// A source over a UDP socket. It doesn't record its datagrams and calls, so `gave` and `calls` are `None`.
 #[derive(Drop)]
 pub struct MioSource<C: Clock> {
     poll: Poll,
@@ -61,7 +61,7 @@ pub struct MioSource<C: Clock> {
     failures: u64,
 }
 
-/// A wire over a UDP socket. It doesn't record its datagrams, so `handed` is `None`.
+/// A wire over a UDP socket. It doesn't record its datagrams and sends, so `handed` and `attempts` are `None`.
 #[derive(Drop)]
 pub struct MioWire {
     shared: Arc<Shared>,
@@ -234,6 +234,8 @@ impl<C: Clock> Source for MioSource<C> {
 
     ghost gave = { λ s. None };
 
+    ghost calls = { λ s. None };
+
     /// Waits for a datagram, at most 0, 1 or 10 ms, or sleeps for a tenth of a millisecond, as `Pace` decides.
     fn wait(&mut self) -> Polled {
         if self.shared.put_off.swap(false, Ordering::SeqCst) {
@@ -290,6 +292,8 @@ impl Wire for MioWire {
     ghost failures = { λ w. w.failures };
 
     ghost handed = { λ w. None };
+
+    ghost attempts = { λ w. None };
 
     /// Also fails if the peer has no IPv4 address.
     fn send(&mut self, to: Peer, bytes: &[u8]) -> Sent {

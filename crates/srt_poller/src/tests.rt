@@ -535,6 +535,8 @@ impl<'a, R: Wait> Source for Serving<'a, R> {
 
     ghost gave = { λ s. ⟦<SourceScript as Source>⟧.gave s.script };
 
+    ghost calls = { λ s. ⟦<SourceScript as Source>⟧.calls s.script };
+
     fn wait(&mut self) -> Polled {
         let (blocked, applied) = self.serve();
         self.idle = self.idle.saturating_sub(1);

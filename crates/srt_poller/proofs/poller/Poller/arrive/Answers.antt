@@ -4,7 +4,7 @@ use Rattle.srt_lobby.proofs.Kept.{inside}
 use Rattle.srt_poller.specs.Devices.{joined}
 use Rattle.srt_poller.specs.History.{Answers, Drops, FromLobby, from}
 use Rattle.srt_poller.specs.Pollers.{came}
-use Rattle.srt_poller.proofs.Steps.{joined_none, sent_as, are_later_none, went_one}
+use Rattle.srt_poller.proofs.Steps.{sent_as, unsent, are_later_none, went_one}
 use Rattle.srt_poller.proofs.poller.Poller.arrive.Goals as goal
 
 pub offer-requires : goal.offer-requires
@@ -17,16 +17,20 @@ offer-requires g c =
     }
 
 pub returns-in-Answer : goal.returns-in-Answer
-returns-in-Answer g c schedules round latest gave =
+returns-in-Answer g c schedules round latest reads source =
     let a = came c.args.incoming c.args.self.now in
-    went_one _ schedules (Answers a c.in-Answer.answer c.send-sent.result) _ _ (sym c.classify.ensures.class ∙ c.in-Answer.is) refl
-    (c.send-sent.ensures.tells ∙ ap (joined (g.W.Wire.handed c.args.wire.now)) (sent_as c.send-sent.result (from FromLobby (record { peer = c.args.incoming.peer; bytes = c.in-Answer.answer }))))
+    went_one _ schedules (Answers a c.in-Answer.answer c.send-sent.result) _ _ (tt, sym c.classify.ensures.class ∙ c.in-Answer.is) (record {
+      gave = refl;
+      called = refl;
+      handed = c.send-sent.ensures.tells ∙ ap (joined (g.W.Wire.handed c.args.wire.now)) (sent_as c.send-sent.result (from FromLobby (record { peer = c.args.incoming.peer; bytes = c.in-Answer.answer })));
+      attempted = c.send-sent.ensures.attempted;
+    })
     (are_later_none _ _ (λ r. refl) (λ r. refl)) refl c.count_answer.ensures
 
 pub returns-in-Dropped : goal.returns-in-Dropped
-returns-in-Dropped g c schedules round latest gave =
+returns-in-Dropped g c schedules round latest reads source =
     let a = came c.args.incoming c.args.self.now in
-    went_one _ schedules (Drops a c.in-Dropped.field-0) _ _ (sym c.classify.ensures.class ∙ c.in-Dropped.is) refl (sym (joined_none _)) (are_later_none _ _ (λ r. refl) (λ r. refl)) refl c.count_dropped.ensures
+    went_one _ schedules (Drops a c.in-Dropped.field-0) _ _ (tt, sym c.classify.ensures.class ∙ c.in-Dropped.is) (unsent _ _ _ _ refl refl refl refl) (are_later_none _ _ (λ r. refl) (λ r. refl)) refl c.count_dropped.ensures
 
 pub returns-in-Route : goal.returns-in-Route
 returns-in-Route g c schedules round latest gave = c.offer.ensures _ _ _ (sym c.classify.ensures.class ∙ c.in-Route.is) schedules round latest gave

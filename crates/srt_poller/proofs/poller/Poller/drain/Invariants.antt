@@ -1,4 +1,5 @@
 use Rattle.std.proofs.Common.{◌≡◌, None, length, ◌*◌, ◌-◌, ◌≤◌}
+use Rattle.srt_poller.specs.Devices.{carried}
 use Rattle.srt_poller.specs.Pollers.{Replies, sending}
 use Rattle.srt_poller.proofs.poller.Poller.drain.Given as goal
 
@@ -6,7 +7,9 @@ abbrev pub invariant-loop-route : goal.invariant-loop-route
 invariant-loop-route g l =
     (l.self.kept ≡ None) ×
     (l.route ≤ length l.ends) ×
-    Replies (64 * l.route) (sending (g.W.Wire.handed l.fn.wire) l.fn.ends l.fn.self) (sending (g.W.Wire.handed l.wire) l.ends l.self)
+    Replies 0 0 l.route 0 (64 * l.route)
+    (sending (carried (g.W.Wire.handed l.fn.wire) (g.W.Wire.attempts l.fn.wire)) l.fn.ends l.fn.self)
+    (sending (carried (g.W.Wire.handed l.wire) (g.W.Wire.attempts l.wire)) l.ends l.self)
 
 abbrev pub decreases-loop-route : goal.decreases-loop-route
 decreases-loop-route g l = length l.ends - l.route

@@ -1,45 +1,52 @@
-use Rattle.std.proofs.Common.{refl, sym, ◌∙◌, ◌≡◌, ℕ, List, Option, Some, ap, inl, inr, None, take}
+use Rattle.std.proofs.Common.{arith, refl, sym, ◌∙◌, ◌≡◌, ℕ, List, Option, Some, ap, inl, inr, None, take}
 use Rattle.std.specs.Prelude.{option_map}
 use Rattle.srt_seq.specs.Items.{Datagram}
 use Rattle.srt_route.specs.Written.{written}
 use Rattle.srt_mailbox.specs.Ends.{Drained as DrainEnd}
 use Rattle.srt_poller.specs.declared.poller.KeptReply.{KeptReply}
 use Rattle.srt_poller.specs.Devices.{joined}
-use Rattle.srt_poller.specs.History.{Sends, Kept, FromRoute, from, kept, kept_if, state}
-use Rattle.srt_poller.proofs.Steps.{joined_none, sent_as, went_none, went_one, unchanged_here, drained_now, sent_here}
+use Rattle.srt_poller.specs.History.{Sends, Kept, FromRoute, from, kept, kept_if, sent_on, state}
+use Rattle.srt_poller.proofs.Steps.{sent_as, unheard, up_to_more, up_to_sends, up_to_sent, went_none, went_one, unchanged_here, drained_now, sent_here}
 use Rattle.srt_poller.proofs.poller.Poller.drain_one.Goals as goal
 
-pub returns-then-not-take-clause-went : goal.returns-then-not-take-clause-went
-returns-then-not-take-clause-went g c class schedules t gave =
-    rw (unchanged_here c.args.ends.now c.args.route _ c.take.new.self (c.if-not-take.ensures.none refl).0) (went_none class schedules 1 _)
+pub returns-in_default-clause-went : goal.returns-in_default-clause-went
+returns-in_default-clause-went g c sends below class schedules t phase source up = (
+  phase,
+  up_to_more (omega arith) (λ same. omega arith) up,
+  rw (unchanged_here c.args.ends.now c.args.route _ c.take.new.self c.in_default.ensures.none.0) (went_none class schedules 1 _),
+)
 
 pub returns-in-Taken : goal.returns-in-Taken
 returns-in-Taken g c = record {
-  went = λ class schedules t gave.
+  went = λ sends below class schedules t phase source up.
       let reply : Datagram = record { peer = c.reply-reply.result.now.peer; bytes = c.bytes.result.now } in
       let here : written c.take.new.self.hand ≡ reply = ap written (sym (c.reply-reply.ensures ∙ ap (λ (d : DrainEnd). d.hand) c.take_body.ensures)) ∙ ap (λ (bytes : List ℕ). record { peer = c.reply-reply.result.now.peer; bytes = bytes }) (sym c.bytes.ensures.value) in
-      let gone : None ≡ kept_if c.send-sent.result (kept c.args.route reply) = elim c.in-Taken.is [ inl e ↦ rw e refl | inr e ↦ rw e refl ] in
-      went_one class schedules (Sends c.args.route reply c.send-sent.result) _ _
-      (ap (option_map (λ (k : KeptReply). kept k.route (record { peer = k.peer; bytes = take k.len c.args.self.now.text }))) c.requires.kept)
-      (sym (joined_none _))
-      (c.send-sent.ensures.tells ∙ ap (joined (g.W.Wire.handed c.args.wire.now)) (sent_as c.send-sent.result (from (FromRoute c.args.route) reply)))
-      (sent_here c.args.route reply c.send-sent.result c.args.ends.now _ _ c.requires.route (drained_now reply c.take.new.self.hand _ c.take_body.new.self (c.take_body.ensures ∙ c.if-not-take.ensures.some refl) here))
-      (ap (λ (o : Option Kept). state t.names o t.round t.has_begun t.latest) (ap (option_map (λ (k : KeptReply). kept k.route (record { peer = k.peer; bytes = take k.len c.args.self.now.text }))) c.requires.kept ∙ gone))
-      c.count_reply.ensures;
+      let gone : None ≡ kept_if c.send-sent.result (kept c.args.route reply) = elim c.in-Taken.is [ inl e ↦ rw e refl | inr e ↦ rw e refl ] in (
+        sent_on c.args.route phase,
+        up_to_sent up,
+        went_one class schedules (Sends c.args.route reply c.send-sent.result) _ _
+            (up_to_sends below up, ap (option_map (λ (k : KeptReply). kept k.route (record { peer = k.peer; bytes = take k.len c.args.self.now.text }))) c.requires.kept)
+            (unheard _ _ _ _ refl refl (c.send-sent.ensures.tells ∙ ap (joined (g.W.Wire.handed c.args.wire.now)) (sent_as c.send-sent.result (from (FromRoute c.args.route) reply))) c.send-sent.ensures.attempted)
+            (sent_here c.args.route reply c.send-sent.result c.args.ends.now _ _ c.requires.route (drained_now reply c.take.new.self.hand _ c.take_body.new.self (c.take_body.ensures ∙ c.in-Ok.ensures.some) here))
+            (ap (λ (o : Option Kept). state t.names o t.round (sent_on c.args.route phase) t.latest) (ap (option_map (λ (k : KeptReply). kept k.route (record { peer = k.peer; bytes = take k.len c.args.self.now.text }))) c.requires.kept ∙ gone))
+            c.count_reply.ensures,
+      );
   more = λ same. c.requires.kept;
   none = λ same. c.requires.kept;
 }
 
 pub returns-in-Later-clause-went : goal.returns-in-Later-clause-went
-returns-in-Later-clause-went g c class schedules t gave =
+returns-in-Later-clause-went g c sends below class schedules t phase source up =
     let reply : Datagram = record { peer = c.reply-reply.result.now.peer; bytes = c.bytes.result.now } in
     let here : written c.take.new.self.hand ≡ reply = ap written (sym (c.reply-reply.ensures ∙ ap (λ (d : DrainEnd). d.hand) c.take_body.ensures)) ∙ ap (λ (bytes : List ℕ). record { peer = c.reply-reply.result.now.peer; bytes = bytes }) (sym c.bytes.ensures.value) in
     let copied : take c.copy_to-len.result c.copy_to-len.new.out ≡ c.bytes.result.now = c.copy_to-len.ensures.written ∙ sym c.bytes.ensures.value in
-    let there : Some (kept c.args.route reply) ≡ kept_if c.send-sent.result (kept c.args.route reply) = rw c.in-Later.is refl in
-    went_one class schedules (Sends c.args.route reply c.send-sent.result) _ _
-    (ap (option_map (λ (k : KeptReply). kept k.route (record { peer = k.peer; bytes = take k.len c.args.self.now.text }))) c.requires.kept)
-    (sym (joined_none _))
-    (c.send-sent.ensures.tells ∙ ap (joined (g.W.Wire.handed c.args.wire.now)) (sent_as c.send-sent.result (from (FromRoute c.args.route) reply)))
-    (sent_here c.args.route reply c.send-sent.result c.args.ends.now _ _ c.requires.route (drained_now reply c.take.new.self.hand _ c.take_body.new.self (c.take_body.ensures ∙ c.if-not-take.ensures.some refl) here))
-    (ap (λ (o : Option Kept). state t.names o t.round t.has_begun t.latest) (ap (λ (bytes : List ℕ). Some (kept c.args.route (record { peer = c.reply-reply.result.now.peer; bytes = bytes }))) copied ∙ there))
-    c.count_reply.ensures
+    let there : Some (kept c.args.route reply) ≡ kept_if c.send-sent.result (kept c.args.route reply) = rw c.in-Later.is refl in (
+      sent_on c.args.route phase,
+      up_to_sent up,
+      went_one class schedules (Sends c.args.route reply c.send-sent.result) _ _
+          (up_to_sends below up, ap (option_map (λ (k : KeptReply). kept k.route (record { peer = k.peer; bytes = take k.len c.args.self.now.text }))) c.requires.kept)
+          (unheard _ _ _ _ refl refl (c.send-sent.ensures.tells ∙ ap (joined (g.W.Wire.handed c.args.wire.now)) (sent_as c.send-sent.result (from (FromRoute c.args.route) reply))) c.send-sent.ensures.attempted)
+          (sent_here c.args.route reply c.send-sent.result c.args.ends.now _ _ c.requires.route (drained_now reply c.take.new.self.hand _ c.take_body.new.self (c.take_body.ensures ∙ c.in-Ok.ensures.some) here))
+          (ap (λ (o : Option Kept). state t.names o t.round (sent_on c.args.route phase) t.latest) (ap (λ (bytes : List ℕ). Some (kept c.args.route (record { peer = c.reply-reply.result.now.peer; bytes = bytes }))) copied ∙ there))
+          c.count_reply.ensures,
+    )

@@ -1,9 +1,9 @@
-use Rattle.std.proofs.Common.{suc, refl, sym, subst, Option, List, arith}
-use Rattle.srt_poller.specs.Devices.{Arrival}
-use Rattle.srt_poller.specs.History.{ReadsNothing, ReadFails}
-use Rattle.srt_poller.specs.Pollers.{sorted_by, named_in, next_turn, world_of}
-use Rattle.srt_poller.specs.Rounds.{Went}
-use Rattle.srt_poller.proofs.Steps.{joined_none, are_later_none, went_one, went_then, went_more}
+use Rattle.std.proofs.Common.{◌≡◌, ◌+◌, ℕ, suc, refl, sym, subst, List, arith}
+use Rattle.srt_poller.specs.Devices.{Heard, heard, carried}
+use Rattle.srt_poller.specs.History.{Phase, Reading, Sending, reading, ReadsNothing, ReadFails}
+use Rattle.srt_poller.specs.Pollers.{sorted_by, named_in, turn, world_of}
+use Rattle.srt_poller.specs.Rounds.{World, Went}
+use Rattle.srt_poller.proofs.Steps.{are_later_none, unsent, heard_as, reading_below, went_one, went_then, went_more}
 use Rattle.srt_poller.proofs.poller.Poller.listen.Goals as goal
 
 pub returns-then-not-wait : goal.returns-then-not-wait
@@ -15,22 +15,30 @@ loop-came-init g c schedules round = c.wait.ensures.ready c.if-not-wait.false _ 
 pub loop-came-preserved : goal.loop-came-preserved
 loop-came-preserved g c schedules round =
     let names = named_in c.args.context.now.lobby in
-    let read = subst (λ (gave : Option (List Arrival)). Went (sorted_by c.args.context.now.lobby) schedules 1 0 1
-    (world_of (g.S.Source.gave c.loop-came.source) (g.W.Wire.handed c.loop-came.wire) c.loop-came.ends (next_turn names (suc round) c.loop-came.latest.moment) c.loop-came.self)
-    (world_of gave (g.W.Wire.handed c.arrive.new.wire) c.arrive.new.ends (next_turn names (suc round) c.see.new.self.moment) c.arrive.new.self))
-    (sym c.in-Datagram.ensures.tells)
-    (rw c.see.ensures (c.arrive.ensures schedules (suc round) c.loop-came.latest.moment (g.S.Source.gave c.loop-came.source))) in
-    went_then (c.loop-came.invariant schedules round) read
+    let reads = c.loop-came.came in
+    let wire = carried (g.W.Wire.handed c.loop-came.wire) (g.W.Wire.attempts c.loop-came.wire) in
+    let source = heard (g.S.Source.gave c.loop-came.source) (g.S.Source.calls c.loop-came.source) in
+    let before : Phase → World = λ phase. world_of source wire c.loop-came.ends
+    (turn names (suc round) c.loop-came.latest.moment) phase c.loop-came.self in
+    let after : Heard → World = λ s. world_of s (carried (g.W.Wire.handed c.arrive.new.wire) (g.W.Wire.attempts c.arrive.new.wire)) c.arrive.new.ends
+    (turn names (suc round) c.see.new.self.moment) (reading (reads + 1)) c.arrive.new.self in
+    let told = subst (λ (s : Heard). Went (sorted_by c.args.context.now.lobby) schedules 1 0 1 (before (Reading reads)) (after s)) (heard_as source _ _ _ _ c.in-Datagram.ensures.tells c.in-Datagram.ensures.called)
+    (rw c.see.ensures (c.arrive.ensures schedules (suc round) c.loop-came.latest.moment reads source)) in
+    went_then (rw (reading_below reads (omega arith)) at (c.loop-came.invariant schedules round)) told
 
 pub returns-in-Empty : goal.returns-in-Empty
 returns-in-Empty g c schedules round =
-    went_more {n = 257} (omega arith) (omega arith) (went_then (c.loop-came.invariant schedules round)
-    (went_one _ schedules ReadsNothing _ _ tt c.in-Empty.ensures.tells (sym (joined_none _)) (are_later_none _ _ (λ r. refl) (λ r. refl)) refl refl))
+    let reads = c.loop-came.came in
+    went_more {n = 257} (omega arith) (omega arith) (went_then (rw (reading_below reads (omega arith)) at (c.loop-came.invariant schedules round))
+    (went_one _ schedules ReadsNothing _ _ tt (unsent _ _ _ _ refl refl c.in-Empty.ensures.tells c.in-Empty.ensures.called) (are_later_none _ _ (λ r. refl) (λ r. refl)) refl refl))
 
 pub returns-in-Failed : goal.returns-in-Failed
 returns-in-Failed g c schedules round =
-    went_more {n = 257} (omega arith) (omega arith) (went_then (c.loop-came.invariant schedules round)
-    (went_one _ schedules ReadFails _ _ tt c.in-Failed.ensures.tells (sym (joined_none _)) (are_later_none _ _ (λ r. refl) (λ r. refl)) refl c.count_fault.ensures))
+    let reads = c.loop-came.came in
+    went_more {n = 257} (omega arith) (omega arith) (went_then (rw (reading_below reads (omega arith)) at (c.loop-came.invariant schedules round))
+    (went_one _ schedules ReadFails _ _ tt (unsent _ _ _ _ refl refl c.in-Failed.ensures.tells c.in-Failed.ensures.called) (are_later_none _ _ (λ r. refl) (λ r. refl)) refl c.count_fault.ensures))
 
 pub returns : goal.returns
-returns g c schedules round = went_more {n = 257} (omega arith) (omega arith) (c.loop-came.invariant schedules round)
+returns g c schedules round =
+    let all : c.loop-came.came ≡ 256 = omega arith in
+    went_more {n = 257} (omega arith) (omega arith) (rw all at (c.loop-came.invariant schedules round))

@@ -1,0 +1,87 @@
+-- A report beside the records of the devices.
+use Rattle.std.specs.Prelude.{◌≡◌, ℕ, ◌+◌, Option, None, Some, List, [], ◌∷◌}
+use Rattle.srt_poller.specs.declared.devices.Sent.{Sent}
+use Rattle.srt_poller.specs.declared.devices.Sent.TheVariants.{Taken, Later, Failed}
+use Rattle.srt_poller.specs.declared.report.Report.{Report}
+use Rattle.srt_poller.specs.Devices.{Attempt, Call, WaitEnded, WaitFailed, ReadGave, ReadEmpty, ReadFailed}
+use Rattle.srt_poller.specs.History.{Event, Begins, Waits, WaitFails, ReadsNothing, ReadFails, Answers, Accepts, Overflows, Refuses, Drops, Sends, Resends, Kept, kept_after, calls, attempts}
+
+-- the number of datagrams that the source gave
+abbrev pub gives : Call → ℕ
+gives WaitEnded = 0
+gives WaitFailed = 0
+gives (ReadGave arrival) = 1
+gives ReadEmpty = 0
+gives ReadFailed = 0
+
+abbrev pub given_in : List Call → ℕ
+given_in [] = 0
+given_in (call ∷ calls) = gives call + given_in calls
+
+-- the number of its waits and reads that failed
+abbrev pub fails : Call → ℕ
+fails WaitEnded = 0
+fails WaitFailed = 1
+fails (ReadGave arrival) = 0
+fails ReadEmpty = 0
+fails ReadFailed = 1
+
+abbrev pub faults_in : List Call → ℕ
+faults_in [] = 0
+faults_in (call ∷ calls) = fails call + faults_in calls
+
+-- the number of sends that the wire took
+abbrev pub takes : Sent → ℕ
+takes Taken = 1
+takes Later = 0
+takes Failed = 0
+
+abbrev pub taken_in : List Attempt → ℕ
+taken_in [] = 0
+taken_in (a ∷ attempts) = takes a.sent + taken_in attempts
+
+-- the number of sends that failed
+abbrev pub loses : Sent → ℕ
+loses Taken = 0
+loses Later = 0
+loses Failed = 1
+
+abbrev pub failed_in : List Attempt → ℕ
+failed_in [] = 0
+failed_in (a ∷ attempts) = loses a.sent + failed_in attempts
+
+-- the number of the lobby's answers that were put off
+abbrev pub puts_off : Sent → ℕ
+puts_off Taken = 0
+puts_off Later = 1
+puts_off Failed = 0
+
+abbrev pub gives_up : Event → ℕ
+gives_up (Answers arrival bytes sent) = puts_off sent
+gives_up (Begins moment offers) = 0
+gives_up Waits = 0
+gives_up WaitFails = 0
+gives_up ReadsNothing = 0
+gives_up ReadFails = 0
+gives_up (Accepts arrival route) = 0
+gives_up (Overflows arrival route) = 0
+gives_up (Refuses arrival route) = 0
+gives_up (Drops arrival cause) = 0
+gives_up (Sends route reply sent) = 0
+gives_up (Resends route reply sent) = 0
+
+abbrev pub put_off_in : List Event → ℕ
+put_off_in [] = 0
+put_off_in (event ∷ events) = gives_up event + put_off_in events
+
+abbrev pub one_kept : Option Kept → ℕ
+one_kept None = 0
+one_kept (Some k) = 1
+
+-- what a report says of the devices' calls in these events: it counts the datagrams that the source gave, the sends that the wire took, the failed
+-- calls of both, and as lost the failed sends, the answers that were put off and the reply that is kept at the end
+pub record TalliesWith (events : List Event) (report : Report) : Type 0 where
+  pub read : report.read ≡ given_in (calls events)
+  pub sent : report.sent ≡ taken_in (attempts events)
+  pub faults : report.faults ≡ faults_in (calls events) + failed_in (attempts events)
+  pub lost : report.lost ≡ put_off_in events + failed_in (attempts events) + one_kept (kept_after None events)
