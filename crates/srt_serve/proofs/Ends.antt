@@ -2,7 +2,6 @@
 use Rattle.std.proofs.Common.{◌≡◌, ℕ, Option, None, List, ◌++◌, length, take, drop, sym, ◌∙◌}
 use Rattle.std.proofs.Math.Seq.{take-append_seam}
 use Rattle.srt_seq.specs.declared.shared.Schedule.{Schedule}
-use Rattle.srt_seq.specs.Items.{Datagram}
 use Rattle.srt_seq.specs.Terms.{Terms}
 use Rattle.srt_lobby.specs.Names.{RouteName}
 use Rattle.srt_lobby.specs.Opening.{fault_of}
@@ -11,7 +10,7 @@ use Rattle.srt_mailbox.specs.declared.cells.RouteCell.{RouteCell}
 use Rattle.srt_mailbox.specs.Ends.{Producer}
 use Rattle.srt_poller.specs.declared.ends.Ends.{Ends}
 use Rattle.srt_poller.specs.declared.report.Report.{Report}
-use Rattle.srt_poller.specs.Devices.{Arrival}
+use Rattle.srt_poller.specs.Devices.{Heard, Carried}
 use Rattle.srt_poller.specs.History.{Sorting}
 use Rattle.srt_poller.specs.Pumped.{Pumped, before, after}
 use Rattle.srt_serve.specs.Later.{first_names}
@@ -27,7 +26,7 @@ put_whole : {X : Type 0} (was bs : List X) (len : ℕ) → len ≡ length was �
 put_whole was bs len places same = rw (places ∙ sym same) (take-append_seam bs (drop (length bs) was))
 
 -- the poller's ends were lent as a slice
-pub polled_whole : (class : Sorting) (schedules : List Schedule) (rounds : ℕ) (names names' : List RouteName) (gave gave' : Option (List Arrival)) (to to' : Option (List Datagram)) (lent ends ends' : List Ends) (len : ℕ) (report : Report) →
+pub polled_whole : (class : Sorting) (schedules : List Schedule) (rounds : ℕ) (names names' : List RouteName) (gave gave' : Heard) (to to' : Carried) (lent ends ends' : List Ends) (len : ℕ) (report : Report) →
     lent ≡ ends → len ≡ length ends → Pumped class schedules rounds (before names gave to lent) (after names' gave' to' ends' report) →
     Polled class schedules rounds (before names gave to ends) (after names' gave' to' (take len (ends' ++ drop (length ends') ends)) report)
 unfolding Polled
@@ -35,14 +34,14 @@ polled_whole class schedules rounds names names' gave gave' to to' lent ends end
     let pumped : Pumped class schedules rounds (before names gave to ends) (after names' gave' to' ends' report) = rw lending at p in
     rw (put_whole ends ends' len places pumped.1.ends.as_many) pumped
 
-pub run_joined : (class : Sorting) (schedules : List Schedule) (entries : List Terms) (rounds : ℕ) (names names' : List RouteName) (gave gave' : Option (List Arrival)) (to to' : Option (List Datagram)) (told told' : Option (List ℕ)) (ends ends' : List Ends) (clocks clocks' : List Producer) (cells : List RouteCell) (report : Report) →
+pub run_joined : (class : Sorting) (schedules : List Schedule) (entries : List Terms) (rounds : ℕ) (names names' : List RouteName) (gave gave' : Heard) (to to' : Carried) (told told' : Option (List ℕ)) (ends ends' : List Ends) (clocks clocks' : List Producer) (cells : List RouteCell) (report : Report) →
     AreOpened entries ends clocks cells → Polled class schedules rounds (before names gave to ends) (after names' gave' to' ends' report) → Ticked itself untold told told' clocks clocks' →
     AreJoined ends' clocks' cells
 unfolding Polled
 run_joined class schedules entries rounds names names' gave gave' to to' told told' ends ends' clocks clocks' cells report opened polled ticked =
     all_joined entries ends ends' clocks clocks' cells polled.0 ticked.0 opened polled.1.ends ticked.2
 
-pub run_ran : (class : Sorting) (schedules : List Schedule) (entries : List Terms) (rounds : ℕ) (names names' : List RouteName) (gave gave' : Option (List Arrival)) (to to' : Option (List Datagram)) (told told' : Option (List ℕ)) (ends ends' : List Ends) (clocks clocks' : List Producer) (cells : List RouteCell) (report : Report) (accounts : List Account) →
+pub run_ran : (class : Sorting) (schedules : List Schedule) (entries : List Terms) (rounds : ℕ) (names names' : List RouteName) (gave gave' : Heard) (to to' : Carried) (told told' : Option (List ℕ)) (ends ends' : List Ends) (clocks clocks' : List Producer) (cells : List RouteCell) (report : Report) (accounts : List Account) →
     fault_of entries ≡ None → names ≡ first_names schedules entries → AreOpened entries ends clocks cells → Polled class schedules rounds (before names gave to ends) (after names' gave' to' ends' report) → Ticked itself untold told told' clocks clocks' →
     AreSettled accounts ends' clocks' cells →
     Ran class schedules entries rounds (told_by gave to told) (told_by gave' to' told') report accounts

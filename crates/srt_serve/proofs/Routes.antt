@@ -5,7 +5,7 @@ use Rattle.std.proofs.lemmas.Bool.Decides.{nat_tests}
 use Rattle.std.specs.List.{list_all}
 use Rattle.srt_seq.specs.declared.shared.Schedule.{Schedule}
 use Rattle.srt_seq.specs.Entries.{is_between, in_limits}
-use Rattle.srt_seq.specs.Items.{Datagram, told}
+use Rattle.srt_seq.specs.Items.{told}
 use Rattle.srt_seq.specs.Terms.{Terms}
 use Rattle.srt_seq.specs.declared.shared.OpenFault.TheVariants.{Names, Limits}
 use Rattle.srt_lobby.specs.Names.{RouteName}
@@ -22,8 +22,8 @@ use Rattle.srt_mailbox.specs.Names.{name_in}
 use Rattle.srt_mailbox.specs.Settled.{Settles}
 use Rattle.srt_poller.specs.declared.ends.Ends.{Ends}
 use Rattle.srt_poller.specs.declared.report.Report.{Report}
-use Rattle.srt_poller.specs.Devices.{Arrival}
-use Rattle.srt_poller.specs.History.{Sorting, Event, Follow, at_first, state_after, handed, of_route, kept_of, kept_after, accepted, drained}
+use Rattle.srt_poller.specs.Devices.{Heard, Carried}
+use Rattle.srt_poller.specs.History.{Sorting, Event, Follow, at_first, state_after, IsOver, handed, of_route, kept_of, kept_after, accepted, drained}
 use Rattle.srt_poller.specs.Pumped.{HaveOrigins, Pumped, before, after}
 use Rattle.srt_poller.specs.Rounds.{IsLater, AreLater}
 use Rattle.srt_serve.specs.Later.{first_names}
@@ -157,7 +157,7 @@ few n h = grind (arith, nat_tests, both)
 pub few_routes : (entries : List Terms) → fault_of entries ≡ None → length entries ≤ 511
 few_routes entries sound = few (length entries) (both (is_between 1 511 (length entries)) (list_all in_limits entries) (limited (are_names entries) (are_in_limits entries) sound)).0
 
-pub all_ran : (class : Sorting) (schedules : List Schedule) (entries : List Terms) (rounds : ℕ) (names names' : List RouteName) (gave gave' : Option (List Arrival)) (to to' : Option (List Datagram)) (told_before told_after : Option (List ℕ)) (ends ends' : List Ends) (clocks clocks' : List Producer) (cells : List RouteCell) (report : Report) (accounts : List Account) →
+pub all_ran : (class : Sorting) (schedules : List Schedule) (entries : List Terms) (rounds : ℕ) (names names' : List RouteName) (gave gave' : Heard) (to to' : Carried) (told_before told_after : Option (List ℕ)) (ends ends' : List Ends) (clocks clocks' : List Producer) (cells : List RouteCell) (report : Report) (accounts : List Account) →
     fault_of entries ≡ None → names ≡ first_names schedules entries → AreOpened entries ends clocks cells → Pumped class schedules rounds (before names gave to ends) (after names' gave' to' ends' report) → Ticked itself untold told_before told_after clocks clocks' → AreSettled accounts ends' clocks' cells →
     Ran class schedules entries rounds (told_by gave to told_before) (told_by gave' to' told_after) report accounts
 all_ran class schedules entries rounds names names' gave gave' to to' told_before told_after ends ends' clocks clocks' cells report accounts sound named opened pumped ticked settled =
@@ -166,12 +166,15 @@ all_ran class schedules entries rounds names names' gave gave' to to' told_befor
       ticked.0,
       record {
         follow = subst (λ (ns : List RouteName). Follow class schedules (at_first ns) pumped.0) named p.follow;
-        over = subst (λ (ns : List RouteName). (state_after schedules (at_first ns) pumped.0).has_begun ≡ false) named p.over;
+        over = subst (λ (ns : List RouteName). IsOver (state_after schedules (at_first ns) pumped.0).phase) named p.over;
         gave = p.gave;
+        called = p.called;
         handed_are = p.handed;
+        attempted = p.attempted;
         moments_are = ticked.1;
         lobby = p.origins.lobby;
         report_is = p.sums (omega (arith, few_routes entries sound, opened.as_many_ends));
+        tallies = p.tallies (omega (arith, few_routes entries sound, opened.as_many_ends));
         waits = p.waits;
         reads = p.reads;
         few = subst (λ (n : ℕ). length pumped.0 ≤ rounds * (259 + 64 * n)) opened.as_many_ends p.few;

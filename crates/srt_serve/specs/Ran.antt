@@ -1,5 +1,5 @@
 -- What a run did.
-use Rattle.std.specs.Prelude.{◌≡◌, ℕ, ◌+◌, ◌*◌, ◌<◌, ◌≤◌, false, Option, None, List, ◌++◌, map, length, slice_index_or}
+use Rattle.std.specs.Prelude.{◌≡◌, ℕ, ◌+◌, ◌*◌, ◌<◌, ◌≤◌, Option, None, List, ◌++◌, map, length, slice_index_or}
 use Rattle.srt_seq.specs.declared.shared.Schedule.{Schedule}
 use Rattle.srt_seq.specs.Items.{Datagram, told}
 use Rattle.srt_seq.specs.Terms.{Terms}
@@ -11,9 +11,10 @@ use Rattle.srt_mailbox.specs.declared.accounts.Account.{Account}
 use Rattle.srt_mailbox.specs.Inbox.{polled_of, ticked_of, applied}
 use Rattle.srt_mailbox.specs.Counts.{counted}
 use Rattle.srt_poller.specs.declared.report.Report.{Report}
-use Rattle.srt_poller.specs.Devices.{Arrival, joined}
-use Rattle.srt_poller.specs.History.{Sorting, Event, Follow, at_first, state_after, kept_after, kept_of, given, handed, datagrams, of_lobby, of_route, answered, accepted, drained, waits_in, reads_in, ready_in}
+use Rattle.srt_poller.specs.Devices.{Heard, Carried, joined}
+use Rattle.srt_poller.specs.History.{Sorting, Event, Follow, at_first, state_after, IsOver, kept_after, kept_of, given, calls, handed, datagrams, attempts, of_lobby, of_route, answered, accepted, drained, waits_in, reads_in, ready_in}
 use Rattle.srt_poller.specs.Reports.{total}
+use Rattle.srt_poller.specs.Tallies.{TalliesWith}
 use Rattle.srt_serve.specs.Later.{first_names}
 use Rattle.srt_serve.specs.Ticks.{IsWithin, tick}
 
@@ -39,25 +40,29 @@ pub record RouteRan (terms : Terms) (index : ℕ) (events : List Event) (moments
 
 -- what the source, the wire and the ticker have recorded
 pub record Told : Type 0 where
-  pub gave : Option (List Arrival)
-  pub handed : Option (List Datagram)
+  pub source : Heard
+  pub wire : Carried
   pub moments : Option (List ℕ)
 
-abbrev pub told_by : Option (List Arrival) → Option (List Datagram) → Option (List ℕ) → Told
-told_by gave handed moments = record { gave = gave; handed = handed; moments = moments }
+abbrev pub told_by : Heard → Carried → Option (List ℕ) → Told
+told_by source wire moments = record { source = source; wire = wire; moments = moments }
 
--- These events happened at the poller, the oldest first, and the ticker gave these moments. In each round the routes of its schedules opened
--- and closed; at first those that open later were hidden. The source gave the datagrams of the events, and what happened to each is what its
--- class says, with the names then in force; the wire was handed the datagrams of the events; the report counts them. The source waited once
--- a round, and was read at least as often as it waited without a failure. There is an account of each route, in the order of their indexes
+-- These events happened at the poller, the oldest first, in whole rounds, and the ticker gave these moments. In each round the routes of its
+-- schedules opened and closed; at first those that open later were hidden. The source gave the datagrams of the events, and what happened to each is
+-- what its class says, with the names then in force; its calls, with its answers, are just those of the events. The wire was handed the datagrams of the
+-- events, and its sends, with their outcomes, are just theirs. The report counts them, and has the numbers of the devices' records. The source waited
+-- once a round, and was read at least as often as it waited without a failure. There is an account of each route, in the order of their indexes
 pub record RanBy (class : Sorting) (schedules : List Schedule) (entries : List Terms) (rounds : ℕ) (old new : Told) (report : Report) (accounts : List Account) (events : List Event) (moments : List ℕ) : Type 0 where
   pub follow : Follow class schedules (at_first (first_names schedules entries)) events
-  pub over : (state_after schedules (at_first (first_names schedules entries)) events).has_begun ≡ false
-  pub gave : new.gave ≡ joined old.gave (given events)
-  pub handed_are : new.handed ≡ joined old.handed (datagrams (handed events))
+  pub over : IsOver (state_after schedules (at_first (first_names schedules entries)) events).phase
+  pub gave : new.source.gave ≡ joined old.source.gave (given events)
+  pub called : new.source.calls ≡ joined old.source.calls (calls events)
+  pub handed_are : new.wire.handed ≡ joined old.wire.handed (datagrams (handed events))
+  pub attempted : new.wire.attempts ≡ joined old.wire.attempts (attempts events)
   pub moments_are : new.moments ≡ joined old.moments moments
   pub lobby : of_lobby (handed events) ≡ answered events
   pub report_is : report ≡ total events (kept_after None events)
+  pub tallies : TalliesWith events report
   pub waits : waits_in events ≡ rounds
   pub reads : ready_in events ≤ reads_in events
   pub few : length events ≤ rounds * (259 + 64 * length entries)

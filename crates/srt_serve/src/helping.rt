@@ -72,6 +72,12 @@ impl<'a, R: Wait, C: Serve, G: Gate + Drop> Helper<'a, R, C, G> {
 }
 
 impl<R: Wait, C: Serve, G: Gate + Drop> Signals for Helper<'_, R, C, G> {
+    ghost stops = { λ s. ⊥ };
+
+    fn goes_on(&self) -> bool {
+        true
+    }
+
     fn offered(&self, route: usize) {
         self.hall.offered(route);
     }

@@ -7,6 +7,7 @@ ghost use Rattle.srt_cookie.specs.Cookie.{secret_bytes};
 ghost use Rattle.srt_lobby.specs.Lobby.{class_of};
 ghost use Rattle.srt_lobby.specs.Names.{names_of};
 ghost use Rattle.srt_lobby.specs.Opening.{fault_of};
+ghost use Rattle.srt_poller.specs.Devices.{heard, carried};
 ghost use Rattle.srt_serve.specs.Later.{later_hidden, first_names};
 ghost use Rattle.srt_serve.specs.Opened.{AreOpened};
 ghost use Rattle.srt_serve.specs.Ran.{told_by, Ran as TheRan};
@@ -139,8 +140,8 @@ where
     requires schedules { length schedules.now ≡ length entries.now }
     requires workers { (1 ≤ vec_len gates.workers) × (vec_len gates.workers ≤ 16) }
     ensures ran { IfOk result (λ r. TheRan (class_of (secret_bytes secret.now)) schedules.now (map terms_of entries.now) rounds
-        (told_by (S.gave source.old) (W.handed wire.old) (K.gave ticker))
-        (told_by (S.gave source.new) (W.handed wire.new) (K.gave r.ticker)) r.report r.accounts.items) }
+        (told_by (heard (S.gave source.old) (S.calls source.old)) (carried (W.handed wire.old) (W.attempts wire.old)) (K.gave ticker))
+        (told_by (heard (S.gave source.new) (S.calls source.new)) (carried (W.handed wire.new) (W.attempts wire.new)) (K.gave r.ticker)) r.report r.accounts.items) }
     ensures unread { (result ≡ Err RunFault.OutOfMemory) ⊎ (result ≡ Err RunFault.Thread) → (source.new ≡ source.old) × (wire.new ≡ wire.old) }
 {
     let Gates { poller, workers } = gates;

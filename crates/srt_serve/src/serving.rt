@@ -1,10 +1,13 @@
 //! Starts the threads of a run, and joins them.
 
-ghost use Rattle.std.specs.Prelude.{◌≡◌, IfSome, IfNone};
+ghost use Rattle.std.specs.Prelude.{◌≡◌, IfSome, IfNone, length};
 ghost use Rattle.srt_cookie.specs.Cookie.{secret_bytes};
 ghost use Rattle.srt_lobby.specs.Lobby.{class_of};
 ghost use Rattle.srt_lobby.specs.Names.{names_of};
-ghost use Rattle.srt_poller.specs.Pumped.{before, after};
+ghost use Rattle.srt_poller.specs.Devices.{heard, carried};
+ghost use Rattle.srt_poller.specs.Pollers.{sorting};
+ghost use Rattle.srt_poller.specs.Pumped.{Pumped, before, after};
+ghost use Rattle.srt_poller.specs.Schedules.{AllDiffer};
 ghost use Rattle.srt_serve.specs.Polled.{AreReady, Polled, AreUntouched};
 ghost use Rattle.srt_serve.specs.Ticks.{Ticked};
 
@@ -90,6 +93,32 @@ where
     });
 }
 
+// Polls for all rounds: a helper never ends them early.
+fn pump_all<R: Wait, S: Source, W: Wire, C: Serve, G: Gate + Drop>(
+    rt: &R,
+    alloc: Global,
+    secret: &Secret,
+    names: &mut Names,
+    schedules: &[Schedule],
+    source: &mut S,
+    wire: &mut W,
+    ends: &mut [Ends],
+    rounds: u32,
+    helper: &Helper<R, C, G>,
+) -> Report
+    requires ends { length ends.old ≡ length (names_of names.old) }
+    requires schedules { length schedules.now ≡ length (names_of names.old) }
+    requires differ { AllDiffer (names_of names.old) }
+    ensures { Pumped (sorting secret.now) schedules.now rounds
+        (before (names_of names.old) (heard (S.gave source.old) (S.calls source.old)) (carried (W.handed wire.old) (W.attempts wire.old)) ends.old)
+        (after (names_of names.new) (heard (S.gave source.new) (S.calls source.new)) (carried (W.handed wire.new) (W.attempts wire.new)) ends.new result) }
+{
+    let pumping = pump_under(
+        rt, alloc, secret, names, schedules, source, wire, ends, rounds, helper,
+    );
+    pumping.report
+}
+
 // Waits until all threads have arrived, polls for `rounds` rounds, and ends the run. `None` if they don't arrive; then
 // nothing was read.
 #[tactic(auto, unfolding(crate::specs::Polled::AreReady, crate::specs::Polled::Polled, crate::specs::Polled::AreUntouched))]
@@ -102,8 +131,8 @@ fn poll<R: Wait, S: Source, W: Wire, C: Serve, G: Gate + Drop>(
     requires { AreReady context.now.schedules.now (names_of front.old.names) front.old.ends.items }
     ensures pumped { IfSome result (λ report.
         Polled (class_of (secret_bytes context.now.secret.now)) context.now.schedules.now context.now.rounds
-        (before (names_of front.old.names) (S.gave source.old) (W.handed wire.old) front.old.ends.items)
-        (after (names_of front.new.names) (S.gave source.new) (W.handed wire.new) front.new.ends.items report)) }
+        (before (names_of front.old.names) (heard (S.gave source.old) (S.calls source.old)) (carried (W.handed wire.old) (W.attempts wire.old)) front.old.ends.items)
+        (after (names_of front.new.names) (heard (S.gave source.new) (S.calls source.new)) (carried (W.handed wire.new) (W.attempts wire.new)) front.new.ends.items report)) }
     ensures unread { IfNone result (AreUntouched source.old source.new wire.old wire.new) }
 {
     let Context {
@@ -122,7 +151,7 @@ fn poll<R: Wait, S: Source, W: Wire, C: Serve, G: Gate + Drop>(
     let helper = Helper::new(rt, cells, hall, front.gate.take());
     let names = &mut front.names;
     let ends = &mut front.ends;
-    let report = pump_under(
+    let report = pump_all(
         rt, alloc, secret, names, schedules, source, wire, ends, rounds, &helper,
     );
     hall.finish();
@@ -146,8 +175,8 @@ where
     requires { AreReady context.now.schedules.now (names_of front.old.names) front.old.ends.items }
     ensures pumped { IfSome result (λ report.
         Polled (class_of (secret_bytes context.now.secret.now)) context.now.schedules.now context.now.rounds
-        (before (names_of front.old.names) (S.gave source.old) (W.handed wire.old) front.old.ends.items)
-        (after (names_of front.new.names) (S.gave source.new) (W.handed wire.new) front.new.ends.items report)) }
+        (before (names_of front.old.names) (heard (S.gave source.old) (S.calls source.old)) (carried (W.handed wire.old) (W.attempts wire.old)) front.old.ends.items)
+        (after (names_of front.new.names) (heard (S.gave source.new) (S.calls source.new)) (carried (W.handed wire.new) (W.attempts wire.new)) front.new.ends.items report)) }
     ensures ticked { Ticked E.inbox E.tried (K.gave clocks.old.ticker) (K.gave clocks.new.ticker)
         clocks.old.ends.items clocks.new.ends.items }
     ensures unread { IfNone result (AreUntouched source.old source.new wire.old wire.new) }
@@ -178,8 +207,8 @@ where
     requires { AreReady context.now.schedules.now (names_of front.old.names) front.old.ends.items }
     ensures pumped { IfSome result (λ report.
         Polled (class_of (secret_bytes context.now.secret.now)) context.now.schedules.now context.now.rounds
-        (before (names_of front.old.names) (S.gave source.old) (W.handed wire.old) front.old.ends.items)
-        (after (names_of front.new.names) (S.gave source.new) (W.handed wire.new) front.new.ends.items report)) }
+        (before (names_of front.old.names) (heard (S.gave source.old) (S.calls source.old)) (carried (W.handed wire.old) (W.attempts wire.old)) front.old.ends.items)
+        (after (names_of front.new.names) (heard (S.gave source.new) (S.calls source.new)) (carried (W.handed wire.new) (W.attempts wire.new)) front.new.ends.items report)) }
     ensures ticked { Ticked E.inbox E.tried (K.gave crew.old.clocks.ticker) (K.gave crew.new.clocks.ticker)
         crew.old.clocks.ends.items crew.new.clocks.ends.items }
     ensures unread { IfNone result (AreUntouched source.old source.new wire.old wire.new) }

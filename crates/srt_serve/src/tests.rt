@@ -193,6 +193,8 @@ impl Source for Callers {
 
     ghost gave = { λ source. None };
 
+    ghost calls = { λ source. None };
+
     fn wait(&mut self) -> Polled {
         self.waits = self.waits.saturating_add(1);
         let last = match self.again {
@@ -274,6 +276,8 @@ impl Wire for Listener {
     ghost failures = { λ wire. 0 };
 
     ghost handed = { λ wire. None };
+
+    ghost attempts = { λ wire. None };
 
     fn send(&mut self, _to: Peer, bytes: &[u8]) -> Sent {
         self.meeting.taken.fetch_add(1, Ordering::SeqCst);

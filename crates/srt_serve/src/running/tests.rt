@@ -34,6 +34,8 @@ impl Source for Device {
 
     ghost gave = { λ source. None };
 
+    ghost calls = { λ source. None };
+
     fn wait(&mut self) -> Polled {
         self.count();
         Polled::Ready
@@ -53,6 +55,8 @@ impl Wire for Device {
     ghost failures = { λ wire. 0 };
 
     ghost handed = { λ wire. None };
+
+    ghost attempts = { λ wire. None };
 
     fn send(&mut self, _to: Peer, _bytes: &[u8]) -> Sent {
         self.count();
