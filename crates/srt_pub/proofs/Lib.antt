@@ -9,3 +9,4 @@ pub mod Deliveries
 pub mod Calling
 pub mod Rows
 pub mod Advancing
+pub mod Counting

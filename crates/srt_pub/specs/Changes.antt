@@ -17,6 +17,7 @@ use Rattle.srt_pub.specs.Heard.Heard.{Data}
 use Rattle.srt_pub.specs.Publishing.{Terms, Publishing, Report, opened, noted, runs_said, gaps_told, due_in, took, with_data, loses_window}
 use Rattle.srt_pub.specs.Says.{says}
 use Rattle.srt_pub.specs.Calls.{lost_if, texts, next_delivery, after_delivery}
+use Rattle.srt_pub.specs.Counting.{Passes}
 use Rattle.srt_pub.specs.Stands.{StandsFor, IsAhead}
 use Rattle.srt_pub.specs.declared.due_times.Agreed.{Agreed}
 use Rattle.srt_pub.specs.declared.ends.PubEnd.{PubEnd}
@@ -135,9 +136,10 @@ DropsInLiveMode first last old new =
     (terms : Terms) (initial opening stamp caller : ℕ) (m : Publishing) → terms.mode ≡ Live → StandsFor terms initial opening stamp caller old m
     → StandsFor terms initial opening stamp caller new (record m { receiving = requested terms.width (range_between initial first last) m.receiving })
 
--- the notes follow a buffer that is ahead: its front and its acknowledgement point were these
-abbrev pub CatchesUp : (front point : Seq31) → (old new : Publisher) → Type 0
-CatchesUp front point old new =
+-- the notes and the counts follow a buffer that is ahead: its front and its acknowledgement point were these, and the
+-- front passed a packet that is delivered or none
+abbrev pub CatchesUp : (front point : Seq31) → (is_due : Bool) → (old new : Publisher) → Type 0
+CatchesUp front point is_due old new =
     (terms : Terms) (initial opening stamp caller : ℕ) (m : Publishing) (r : Receiving) → word_of front ≡ number_word initial m.receiving.front
-    → word_of point ≡ number_word initial (ack_point terms.width m.receiving) → IsAhead terms initial opening stamp caller old m r
+    → word_of point ≡ number_word initial (ack_point terms.width m.receiving) → Passes is_due m.receiving r → IsAhead terms initial opening stamp caller old m r
     → StandsFor terms initial opening stamp caller new (record m { receiving = r })

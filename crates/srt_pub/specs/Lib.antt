@@ -3,7 +3,9 @@ pub mod Publishing
 pub mod Says
 pub mod Calls
 pub mod Kept
+pub mod Counting
 pub mod Stands
+pub mod Viewing
 pub mod Laws
 pub mod Sent
 pub mod Changes

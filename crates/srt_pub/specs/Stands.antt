@@ -6,6 +6,7 @@ use Rattle.srt_recvbuf.specs.Receiving.{Arrival, Request, Receiving, is_dropped,
 use Rattle.srt_recvbuf.specs.Stands as buffers
 use Rattle.srt_pub.specs.Publishing.{Terms, Publishing}
 use Rattle.srt_pub.specs.Kept.{LogStandsFor}
+use Rattle.srt_pub.specs.Counting.{Counted, delivered_in}
 use Rattle.srt_pub.specs.declared.due_times.Agreed.{Agreed}
 use Rattle.srt_pub.specs.declared.session.Publisher.{Publisher}
 
@@ -52,6 +53,7 @@ pub record StandsFor (terms : Terms) (initial opening stamp caller : ℕ) (p : P
   pub orderly : IsOrderly terms.mode terms.width m.receiving
   pub seen : m.seen ≤ end_of m.receiving.arrivals
   pub narrow : terms.width ≤ 8192
+  pub counts : Counted p.counts m.receiving.arrivals (delivered_in m.receiving) m.receiving.front m.notes
 
 -- a receiver moves on: its front, its acknowledgement point and the end of the received numbers don't go back
 pub record GoesOn (width : ℕ) (r s : Receiving) : Type 0 where
@@ -60,7 +62,7 @@ pub record GoesOn (width : ℕ) (r s : Receiving) : Type 0 where
   pub point : ack_point width r ≤ ack_point width s
   pub end : end_of r.arrivals ≤ end_of s.arrivals
 
--- the buffer represents `r` already, and the other fields still represent `m`
+-- the buffer represents `r` already, and the other fields still represent `m`, but that packets of `r` count as received
 pub record IsAhead (terms : Terms) (initial opening stamp caller : ℕ) (p : Publisher) (m : Publishing) (r : Receiving) : Type 0 where
   pub agreed : AreTerms terms opening stamp caller p.agreed
   pub buffer : buffers.StandsFor terms.width initial opening p.buffer r
@@ -68,4 +70,5 @@ pub record IsAhead (terms : Terms) (initial opening stamp caller : ℕ) (p : Pub
   pub orderly : IsOrderly terms.mode terms.width r
   pub seen : m.seen ≤ end_of m.receiving.arrivals
   pub narrow : terms.width ≤ 8192
+  pub counts : Counted p.counts r.arrivals (delivered_in m.receiving) m.receiving.front m.notes
   pub goes_on : GoesOn terms.width m.receiving r

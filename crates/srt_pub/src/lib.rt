@@ -6,7 +6,7 @@
 //! is given up are in `srt_route`; the window of packets is `srt_recvbuf`.
 //!
 //! Types: [`Publisher`], the session; [`Opening`], what it begins with; [`Reports`], which packets an event sends;
-//! [`PubEnd`], why a packet ends the session.
+//! [`PubEnd`], why a packet ends the session; [`Statistics`], what a look at it shows, with its [`Counts`].
 //!
 //! Calls: `Publisher::open` once; `start` for each session; then for each event `datagram` if a packet came,
 //! `deliver` until it returns false (64 times at most), or `pass_over` if the publisher stands by, and `transmit`, which
@@ -15,11 +15,13 @@
 //! Files: `session.rt` has the rules of data, drop requests and delivery, on `opening.rt`'s terms; `due_times.rt` of
 //! due times; `window_lost.rt` of the lost window that ends a live session; `transmit.rt` of what is sent at the end of
 //! an event; `acknowledgements.rt` of Full and Light ACKs and ACKACKs; `nak.rt` of NAKs and their interval;
-//! `keep_alive.rt` of KEEPALIVEs; `log.rt` keeps the times of the last packets. `specs/Publishing.antt` defines what a
-//! session sends, `specs/Says.antt` its bytes; `laws.rt` has facts about these.
+//! `keep_alive.rt` of KEEPALIVEs; `log.rt` keeps the times of the last packets; `counts.rt` has what is counted, and
+//! `statistics.rt` shows it. `specs/Publishing.antt` defines what a session sends, `specs/Says.antt` its bytes,
+//! `specs/Counting.antt` its counts; `laws.rt` has facts about these.
 #![tactic(auto)]
 
 mod acknowledgements;
+mod counts;
 mod due_times;
 mod ends;
 mod keep_alive;
@@ -29,13 +31,16 @@ mod nak;
 mod opening;
 mod reports;
 mod session;
+mod statistics;
 mod transmit;
 mod window_lost;
 
+pub use counts::Counts;
 pub use ends::PubEnd;
 pub use opening::Opening;
 pub use reports::Reports;
 pub use session::Publisher;
+pub use statistics::Statistics;
 
 #[cfg(test)]
 mod tests;

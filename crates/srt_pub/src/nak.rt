@@ -40,6 +40,7 @@ impl Publisher {
             return false;
         }
         self.log.nak(time, all);
+        self.counts.ask();
         let body = Body::Nak {
             losses: write(&runs),
         };

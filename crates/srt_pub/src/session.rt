@@ -11,6 +11,7 @@ ghost use Rattle.srt_pub.specs.Heard.Heard.{Data};
 ghost use Rattle.srt_pub.specs.Publishing.{opened, with_request, confirmed_at, confirmed_by};
 ghost use Rattle.srt_pub.specs.Calls.{ended, next_delivery, after_delivery};
 
+use crate::counts::Counts;
 use crate::due_times::Agreed;
 use crate::ends::PubEnd;
 use crate::log::Log;
@@ -39,6 +40,8 @@ pub struct Publisher {
     pub(crate) buffer: RecvBuf,
     /// ACKs, round trips and the times of the last packets.
     pub(crate) log: Log,
+    /// What was counted since the opening.
+    pub(crate) counts: Counts,
 }
 
 impl Publisher {
@@ -63,6 +66,7 @@ impl Publisher {
             },
             buffer: RecvBuf::open(alloc, width)?,
             log: Log::open(alloc)?,
+            counts: Counts::none(),
         })
     }
 
@@ -80,6 +84,7 @@ impl Publisher {
         };
         self.buffer.start(opening.initial);
         self.log.clear();
+        self.counts = Counts::none();
     }
 
     /// Takes a packet from the caller that comes at `now`: a data packet, an ACKACK, a drop request or a SHUTDOWN;
@@ -144,24 +149,28 @@ impl Publisher {
         ensures opening { opening_of self.new ≡ opening_of self.old }
     {
         self.log.came();
+        self.counts.come();
         let Some(number) = Seq31::new(word) else {
             return;
         };
         let due = self.agreed.due(stamp, now);
         let front = self.buffer.front();
         let point = self.buffer.ack_point();
-        let _ = self.buffer.put(number, due, payload);
-        self.follow(front, point);
+        let put = self.buffer.put(number, due, payload);
+        self.counts.store(put, payload);
+        self.follow(front, point, false);
     }
 
-    /// Notes how far the front and the acknowledgement point moved from these to the buffer's current ones.
-    fn follow(&mut self, front: Seq31, point: Seq31)
-        ensures stands { CatchesUp front point self.old self.new }
+    /// Notes how far the front and the acknowledgement point moved from these to the buffer's current ones, and counts
+    /// what the front passed: a packet that is delivered if `is_due`, and numbers that are given up.
+    fn follow(&mut self, front: Seq31, point: Seq31, is_due: bool)
+        ensures stands { CatchesUp front point is_due self.old self.new }
         ensures opening { opening_of self.new ≡ opening_of self.old }
     {
         let front_steps = steps(front, self.buffer.front());
         let point_steps = steps(point, self.buffer.ack_point());
         self.log.moves(front_steps, point_steps);
+        self.counts.pass(front_steps, is_due);
     }
 
     /// Takes an ACKACK (section 3.2.8).
@@ -198,7 +207,7 @@ impl Publisher {
         let front = self.buffer.front();
         let point = self.buffer.ack_point();
         self.buffer.dropped(first, last);
-        self.follow(front, point);
+        self.follow(front, point, false);
     }
 
     /// Delivers the payload of the first packet, if it is due and `room` isn't 0.
@@ -213,7 +222,7 @@ impl Publisher {
         let front = self.buffer.front();
         let point = self.buffer.ack_point();
         let is_due = self.buffer.advance(now, room, payload);
-        self.follow(front, point);
+        self.follow(front, point, is_due);
         is_due
     }
 
@@ -279,7 +288,7 @@ impl Publisher {
         let front = self.buffer.front();
         let point = self.buffer.ack_point();
         let is_due = self.buffer.pass_over(now, 1);
-        self.follow(front, point);
+        self.follow(front, point, is_due);
         is_due
     }
 }

@@ -2,7 +2,7 @@
 
 ghost use Rattle.std.specs.Prelude.{◌≤◌};
 
-use crate::{Opening, PubEnd, Publisher};
+use crate::{Counts, Opening, PubEnd, Publisher, Statistics};
 use srt_packet::{EncodedPacket, decode};
 use srt_seq::{Mode, Payload, Seq31, Stamp32};
 use std::alloc::Global;
@@ -424,4 +424,45 @@ fn a_keep_alive_after_a_second(rt: HostRuntime) -> Result<(), Fail> {
             Event::Sends(1_000_000, "", "", "8001000000000000000f424000000001"),
         ],
     )
+}
+
+/// Number 9 comes twice, 6 is below the window, and the fourth packet is encrypted. The sender drops 8 to 10, and 7 never
+/// comes: so 7, 8 and 10 are given up once 9 is due.
+#[test]
+fn what_a_session_counts(rt: HostRuntime) -> Result<(), Fail> {
+    let mut publisher = session(rt.alloc(), 32, 7, Mode::Live, 100_000)?;
+    assert_events(
+        &rt,
+        &mut publisher,
+        &[
+            Event::Comes(1_000, "00000009e0000003000003e8001000006362"),
+            Event::Comes(1_000, "00000009e4000003000003e8001000006362"),
+            Event::Comes(1_000, "00000006e0000003000003e80010000061"),
+            Event::Comes(1_000, "00000007e8000001000003e80010000061"),
+            Event::Comes(2_000, "80070000000000000000000000100000000000080000000a"),
+            Event::Sends(2_000, "", "8003000000000000000007d00000000100000007", ""),
+        ],
+    )?;
+    assert_eq!(rt;
+        publisher.statistics(),
+        Statistics {
+            counts: Counts {
+                came: 3,
+                received: 1,
+                bytes: 2,
+                delivered: 0,
+                given_up: 0,
+                naks: 1,
+            },
+            in_use: 3,
+            available: 32,
+            rtt: 100_000,
+            variance: 50_000,
+        }
+    );
+    assert_event(&rt, &mut publisher, Event::Delivers(101_000, 1, "6362"))?;
+    let after = publisher.statistics();
+    assert_eq!(rt; (after.counts.delivered, after.counts.given_up), (1, 3));
+    assert_eq!(rt; (after.in_use, after.available), (0, 32));
+    Ok(())
 }

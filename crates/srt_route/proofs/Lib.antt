@@ -36,3 +36,4 @@ pub mod Closings
 pub mod Ending
 pub mod Closed
 pub mod Alone
+pub mod Views

@@ -20,3 +20,4 @@ pub mod OneSession
 pub mod Calls
 pub mod Closed
 pub mod Bounds
+pub mod Viewing

@@ -152,7 +152,7 @@ fn deliver_standby(table: &mut Table, active: bool, clock: u64)
 
 /// Whether the active publisher uses the second buffers; None if no publisher is open. Of two open ones the one that
 /// was opened first is active, else the only one.
-fn active_buffers(table: &Table) -> Option<bool>
+pub fn active_buffers(table: &Table) -> Option<bool>
     ensures none { result ≡ None → HasNone table.now }
     ensures some { (second : Bool) → result ≡ Some second → IsActiveOf table.now second }
 {

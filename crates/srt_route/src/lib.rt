@@ -6,9 +6,10 @@
 //! `srt_pub` and `srt_sub`.
 //!
 //! Types: `Route`; in it `Table`, the seats of its slots and the publishers' buffers, and `ReplyQueue`. A `Seat` has a
-//! session and its buffers. A `Reply` is a packet and its receiver.
+//! session and its buffers. A `Reply` is a packet and its receiver. A `SessionView` shows an open session and its counts.
 //!
 //! Calls: `Route::open`; then `step` for each item, and `next_reply` until it returns false, before the next `step`.
+//! `session` looks at a slot at any time, and changes nothing (`view.rt`).
 //!
 //! An event's six steps, as `step` in `route.rt` calls them: the clock; `idle.rt`, idle peers and what is too late;
 //! `dispatch.rt`, a packet for a session or a conclusion (`conclusion.rt` reads it, `admission.rt` has each refusal,
@@ -38,9 +39,11 @@ mod start;
 mod state;
 mod table;
 mod transmit;
+mod view;
 
 pub use replies::Reply;
 pub use state::Route;
+pub use view::{SessionView, Traffic};
 
 #[cfg(test)]
 mod tests;

@@ -46,7 +46,8 @@ pub struct Seat {
     pub subscriber: Subscriber,
 }
 
-fn publishes(role: Role) -> bool
+/// Whether a role is a publisher's.
+pub fn publishes(role: Role) -> bool
     ensures { result ≡ publishes role }
 {
     matches!(role, Role::Publish)

@@ -1,8 +1,8 @@
 //! Sessions open, get their answer again, and close; and each refusal. A route doesn't check a conclusion's cookie, so
 //! it is arbitrary here.
 
-use crate::{Reply, Route};
-use srt_seq::{Entry, Item, Mode, OpenFault, Peer};
+use crate::{Reply, Route, SessionView, Traffic};
+use srt_seq::{Entry, Item, Mode, OpenFault, Peer, Role};
 use std::alloc::Global;
 use std::process::Abort;
 use std::test::Fail;
@@ -395,4 +395,67 @@ fn an_idle_session_gets_no_shutdown(rt: HostRuntime) -> Result<(), Fail> {
     let answer = agreed(alloc, "00100000", "00780078")?;
     assert_told(&rt, &mut route, peer(5000), first.as_str(), answer.as_str())?;
     assert_closed(&rt, &mut route, 6_000_000, &[])
+}
+
+/// Asserts a session's port, role, socket ID and whether it is active, of one that opened at one second.
+fn assert_shown(
+    rt: &(impl AllocGlobal + Abort),
+    shown: Option<SessionView>,
+    port: u16,
+    role: Role,
+    id: u32,
+    is_active: bool,
+) -> Result<SessionView, Fail> {
+    let Some(view) = shown else {
+        return Err(Fail::from("a session is open in the slot"));
+    };
+    assert!(rt; view.peer == peer(port));
+    assert!(rt; view.role == role);
+    assert_eq!(rt; (view.id, view.is_active), (id, is_active));
+    assert_eq!(rt; (view.opened, view.heard), (1_000_000, 1_000_000));
+    assert_eq!(rt; view.latency_ms, 120);
+    Ok(view)
+}
+
+#[test]
+fn a_look_shows_the_open_sessions(rt: HostRuntime) -> Result<(), Fail> {
+    let alloc = rt.alloc();
+    let mut route = studio(alloc)?;
+    assert!(rt; route.session(0).is_none());
+    let first = conclusion(alloc, FIRST, &[HSREQ, PUBLISH])?;
+    let answer = agreed(alloc, "00100000", "00780078")?;
+    assert_told(&rt, &mut route, peer(5000), first.as_str(), answer.as_str())?;
+    let second = conclusion(alloc, SECOND, &[HSREQ, PUBLISH])?;
+    assert_told(&rt, &mut route, peer(5001), second.as_str(), SECOND_ANSWER)?;
+    let request = conclusion(alloc, FIRST, &[HSREQ, REQUEST])?;
+    let answer = agreed(alloc, "00100002", "00780078")?;
+    assert_told(
+        &rt,
+        &mut route,
+        peer(5002),
+        request.as_str(),
+        answer.as_str(),
+    )?;
+    let data = "00000005e0000001000003e8001000006869";
+    assert_told(&rt, &mut route, peer(5000), data, "")?;
+    let active = assert_shown(&rt, route.session(0), 5000, Role::Publish, 0x10_0000, true)?;
+    match active.traffic {
+        Traffic::Received(x) => {
+            assert_eq!(rt; (x.counts.received, x.counts.bytes, x.in_use), (1, 2, 1));
+        }
+        Traffic::Sent(_) => return Err(Fail::from("a publisher's counts")),
+    }
+    let _ = assert_shown(&rt, route.session(1), 5001, Role::Publish, 0x10_0001, false)?;
+    let sent = assert_shown(&rt, route.session(2), 5002, Role::Request, 0x10_0002, false)?;
+    match sent.traffic {
+        Traffic::Sent(x) => assert_eq!(rt; (x.counts.queued, x.room), (0, 1024)),
+        Traffic::Received(_) => return Err(Fail::from("a subscriber's counts")),
+    }
+    assert!(rt; route.session(3).is_none() && route.session(17).is_none());
+    // The active publisher leaves: nothing is shown of it, and the other one is active.
+    let end = "80050000000000000000000000100000";
+    assert_told(&rt, &mut route, peer(5000), end, "")?;
+    assert!(rt; route.session(0).is_none());
+    let _ = assert_shown(&rt, route.session(1), 5001, Role::Publish, 0x10_0001, true)?;
+    Ok(())
 }

@@ -5,4 +5,5 @@ pub mod Queueing
 pub mod Unheard
 pub mod Freshness
 pub mod Counted
+pub mod Counting
 pub mod Rows

@@ -12,6 +12,8 @@ use Rattle.srt_tsbpd.specs.Deadline.{too_late_at}
 use Rattle.srt_sendbuf.specs.Sending.{Queued, Sending, nothing_yet, queued}
 use Rattle.srt_sendbuf.proofs.OneByOne.{times_go_on, expiry_goes_on}
 use Rattle.srt_sub.specs.Subscribing.{Terms, Subscribing, opened, expired_in, fits}
+use Rattle.srt_sub.specs.Counting.{Counted}
+use Rattle.srt_sub.specs.declared.counts.Counts.{Counts}
 use Rattle.srt_sub.specs.Stands.{IsHistory, IsSound, StandsIn, run_gone}
 use Rattle.srt_sendbuf.specs.Stands as places
 use Rattle.srt_sendbuf.specs.declared.buffer.SendBuf.{SendBuf}
@@ -49,8 +51,8 @@ sound_at_first terms time =
     }
 
 -- a session whose fields are those of an opening
-pub stands_at_first : (terms : Terms) (initial opening caller time : ℕ) (s : Subscriber) → places.StandsFor terms.width initial s.buffer nothing_yet → IsHistory initial terms.window s.history [] → s.mode ≡ terms.mode → s.delay ≡ terms.delay → s.mtu ≡ terms.mtu → s.opening ≡ opening → s.caller ≡ caller → s.given ≡ 0 → StandsIn terms initial opening caller time 0 s opened
-stands_at_first terms initial opening caller time s buffer history mode delay mtu moment socket given =
+pub stands_at_first : (terms : Terms) (initial opening caller time : ℕ) (s : Subscriber) → places.StandsFor terms.width initial s.buffer nothing_yet → IsHistory initial terms.window s.history [] → s.mode ≡ terms.mode → s.delay ≡ terms.delay → s.mtu ≡ terms.mtu → s.opening ≡ opening → s.caller ≡ caller → s.given ≡ 0 → Counted s.counts nothing_yet → StandsIn terms initial opening caller time 0 s opened
+stands_at_first terms initial opening caller time s buffer history mode delay mtu moment socket given counts =
     record {
       buffer_is = buffer;
       history_is = history;
@@ -61,6 +63,7 @@ stands_at_first terms initial opening caller time s buffer history mode delay mt
       caller_is = socket;
       given_is = given;
       sound = sound_at_first terms time;
+      counts_are = counts;
     }
 
 -- a change that affects neither the queue nor the number of expired payloads
@@ -111,8 +114,8 @@ told_run initial g None e = absurd cc
 told_run initial g (Some r) e = (r, refl, cc)
 
 -- the parts of a session that may change
-pub changed : (terms : Terms) (initial opening caller time given : ℕ) (s : Subscriber) (m : Subscribing) → StandsIn terms initial opening caller time given s m → (later count g : ℕ) (b : SendBuf) (x : History) (n : Subscribing) → g ≡ count → places.StandsFor terms.width initial b n.sending → IsHistory initial terms.window x n.notes → IsSound terms later n.sending → StandsIn terms initial opening caller later count (record s { buffer = b; history = x; given = g }) n
-changed terms initial opening caller time given s m h later count g b x n given_is buffer history sound =
+pub changed : (terms : Terms) (initial opening caller time given : ℕ) (s : Subscriber) (m : Subscribing) → StandsIn terms initial opening caller time given s m → (later count g : ℕ) (b : SendBuf) (x : History) (n : Subscribing) → g ≡ count → places.StandsFor terms.width initial b n.sending → IsHistory initial terms.window x n.notes → IsSound terms later n.sending → (k : Counts) → Counted k n.sending → StandsIn terms initial opening caller later count (record s { buffer = b; history = x; given = g; counts = k }) n
+changed terms initial opening caller time given s m h later count g b x n given_is buffer history sound k counts =
     record {
       buffer_is = buffer;
       history_is = history;
@@ -123,11 +126,12 @@ changed terms initial opening caller time given s m h later count g b x n given_
       caller_is = h.caller_is;
       given_is = given_is;
       sound = sound;
+      counts_are = counts;
     }
 
 pub stands_later : StandsLater
 stands_later terms initial opening caller last later s m h le =
-    changed terms initial opening caller (last - opening) 0 s m h (later - opening) 0 s.given s.buffer s.history m h.given_is h.buffer_is h.history_is (sound_later terms (last - opening) (later - opening) m.sending (omega (arith, le)) h.sound)
+    changed terms initial opening caller (last - opening) 0 s m h (later - opening) 0 s.given s.buffer s.history m h.given_is h.buffer_is h.history_is (sound_later terms (last - opening) (later - opening) m.sending (omega (arith, le)) h.sound) s.counts h.counts_are
 
 -- the session at its own time, which is the moment less the opening
 pub record IsAtTime (terms : Terms) (initial opening caller now time : ℕ) (s : Subscriber) (m : Subscribing) : Type 0 where

@@ -1,7 +1,9 @@
 pub mod Heard
 pub mod Subscribing
 pub mod Says
+pub mod Counting
 pub mod Stands
+pub mod Viewing
 pub mod Endings
 pub mod Feeding
 pub mod Turns

@@ -12,6 +12,7 @@ use Rattle.srt_sendbuf.specs.Told.{Gone, gone_by}
 use Rattle.srt_sendbuf.specs.Stands as places
 use Rattle.srt_sub.specs.Subscribing.{Terms, Note, Report, Sent, Missed, Subscribing, opened, is_media, is_drop, last_sent, last_media, last_growth, round_trip, flow_window, untold}
 use Rattle.srt_sub.specs.Says.{says}
+use Rattle.srt_sub.specs.Counting.{AreSendings, Counted, fresh_in, again_in, is_again}
 use Rattle.srt_sub.specs.declared.history.History.{History}
 use Rattle.srt_sub.specs.declared.session.Opening.{Opening}
 use Rattle.srt_sub.specs.declared.session.Subscriber.{Subscriber}
@@ -31,6 +32,7 @@ pub record IsHistory (initial agreed : ℕ) (h : History) (notes : List Note) : 
   pub media_is : h.media ≡ last_media notes
   pub growth_is : h.growth ≡ last_growth notes
   pub missed_is : option_map gone_by h.missed ≡ option_map (run_gone initial) (untold notes)
+  pub sendings_are : AreSendings h.sendings (fresh_in notes) (again_in notes)
 
 -- no payload that is queued is empty
 abbrev pub HasBytes : Sending → Type 0
@@ -55,6 +57,7 @@ pub record StandsIn (terms : Terms) (initial opening caller time given : ℕ) (s
   pub caller_is : s.caller ≡ caller
   pub given_is : s.given ≡ given
   pub sound : IsSound terms time m.sending
+  pub counts_are : Counted s.counts m.sending
 
 -- the same between two events; `last` is the moment of the last call
 abbrev pub StandsFor : (terms : Terms) (initial opening caller last : ℕ) → Subscriber → Subscribing → Type 0
@@ -137,9 +140,11 @@ NotesSent media drop time before after =
     (initial agreed : ℕ) (notes : List Note) (r : Report) → is_media r ≡ media → is_drop r ≡ drop
     → IsHistory initial agreed before notes → IsHistory initial agreed after (Sent time r ∷ notes)
 
--- of a data packet
-abbrev pub NotesMedia : (time : ℕ) → (before after : History) → Type 0
-NotesMedia time before after = NotesSent true false time before after
+-- of a data packet, sent for the first time or again
+abbrev pub NotesMedia : (again : Bool) → (time : ℕ) → (before after : History) → Type 0
+NotesMedia again time before after =
+    (initial agreed : ℕ) (notes : List Note) (r : Report) → is_media r ≡ true → is_drop r ≡ false → is_again r ≡ again
+    → IsHistory initial agreed before notes → IsHistory initial agreed after (Sent time r ∷ notes)
 
 -- of a drop request
 abbrev pub NotesDrop : (time : ℕ) → (before after : History) → Type 0

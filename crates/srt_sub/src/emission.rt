@@ -23,10 +23,11 @@ impl Subscriber {
         if self.given >= EVENT_PACKETS_MAX {
             return false;
         }
+        let again = self.buffer.any_lost();
         if !media(packet, &mut self.buffer, self.history.window, self.caller) {
             return false;
         }
-        self.history.give(time);
+        self.history.give(again, time);
         self.given += 1;
         true
     }

@@ -30,7 +30,10 @@ impl Subscriber {
         }
         let time = self.time(now);
         match self.buffer.queue(payload, time) {
-            Ok(()) => true,
+            Ok(()) => {
+                self.counts.feed(payload);
+                true
+            }
             Err(_) => false,
         }
     }
@@ -64,7 +67,8 @@ impl Subscriber {
         let time = self.time(now);
         match self.mode {
             Mode::Live => {
-                self.buffer.expire(too_late_before(time, self.delay));
+                let count = self.buffer.expire(too_late_before(time, self.delay));
+                self.counts.give_up(count);
             }
             Mode::Buffer => {}
         }

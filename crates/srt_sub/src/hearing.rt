@@ -70,6 +70,7 @@ impl Subscriber {
         let Ok(losses) = srt_loss::read(info) else {
             return;
         };
+        self.counts.ask();
         if let Some(run) = self.buffer.lose(&losses) {
             self.history.note_drop_request(run);
         }

@@ -5,6 +5,7 @@ ghost use Rattle.std.specs.Prelude.{ℕ, [], ◌++◌};
 ghost use Rattle.srt_sub.specs.Heard.{more_of};
 ghost use Rattle.srt_sub.specs.Subscribing.{grown, told};
 
+use crate::counts::Sendings;
 use srt_rtt::Rtt;
 use srt_sendbuf::DropRun;
 use srt_seq::read_word;
@@ -27,6 +28,8 @@ pub struct History {
     /// The drop request that is still to be sent: a NAK asked for expired numbers, and no drop request was sent
     /// since.
     pub missed: Option<DropRun>,
+    /// The data packets that were sent.
+    pub sendings: Sendings,
 }
 
 impl History {
@@ -43,6 +46,7 @@ impl History {
             media: 0,
             growth: 0,
             missed: None,
+            sendings: Sendings::none(),
         }
     }
 
@@ -53,12 +57,13 @@ impl History {
         self.sent = time;
     }
 
-    /// Notes that a data packet was sent.
-    pub fn give(&mut self, time: u64)
-        ensures { NotesMedia time self.old self.new }
+    /// Notes that a data packet was sent, for the first time or again.
+    pub fn give(&mut self, again: bool, time: u64)
+        ensures { NotesMedia again time self.old self.new }
     {
         self.sent = time;
         self.media = time;
+        self.sendings.send(again);
     }
 
     /// Notes whether an ACK acknowledged more than those before.

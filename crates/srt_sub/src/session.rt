@@ -5,6 +5,7 @@ ghost use Rattle.srt_seq.specs.declared.shared.Mode.TheVariants.{Live};
 ghost use Rattle.srt_sendbuf.specs.Sending.{room};
 ghost use Rattle.srt_sub.specs.Subscribing.{opened};
 
+use crate::counts::Counts;
 use crate::history::History;
 use srt_sendbuf::SendBuf;
 use srt_seq::{Mode, Seq31};
@@ -50,6 +51,8 @@ pub struct Subscriber {
     pub(crate) caller: u32,
     /// The number of data packets that this event has sent so far, at most 64.
     pub(crate) given: u32,
+    /// What was counted since the opening, but for the data packets sent.
+    pub(crate) counts: Counts,
 }
 
 impl Subscriber {
@@ -73,6 +76,7 @@ impl Subscriber {
             opening: 0,
             caller: 0,
             given: 0,
+            counts: Counts::none(),
         })
     }
 
@@ -88,6 +92,7 @@ impl Subscriber {
         self.opening = opening.now;
         self.caller = opening.caller;
         self.given = 0;
+        self.counts = Counts::none();
     }
 
     /// The number of payloads that can still be queued. O(1).

@@ -2,7 +2,7 @@
 
 ghost use Rattle.std.specs.Prelude.{◌^◌, ◌<◌};
 
-use crate::{Opening, Subscriber, Took};
+use crate::{Counts, Opening, Sendings, Statistics, Subscriber, Took};
 use srt_packet::{EncodedPacket, decode};
 use srt_seq::{MOMENT_END, Mode, Payload, Seq31};
 use std::alloc::Global;
@@ -165,17 +165,21 @@ fn agrees(trial: &mut Trial, now: u64, step: Step, answer: Answer) -> Result<boo
     }
 }
 
-/// The index of the first row, of a moment, a step and its expected result, for which a session of width 128 gives
-/// another result.
-fn other(alloc: Global, rows: &[(u64, Step, Answer)]) -> Result<Option<usize>, Fail> {
-    let mut trial = unstarted(alloc)?;
+/// The index of the first row, of a moment, a step and its expected result, for which the session gives another result.
+fn other_in(trial: &mut Trial, rows: &[(u64, Step, Answer)]) -> Result<Option<usize>, Fail> {
     for at in 0..rows.len() {
         let (now, step, answer) = rows[at];
-        if now >= MOMENT_END || !agrees(&mut trial, now, step, answer)? {
+        if now >= MOMENT_END || !agrees(trial, now, step, answer)? {
             return Ok(Some(at));
         }
     }
     Ok(None)
+}
+
+/// The same for a session of width 128.
+fn other(alloc: Global, rows: &[(u64, Step, Answer)]) -> Result<Option<usize>, Fail> {
+    let mut trial = unstarted(alloc)?;
+    other_in(&mut trial, rows)
 }
 
 const NAK: &str = "8003000000000000000000000010000000000009";
@@ -454,5 +458,54 @@ fn many_packets(rt: HostRuntime) -> Result<(), Fail> {
         assert!(rt; trial.session.feed(&payload(32), 1_000_001));
     }
     assert!(rt; !trial.session.feed(&payload(32), 1_000_001));
+    Ok(())
+}
+
+/// Of two packets, 9 is sent again and acknowledged, and 10 expires. A loss list with a fault isn't counted.
+#[test]
+fn what_a_session_counts(rt: HostRuntime) -> Result<(), Fail> {
+    let rows = [
+        (0, Step::Start(4_000_000, 9, 120_000, 1500), Answer::Nothing),
+        (5_000_000, Step::Feed(1), Answer::Is(true)),
+        (5_000_000, Step::Feed(3), Answer::Is(true)),
+        (5_000_000, Step::Drain, Answer::Count(2)),
+        (5_100_000, Step::Hear(NAK), Answer::Nothing),
+        (
+            5_100_000,
+            Step::Hear("800300000000000000000000001000000000000900"),
+            Answer::Nothing,
+        ),
+        (5_100_000, Step::Drain, Answer::Count(1)),
+        (
+            5_100_000,
+            Step::Hear("800200000000000000000000001000000000000a"),
+            Answer::Nothing,
+        ),
+    ];
+    let mut trial = unstarted(rt.alloc())?;
+    assert_eq!(rt; other_in(&mut trial, &rows)?, None);
+    assert_eq!(rt;
+        trial.session.statistics(),
+        Statistics {
+            counts: Counts {
+                queued: 2,
+                bytes: 4,
+                naks: 1,
+                given_up: 0,
+            },
+            sendings: Sendings { fresh: 2, again: 1 },
+            room: 127,
+            in_flight: 1,
+            flow_window: 8192,
+            rtt: 100_000,
+            variance: 50_000,
+        }
+    );
+    trial.session.expire(6_000_001);
+    let after = trial.session.statistics();
+    assert_eq!(rt;
+        (after.counts.given_up, after.room, after.in_flight),
+        (1, 128, 0)
+    );
     Ok(())
 }

@@ -6,6 +6,8 @@ use Rattle.srt_pub.specs.Publishing.{Terms, Publishing, acks, acks_at, noted}
 use Rattle.srt_pub.specs.Says.{says, body_bytes}
 use Rattle.srt_pub.specs.Calls.{listed}
 use Rattle.srt_pub.specs.Kept.{LogStandsFor}
+use Rattle.srt_pub.specs.Counting.{delivered_in}
+use Rattle.srt_pub.proofs.Counting.{renoted, same_acks}
 use Rattle.srt_pub.specs.Stands.{StandsFor}
 use Rattle.srt_pub.specs.declared.log.Log.{Log}
 use Rattle.srt_pub.specs.declared.session.Publisher.{Publisher}
@@ -21,6 +23,7 @@ acked terms initial opening stamp caller time room p m log h is l =
       orderly = h.orderly;
       seen = h.seen;
       narrow = h.narrow;
+      counts = renoted p.counts m.receiving.arrivals (delivered_in m.receiving) m.receiving.front m.notes (noted time (acks_at terms.width a (available terms.width m.receiving) time m.notes) m.notes) (same_acks terms.width a (available terms.width m.receiving) time m.notes) h.counts;
     }
 
 pub returns-then-ack-clause-stands : goal.returns-then-ack-clause-stands

@@ -1,11 +1,13 @@
 use Rattle.srt_pub.proofs.session.Publisher.drop_range.Goals as goal
-use Rattle.std.proofs.Common.{ℕ, ◌^◌, ◌≤◌, cond, Bool, inr, sym, subst, arith}
+use Rattle.std.proofs.Common.{List, ℕ, ◌^◌, ◌≤◌, cond, Bool, inl, inr, sym, subst, arith}
 use Rattle.std.proofs.lemmas.Bool.{le-ltb}
 use Rattle.srt_seq.specs.Window.{word_of, counted_from, offset_of}
 use Rattle.srt_seq.specs.declared.shared.Mode.{Mode}
-use Rattle.srt_recvbuf.specs.Receiving.{Receiving, requested}
+use Rattle.srt_recvbuf.specs.Receiving.{Arrival, Receiving, requested}
 use Rattle.srt_seq.specs.Runs.{range_from}
 use Rattle.srt_pub.specs.Stands.{StandsFor, IsOrderly}
+use Rattle.srt_pub.specs.Counting.{Counted, delivered_in}
+use Rattle.srt_pub.proofs.Counting.{passes_request, same_arrivals}
 use Rattle.srt_pub.proofs.Goings.{after_request, no_request}
 use Rattle.srt_pub.proofs.Windows.{no_top}
 
@@ -19,7 +21,7 @@ returns-clause-stands c terms initial opening stamp caller m live h =
     let orderly = subst (λ (d : Mode). IsOrderly d width r) live h.orderly in
     let k = after_request width q r h.narrow orderly in
     let P : ℕ → ℕ → Type 0 = λ x y. StandsFor terms initial opening stamp caller c.follow.new.self (record m { receiving = requested width (range_from initial (record { first = x; last = y })) r }) in
-    let all : P (word_of first) (word_of last) = c.follow.ensures.stands terms initial opening stamp caller m (requested width q r) (c.front-front.ensures width initial opening r h.buffer) (c.ack_point-point.ensures width initial opening r h.buffer) (record { agreed = h.agreed; buffer = c.dropped.ensures width initial opening r h.buffer; log = h.log; orderly = subst (λ (d : Mode). IsOrderly d width (requested width q r)) (sym live) k.orderly; seen = h.seen; narrow = h.narrow; goes_on = k.goes_on }) in
+    let all : P (word_of first) (word_of last) = c.follow.ensures.stands terms initial opening stamp caller m (requested width q r) (c.front-front.ensures width initial opening r h.buffer) (c.ack_point-point.ensures width initial opening r h.buffer) (passes_request width q r) (record { agreed = h.agreed; buffer = c.dropped.ensures width initial opening r h.buffer; log = h.log; orderly = subst (λ (d : Mode). IsOrderly d width (requested width q r)) (sym live) k.orderly; seen = h.seen; narrow = h.narrow; counts = subst (λ (xs : List Arrival). Counted c.args.self.now.counts xs (delivered_in r) r.front m.notes) (sym (same_arrivals width q r)) h.counts; goes_on = k.goes_on }) in
     subst (λ x. P x c.args.last) c.in-Some.ensures.value (subst (λ y. P (word_of first) y) c.in-Some-new.ensures.value all)
 
 -- a word with its top bit set counts as 2^31
@@ -31,3 +33,9 @@ returns-in_default-new-clause-stands c terms initial opening stamp caller m live
     let q = range_from initial (record { first = c.args.first; last = c.args.last }) in
     let high : 2 ^ 31 ≤ q.last = top_counts initial c.args.last (no_top c.args.last c.in_default-new.ensures.some.1) in
     subst (λ (r : Receiving). StandsFor terms initial opening stamp caller c.args.self.now (record m { receiving = r })) (sym (no_request terms.width q m.receiving (inr high))) h
+
+pub returns-in_default-clause-stands : goal.returns-in_default-clause-stands
+returns-in_default-clause-stands c terms initial opening stamp caller m live h =
+    let q = range_from initial (record { first = c.args.first; last = c.args.last }) in
+    let high : 2 ^ 31 ≤ q.first = top_counts initial c.args.first (no_top c.args.first c.in_default.ensures.some.1) in
+    subst (λ (r : Receiving). StandsFor terms initial opening stamp caller c.args.self.now (record m { receiving = r })) (sym (no_request terms.width q m.receiving (inl high))) h

@@ -11,7 +11,7 @@ pub returns-then-keep_alive_due-clause-stands : goal.returns-then-keep_alive_due
 returns-then-keep_alive_due-clause-stands c terms initial opening stamp caller m h =
     let e : keep_alive_after c.args.ack c.args.nak c.args.time m.notes ≡ KeepAlive ∷ [] = alive_is c.args.ack c.args.nak c.args.time m.notes c.if-ack.false c.if-nak.false (sym (c.keep_alive_due.ensures _ _ _ _ m.notes h.log) ∙ c.if-keep_alive_due.true) in
     subst (λ (rs : List Report). StandsFor terms initial opening stamp caller (record c.args.self.now { log = c.keep_alive.new.self }) (record m { notes = noted c.args.time rs m.notes })) (sym e)
-    (record { agreed = h.agreed; buffer = h.buffer; log = c.keep_alive.ensures _ _ _ _ m.notes h.log; orderly = h.orderly; seen = h.seen; narrow = h.narrow })
+    (record { agreed = h.agreed; buffer = h.buffer; log = c.keep_alive.ensures _ _ _ _ m.notes h.log; orderly = h.orderly; seen = h.seen; narrow = h.narrow; counts = h.counts })
 
 pub returns-then-keep_alive_due-clause-bytes : goal.returns-then-keep_alive_due-clause-bytes
 returns-then-keep_alive_due-clause-bytes c terms initial opening stamp caller m h =

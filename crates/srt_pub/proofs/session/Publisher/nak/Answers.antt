@@ -1,8 +1,11 @@
 use Rattle.srt_pub.proofs.session.Publisher.nak.Goals as goal
 use Rattle.std.proofs.Common.{◌≡◌, ◌<◌, ℕ, List, [], ◌∷◌, length, map, ap, sym, subst, ◌∙◌}
-use Rattle.srt_pub.specs.Publishing.{Report, naks, noted, nak_report, nak_with, gaps_told, runs_said}
+use Rattle.srt_pub.specs.Publishing.{Report, Sent, naks, noted, nak_report, nak_with, gaps_told, runs_said}
 use Rattle.srt_pub.specs.Says.{says}
 use Rattle.srt_pub.specs.Stands.{StandsFor}
+use Rattle.srt_pub.specs.Counting.{Counted, delivered_in}
+use Rattle.srt_pub.specs.declared.counts.Counts.{Counts}
+use Rattle.srt_pub.proofs.Counting.{counts_nak}
 use Rattle.srt_pub.proofs.Bytes.{none_none, some_some, nak_some, nak_bytes, same_losses}
 use Rattle.srt_pub.proofs.Sendings.{naks_by, none_missing, no_items, some_items, pairs_have_words}
 
@@ -38,8 +41,8 @@ returns-clause-stands c terms initial opening stamp caller m h =
     let rs = runs_said (gaps_told all terms.width m.seen m.receiving) in
     let some = some_some initial c.runs-runs.result.items rs (c.runs-runs.ensures terms initial opening stamp caller m h) (some_items c.runs-runs.result.items (sym c.is_empty.ensures ∙ c.if-is_empty.false)) in
     let e : naks terms c.args.time m ≡ nak_report all rs ∷ [] = naks_by terms c.args.time m all (c.is_nak_due-all.ensures _ _ _ _ m.notes h.log) ∙ nak_some all rs some in
-    subst (λ (ns : List Report). StandsFor terms initial opening stamp caller (record c.args.self.now { log = c.nak.new.self }) (record m { notes = noted c.args.time ns m.notes })) (sym e)
-    (record { agreed = h.agreed; buffer = h.buffer; log = c.nak.ensures rs _ _ _ _ m.notes h.log; orderly = h.orderly; seen = h.seen; narrow = h.narrow })
+    subst (λ (ns : List Report). StandsFor terms initial opening stamp caller (record c.args.self.now { log = c.nak.new.self; counts = c.ask.new.self }) (record m { notes = noted c.args.time ns m.notes })) (sym e)
+    (record { agreed = h.agreed; buffer = h.buffer; log = c.nak.ensures rs _ _ _ _ m.notes h.log; orderly = h.orderly; seen = h.seen; narrow = h.narrow; counts = subst (λ (k : Counts). Counted k m.receiving.arrivals (delivered_in m.receiving) m.receiving.front (Sent c.args.time (nak_report all rs) ∷ m.notes)) (sym c.ask.ensures) (counts_nak c.args.time all rs c.args.self.now.counts m.receiving.arrivals (delivered_in m.receiving) m.receiving.front m.notes h.counts) })
 
 pub returns-clause-bytes : goal.returns-clause-bytes
 returns-clause-bytes c terms initial opening stamp caller m h =

@@ -14,4 +14,5 @@ returns c =
       orderly = orderly_first Live width;
       seen = omega arith;
       narrow = c.requires.most;
+      counts = c.none.ensures;
     }

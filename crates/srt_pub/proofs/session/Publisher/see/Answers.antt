@@ -17,4 +17,5 @@ returns-clause-stands c terms initial opening stamp caller m h =
       orderly = h.orderly;
       seen = omega arith;
       narrow = h.narrow;
+      counts = h.counts;
     }

@@ -14,4 +14,5 @@ returns-clause-stands c =
       orderly = orderly_first c.args.opening.mode width;
       seen = omega arith;
       narrow = c.start.ensures.narrow;
+      counts = c.none-self.ensures;
     }

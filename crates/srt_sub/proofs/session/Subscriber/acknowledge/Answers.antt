@@ -28,7 +28,7 @@ returns-then-not-ack c terms initial opening caller given m h =
     subst (λ (o : Option ℕ). StandsIn terms initial opening caller c.args.time given (record c.args.self.now { buffer = c.ack.new.self }) (with_ack c.args.time (more_of c.args.info.now) o m)) (sym (sym same ∙ none))
     (changed terms initial opening caller c.args.time given c.args.self.now m h c.args.time given c.args.self.now.given c.ack.new.self c.args.self.now.history m h.given_is
     (subst (λ (o : Option ℕ). places.StandsFor terms.width initial c.ack.new.self (after_ack o m.sending)) none (c.ack.ensures.stands terms.width initial m.sending h.buffer_is))
-    h.history_is h.sound)
+    h.history_is h.sound c.args.self.now.counts h.counts_are)
 
 pub returns : goal.returns
 returns c terms initial opening caller given m h =
@@ -39,4 +39,4 @@ returns c terms initial opening caller given m h =
     (changed terms initial opening caller c.args.time given c.args.self.now m h c.args.time given c.args.self.now.given c.ack.new.self c.acknowledge.new.self (with_ack c.args.time (more_of c.args.info.now) (Some some.0) m) h.given_is
     (subst (λ (o : Option ℕ). places.StandsFor terms.width initial c.ack.new.self (after_ack o m.sending)) some.1 (c.ack.ensures.stands terms.width initial m.sending h.buffer_is))
     (subst (λ (b : Bool). IsHistory initial terms.window c.acknowledge.new.self (told (more_of c.args.info.now) ++ (grown c.args.time b ++ m.notes))) grew (c.acknowledge.ensures initial terms.window m.notes h.history_is))
-    (sound_marked terms c.args.time m.sending (acknowledged some.0 m.sending) refl refl h.sound))
+    (sound_marked terms c.args.time m.sending (acknowledged some.0 m.sending) refl refl h.sound) c.args.self.now.counts h.counts_are)

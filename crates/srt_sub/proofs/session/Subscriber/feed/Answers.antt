@@ -6,6 +6,9 @@ use Rattle.srt_sendbuf.specs.declared.buffer.SendBuf.{SendBuf}
 use Rattle.srt_sub.specs.Subscribing.{Subscribing, expired}
 use Rattle.srt_sub.specs.Endings.{is_short}
 use Rattle.srt_sub.specs.Stands.{StandsIn}
+use Rattle.srt_sub.specs.Counting.{Counted}
+use Rattle.srt_sub.specs.declared.counts.Counts.{Counts}
+use Rattle.srt_sub.proofs.Counting.{counts_fed}
 use Rattle.srt_sub.proofs.Sound.{changed, sound_queued, doesnt_fit, does_fit}
 use Rattle.srt_sub.proofs.Queueing.{full, still_full, fed_if, not_fed_if}
 use Rattle.srt_sub.proofs.session.Subscriber.feed.Goals as goal
@@ -43,10 +46,11 @@ returns-in-Ok-clause-stands c terms initial opening caller last m h le some room
     ] in
     let timely = stands.sound.timely in
     let kept = c.in-Ok.ensures.stands terms.width initial x.sending stands.buffer_is (subst (λ (t : ℕ). IsTimely t x.sending) (sym at) timely) in
-    subst (λ (y : Subscribing). StandsIn terms initial opening caller now 0 (record s { buffer = c.queue.new.self }) y) (sym (fed_if terms now payload x (does_fit terms.mode terms payload x.sending short places_left)))
+    subst (λ (y : Subscribing). StandsIn terms initial opening caller now 0 (record s { buffer = c.queue.new.self; counts = c.feed.new.self }) y) (sym (fed_if terms now payload x (does_fit terms.mode terms payload x.sending short places_left)))
     (changed terms initial opening caller now 0 s x stands now 0 s.given c.queue.new.self s.history (record x { sending = queued now payload x.sending }) stands.given_is
     (subst (λ (t : ℕ). places.StandsFor terms.width initial c.queue.new.self (queued t payload x.sending)) at kept)
-    stands.history_is (sound_queued terms now payload x.sending some stands.sound))
+    stands.history_is (sound_queued terms now payload x.sending some stands.sound)
+    c.feed.new.self (subst (λ (k : Counts). Counted k (queued now payload x.sending)) (sym c.feed.ensures) (counts_fed now payload s.counts x.sending stands.counts_are)))
 
 pub returns-in-Ok-clause-answer : goal.returns-in-Ok-clause-answer
 returns-in-Ok-clause-answer c terms initial opening caller last m h le roomy =

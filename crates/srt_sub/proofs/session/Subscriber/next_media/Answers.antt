@@ -13,6 +13,7 @@ use Rattle.srt_sub.specs.Turns.{due_in, with_due, given_with, texts}
 use Rattle.srt_sub.specs.Stands.{StandsIn}
 use Rattle.srt_sub.specs.declared.session.Subscriber.{Subscriber}
 use Rattle.srt_sub.proofs.Sound.{changed, sound_marked}
+use Rattle.srt_sub.proofs.Counting.{again_is}
 use Rattle.srt_sub.proofs.Dues.{sent_in_queue, nothing_due_sent, due_sent}
 use Rattle.srt_sub.proofs.Turns.{wrote, wrote_none, media_said, no_media_said}
 use Rattle.srt_sub.proofs.session.Subscriber.next_media.Goals as goal
@@ -41,7 +42,7 @@ returns-then-not-media-clause-stands c terms initial opening caller given m h le
     let none = nothing terms initial opening caller c.args.time given s m c.media.result c.media.new.packet h (omega arith) c.if-not-media.true (c.media.ensures.answer terms.width initial c.args.time m.sending h.buffer_is h.sound.some) in
     let kept = subst (λ (r : Sending). places.StandsFor terms.width initial c.media.new.buffer r) (nothing_due_sent s.history.window m.sending (sent_in_queue terms.width initial s.buffer m.sending h.buffer_is) none.0) (c.media.ensures.stands terms.width initial m.sending h.buffer_is) in
     subst (λ (o : Option Due). StandsIn terms initial opening caller c.args.time (given_with o given) (record s { buffer = c.media.new.buffer }) (with_due c.args.time o m)) (sym none.1)
-    (changed terms initial opening caller c.args.time given s m h c.args.time given s.given c.media.new.buffer s.history m h.given_is kept h.history_is h.sound)
+    (changed terms initial opening caller c.args.time given s m h c.args.time given s.given c.media.new.buffer s.history m h.given_is kept h.history_is h.sound s.counts h.counts_are)
 
 pub returns-then-not-media-clause-answer : goal.returns-then-not-media-clause-answer
 returns-then-not-media-clause-answer c terms initial opening caller given m h le =
@@ -54,11 +55,12 @@ returns-clause-stands c terms initial opening caller given m h le =
     let s = c.args.self.now in
     let told = one terms initial opening caller c.args.time given s m c.media.result c.media.new.packet h (omega arith) c.if-not-media.false (c.media.ensures.answer terms.width initial c.args.time m.sending h.buffer_is h.sound.some) in
     let d = told.0 in
+    let again = again_is s.history.window m.sending d told.1 ∙ sym (c.any_lost-again.ensures terms.width initial m.sending h.buffer_is) in
     let kept = subst (λ (r : Sending). places.StandsFor terms.width initial c.media.new.buffer r) (due_sent s.history.window m.sending d told.1) (c.media.ensures.stands terms.width initial m.sending h.buffer_is) in
     subst (λ (o : Option Due). StandsIn terms initial opening caller c.args.time (given_with o given) (record s { buffer = c.media.new.buffer; history = c.give.new.self; given = s.given + 1 }) (with_due c.args.time o m)) (sym told.2)
     (changed terms initial opening caller c.args.time given s m h c.args.time (given + 1) (s.given + 1) c.media.new.buffer c.give.new.self (with_due c.args.time (Some d) m) (ap (λ n. n + 1) h.given_is) kept
-    (c.give.ensures initial terms.window m.notes (Media d.number d.again d.origin d.payload) refl refl h.history_is)
-    (sound_marked terms c.args.time m.sending (sent d.number m.sending) refl refl h.sound))
+    (c.give.ensures initial terms.window m.notes (Media d.number d.again d.origin d.payload) refl refl again h.history_is)
+    (sound_marked terms c.args.time m.sending (sent d.number m.sending) refl refl h.sound) s.counts h.counts_are)
 
 pub returns-clause-answer : goal.returns-clause-answer
 returns-clause-answer c terms initial opening caller given m h le =

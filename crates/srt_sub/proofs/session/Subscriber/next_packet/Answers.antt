@@ -60,7 +60,7 @@ returns-clause-none c said terms initial opening caller given middle m left h l 
     record {
       left_is = sym l.left_is ∙ done.reports_are;
       stands = subst (λ (y : Subscribing). StandsIn terms initial opening caller time 0 (record s { given = 0 }) y) (sym done.end_is ∙ l.end_is)
-          (changed terms initial opening caller time given s x last time 0 0 s.buffer s.history x refl last.buffer_is last.history_is last.sound);
+          (changed terms initial opening caller time given s x last time 0 0 s.buffer s.history x refl last.buffer_is last.history_is last.sound s.counts last.counts_are);
     }
 
 pub returns-clause-same : goal.returns-clause-same

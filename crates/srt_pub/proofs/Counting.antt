@@ -1,0 +1,198 @@
+-- The counts of a session follow what it receives, delivers and sends.
+use Rattle.std.proofs.Common.{◌≡◌, ℕ, suc, zero, ◌+◌, ◌-◌, ◌^◌, ◌≤◌, Bool, true, false, not, cond, ◌&&◌, Option, Some, None, List, ◌∷◌, length, refl, sym, ap, subst, ◌∙◌, arith, ℤ}
+use Rattle.std.specs.Prelude.{◌==◌, is_some, filter_map, option_map, nat_lt}
+use Rattle.std.specs.List.{cons_option}
+use Rattle.std.proofs.lemmas.Bool.{ne_eqb}
+use Rattle.srt_seq.specs.Given.{given}
+use Rattle.srt_seq.specs.Window.{in_window, offset_of}
+use Rattle.srt_seq.specs.Runs.{Range, Run, span, least_from, numbers_from}
+use Rattle.srt_recvbuf.specs.Receiving.{Arrival, Receiving, arrival_of, is_received, is_requested, is_dropped, end_of, moved_to, settled, put_of, received, requested, with_number, next_due, after_next}
+use Rattle.srt_recvbuf.proofs.OneByOne.{found, found_number, number_or}
+use Rattle.srt_pub.specs.Publishing.{Note, Came, Sent, Report, LightAck, Full, ack_of, acks_at, is_full_due, is_light_due, full_ack, noted, nak_report, confirmed_notes}
+use Rattle.srt_pub.specs.Counting.{one_if, capped, bytes_in, received_below, came_in, is_nak, naks_in, AreCounts, Counted, Passes, with_one, with_put, with_steps, with_nak}
+use Rattle.srt_pub.specs.declared.counts.Counts.{Counts}
+use Rattle.srt_recvbuf.specs.declared.buffer.Put.TheVariants.{New, Repeat}
+use Rattle.srt_pub.proofs.Goings.{settles, next_waits}
+
+-- no more numbers are received than there are
+pub no_more : (xs : List Arrival) (n : ℕ) → received_below xs n ≤ n
+no_more xs zero = omega arith
+no_more xs (suc n) = let h = no_more xs n in let k = at_most_one (is_some (arrival_of xs n)) in omega (arith, h, k)
+  where
+    at_most_one : (b : Bool) → one_if b ≤ 1
+    at_most_one true = omega arith
+    at_most_one false = omega arith
+
+-- one number further
+one_further : (xs : List Arrival) (n : ℕ) (b : Bool) → is_some (arrival_of xs n) ≡ b → received_below xs (n + 1) ≡ received_below xs n + one_if b
+one_further xs n b e = let s : n + 1 ≡ suc n = omega arith in ap (received_below xs) s ∙ ap (λ x. received_below xs n + one_if x) e
+
+-- a packet that comes doesn't count below its number
+pub none_below : (a : Arrival) (xs : List Arrival) (n : ℕ) → n ≤ a.number → received_below (a ∷ xs) n ≡ received_below xs n
+none_below a xs zero le = refl
+none_below a xs (suc n) le =
+    let b : (a.number == n) ≡ false = ne_eqb _ _ (λ e. omega (arith, e, le)) in
+    let k : is_some (arrival_of (a ∷ xs) n) ≡ is_some (arrival_of xs n) = ap (λ (x : Bool). is_some (cond x (Some a) (arrival_of xs n))) b in
+    ap (λ x. x + one_if (is_some (arrival_of (a ∷ xs) n))) (none_below a xs n (omega (arith, le))) ∙ ap (λ x. received_below xs n + one_if x) k
+
+-- dropped numbers weren't received
+gone : (b c : Bool) → not (b && not c) ≡ false → c ≡ false
+gone true true e = cc
+gone true false e = refl
+gone false c e = cc
+
+pub settled_below : (width : ℕ) (r : Receiving) (places from : ℕ) → received_below r.arrivals (least_from (λ n. not (is_dropped width r n)) from places) ≡ received_below r.arrivals from
+settled_below width r zero from = refl
+settled_below width r (suc places) from = by (not (is_dropped width r from)) refl (settled_below width r places (from + 1))
+  where
+    by : (b : Bool) → not (is_dropped width r from) ≡ b → received_below r.arrivals (least_from (λ n. not (is_dropped width r n)) (from + 1) places) ≡ received_below r.arrivals (from + 1) → received_below r.arrivals (least_from (λ n. not (is_dropped width r n)) from (suc places)) ≡ received_below r.arrivals from
+    by true is next = ap (received_below r.arrivals) (found (λ n. not (is_dropped width r n)) from places true is)
+    by false is next =
+        let none = gone (is_requested width r.requests from) (is_received r from) is in
+        let zero_more : received_below r.arrivals from + 0 ≡ received_below r.arrivals from = omega arith in
+        ap (received_below r.arrivals) (found (λ n. not (is_dropped width r n)) from places false is) ∙ next ∙ one_further r.arrivals from false none ∙ zero_more
+
+-- up to the first waiting packet and with it, one number more was received
+pub record IsFirst (xs : List Arrival) (from : ℕ) (a : Arrival) : Type 0 where
+  pub low : from ≤ a.number
+  pub one : received_below xs (a.number + 1) ≡ received_below xs from + 1
+
+pub first_below : (xs : List Arrival) (from count : ℕ) (a : Arrival) (more : List Arrival) → filter_map (arrival_of xs) (numbers_from from count) ≡ a ∷ more → IsFirst xs from a
+first_below xs from zero a more e = cc
+first_below xs from (suc count) a more e = by (arrival_of xs from) refl (first_below xs (from + 1) count a more)
+  where
+    by : (o : Option Arrival) → arrival_of xs from ≡ o → (filter_map (arrival_of xs) (numbers_from (from + 1) count) ≡ a ∷ more → IsFirst xs (from + 1) a) → IsFirst xs from a
+    by None is next =
+        let h = next (sym (ap (λ o. cons_option o (filter_map (arrival_of xs) (numbers_from (from + 1) count))) is) ∙ e) in
+        let step = one_further xs from false (ap is_some is) in
+        let none : received_below xs from + one_if false ≡ received_below xs from = omega arith in
+        record { low = omega (arith, h.low); one = h.one ∙ ap (λ x. x + 1) (step ∙ none) }
+    by (Some x) is next =
+        let whole : x ∷ filter_map (arrival_of xs) (numbers_from (from + 1) count) ≡ a ∷ more = sym (ap (λ o. cons_option o (filter_map (arrival_of xs) (numbers_from (from + 1) count))) is) ∙ e in
+        let same : x ≡ a = cc in
+        let n : x.number ≡ from = sym (ap (number_or from) is) ∙ found_number xs from in
+        let m : a.number ≡ from = sym (ap (λ (y : Arrival). y.number) same) ∙ n in
+        record { low = omega (arith, m); one = ap (λ k. received_below xs (k + 1)) m ∙ one_further xs from true (ap is_some is) }
+
+-- the next packet is passed, if it is due
+pub passes_next : (width time room : ℕ) (r : Receiving) (o : Option Arrival) → next_due time room r ≡ o → Passes (is_some o) r (after_next width o r)
+passes_next width time room r None e = record { delivered = omega arith; far = omega arith }
+passes_next width time room r (Some a) e =
+    let w = next_waits time room r a e in
+    let h = first_below r.arrivals r.front (end_of r.arrivals - r.front) a w.0 w.1 in
+    let s = moved_to (a.number + 1) r in
+    let k = settles width s in
+    record { delivered = settled_below width s width (a.number + 1) ∙ h.one; far = omega (arith, k.0, h.low) }
+
+-- and that is so if the call says so
+pub said_due : (b : Bool) (xs : List ℕ) (o : Option Arrival) → given b xs ≡ option_map (λ (a : Arrival). a.payload) o → is_some o ≡ b
+said_due true xs None e = cc
+said_due true xs (Some a) e = refl
+said_due false xs None e = refl
+said_due false xs (Some a) e = cc
+
+pub passes_if : (width time room : ℕ) (r : Receiving) (b : Bool) → is_some (next_due time room r) ≡ b → Passes b r (after_next width (next_due time room r) r)
+passes_if width time room r b e = subst (λ (x : Bool). Passes x r (after_next width (next_due time room r) r)) e (passes_next width time room r (next_due time room r) refl)
+
+-- numbers are dropped on request
+pub passes_request : (width : ℕ) (q : Range) (r : Receiving) → Passes false r (requested width q r)
+passes_request width q r = by (nat_lt q.first (2 ^ 31) && nat_lt q.last (2 ^ 31) && nat_lt (span q) (2 ^ 30))
+  where
+    s : Receiving
+    s = record r { requests = record { front = r.front; range = q } ∷ r.requests }
+
+    by : (b : Bool) → Passes false r (cond b (settled width s) r)
+    by true = let e = settled_below width s width r.front in record { delivered = omega (arith, e); far = omega arith }
+    by false = record { delivered = omega arith; far = omega arith }
+
+pub same_arrivals : (width : ℕ) (q : Range) (r : Receiving) → (requested width q r).arrivals ≡ r.arrivals
+same_arrivals width q r = by (nat_lt q.first (2 ^ 31) && nat_lt q.last (2 ^ 31) && nat_lt (span q) (2 ^ 30))
+  where
+    by : (b : Bool) → (cond b (settled width (record r { requests = record { front = r.front; range = q } ∷ r.requests })) r).arrivals ≡ r.arrivals
+    by true = refl
+    by false = refl
+
+pub none_arrive : (width : ℕ) (o : Option Arrival) (r : Receiving) → (after_next width o r).arrivals ≡ r.arrivals
+none_arrive width None r = refl
+none_arrive width (Some a) r = refl
+
+-- a packet comes
+from_front : (front past n : ℕ) (b : Bool) → cond b (Some (front + past)) None ≡ Some n → front ≤ n
+from_front front past n true e = let same : front + past ≡ n = cc in omega (arith, same)
+from_front front past n false e = cc
+
+low_number : (word front width n : ℕ) → in_window word front width ≡ Some n → front ≤ n
+unfolding in_window
+low_number word front width n e = from_front front (offset_of word front) n (nat_lt word (2 ^ 31) && nat_lt (offset_of word front) width) e
+
+pub passes_data : (width word : ℕ) (payload : List ℕ) (due : ℤ) (r : Receiving) → Passes false r (received width word payload due r)
+passes_data width word payload due r = by (in_window word r.front width) (λ n e. low_number word r.front width n e)
+  where
+    stored : (n : ℕ) (b : Bool) → r.front ≤ n → Passes false r (cond b r (record r { arrivals = record { number = n; payload = payload; due = due } ∷ r.arrivals }))
+    stored n true le = record { delivered = omega arith; far = omega arith }
+    stored n false le = let e = none_below (record { number = n; payload = payload; due = due }) r.arrivals r.front le in record { delivered = omega (arith, e); far = omega arith }
+
+    by : (o : Option ℕ) → ((n : ℕ) → o ≡ Some n → r.front ≤ n) → Passes false r (with_number o payload due r)
+    by None low = record { delivered = omega arith; far = omega arith }
+    by (Some n) low = stored n (is_received r n) (low n refl)
+
+one_more : (n count : ℕ) → n ≡ capped count → capped (n + 1) ≡ capped (count + 1)
+one_more n count e = omega (arith, e)
+
+some_more : (n count more : ℕ) → n ≡ capped count → capped (n + more) ≡ capped (count + more)
+some_more n count more e = omega (arith, e)
+
+pub counts_put : (o : Option ℕ) (payload : List ℕ) (due : ℤ) (r : Receiving) (c : Counts) (all delivered front asked : ℕ) → AreCounts c all (length r.arrivals) (bytes_in r.arrivals) delivered front asked → AreCounts (with_put (put_of o r) (length payload) c) all (length (with_number o payload due r).arrivals) (bytes_in (with_number o payload due r).arrivals) delivered front asked
+counts_put None payload due r c all delivered front asked h = h
+counts_put (Some n) payload due r c all delivered front asked h = by (is_received r n)
+  where
+    a : Arrival
+    a = record { number = n; payload = payload; due = due }
+
+    by : (b : Bool) → AreCounts (with_put (cond b Repeat New) (length payload) c) all (length (cond b r (record r { arrivals = a ∷ r.arrivals })).arrivals) (bytes_in (cond b r (record r { arrivals = a ∷ r.arrivals })).arrivals) delivered front asked
+    by true = h
+    by false = record { came_is = h.came_is; received_is = omega (arith, h.received_is); bytes_is = some_more c.bytes (bytes_in r.arrivals) (length payload) h.bytes_is; delivered_is = h.delivered_is; given_up_is = h.given_up_is; naks_is = h.naks_is }
+
+-- the front moves on
+pub counts_steps : (steps : ℕ) (b : Bool) (c : Counts) (all first bytes delivered front asked : ℕ) → delivered ≤ front → one_if b ≤ steps → AreCounts c all first bytes delivered front asked → AreCounts (with_steps steps b c) all first bytes (delivered + one_if b) (front + steps) asked
+counts_steps steps b c all first bytes delivered front asked le far h =
+    record {
+      came_is = h.came_is;
+      received_is = h.received_is;
+      bytes_is = h.bytes_is;
+      delivered_is = some_more c.delivered delivered (one_if b) h.delivered_is;
+      given_up_is = given_up (one_if b) far;
+      naks_is = h.naks_is;
+    }
+  where
+    given_up : (d : ℕ) → d ≤ steps → capped (c.given_up + (steps - d)) ≡ capped ((front + steps) - (delivered + d))
+    given_up d d_far = omega (arith, le, d_far, h.given_up_is)
+
+-- an ACK changes no count
+acks_count : (full light : Bool) (f l : Report) (time : ℕ) (notes : List Note) → is_nak f ≡ false → is_nak l ≡ false → (came_in (noted time (ack_of full light f l) notes) ≡ came_in notes) × (naks_in (noted time (ack_of full light f l) notes) ≡ naks_in notes)
+acks_count true light f l time notes first second = (refl, rw first refl)
+acks_count false true f l time notes first second = (refl, rw second refl)
+acks_count false false f l time notes first second = (refl, refl)
+
+pub same_acks : (width point room time : ℕ) (notes : List Note) → (came_in (noted time (acks_at width point room time notes) notes) ≡ came_in notes) × (naks_in (noted time (acks_at width point room time notes) notes) ≡ naks_in notes)
+unfolding acks_at
+same_acks width point room time notes = acks_count (is_full_due width point room time notes) (is_light_due notes) (full_ack point room notes) (LightAck point) time notes refl refl
+
+-- nor does an ACKACK
+pub same_confirmed : (time : ℕ) (o : Option Full) (notes : List Note) → (came_in (confirmed_notes time o notes) ≡ came_in notes) × (naks_in (confirmed_notes time o notes) ≡ naks_in notes)
+same_confirmed time None notes = (refl, refl)
+same_confirmed time (Some full) notes = (refl, refl)
+
+pub renoted : (c : Counts) (xs : List Arrival) (delivered front : ℕ) (notes after : List Note) → (came_in after ≡ came_in notes) × (naks_in after ≡ naks_in notes) → Counted c xs delivered front notes → Counted c xs delivered front after
+renoted c xs delivered front notes after same h =
+    subst (λ (n : ℕ). AreCounts c (came_in after) (length xs) (bytes_in xs) delivered front n) (sym same.1)
+    (subst (λ (n : ℕ). AreCounts c n (length xs) (bytes_in xs) delivered front (naks_in notes)) (sym same.0) h)
+
+-- a NAK counts
+pub counts_nak : (time : ℕ) (all : Bool) (rs : List Run) (c : Counts) (xs : List Arrival) (delivered front : ℕ) (notes : List Note) → Counted c xs delivered front notes → Counted (with_nak c) xs delivered front (Sent time (nak_report all rs) ∷ notes)
+counts_nak time true rs c xs delivered front notes h = record { came_is = h.came_is; received_is = h.received_is; bytes_is = h.bytes_is; delivered_is = h.delivered_is; given_up_is = h.given_up_is; naks_is = one_more c.naks (naks_in notes) h.naks_is }
+counts_nak time false rs c xs delivered front notes h = record { came_is = h.came_is; received_is = h.received_is; bytes_is = h.bytes_is; delivered_is = h.delivered_is; given_up_is = h.given_up_is; naks_is = one_more c.naks (naks_in notes) h.naks_is }
+
+-- a data packet counts, whatever becomes of it
+pub counts_one : (c : Counts) (xs : List Arrival) (delivered front : ℕ) (notes : List Note) → Counted c xs delivered front notes → Counted (with_one c) xs delivered front (Came ∷ notes)
+counts_one c xs delivered front notes h = record { came_is = one_more c.came (came_in notes) h.came_is; received_is = h.received_is; bytes_is = h.bytes_is; delivered_is = h.delivered_is; given_up_is = h.given_up_is; naks_is = h.naks_is }

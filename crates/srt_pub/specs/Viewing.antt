@@ -1,0 +1,17 @@
+-- What a look at a publisher's session shows.
+use Rattle.std.specs.Prelude.{◌≡◌, ◌-◌}
+use Rattle.srt_rtt.specs.RoundTrip.{RoundTrip}
+use Rattle.srt_recvbuf.specs.Receiving.{end_of, available}
+use Rattle.srt_pub.specs.Publishing.{Terms, Publishing, round_trip}
+use Rattle.srt_pub.specs.Counting.{Counted, delivered_in}
+use Rattle.srt_pub.specs.declared.statistics.Statistics.{Statistics}
+
+abbrev pub shown_round_trip : Statistics → RoundTrip
+shown_round_trip x = record { time = x.rtt; variance = x.variance }
+
+-- these are the counts and the state of a session
+pub record AreStatistics (terms : Terms) (m : Publishing) (x : Statistics) : Type 0 where
+  pub counts_are : Counted x.counts m.receiving.arrivals (delivered_in m.receiving) m.receiving.front m.notes
+  pub in_use_is : x.in_use ≡ end_of m.receiving.arrivals - m.receiving.front
+  pub available_is : x.available ≡ available terms.width m.receiving
+  pub round_trip_is : shown_round_trip x ≡ round_trip m.notes

@@ -1,0 +1,141 @@
+//! What a look at a route shows: its open sessions, and what each counts. A look changes nothing.
+
+ghost use Rattle.std.specs.Prelude.{◌≡◌, ℕ, List};
+ghost use Rattle.srt_seq.specs.Terms.{Terms};
+ghost use Rattle.srt_seq.specs.Items.{Item as TheItem};
+ghost use Rattle.srt_route.specs.Route.{after};
+ghost use Rattle.srt_route.specs.Stands.{stands};
+ghost use Rattle.srt_route.specs.Viewing.{delay_of, is_active_by, latency_in, ShowsSlot, ShowsSession, TellsTraffic};
+
+use crate::delivery::active_buffers;
+use crate::places::place_of;
+use crate::seat::{Session, publishes};
+use crate::state::Route;
+use crate::table::Table;
+use srt_hs::{AnswerKind, HsAnswer};
+use srt_pub::Publisher;
+use srt_seq::{Peer, Role};
+use srt_sub::Subscriber;
+
+/// The state of a session's buffers and its counts, by its role.
+#[derive(Clone, Copy, Debug, PartialEq, Eq)]
+pub enum Traffic {
+    /// Of a publisher's session: what came and what was delivered.
+    Received(srt_pub::Statistics),
+    /// Of a subscriber's session: what was queued and what was sent.
+    Sent(srt_sub::Statistics),
+}
+
+/// An open session as a look shows it.
+#[derive(Clone, Copy, Debug)]
+pub struct SessionView {
+    /// The caller's address.
+    pub peer: Peer,
+    /// The caller's SRT socket ID.
+    pub caller: u32,
+    /// The session's own SRT socket ID.
+    pub id: u32,
+    /// Whether the caller publishes or subscribes.
+    pub role: Role,
+    /// Whether it is the active publisher. Another publisher stands by; a subscriber is never active.
+    pub is_active: bool,
+    /// The moment at which it was opened, in microseconds of the route's clock.
+    pub opened: u64,
+    /// The moment of the last packet or conclusion from the peer, in microseconds of the route's clock.
+    pub heard: u64,
+    /// The agreed latency in milliseconds, of what the caller sends or of what it is sent; 0 in buffer mode.
+    pub latency_ms: u16,
+    /// What the session counts.
+    pub traffic: Traffic,
+}
+
+/// Of two delays that of what a publisher sends, or that of what a subscriber is sent.
+fn delay_of(role: Role, recv_ms: u16, send_ms: u16) -> u16
+    ensures { result ≡ delay_of role recv_ms send_ms }
+{
+    match role {
+        Role::Publish => recv_ms,
+        Role::Request => send_ms,
+    }
+}
+
+/// The agreed latency of data in the direction of this role, in milliseconds, from the answer to the conclusion.
+fn latency_in(role: Role, answer: &HsAnswer) -> u16
+    ensures { result ≡ latency_in role answer.now }
+{
+    match &answer.what {
+        AnswerKind::Conclusion {
+            mtu: _,
+            window: _,
+            id: _,
+            mode: _,
+            recv_ms,
+            send_ms,
+            congestion: _,
+        } => delay_of(role, *recv_ms, *send_ms),
+        AnswerKind::Induction(_) => 0,
+        AnswerKind::Refusal(_) => 0,
+    }
+}
+
+/// Whether a session is the active publisher, where the active one uses these buffers; None if no publisher is open.
+fn is_active_by(active: Option<bool>, session: &Session) -> bool
+    ensures { result ≡ is_active_by active session.now }
+{
+    match active {
+        Some(second) => publishes(session.role) && session.second == second,
+        None => false,
+    }
+}
+
+/// What a session counts that has these buffers, of which its role says the one that it uses.
+fn traffic_of(role: Role, publisher: &Publisher, subscriber: &Subscriber) -> Traffic
+    ensures { TellsTraffic role publisher.now subscriber.now result }
+{
+    match role {
+        Role::Publish => Traffic::Received(publisher.statistics()),
+        Role::Request => Traffic::Sent(subscriber.statistics()),
+    }
+}
+
+impl Table {
+    /// The open session of a slot; None if none is open there, or if there is no such slot.
+    fn look(&self, slot: usize) -> Option<SessionView>
+        ensures { ShowsSlot slot self.now result }
+    {
+        if slot >= self.seats.len() {
+            return None;
+        }
+        let active = active_buffers(self);
+        let seat = &self.seats[slot];
+        match &seat.session {
+            Some(session) => Some(SessionView {
+                peer: session.peer,
+                caller: session.caller,
+                id: session.id,
+                role: session.role,
+                is_active: is_active_by(active, session),
+                opened: session.opened,
+                heard: session.heard,
+                latency_ms: latency_in(session.role, &session.answer),
+                traffic: traffic_of(
+                    session.role,
+                    &self.publishers[place_of(session.second)],
+                    &seat.subscriber,
+                ),
+            }),
+            None => None,
+        }
+    }
+}
+
+impl Route {
+    /// The open session of a slot, from 0; None if none is open there, or if the slot isn't below the number of sessions
+    /// that the route's terms allow. Takes no memory. Linear in the seats, at most 17.
+    pub fn session(&self, slot: usize) -> Option<SessionView>
+        ensures { (e : Terms) (index : ℕ) (items : List TheItem) →
+            stands self.now e index items → ShowsSession e index slot (after e index items).sessions result }
+    {
+        self.table.look(slot)
+    }
+}

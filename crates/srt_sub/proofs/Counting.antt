@@ -1,0 +1,64 @@
+-- The counts of a session follow what it is fed, sends and hears.
+use Rattle.std.proofs.Common.{◌≡◌, ℕ, ◌+◌, Bool, true, false, ◌&&◌, not, if◌then◌else◌, Option, Some, None, List, [], ◌∷◌, ◌++◌, length, length-append, sym, ap, subst, ◌∙◌, arith}
+use Rattle.std.specs.Prelude.{nat_lt, slice_get}
+use Rattle.std.proofs.lemmas.Bool.{lt-ltb}
+use Rattle.srt_sendbuf.specs.Sending.{Queued, Sending, Due, due, due_at, due_number, due_of, in_flight, lost, next, queued}
+use Rattle.srt_seq.specs.Runs.{Range}
+use Rattle.srt_sendbuf.specs.Sending.{asked}
+use Rattle.srt_sub.specs.Counting.{AreSendings, Counted, capped, bytes_in, fresh_in, again_in, is_again, naks_in, one_if, with_payload, with_list, with_expired, with_sent}
+use Rattle.srt_sub.specs.Subscribing.{Note, Report, Sent, is_media}
+use Rattle.srt_sub.specs.declared.counts.Counts.{Counts}
+use Rattle.srt_sub.specs.declared.counts.Sendings.{Sendings}
+
+more : (n count step : ℕ) → n ≡ capped count → capped (n + step) ≡ capped (count + step)
+more n count step e = omega (arith, e)
+
+-- one payload more
+bytes_put : (queue : List Queued) (q : Queued) → bytes_in (queue ++ q ∷ []) ≡ bytes_in queue + length q.payload
+bytes_put [] q = omega arith
+bytes_put (x ∷ queue) q = let h = bytes_put queue q in omega (arith, h)
+
+pub counts_fed : (time : ℕ) (payload : List ℕ) (c : Counts) (s : Sending) → Counted c s → Counted (with_payload (length payload) c) (queued time payload s)
+counts_fed time payload c s h =
+    let q : Queued = record { origin = time; payload = payload } in
+    let bytes = bytes_put s.queue q in
+    let count = length-append s.queue (q ∷ []) in
+    record {
+      queued_is = more c.queued (length s.queue) 1 h.queued_is ∙ ap capped (sym count);
+      bytes_is = more c.bytes (bytes_in s.queue) (length payload) h.bytes_is ∙ ap capped (sym bytes);
+      naks_is = h.naks_is;
+    }
+
+pub counts_asked : (ranges : List Range) (c : Counts) (s : Sending) → Counted c s → Counted (with_list c) (asked ranges s)
+counts_asked ranges c s h = record { queued_is = h.queued_is; bytes_is = h.bytes_is; naks_is = more c.naks (naks_in s.marks) 1 h.naks_is }
+
+pub counts_expired : (count : ℕ) (c : Counts) (s : Sending) → Counted c s → Counted (with_expired count c) s
+counts_expired count c s h = record { queued_is = h.queued_is; bytes_is = h.bytes_is; naks_is = h.naks_is }
+
+-- a data packet is sent
+sent_more : (again : Bool) (c : Sendings) (r : Report) (notes : List Note) → is_again r ≡ again → AreSendings c (fresh_in notes) (again_in notes) → AreSendings (with_sent again c) (fresh_in notes + one_if (not (is_again r))) (again_in notes + one_if (is_again r))
+sent_more again c r notes e h =
+    subst (λ (b : Bool). AreSendings (with_sent b c) (fresh_in notes + one_if (not (is_again r))) (again_in notes + one_if (is_again r))) e
+    (record { fresh_is = more c.fresh (fresh_in notes) (one_if (not (is_again r))) h.fresh_is; again_is = more c.again (again_in notes) (one_if (is_again r)) h.again_is })
+
+pub sends : (time : ℕ) (again : Bool) (c : Sendings) (r : Report) (notes : List Note) → is_media r ≡ true → is_again r ≡ again → AreSendings c (fresh_in notes) (again_in notes) → AreSendings (with_sent again c) (fresh_in (Sent time r ∷ notes)) (again_in (Sent time r ∷ notes))
+sends time again c r notes m e h = rw m (sent_more again c r notes e h)
+
+-- a data packet that is due is sent again if a packet counts as lost
+again_of : (n : ℕ) (again : Bool) (o : Option Queued) (d : Due) → due_of n again o ≡ Some d → d.again ≡ again
+again_of n again None d e = cc
+again_of n again (Some q) d e =
+    let given : Due = record { number = n; again = again; origin = q.origin; payload = q.payload } in
+    let same : given ≡ d = cc in
+    sym (ap (λ (x : Due). x.again) same)
+
+pub again_is : (w : ℕ) (s : Sending) (d : Due) → due w s ≡ Some d → d.again ≡ nat_lt 0 (length (lost s))
+again_is w s d e = by (lost s) e
+  where
+    fresh : (b : Bool) → due_at s.queue (if b then Some (next s, false) else None) ≡ Some d → d.again ≡ false
+    fresh true k = again_of (next s) false (slice_get s.queue (next s)) d k
+    fresh false k = cc
+
+    by : (ns : List ℕ) → due_at s.queue (due_number w ns s) ≡ Some d → d.again ≡ nat_lt 0 (length ns)
+    by [] k = fresh (nat_lt (in_flight s) w && nat_lt (next s) (length s.queue)) k
+    by (n ∷ ns) k = again_of n true (slice_get s.queue n) d k ∙ sym (lt-ltb 0 (length (n ∷ ns)) (omega arith))

@@ -1,0 +1,19 @@
+-- What a look at a subscriber's session shows.
+use Rattle.std.specs.Prelude.{◌≡◌}
+use Rattle.srt_rtt.specs.RoundTrip.{RoundTrip}
+use Rattle.srt_sendbuf.specs.Sending.{room, in_flight}
+use Rattle.srt_sub.specs.Subscribing.{Terms, Subscribing, round_trip, flow_window}
+use Rattle.srt_sub.specs.Counting.{Counted, AreSendings, fresh_in, again_in}
+use Rattle.srt_sub.specs.declared.statistics.Statistics.{Statistics}
+
+abbrev pub shown_round_trip : Statistics → RoundTrip
+shown_round_trip x = record { time = x.rtt; variance = x.variance }
+
+-- these are the counts and the state of a session
+pub record AreStatistics (terms : Terms) (m : Subscribing) (x : Statistics) : Type 0 where
+  pub counts_are : Counted x.counts m.sending
+  pub sendings_are : AreSendings x.sendings (fresh_in m.notes) (again_in m.notes)
+  pub room_is : x.room ≡ room terms.width m.sending
+  pub in_flight_is : x.in_flight ≡ in_flight m.sending
+  pub flow_window_is : x.flow_window ≡ flow_window terms.window m.notes
+  pub round_trip_is : shown_round_trip x ≡ round_trip m.notes

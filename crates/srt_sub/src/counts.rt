@@ -1,0 +1,94 @@
+//! What a subscriber's session counts: payloads that it is fed, data packets that it sends, loss lists, and packets that
+//! expire.
+
+ghost use Rattle.std.specs.Prelude.{◌≡◌, length};
+ghost use Rattle.srt_sub.specs.Counting.{one_if};
+
+use srt_seq::Payload;
+
+/// Counts of a session since its opening. Each stops at 2^64 - 1.
+#[derive(Clone, Copy, Debug, PartialEq, Eq)]
+pub struct Counts {
+    /// Payloads that were queued.
+    pub queued: u64,
+    /// Their bytes.
+    pub bytes: u64,
+    /// NAKs whose loss list was taken.
+    pub naks: u64,
+    /// Packets that were dropped since they were too late, sent or not (section 4.6), and weren't acknowledged before.
+    /// No clause says what this counts; tests do.
+    pub given_up: u64,
+}
+
+impl Counts {
+    ghost use Rattle.srt_sub.specs.Counting.{AreCounts, with_payload, with_list, with_expired};
+
+    /// The counts of a session that has just begun.
+    pub(crate) fn none() -> Counts
+        ensures { AreCounts result 0 0 0 }
+    {
+        Counts {
+            queued: 0,
+            bytes: 0,
+            naks: 0,
+            given_up: 0,
+        }
+    }
+
+    /// Counts a payload that is queued.
+    pub(crate) fn feed(&mut self, payload: &Payload)
+        ensures { self.new ≡ with_payload (length payload.now.items) self.old }
+    {
+        self.queued = self.queued.saturating_add(1);
+        self.bytes = self.bytes.saturating_add(payload.len() as u64);
+    }
+
+    /// Counts a loss list that is taken.
+    pub(crate) fn ask(&mut self)
+        ensures { self.new ≡ with_list self.old }
+    {
+        self.naks = self.naks.saturating_add(1);
+    }
+
+    /// Counts packets that expire.
+    pub(crate) fn give_up(&mut self, count: u32)
+        ensures { self.new ≡ with_expired count self.old }
+    {
+        self.given_up = self.given_up.saturating_add(u64::from(count));
+    }
+}
+
+/// Counts of the data packets that a session sent since its opening. Each stops at 2^64 - 1.
+#[derive(Clone, Copy, Debug, PartialEq, Eq)]
+pub struct Sendings {
+    /// Those that were sent for the first time.
+    pub fresh: u64,
+    /// Those that were sent again, with the flag R (section 3.1).
+    pub again: u64,
+}
+
+impl Sendings {
+    ghost use Rattle.srt_sub.specs.Counting.{AreSendings, with_sent};
+
+    /// The counts of a session that has just begun.
+    pub(crate) fn none() -> Sendings
+        ensures { AreSendings result 0 0 }
+    {
+        Sendings { fresh: 0, again: 0 }
+    }
+
+    /// Counts a data packet that is sent.
+    pub(crate) fn send(&mut self, again: bool)
+        ensures { self.new ≡ with_sent again self.old }
+    {
+        self.fresh = self.fresh.saturating_add(one_if(!again));
+        self.again = self.again.saturating_add(one_if(again));
+    }
+}
+
+/// 1 if `yes`, else 0.
+fn one_if(yes: bool) -> u64
+    ensures { result ≡ one_if yes }
+{
+    if yes { 1 } else { 0 }
+}
