@@ -1,0 +1,74 @@
+-- What came between two looks at a route.
+use Rattle.std.specs.Prelude.{◌≡◌, ℕ, zero, suc, ◌+◌, ◌-◌, ◌/◌, ◌%◌, Bool, false, not, ◌==◌, ◌&&◌, ◌||◌, nat_lt, List, Option, None, Some, is_some, is_none, slice_index_or, if◌then◌else◌}
+use Rattle.srt_log.specs.declared.looks.SessionLook.{SessionLook}
+use Rattle.srt_log.specs.declared.looks.RouteLook.{RouteLook}
+use Rattle.srt_log.specs.declared.changes.Change.{Change}
+use Rattle.srt_log.specs.declared.changes.Change.TheVariants.{Gone, Ended, Opened, TookOver, Unseen}
+
+-- two looks at a slot have the same session
+abbrev pub is_same : (old new : Option SessionLook) → Bool
+is_same None new = false
+is_same (Some old) None = false
+is_same (Some old) (Some new) = (old.id == new.id) && (old.opened_at == new.opened_at)
+
+-- a slot has an open session, the active publisher, a session that the earlier look hasn't
+abbrev pub is_open : Option SessionLook → Bool
+is_open None = false
+is_open (Some session) = is_none session.end
+
+abbrev pub is_active : Option SessionLook → Bool
+is_active None = false
+is_active (Some session) = session.active
+
+abbrev pub is_new : (old new : Option SessionLook) → Bool
+is_new old new = is_some new && not (is_same old new)
+
+-- the end of the session that was open in a slot
+abbrev pub ended_at : (slot : ℕ) → (old new : Option SessionLook) → Option Change
+ended_at slot old new =
+    if not (is_open old) then None
+    else (if not (is_same old new) then Some (Gone slot)
+    else (if is_open new then None else Some (Ended slot)))
+
+-- the opening of a session there, and its end if it has ended again
+abbrev pub opened_at : (slot : ℕ) → (old new : Option SessionLook) → Option Change
+opened_at slot old new = if is_new old new then Some (Opened slot) else None
+
+abbrev pub ended_at_once : (slot : ℕ) → (old new : Option SessionLook) → Option Change
+ended_at_once slot old new = if not (is_new old new) then None else (if is_open new then None else Some (Ended slot))
+
+-- a publisher that stood by is the active one
+abbrev pub took_over_at : (slot : ℕ) → (old new : Option SessionLook) → Option Change
+took_over_at slot old new =
+    if not (is_same old new) then None
+    else (if is_active old || not (is_active new) || not (is_open new) then None else Some (TookOver slot))
+
+-- the session of a slot
+abbrev pub slot_at : (slot : ℕ) → List (Option SessionLook) → Option SessionLook
+slot_at slot slots = slice_index_or slots slot None
+
+-- how many of the first slots have a new session
+unfoldable pub opened_below : (count : ℕ) → (old new : List (Option SessionLook)) → ℕ
+opened_below zero old new = 0
+opened_below (suc count) old new = opened_below count old new + (if is_new (slot_at count old) (slot_at count new) then 1 else 0)
+
+-- what came and went unseen
+abbrev pub unseen_of : (opened refused : ℕ) → Option Change
+unseen_of opened refused = if (opened == 0) && (refused == 0) then None else Some (Unseen opened refused)
+
+unfoldable pub unseen : (old new : RouteLook) → Option Change
+unseen old new = unseen_of (new.opened - old.opened - opened_below 17 old.slots new.slots) (new.refused - old.refused)
+
+-- what came between two looks, step by step
+abbrev pub change_at : (old new : RouteLook) → (step : ℕ) → Option Change
+change_at old new step =
+    if nat_lt step 17 then ended_at step (slot_at step old.slots) (slot_at step new.slots)
+    else (if nat_lt step 51 then
+    (if step % 2 == 1 then opened_at ((step - 17) / 2) (slot_at ((step - 17) / 2) old.slots) (slot_at ((step - 17) / 2) new.slots)
+    else ended_at_once ((step - 17) / 2) (slot_at ((step - 17) / 2) old.slots) (slot_at ((step - 17) / 2) new.slots))
+    else (if nat_lt step 68 then took_over_at (step - 51) (slot_at (step - 51) old.slots) (slot_at (step - 51) new.slots)
+    else (if step == 68 then unseen old new else None)))
+
+-- two looks that are equal have nothing between them
+abbrev pub NothingBetweenEqual : Type 0
+NothingBetweenEqual = (look : RouteLook) (step : ℕ) → change_at look look step ≡ None

@@ -1,0 +1,114 @@
+-- The line of each event.
+use Rattle.std.specs.Prelude.{ℕ, ◌/◌, Bool, ◌==◌, List, [], ◌∷◌, ◌++◌, Option, None, Some, codes, decimal, if◌then◌else◌}
+use Rattle.srt_seq.specs.declared.shared.Peer.{Peer}
+use Rattle.srt_seq.specs.declared.shared.Role.{Role}
+use Rattle.srt_seq.specs.declared.shared.Role.TheVariants.{Publish, Request}
+use Rattle.srt_log.specs.declared.events.Caller.{Caller}
+use Rattle.srt_log.specs.declared.events.SessionCounts.{SessionCounts}
+use Rattle.srt_log.specs.declared.events.EndReason.{EndReason}
+use Rattle.srt_log.specs.declared.events.EndReason.TheVariants.{Shutdown, Silence, WindowLost, StreamEnd, RouteClosed, GatewayStops, Unknown}
+use Rattle.srt_log.specs.declared.events.StopCause.{StopCause}
+use Rattle.srt_log.specs.declared.events.StopCause.TheVariants as causes
+use Rattle.srt_log.specs.declared.events.LogEvent.{LogEvent}
+use Rattle.srt_log.specs.declared.events.LogEvent.TheVariants as events
+use Rattle.srt_log.specs.Texts.{put, id_text, escaped_all}
+use Rattle.srt_log.specs.Peers.{peer_text, socket_text}
+
+abbrev pub role_text : Role → List ℕ
+role_text Publish = codes "publisher "
+role_text Request = codes "subscriber "
+
+-- the route, the role and the peer of a session
+abbrev pub caller_text : Caller → List ℕ
+caller_text caller = escaped_all caller.route.now ++ codes ": " ++ role_text caller.role ++ peer_text caller.peer
+
+abbrev pub latency_text : Option ℕ → List ℕ
+latency_text None = []
+latency_text (Some ms) = codes ", latency " ++ decimal ms ++ codes " ms"
+
+abbrev pub opened_text : (standby : Bool) → List ℕ
+opened_text standby = if standby then codes " opened as standby, socket " else codes " opened, socket "
+
+abbrev pub reason_text : EndReason → List ℕ
+reason_text Shutdown = codes ", its peer sent a SHUTDOWN"
+reason_text Silence = codes ", nothing came from its peer"
+reason_text WindowLost = codes ", its window was lost"
+reason_text StreamEnd = codes ", the stream is at its end"
+reason_text RouteClosed = codes ", its route was closed"
+reason_text GatewayStops = codes ", the gateway stops"
+reason_text Unknown = codes ", its slot was taken again"
+
+abbrev pub counts_text : SessionCounts → List ℕ
+counts_text counts =
+    decimal counts.packets ++ codes " packets, " ++ decimal counts.bytes ++ codes " bytes, " ++ decimal counts.lost ++ codes " lost, "
+    ++ decimal counts.resent ++ codes " resent"
+
+abbrev pub ended_text : Caller → EndReason → (lasted_ms : ℕ) → SessionCounts → List ℕ
+ended_text caller reason lasted_ms counts =
+    caller_text caller ++ codes " ended, socket " ++ id_text caller.id ++ reason_text reason ++ codes ", after " ++ decimal lasted_ms ++ codes " ms, "
+    ++ counts_text counts
+
+-- the name of a reason for a refusal (section 4.3, table 7)
+unfoldable pub code_text : (code : ℕ) → List ℕ
+code_text code =
+    if code == 1001 then codes " SYSTEM" else (if code == 1002 then codes " PEER" else (if code == 1003 then codes " RESOURCE"
+    else (if code == 1004 then codes " ROGUE" else (if code == 1005 then codes " BACKLOG" else (if code == 1006 then codes " IPE"
+    else (if code == 1007 then codes " CLOSE" else (if code == 1008 then codes " VERSION" else (if code == 1009 then codes " RDVCOOKIE"
+    else (if code == 1010 then codes " BADSECRET" else (if code == 1011 then codes " UNSECURE" else (if code == 1012 then codes " MESSAGEAPI"
+    else (if code == 1013 then codes " CONGESTION" else (if code == 1014 then codes " FILTER" else (if code == 1015 then codes " GROUP"
+    else codes " UNKNOWN"))))))))))))))
+
+abbrev pub started_text : (ip : List ℕ) → (port routes workers memory : ℕ) → List ℕ
+started_text ip port routes workers memory =
+    codes "serving at " ++ socket_text ip port ++ codes ", routes " ++ decimal routes ++ codes ", workers " ++ decimal workers ++ codes ", memory "
+    ++ decimal (memory / 1024) ++ codes " KiB"
+
+abbrev pub refused_text : (code : ℕ) → Peer → (asked : List ℕ) → List ℕ
+refused_text code peer asked =
+    peer_text peer ++ codes " refused, " ++ decimal code ++ code_text code ++ codes ", asked for \"" ++ escaped_all asked ++ codes "\""
+
+abbrev pub unseen_text : (route : List ℕ) → (opened refused : ℕ) → List ℕ
+unseen_text route opened refused =
+    escaped_all route ++ codes ": " ++ decimal opened ++ codes " sessions opened and ended unseen, " ++ decimal refused ++ codes " conclusions refused"
+
+abbrev pub warned_text : (route warning : List ℕ) → List ℕ
+warned_text route warning = escaped_all route ++ codes ": warning: " ++ escaped_all warning
+
+abbrev pub cause_text : StopCause → List ℕ
+cause_text causes.Signal = codes "stopping, by a signal"
+cause_text causes.Duration = codes "stopping, the time of --for is over"
+cause_text causes.Rounds = codes "stopping, all rounds were made"
+
+-- words and a number
+abbrev pub count_text : (words : List ℕ) → (count : ℕ) → List ℕ
+count_text words count = words ++ decimal count
+
+abbrev pub session_opened_text : Caller → (standby : Bool) → (latency_ms : Option ℕ) → List ℕ
+session_opened_text caller standby latency_ms = caller_text caller ++ opened_text standby ++ id_text caller.id ++ latency_text latency_ms
+
+abbrev pub took_over_text : Caller → List ℕ
+took_over_text caller = caller_text caller ++ codes " took over, socket " ++ id_text caller.id
+
+-- the text of an event
+abbrev pub event_text : LogEvent → List ℕ
+event_text (events.Started ip port routes workers memory) = started_text ip port routes workers memory
+event_text (events.Opened caller standby latency_ms) = session_opened_text caller standby latency_ms
+event_text (events.Ended caller reason lasted_ms counts) = ended_text caller reason lasted_ms counts
+event_text (events.TookOver caller) = took_over_text caller
+event_text (events.Refused code peer asked) = refused_text code peer asked.now
+event_text (events.Unseen route opened refused) = unseen_text route.now opened refused
+event_text (events.Warned route warning) = warned_text route.now warning.now
+event_text (events.SocketFaults count) = count_text (codes "socket faults ") count
+event_text (events.KernelDrops count) = count_text (codes "datagrams dropped by the kernel ") count
+event_text (events.LeftOut count) = count_text (codes "lines left out ") count
+event_text (events.StopAsked cause) = cause_text cause
+event_text events.Stopped = codes "stopped"
+
+-- the text of a time and a space; none without a time
+abbrev pub time_text : Option (List ℕ) → List ℕ
+time_text None = []
+time_text (Some time) = escaped_all time ++ codes " "
+
+-- the line of an event, with its line feed
+abbrev pub line_text : Option (List ℕ) → LogEvent → List ℕ
+line_text time event = put [] (time_text time ++ event_text event) ++ 10 ∷ []

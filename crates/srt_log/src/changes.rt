@@ -1,0 +1,198 @@
+//! What came between two looks at a route.
+
+ghost use Rattle.std.specs.Prelude.{◌≡◌};
+ghost use Rattle.srt_log.specs.Changes.{is_same, is_open, is_active, is_new, ended_at, opened_at, ended_at_once, took_over_at, opened_below, unseen, change_at};
+
+use crate::looks::{RouteLook, SLOTS, SessionLook};
+
+/// The number of steps in which two looks are compared.
+pub const STEPS: usize = 69;
+
+/// Something that came between two looks at a route.
+#[derive(Clone, Copy, Debug, PartialEq, Eq)]
+pub enum Change {
+    /// The session that was open in this slot has ended, and another one stands there now: only the earlier look knows
+    /// it.
+    Gone {
+        /// The slot, from 0.
+        slot: usize,
+    },
+    /// The session in this slot has ended, as the later look has it.
+    Ended {
+        /// The slot, from 0.
+        slot: usize,
+    },
+    /// A session opened in this slot, as the later look has it.
+    Opened {
+        /// The slot, from 0.
+        slot: usize,
+    },
+    /// The publisher in this slot stood by, and is the active one now.
+    TookOver {
+        /// The slot, from 0.
+        slot: usize,
+    },
+    /// What came and went unseen.
+    Unseen {
+        /// Sessions that opened, and of which the later look has nothing.
+        opened: u64,
+        /// Conclusions that were refused.
+        refused: u64,
+    },
+}
+
+/// Whether two looks at a slot have the same session.
+fn is_same(old: &Option<SessionLook>, new: &Option<SessionLook>) -> bool
+    ensures { result ≡ is_same old.now new.now }
+{
+    match old {
+        Some(old) => match new {
+            Some(new) => old.id == new.id && old.opened_at == new.opened_at,
+            None => false,
+        },
+        None => false,
+    }
+}
+
+/// Whether a slot has an open session.
+fn is_open(look: &Option<SessionLook>) -> bool
+    ensures { result ≡ is_open look.now }
+{
+    match look {
+        Some(session) => session.end.is_none(),
+        None => false,
+    }
+}
+
+/// Whether the session of a slot is the active publisher.
+fn is_active(look: &Option<SessionLook>) -> bool
+    ensures { result ≡ is_active look.now }
+{
+    match look {
+        Some(session) => session.active,
+        None => false,
+    }
+}
+
+/// Whether the later look at a slot has a session that the earlier one hasn't.
+fn is_new(old: &Option<SessionLook>, new: &Option<SessionLook>) -> bool
+    ensures { result ≡ is_new old.now new.now }
+{
+    new.is_some() && !is_same(old, new)
+}
+
+/// The end of the session that was open in a slot.
+fn ended_at(slot: usize, old: &Option<SessionLook>, new: &Option<SessionLook>) -> Option<Change>
+    ensures { result ≡ ended_at slot old.now new.now }
+{
+    if !is_open(old) {
+        return None;
+    }
+    if !is_same(old, new) {
+        return Some(Change::Gone { slot });
+    }
+    if is_open(new) {
+        None
+    } else {
+        Some(Change::Ended { slot })
+    }
+}
+
+/// The opening of a session in a slot.
+fn opened_at(slot: usize, old: &Option<SessionLook>, new: &Option<SessionLook>) -> Option<Change>
+    ensures { result ≡ opened_at slot old.now new.now }
+{
+    if is_new(old, new) {
+        Some(Change::Opened { slot })
+    } else {
+        None
+    }
+}
+
+/// The end of a session that opened in a slot since the earlier look.
+fn ended_at_once(
+    slot: usize,
+    old: &Option<SessionLook>,
+    new: &Option<SessionLook>,
+) -> Option<Change>
+    ensures { result ≡ ended_at_once slot old.now new.now }
+{
+    if !is_new(old, new) {
+        return None;
+    }
+    if is_open(new) {
+        None
+    } else {
+        Some(Change::Ended { slot })
+    }
+}
+
+/// The take-over by the publisher of a slot.
+fn took_over_at(slot: usize, old: &Option<SessionLook>, new: &Option<SessionLook>) -> Option<Change>
+    ensures { result ≡ took_over_at slot old.now new.now }
+{
+    if !is_same(old, new) {
+        return None;
+    }
+    if is_active(old) || !is_active(new) || !is_open(new) {
+        return None;
+    }
+    Some(Change::TookOver { slot })
+}
+
+/// How many slots have a new session.
+#[tactic(auto, using(crate::proofs::Slots::no_slots, crate::proofs::Slots::next_slot))]
+fn opened_in(old: &RouteLook, new: &RouteLook) -> u64
+    ensures { result ≡ opened_below 17 old.now.slots new.now.slots }
+{
+    let mut opened = 0u64;
+    for slot in 0..SLOTS {
+        if is_new(&old.slots[slot], &new.slots[slot]) {
+            opened = opened.saturating_add(1);
+        }
+    }
+    opened
+}
+
+/// What came and went unseen, if there is something.
+#[tactic(auto, unfolding(crate::specs::Changes::unseen))]
+fn unseen(old: &RouteLook, new: &RouteLook) -> Option<Change>
+    ensures { result ≡ unseen old.now new.now }
+{
+    let opened = new
+        .opened
+        .saturating_sub(old.opened)
+        .saturating_sub(opened_in(old, new));
+    let refused = new.refused.saturating_sub(old.refused);
+    if opened == 0 && refused == 0 {
+        return None;
+    }
+    Some(Change::Unseen { opened, refused })
+}
+
+/// What came between two looks at a route, in this one of the [`STEPS`] steps; None if there is nothing in it, or no
+/// such step. Taken in order, the steps give what a log tells: the ends of sessions that the earlier look had open,
+/// slots upwards; for each slot the session that opened there, and its end if it has ended again; the publisher that
+/// took over; how many came and went unseen.
+pub fn change_at(old: &RouteLook, new: &RouteLook, step: usize) -> Option<Change>
+    ensures { result ≡ change_at old.now new.now step }
+{
+    if step < 17 {
+        return ended_at(step, &old.slots[step], &new.slots[step]);
+    }
+    if step < 51 {
+        let slot = (step - 17) / 2;
+        if step % 2 == 1 {
+            return opened_at(slot, &old.slots[slot], &new.slots[slot]);
+        }
+        return ended_at_once(slot, &old.slots[slot], &new.slots[slot]);
+    }
+    if step < 68 {
+        let slot = step - 51;
+        return took_over_at(slot, &old.slots[slot], &new.slots[slot]);
+    }
+    if step == 68 {
+        return unseen(old, new);
+    }
+    None
+}

@@ -1,0 +1,149 @@
+//! What a line of the log says.
+
+use srt_seq::{Peer, Role};
+
+/// A session as a line names it.
+#[derive(Clone, Copy)]
+pub struct Caller<'a> {
+    /// The route's name.
+    pub route: &'a [u8],
+    /// The side of the stream.
+    pub role: Role,
+    /// The caller's address and port.
+    pub peer: Peer,
+    /// The socket ID of the session here.
+    pub id: u32,
+}
+
+/// What a session took and gave.
+#[derive(Clone, Copy, Debug, PartialEq, Eq)]
+pub struct SessionCounts {
+    /// Data packets, each counted once.
+    pub packets: u64,
+    /// The bytes that they carried.
+    pub bytes: u64,
+    /// Packets that were lost: those that a publisher's session dropped as missing, or a subscriber's as too late.
+    pub lost: u64,
+    /// Packets that were sent again.
+    pub resent: u64,
+}
+
+/// Why a session ended.
+#[derive(Clone, Copy, Debug, PartialEq, Eq)]
+pub enum EndReason {
+    /// Its peer sent a SHUTDOWN.
+    Shutdown,
+    /// Nothing came from its peer for five seconds.
+    Silence,
+    /// Its window moved past packets that were neither received nor given up.
+    WindowLost,
+    /// The end of the stream was told: all of it was delivered.
+    StreamEnd,
+    /// Its route was closed.
+    RouteClosed,
+    /// The gateway stops.
+    GatewayStops,
+    /// It isn't known: another session stands in its slot.
+    Unknown,
+}
+
+/// Why the gateway was asked to stop.
+#[derive(Clone, Copy, Debug, PartialEq, Eq)]
+pub enum StopCause {
+    /// A signal: SIGINT or SIGTERM.
+    Signal,
+    /// The time of `--for` is over.
+    Duration,
+    /// All rounds were made.
+    Rounds,
+}
+
+/// What a line of the log says.
+#[derive(Clone, Copy)]
+pub enum LogEvent<'a> {
+    /// The gateway serves callers.
+    Started {
+        /// The IPv4 address of its socket.
+        ip: [u8; 4],
+        /// The port.
+        port: u16,
+        /// The number of routes.
+        routes: u32,
+        /// The number of worker threads.
+        workers: u32,
+        /// The memory that it has taken, in bytes.
+        memory: u64,
+    },
+    /// A session opened.
+    Opened {
+        /// The session.
+        caller: Caller<'a>,
+        /// Whether it is a publisher that stands by.
+        standby: bool,
+        /// Its delay in milliseconds; `None` in buffer mode.
+        latency_ms: Option<u32>,
+    },
+    /// A session ended.
+    Ended {
+        /// The session.
+        caller: Caller<'a>,
+        /// Why.
+        reason: EndReason,
+        /// How long it was open, in milliseconds.
+        lasted_ms: u64,
+        /// What it took and gave.
+        counts: SessionCounts,
+    },
+    /// A publisher that stood by is the active one now.
+    TookOver {
+        /// Its session.
+        caller: Caller<'a>,
+    },
+    /// A conclusion was refused.
+    Refused {
+        /// The number of the reason (draft-sharabayko-srt-01, section 4.3, table 7).
+        code: u32,
+        /// The caller's address and port.
+        peer: Peer,
+        /// The name that it asked for, as it came.
+        asked: &'a [u8],
+    },
+    /// What came and went on a route between two looks, known by its number alone.
+    Unseen {
+        /// The route's name.
+        route: &'a [u8],
+        /// Sessions that opened and ended.
+        opened: u64,
+        /// Conclusions that were refused.
+        refused: u64,
+    },
+    /// The configuration has something that is allowed, and most likely wrong.
+    Warned {
+        /// The name of the route that it is about.
+        route: &'a [u8],
+        /// What it is.
+        warning: &'a [u8],
+    },
+    /// The socket gave errors since the last such line.
+    SocketFaults {
+        /// Their number.
+        count: u64,
+    },
+    /// The kernel dropped datagrams at the socket since the last such line: its buffer was full.
+    KernelDrops {
+        /// Their number.
+        count: u64,
+    },
+    /// Lines were left out, since there were too many in a second.
+    LeftOut {
+        /// Their number.
+        count: u64,
+    },
+    /// The gateway was asked to stop.
+    StopAsked {
+        /// Why.
+        by: StopCause,
+    },
+    /// The gateway has stopped. No line follows.
+    Stopped,
+}

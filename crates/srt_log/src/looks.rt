@@ -1,0 +1,50 @@
+//! The sessions of a route at one moment.
+
+use crate::events::{EndReason, SessionCounts};
+use srt_seq::{Peer, Role};
+
+/// The greatest number of sessions that a route has open at once.
+pub const SLOTS: usize = 17;
+
+/// How a session ended.
+#[derive(Clone, Copy, Debug, PartialEq, Eq)]
+pub struct SessionEnd {
+    /// Why.
+    pub reason: EndReason,
+    /// The moment, in microseconds.
+    pub moment: u64,
+}
+
+/// A session, as it stood at a moment.
+#[derive(Clone, Copy, Debug, PartialEq, Eq)]
+pub struct SessionLook {
+    /// Its socket ID here.
+    pub id: u32,
+    /// The moment of its opening, in microseconds. No other session of its slot has both the same.
+    pub opened_at: u64,
+    /// The side of the stream.
+    pub role: Role,
+    /// Whether it is the publisher whose payloads are delivered.
+    pub active: bool,
+    /// The caller's address and port.
+    pub peer: Peer,
+    /// Its delay in milliseconds; `None` in buffer mode.
+    pub latency_ms: Option<u32>,
+    /// How it ended; `None` while it is open.
+    pub end: Option<SessionEnd>,
+    /// What it took and gave.
+    pub counts: SessionCounts,
+}
+
+/// The sessions of a route at a moment, and what came to it so far.
+#[derive(Clone, Copy)]
+pub struct RouteLook {
+    /// The moment, in microseconds.
+    pub moment: u64,
+    /// In each slot the session that was opened there last; `None` if there was none.
+    pub slots: [Option<SessionLook>; SLOTS],
+    /// The sessions that were opened so far.
+    pub opened: u64,
+    /// The conclusions that were refused so far.
+    pub refused: u64,
+}

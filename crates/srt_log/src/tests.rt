@@ -1,0 +1,461 @@
+//! Lines as a person reads them, the limit over moments, and what comes between looks.
+
+use crate::{
+    Allowed, Caller, Change, EndReason, LineLimit, LogEvent, RouteLook, SLOTS, STEPS,
+    SessionCounts, SessionEnd, SessionLook, StopCause, change_at, event_of, write_line,
+};
+use srt_seq::{Peer, Role};
+use std::process::Abort;
+use std::test::Fail;
+
+/// The text of a time.
+const TIME: [u8; 24] = *b"2026-11-26T15:04:05.123Z";
+
+/// 192.0.2.7
+fn near(port: u16) -> Peer {
+    Peer {
+        ip: [0, 0, 0, 0, 0, 0, 0, 0, 0, 0, 0xff, 0xff, 192, 0, 2, 7],
+        port,
+    }
+}
+
+/// 2001:db8::1
+fn far(port: u16) -> Peer {
+    Peer {
+        ip: [0x20, 0x01, 0x0d, 0xb8, 0, 0, 0, 0, 0, 0, 0, 0, 0, 0, 0, 1],
+        port,
+    }
+}
+
+/// A publisher of `studio` at 192.0.2.7.
+fn encoder() -> Caller<'static> {
+    Caller {
+        route: b"studio",
+        role: Role::Publish,
+        peer: near(50123),
+        id: 0x0010_0001,
+    }
+}
+
+/// Asserts that an event has this line.
+fn assert_line<R: Abort + AllocGlobal>(
+    rt: &R,
+    time: Option<[u8; 24]>,
+    event: LogEvent<'_>,
+    line: &str,
+) -> Result<(), Fail> {
+    let mut out = Vec::new(rt.alloc());
+    write_line(&mut out, time, event)?;
+    assert_eq!(rt; out.as_slice(), line.as_bytes());
+    Ok(())
+}
+
+#[test]
+fn lines_of_openings(rt: HostRuntime) -> Result<(), Fail> {
+    assert_line(
+        &rt,
+        Some(TIME),
+        LogEvent::Opened {
+            caller: encoder(),
+            standby: false,
+            latency_ms: Some(120),
+        },
+        "2026-11-26T15:04:05.123Z studio: publisher 192.0.2.7:50123 opened, socket 0x00100001, latency 120 ms\n",
+    )?;
+    assert_line(
+        &rt,
+        None,
+        LogEvent::Opened {
+            caller: encoder(),
+            standby: true,
+            latency_ms: None,
+        },
+        "studio: publisher 192.0.2.7:50123 opened as standby, socket 0x00100001\n",
+    )
+}
+
+#[test]
+fn lines_of_ends_and_take_overs(rt: HostRuntime) -> Result<(), Fail> {
+    let player = Caller {
+        route: b"studio",
+        role: Role::Request,
+        peer: far(9),
+        id: 0xfedc_ba98,
+    };
+    let counts = SessionCounts {
+        packets: 1000,
+        bytes: 1_316_000,
+        lost: 3,
+        resent: 2,
+    };
+    assert_line(
+        &rt,
+        None,
+        LogEvent::Ended {
+            caller: player,
+            reason: EndReason::Silence,
+            lasted_ms: 3_600_123,
+            counts,
+        },
+        "studio: subscriber [2001:0db8:0000:0000:0000:0000:0000:0001]:9 ended, socket 0xfedcba98, nothing came from its peer, after 3600123 ms, 1000 packets, 1316000 bytes, 3 lost, 2 resent\n",
+    )?;
+    assert_line(
+        &rt,
+        None,
+        LogEvent::TookOver { caller: encoder() },
+        "studio: publisher 192.0.2.7:50123 took over, socket 0x00100001\n",
+    )
+}
+
+/// Asserts that a session that ended for this reason has this in its line.
+fn assert_reason<R: Abort + AllocGlobal>(
+    rt: &R,
+    reason: EndReason,
+    line: &str,
+) -> Result<(), Fail> {
+    let counts = SessionCounts {
+        packets: 0,
+        bytes: 0,
+        lost: 0,
+        resent: 0,
+    };
+    assert_line(
+        rt,
+        None,
+        LogEvent::Ended {
+            caller: encoder(),
+            reason,
+            lasted_ms: 0,
+            counts,
+        },
+        line,
+    )
+}
+
+#[test]
+fn lines_of_some_reasons(rt: HostRuntime) -> Result<(), Fail> {
+    assert_reason(
+        &rt,
+        EndReason::Shutdown,
+        "studio: publisher 192.0.2.7:50123 ended, socket 0x00100001, its peer sent a SHUTDOWN, after 0 ms, 0 packets, 0 bytes, 0 lost, 0 resent\n",
+    )?;
+    assert_reason(
+        &rt,
+        EndReason::Unknown,
+        "studio: publisher 192.0.2.7:50123 ended, socket 0x00100001, its slot was taken again, after 0 ms, 0 packets, 0 bytes, 0 lost, 0 resent\n",
+    )
+}
+
+#[test]
+fn bytes_that_callers_chose_are_escaped(rt: HostRuntime) -> Result<(), Fail> {
+    assert_line(
+        &rt,
+        None,
+        LogEvent::Refused {
+            code: 1002,
+            peer: near(40000),
+            asked: b"a \"b\\\n\x00\x1b[31m\x7f\xc3\xa9",
+        },
+        "192.0.2.7:40000 refused, 1002 PEER, asked for \"a \\x22b\\x5c\\x0a\\x00\\x1b[31m\\x7f\\xc3\\xa9\"\n",
+    )?;
+    assert_line(
+        &rt,
+        None,
+        LogEvent::Refused {
+            code: 1016,
+            peer: near(0),
+            asked: b"",
+        },
+        "192.0.2.7:0 refused, 1016 UNKNOWN, asked for \"\"\n",
+    )
+}
+
+#[test]
+fn lines_of_a_start_and_a_stop(rt: HostRuntime) -> Result<(), Fail> {
+    assert_line(
+        &rt,
+        None,
+        LogEvent::Started {
+            ip: [192, 0, 2, 1],
+            port: 9000,
+            routes: 3,
+            workers: 4,
+            memory: 73_240_576,
+        },
+        "serving at 192.0.2.1:9000, routes 3, workers 4, memory 71524 KiB\n",
+    )?;
+    assert_line(
+        &rt,
+        None,
+        LogEvent::StopAsked {
+            by: StopCause::Signal,
+        },
+        "stopping, by a signal\n",
+    )?;
+    assert_line(&rt, None, LogEvent::Stopped, "stopped\n")
+}
+
+#[test]
+fn lines_of_counts_and_warnings(rt: HostRuntime) -> Result<(), Fail> {
+    assert_line(
+        &rt,
+        None,
+        LogEvent::KernelDrops { count: 208 },
+        "datagrams dropped by the kernel 208\n",
+    )?;
+    assert_line(
+        &rt,
+        None,
+        LogEvent::SocketFaults { count: 1 },
+        "socket faults 1\n",
+    )?;
+    assert_line(
+        &rt,
+        None,
+        LogEvent::LeftOut { count: u64::MAX },
+        "lines left out 18446744073709551615\n",
+    )
+}
+
+#[test]
+fn lines_of_what_came_and_went(rt: HostRuntime) -> Result<(), Fail> {
+    assert_line(
+        &rt,
+        None,
+        LogEvent::Unseen {
+            route: b"studio",
+            opened: 3,
+            refused: 12,
+        },
+        "studio: 3 sessions opened and ended unseen, 12 conclusions refused\n",
+    )?;
+    assert_line(
+        &rt,
+        None,
+        LogEvent::Warned {
+            route: b"studio",
+            warning: b"outbox is below 17 x 66",
+        },
+        "studio: warning: outbox is below 17 x 66\n",
+    )
+}
+
+#[test]
+fn a_long_line_is_cut_off(rt: HostRuntime) -> Result<(), Fail> {
+    let asked = [b'x'; 2000];
+    let mut out = Vec::new(rt.alloc());
+    write_line(
+        &mut out,
+        Some(TIME),
+        LogEvent::Refused {
+            code: 1002,
+            peer: near(1),
+            asked: &asked,
+        },
+    )?;
+    assert_eq!(rt; out.len(), 1024);
+    assert!(rt; out.as_slice().starts_with(&TIME));
+    assert!(rt; out.as_slice().ends_with(b"xxxx\n"));
+    Ok(())
+}
+
+#[test]
+fn a_writer_that_is_full_is_an_error(rt: HostRuntime) {
+    let mut place = [0u8; 8];
+    let mut out = &mut place[..];
+    assert!(rt; write_line(&mut out, None, LogEvent::LeftOut { count: 1 }).is_err());
+}
+
+#[test]
+fn fifty_lines_of_a_second(rt: HostRuntime) {
+    let mut limit = LineLimit::new();
+    for _ in 0..50u32 {
+        assert!(rt; limit.line(5_999_999).written);
+    }
+    assert!(rt; !limit.line(5_000_000).written);
+    assert!(rt; !limit.line(4_000_000).written);
+    assert_eq!(rt; limit.left_out(), 2);
+    assert_eq!(rt; limit.look(5_999_999), 0);
+    let next = limit.line(6_000_000);
+    assert_eq!(rt;
+        next,
+        Allowed {
+            written: true,
+            left_out: 2
+        }
+    );
+    assert_eq!(rt; limit.look(7_000_000), 0);
+}
+
+#[test]
+fn lines_left_out_are_told_by_a_look(rt: HostRuntime) {
+    let mut limit = LineLimit::new();
+    for _ in 0..60u32 {
+        let _ = limit.line(0);
+    }
+    assert_eq!(rt; limit.look(1_000_000), 10);
+    assert_eq!(rt; limit.look(2_000_000), 0);
+    assert_eq!(rt; limit.left_out(), 0);
+}
+
+/// An open session with this socket ID.
+fn session(id: u32, active: bool) -> SessionLook {
+    SessionLook {
+        id,
+        opened_at: 7,
+        role: Role::Publish,
+        active,
+        peer: near(50123),
+        latency_ms: Some(120),
+        end: None,
+        counts: SessionCounts {
+            packets: 0,
+            bytes: 0,
+            lost: 0,
+            resent: 0,
+        },
+    }
+}
+
+/// The same, ended.
+fn ended(id: u32) -> SessionLook {
+    let mut look = session(id, false);
+    look.end = Some(SessionEnd {
+        reason: EndReason::Shutdown,
+        moment: 12_007,
+    });
+    look
+}
+
+/// A route with these sessions in its slots 0 and 16.
+fn route(
+    first: Option<SessionLook>,
+    last: Option<SessionLook>,
+    opened: u64,
+    refused: u64,
+) -> RouteLook {
+    let mut slots = [None; SLOTS];
+    slots[0] = first;
+    slots[16] = last;
+    RouteLook {
+        moment: 4_000_007,
+        slots,
+        opened,
+        refused,
+    }
+}
+
+/// Asserts that these changes, and no others, come between two looks, in this order.
+fn assert_changes(rt: &impl Abort, old: &RouteLook, new: &RouteLook, want: &[Change]) {
+    let mut seen = 0usize;
+    for step in 0..STEPS {
+        if let Some(change) = change_at(old, new, step) {
+            assert!(rt; want.get(seen) == Some(&change));
+            seen = seen.saturating_add(1);
+        }
+    }
+    assert_eq!(rt; seen, want.len());
+}
+
+#[test]
+fn openings_ends_and_a_take_over(rt: HostRuntime) {
+    let none = route(None, None, 0, 0);
+    let one = route(Some(session(1, true)), None, 1, 0);
+    let two = route(Some(session(1, true)), Some(session(2, false)), 2, 0);
+    let over = route(Some(ended(1)), Some(session(2, true)), 2, 0);
+    assert_changes(&rt, &none, &one, &[Change::Opened { slot: 0 }]);
+    assert_changes(&rt, &one, &two, &[Change::Opened { slot: 16 }]);
+    assert_changes(
+        &rt,
+        &two,
+        &over,
+        &[Change::Ended { slot: 0 }, Change::TookOver { slot: 16 }],
+    );
+    assert_changes(&rt, &over, &over, &[]);
+}
+
+#[test]
+fn a_slot_that_was_taken_again(rt: HostRuntime) {
+    let old = route(Some(session(1, true)), None, 1, 0);
+    let new = route(Some(ended(257)), Some(session(2, true)), 3, 0);
+    assert_changes(
+        &rt,
+        &old,
+        &new,
+        &[
+            Change::Gone { slot: 0 },
+            Change::Opened { slot: 0 },
+            Change::Ended { slot: 0 },
+            Change::Opened { slot: 16 },
+        ],
+    );
+}
+
+#[test]
+fn what_came_and_went_is_counted(rt: HostRuntime) {
+    let old = route(None, None, 4, 5);
+    let new = route(Some(session(1, true)), None, 8, 7);
+    assert_changes(
+        &rt,
+        &old,
+        &new,
+        &[
+            Change::Opened { slot: 0 },
+            Change::Unseen {
+                opened: 3,
+                refused: 2,
+            },
+        ],
+    );
+    assert_eq!(rt; change_at(&old, &new, STEPS), None);
+}
+
+/// Asserts that the changes between two looks at the route `studio` have these lines.
+fn assert_told<R: Abort + AllocGlobal>(
+    rt: &R,
+    old: &RouteLook,
+    new: &RouteLook,
+    lines: &str,
+) -> Result<(), Fail> {
+    let mut out = Vec::new(rt.alloc());
+    for step in 0..STEPS {
+        if let Some(change) = change_at(old, new, step) {
+            if let Some(event) = event_of(b"studio", old, new, change) {
+                write_line(&mut out, None, event)?;
+            }
+        }
+    }
+    assert_eq!(rt; out.as_slice(), lines.as_bytes());
+    Ok(())
+}
+
+#[test]
+fn lines_of_changes(rt: HostRuntime) -> Result<(), Fail> {
+    let none = route(None, None, 0, 0);
+    let two = route(Some(session(1, true)), Some(session(2, false)), 2, 0);
+    let over = route(Some(ended(1)), Some(session(2, true)), 2, 0);
+    let again = route(Some(session(257, false)), Some(session(2, true)), 3, 1);
+    assert_told(
+        &rt,
+        &none,
+        &two,
+        "studio: publisher 192.0.2.7:50123 opened, socket 0x00000001, latency 120 ms\n\
+studio: publisher 192.0.2.7:50123 opened as standby, socket 0x00000002, latency 120 ms\n",
+    )?;
+    assert_told(
+        &rt,
+        &two,
+        &over,
+        "studio: publisher 192.0.2.7:50123 ended, socket 0x00000001, its peer sent a SHUTDOWN, after 12 ms, 0 packets, 0 bytes, 0 lost, 0 resent\n\
+studio: publisher 192.0.2.7:50123 took over, socket 0x00000002\n",
+    )?;
+    assert_told(
+        &rt,
+        &two,
+        &again,
+        "studio: publisher 192.0.2.7:50123 ended, socket 0x00000001, its slot was taken again, after 4000 ms, 0 packets, 0 bytes, 0 lost, 0 resent\n\
+studio: publisher 192.0.2.7:50123 opened as standby, socket 0x00000101, latency 120 ms\n\
+studio: publisher 192.0.2.7:50123 took over, socket 0x00000002\n\
+studio: 0 sessions opened and ended unseen, 1 conclusions refused\n",
+    )
+}

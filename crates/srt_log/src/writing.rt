@@ -1,0 +1,305 @@
+//! The line of each event.
+
+ghost use Rattle.std.specs.Prelude.{◌≡◌, ◌++◌, [], OnOk};
+ghost use Rattle.std.specs.Io.KnownBytes.{Appends};
+ghost use Rattle.srt_log.specs.Texts.{put};
+ghost use Rattle.srt_log.specs.Events.{role_text, caller_text, latency_text, opened_text, session_opened_text, took_over_text, reason_text, counts_text, ended_text, code_text, started_text, refused_text, unseen_text, warned_text, count_text, cause_text, event_text, time_text, line_text};
+
+use crate::events::{Caller, EndReason, LogEvent, SessionCounts, StopCause};
+use crate::line::Line;
+use crate::peers::{put_peer, put_socket};
+use srt_seq::{Peer, Role};
+use std::io::{self, Write};
+
+fn put_role(line: &mut Line, role: Role)
+    ensures { line.new.text.items ≡ put line.old.text.items (role_text role) }
+{
+    match role {
+        Role::Publish => line.put(b"publisher "),
+        Role::Request => line.put(b"subscriber "),
+    }
+}
+
+/// Puts the route, the role and the peer of a session.
+#[tactic(auto, using(crate::proofs::Puts::put_put))]
+fn put_caller(line: &mut Line, caller: Caller<'_>)
+    ensures { line.new.text.items ≡ put line.old.text.items (caller_text caller.entry) }
+{
+    line.put_escaped(caller.route);
+    line.put(b": ");
+    put_role(line, caller.role);
+    put_peer(line, caller.peer);
+}
+
+#[tactic(auto, using(crate::proofs::Puts::put_put))]
+fn put_latency(line: &mut Line, latency_ms: Option<u32>)
+    ensures { line.new.text.items ≡ put line.old.text.items (latency_text latency_ms) }
+{
+    match latency_ms {
+        Some(ms) => {
+            line.put(b", latency ");
+            line.put_number(u64::from(ms));
+            line.put(b" ms");
+        }
+        None => line.put(b""),
+    }
+}
+
+fn put_opened_as(line: &mut Line, standby: bool)
+    ensures { line.new.text.items ≡ put line.old.text.items (opened_text standby) }
+{
+    if standby {
+        line.put(b" opened as standby, socket ");
+    } else {
+        line.put(b" opened, socket ");
+    }
+}
+
+fn put_reason(line: &mut Line, reason: EndReason)
+    ensures { line.new.text.items ≡ put line.old.text.items (reason_text reason) }
+{
+    match reason {
+        EndReason::Shutdown => line.put(b", its peer sent a SHUTDOWN"),
+        EndReason::Silence => line.put(b", nothing came from its peer"),
+        EndReason::WindowLost => line.put(b", its window was lost"),
+        EndReason::StreamEnd => line.put(b", the stream is at its end"),
+        EndReason::RouteClosed => line.put(b", its route was closed"),
+        EndReason::GatewayStops => line.put(b", the gateway stops"),
+        EndReason::Unknown => line.put(b", its slot was taken again"),
+    }
+}
+
+#[tactic(auto, using(crate::proofs::Puts::put_put))]
+fn put_counts(line: &mut Line, counts: SessionCounts)
+    ensures { line.new.text.items ≡ put line.old.text.items (counts_text counts) }
+{
+    let SessionCounts {
+        packets,
+        bytes,
+        lost,
+        resent,
+    } = counts;
+    line.put_number(packets);
+    line.put(b" packets, ");
+    line.put_number(bytes);
+    line.put(b" bytes, ");
+    line.put_number(lost);
+    line.put(b" lost, ");
+    line.put_number(resent);
+    line.put(b" resent");
+}
+
+#[tactic(auto, using(crate::proofs::Puts::put_put))]
+fn put_ended(
+    line: &mut Line,
+    caller: Caller<'_>,
+    reason: EndReason,
+    lasted_ms: u64,
+    counts: SessionCounts,
+)
+    ensures { line.new.text.items ≡ put line.old.text.items (ended_text caller.entry reason lasted_ms counts) }
+{
+    put_caller(line, caller);
+    line.put(b" ended, socket ");
+    line.put_id(caller.id);
+    put_reason(line, reason);
+    line.put(b", after ");
+    line.put_number(lasted_ms);
+    line.put(b" ms, ");
+    put_counts(line, counts);
+}
+
+#[tactic(auto, using(crate::proofs::Puts::put_put))]
+fn put_opened(line: &mut Line, caller: Caller<'_>, standby: bool, latency_ms: Option<u32>)
+    ensures { line.new.text.items ≡ put line.old.text.items (session_opened_text caller.entry standby latency_ms) }
+{
+    put_caller(line, caller);
+    put_opened_as(line, standby);
+    line.put_id(caller.id);
+    put_latency(line, latency_ms);
+}
+
+#[tactic(auto, using(crate::proofs::Puts::put_put))]
+fn put_took_over(line: &mut Line, caller: Caller<'_>)
+    ensures { line.new.text.items ≡ put line.old.text.items (took_over_text caller.entry) }
+{
+    put_caller(line, caller);
+    line.put(b" took over, socket ");
+    line.put_id(caller.id);
+}
+
+/// Puts words and a number.
+#[tactic(auto, using(crate::proofs::Puts::put_put))]
+fn put_count(line: &mut Line, words: &[u8], count: u64)
+    ensures { line.new.text.items ≡ put line.old.text.items (count_text words.now count) }
+{
+    line.put(words);
+    line.put_number(count);
+}
+
+/// The name of a reason for a refusal, as libsrt has it behind `SRT_REJ_`.
+#[tactic(auto, unfolding(crate::specs::Events::code_text))]
+fn put_code_name(line: &mut Line, code: u32)
+    ensures { line.new.text.items ≡ put line.old.text.items (code_text code) }
+{
+    match code {
+        1001 => line.put(b" SYSTEM"),
+        1002 => line.put(b" PEER"),
+        1003 => line.put(b" RESOURCE"),
+        1004 => line.put(b" ROGUE"),
+        1005 => line.put(b" BACKLOG"),
+        1006 => line.put(b" IPE"),
+        1007 => line.put(b" CLOSE"),
+        1008 => line.put(b" VERSION"),
+        1009 => line.put(b" RDVCOOKIE"),
+        1010 => line.put(b" BADSECRET"),
+        1011 => line.put(b" UNSECURE"),
+        1012 => line.put(b" MESSAGEAPI"),
+        1013 => line.put(b" CONGESTION"),
+        1014 => line.put(b" FILTER"),
+        1015 => line.put(b" GROUP"),
+        _ => line.put(b" UNKNOWN"),
+    }
+}
+
+#[tactic(auto, using(crate::proofs::Puts::put_put))]
+fn put_started(line: &mut Line, ip: [u8; 4], port: u16, routes: u32, workers: u32, memory: u64)
+    ensures { line.new.text.items ≡ put line.old.text.items (started_text ip port routes workers memory) }
+{
+    line.put(b"serving at ");
+    put_socket(line, ip, port);
+    line.put(b", routes ");
+    line.put_number(u64::from(routes));
+    line.put(b", workers ");
+    line.put_number(u64::from(workers));
+    line.put(b", memory ");
+    line.put_number(memory / 1024);
+    line.put(b" KiB");
+}
+
+#[tactic(auto, using(crate::proofs::Puts::put_put))]
+fn put_refused(line: &mut Line, code: u32, peer: Peer, asked: &[u8])
+    ensures { line.new.text.items ≡ put line.old.text.items (refused_text code peer asked.now) }
+{
+    put_peer(line, peer);
+    line.put(b" refused, ");
+    line.put_small(code);
+    put_code_name(line, code);
+    line.put(b", asked for \"");
+    line.put_escaped(asked);
+    line.put(b"\"");
+}
+
+#[tactic(auto, using(crate::proofs::Puts::put_put))]
+fn put_unseen(line: &mut Line, route: &[u8], opened: u64, refused: u64)
+    ensures { line.new.text.items ≡ put line.old.text.items (unseen_text route.now opened refused) }
+{
+    line.put_escaped(route);
+    line.put(b": ");
+    line.put_number(opened);
+    line.put(b" sessions opened and ended unseen, ");
+    line.put_number(refused);
+    line.put(b" conclusions refused");
+}
+
+#[tactic(auto, using(crate::proofs::Puts::put_put))]
+fn put_warned(line: &mut Line, route: &[u8], warning: &[u8])
+    ensures { line.new.text.items ≡ put line.old.text.items (warned_text route.now warning.now) }
+{
+    line.put_escaped(route);
+    line.put(b": warning: ");
+    line.put_escaped(warning);
+}
+
+fn put_cause(line: &mut Line, cause: StopCause)
+    ensures { line.new.text.items ≡ put line.old.text.items (cause_text cause) }
+{
+    match cause {
+        StopCause::Signal => line.put(b"stopping, by a signal"),
+        StopCause::Duration => line.put(b"stopping, the time of --for is over"),
+        StopCause::Rounds => line.put(b"stopping, all rounds were made"),
+    }
+}
+
+/// Puts the text of an event.
+fn put_event(line: &mut Line, event: LogEvent<'_>)
+    ensures { line.new.text.items ≡ put line.old.text.items (event_text event.entry) }
+{
+    match event {
+        LogEvent::Started {
+            ip,
+            port,
+            routes,
+            workers,
+            memory,
+        } => put_started(line, ip, port, routes, workers, memory),
+        LogEvent::Opened {
+            caller,
+            standby,
+            latency_ms,
+        } => put_opened(line, caller, standby, latency_ms),
+        LogEvent::Ended {
+            caller,
+            reason,
+            lasted_ms,
+            counts,
+        } => put_ended(line, caller, reason, lasted_ms, counts),
+        LogEvent::TookOver { caller } => put_took_over(line, caller),
+        LogEvent::Refused { code, peer, asked } => put_refused(line, code, peer, asked),
+        LogEvent::Unseen {
+            route,
+            opened,
+            refused,
+        } => put_unseen(line, route, opened, refused),
+        LogEvent::Warned { route, warning } => put_warned(line, route, warning),
+        LogEvent::SocketFaults { count } => put_count(line, b"socket faults ", count),
+        LogEvent::KernelDrops { count } => put_count(
+            line,
+            b"datagrams dropped by the kernel ",
+            count,
+        ),
+        LogEvent::LeftOut { count } => put_count(line, b"lines left out ", count),
+        LogEvent::StopAsked { by } => put_cause(line, by),
+        LogEvent::Stopped => line.put(b"stopped"),
+    }
+}
+
+/// Puts the text of a time and a space, if there is one.
+#[tactic(auto, using(crate::proofs::Puts::put_put))]
+fn put_time(line: &mut Line, time: Option<[u8; 24]>)
+    ensures { line.new.text.items ≡ put line.old.text.items (time_text time) }
+{
+    match time {
+        Some(text) => {
+            line.put_escaped(&text);
+            line.put(b" ");
+        }
+        None => line.put(b""),
+    }
+}
+
+/// The text of a line.
+#[tactic(auto, using(crate::proofs::Puts::put_put))]
+fn line_of(time: Option<[u8; 24]>, event: LogEvent<'_>) -> Line
+    ensures { result.text.items ≡ put [] (time_text time ++ event_text event.entry) }
+{
+    let mut line = Line::new();
+    put_time(&mut line, time);
+    put_event(&mut line, event);
+    line
+}
+
+/// Writes the line of an event, with its line feed, by one call of `write_all`: at its front the text of its time, if
+/// there is one, and a space. A line of more than 1,023 bytes is cut off there. Bytes that callers chose, and those of
+/// names and warnings, are shown as themselves if they are printable characters of ASCII other than `"` and `\`, else as
+/// `\x` and two hexadecimal digits. An error is the writer's.
+pub fn write_line<W: Write>(
+    out: &mut W,
+    time: Option<[u8; 24]>,
+    event: LogEvent<'_>,
+) -> io::Result<()>
+    ensures { OnOk result (Appends (W.contents out.old) (W.contents out.new) (line_text time event.entry)) }
+{
+    let text = line_of(time, event).ended();
+    out.write_all(&text)
+}
