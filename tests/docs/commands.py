@@ -32,10 +32,12 @@ RT = {
 
 @dataclass
 class Command:
-    """A subcommand of the program: the names of its arguments, and its options with the greatest number that each takes."""
+    """A subcommand of the program: the names of its arguments, its options with the greatest number that each takes, and its flags,
+    which take nothing and may be left out."""
 
     arguments: List[str] = field(default_factory=list)
     options: Dict[str, int] = field(default_factory=dict)
+    flags: Set[str] = field(default_factory=set)
 
 
 def program_of(index: Index) -> Dict[str, Command]:
@@ -50,7 +52,9 @@ def program_of(index: Index) -> Dict[str, Command]:
             body = bodies.get(argument, "")
             option = re.search(r'\.long\("([^"]+)"\)', body)
             most = re.search(r"Unsigned\(\d+, (\w+)\)", body)
-            if option:
+            if option and "ArgAction::SetTrue" in body:
+                command.flags.add(f"--{option.group(1)}")
+            elif option:
                 command.options[f"--{option.group(1)}"] = constants.get(most.group(1), 0) if most else 0
             else:
                 command.arguments.append(argument)
@@ -103,6 +107,8 @@ class Checker:
         given: Set[str] = set()
         while rest:
             word = rest.pop(0)
+            if word in command.flags:
+                continue
             if word.startswith("--"):
                 if word not in command.options:
                     return f"srtgw {words[0]} has no flag {word}"

@@ -8,13 +8,14 @@ import subprocess
 import tempfile
 from typing import Callable, NamedTuple
 
-from rows import rows_of
+from rows import Row, rows_of
 from tree import PROGRAM, TOP
 
 CASES = f"{TOP}/tests/cli"
 EXAMPLES = f"{TOP}/examples"
 OWN_FILES = {"args", "stdout", "status", "stderr", "sizes", "repeats", "memory", "full", "rows", "steps"}
 SECONDS = 60
+EXPLAIN = "--explain"
 
 
 class Wanted(NamedTuple):
@@ -71,9 +72,9 @@ def words_of(folder: str) -> list[str]:
     return bytes_of(f"{folder}/args").decode().split("\n")[:-1]
 
 
-def ran(folder: str, room: str) -> subprocess.CompletedProcess[bytes]:
-    """The program's run in the room, with the case's words, limit of memory and ends that take nothing."""
-    words = words_of(folder)
+def ran(folder: str, room: str, left_out: str = "") -> subprocess.CompletedProcess[bytes]:
+    """The program's run in the room, with the case's words but one, limit of memory and ends that take nothing."""
+    words = [it for it in words_of(folder) if it != left_out]
     limit = limited(int(bytes_of(f"{folder}/memory", b"0")))
     with open("/dev/full", "wb") as full:
         ends = {"stdout": subprocess.PIPE, "stderr": subprocess.PIPE, **{name: full for name in bytes_of(f"{folder}/full").decode().split()}}
@@ -94,6 +95,20 @@ def wrong_of(wanted: Wanted, it: subprocess.CompletedProcess[bytes]) -> list[str
     return wrong
 
 
+def wrong_of_row(row: Row, folder: str, room: str) -> list[str]:
+    """What is wrong with the runs of a row, whose file lies in the room. With the word `--explain` standard error has just the
+    row's lines; without it there are none, and nothing else is another."""
+    words = words_of(folder)
+    wanted = Wanted(row.status, row.output.encode(), [])
+    if EXPLAIN not in words:
+        return wrong_of(wanted, ran(folder, room))
+    lines = "".join(f"srtgw: {words[-1]}: {it}\n" for it in row.errors)
+    it = ran(folder, room)
+    heard, it.stderr = it.stderr.decode(errors="replace"), b""
+    wrong = [f"standard error is {heard!r}"] if heard != lines else []
+    return wrong + wrong_of(wanted, it) + [f"without {EXPLAIN}: {it}" for it in wrong_of(wanted, ran(folder, room, EXPLAIN))]
+
+
 def play_rows(folder: str, room: str, kind: str) -> list[str]:
     """Plays each row of the case: its change is made in the file that the last word of the command line names, of the case's text
     (`rows`), or of what the row before it left (`steps`)."""
@@ -103,8 +118,7 @@ def play_rows(folder: str, room: str, kind: str) -> list[str]:
         changed = row.changed(text)
         with open(path, "wb") as file:
             file.write(changed.encode())
-        found = wrong_of(Wanted(row.status, row.output.encode(), []), ran(folder, room))
-        wrong += [f"{row.name}: {it}" for it in found]
+        wrong += [f"{row.name}: {it}" for it in wrong_of_row(row, folder, room)]
         text = changed if kind == "steps" else text
     return wrong
 

@@ -6,20 +6,21 @@ import re
 from typing import NamedTuple
 
 PLACE = "ROW"
-FORM = re.compile(r"(\d+)((?: `[^`]*`){2,3})")
+FORM = re.compile(r"(\d+)((?: `[^`]*`){2,3})((?: ! `[^`]*`)*)")
 FIELD = re.compile(r"`([^`]*)`")
 TIMES = re.compile(r"\{([^{}]+) x (\d+)\}")
 
 
 class Row(NamedTuple):
-    """A row: its place in the file and its words there, the wanted status, the text that is replaced, by what, and the wanted
-    output."""
+    """A row: its place in the file and its words there, the wanted status, the text that is replaced, by what, the wanted
+    output, and the lines that are wanted on standard error."""
 
     name: str
     status: int
     old: str
     new: str
     output: str
+    errors: list[str]
 
     def changed(self, text: str) -> str:
         """The text after the row's change of its first place."""
@@ -29,9 +30,10 @@ class Row(NamedTuple):
 
 
 def text_of(field: str) -> str:
-    """The text that a field stands for: `{TEXT x N}` is the text N times, and then `\\n` and `\\r` are the ends of lines."""
+    """The text that a field stands for: `{TEXT x N}` is the text N times, then `\\n` and `\\r` are the ends of lines, and `\\g` is
+    a grave accent."""
     repeated = TIMES.sub(lambda it: it[1] * int(it[2]), field)
-    return repeated.replace("\\n", "\n").replace("\\r", "\r")
+    return repeated.replace("\\n", "\n").replace("\\r", "\r").replace("\\g", "`")
 
 
 def row_of(number: int, line: str) -> Row:
@@ -42,7 +44,8 @@ def row_of(number: int, line: str) -> Row:
         raise ValueError(f"{name}: it is no row")
     *change, output = map(text_of, FIELD.findall(found[2]))
     old, new = change if len(change) == 2 else (PLACE, change[0])
-    return Row(name, int(found[1]), old, new, f"{output}\n" if output else "")
+    errors = [text_of(it) for it in FIELD.findall(found[3])]
+    return Row(name, int(found[1]), old, new, f"{output}\n" if output else "", errors)
 
 
 def rows_of(lines: list[str]) -> list[Row]:

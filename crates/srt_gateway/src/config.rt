@@ -16,7 +16,8 @@ mod values;
 
 pub use address::BindAddress;
 pub use faults::{ConfigFault, Key};
-pub use reading::read_config;
+pub use reading::{TOP_KEYS, read_config, read_table};
+pub use routes::ROUTE_KEYS;
 pub(crate) use routes::RouteNumbers;
 use srt_cookie::Secret;
 use srt_seq::{Entry, Schedule};

@@ -8,8 +8,8 @@
 //! its `Key`; `CountedReader` and `CountedWriter`, a reader and a writer with a bound on the number of calls;
 //! `ReplayFault`, why a replay ended early.
 //!
-//! Calls: `read_config` on the text of a configuration; then `replay` on a tape, or `replay_over` with a hub of one's
-//! own.
+//! Calls: `read_config` on the text of a configuration, or `read_table` on its table; then `replay` on a tape, or
+//! `replay_over` with a hub of one's own.
 //!
 //! Files: `config.rt` and `config/` have the keys and their limits (docs/PROTOCOL.md, "Configuration"); `events.rt`,
 //! `fields.rt` and `numbers.rt` the grammar of a line ("Tapes"); `lines.rt` and `reader.rt` take lines; `texts.rt` and
@@ -28,7 +28,9 @@ mod replaying;
 mod texts;
 mod writer;
 
-pub use config::{BindAddress, Config, ConfigFault, Key, read_config};
+pub use config::{
+    BindAddress, Config, ConfigFault, Key, ROUTE_KEYS, TOP_KEYS, read_config, read_table,
+};
 pub use reader::{Brought, CountedReader};
 pub use replaying::{ReplayFault, replay, replay_over};
 pub use writer::{CountedWriter, Tried};

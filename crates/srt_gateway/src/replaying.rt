@@ -341,7 +341,9 @@ fn answer_lines<R: RouteStep, L: Doors, B: BufRead, W: Write>(
 /// Replays a tape over a hub without events so far: runs the event of each line, and writes its answer as a line. Reads
 /// and writes are as large as the reader's and the writer's buffers, so pass ones with buffers. Each call of the reader
 /// counts as a read, also an interrupted one. The writer is flushed at the end, unless it failed. Only copies of
-/// datagrams to routes, and routes that are opened, take memory. Errors: see `ReplayFault`.
+/// datagrams to routes, and routes that are opened, take memory. Errors: see `ReplayFault`. What was written by then is
+/// the answers to the lines before it: all of them, but after `Read` those to some first lines, and after `Write` a part
+/// of the text from its front.
 pub fn replay_over<R: RouteStep, L: Doors, B: BufRead, W: Write>(
     alloc: Global,
     hub: &mut Hub<R, L>,

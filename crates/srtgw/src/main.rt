@@ -7,9 +7,9 @@
 //! Types: `Task` (`words.rt`), what the command line asks for; `Fault` (`faults.rt`), why a run ended early.
 //!
 //! Calls: `main` reads the words, `command` and `task_of` make a task of them, and `run` does it: `check` reads a
-//! configuration, `replay` runs a tape, `serve` (`serving.rt`) binds the UDP socket and runs threads until the rounds
-//! are over. `files.rt` reads whole files up to a limit. docs/OPERATING.md has the commands, docs/PROTOCOL.md each line
-//! of output and each status.
+//! configuration (what `--explain` tells is `srt_explain`'s), `replay` runs a tape, `serve` (`serving.rt`) binds the UDP
+//! socket and runs threads until the rounds are over. `files.rt` reads whole files up to a limit. docs/OPERATING.md has
+//! the commands, docs/PROTOCOL.md each line of output and each status.
 #![tactic(auto)]
 
 ghost use Rattle.std.specs.Prelude.{◌≡◌};
@@ -26,6 +26,7 @@ mod words;
 use faults::Fault;
 use files::{CONFIG_MAX, TAPE_MAX, read_file};
 use serving::{print_report, serve};
+use srt_explain::{Explained, explain};
 use srt_gateway::{Config, ConfigFault, CountedReader, CountedWriter, read_config, replay};
 use std::io::{self, BufWriter, ErrorKind};
 use std::net::Net;
@@ -36,9 +37,17 @@ use std::thread::Threads;
 use std::{env, str};
 use words::{Task, command, task_of};
 
+/// Reads a whole file of at most `limit` bytes.
+fn bytes_at(rt: &(impl Files + AllocGlobal), path: &str, limit: u64) -> Result<Vec<u8>, Fault> {
+    match read_file(rt, path, limit) {
+        Ok(bytes) => Ok(bytes),
+        Err(unread) => Err(unread.fault()),
+    }
+}
+
 /// Reads a configuration's file, at most 65,536 bytes. A file that isn't UTF-8 isn't TOML.
 fn config_at(rt: &(impl Files + AllocGlobal), path: &str) -> Result<Config, Fault> {
-    let bytes = read_file(rt, path, CONFIG_MAX)?;
+    let bytes = bytes_at(rt, path, CONFIG_MAX)?;
     match str::from_utf8(&bytes) {
         Ok(text) => read_config(rt.alloc(), text).map_err(Fault::Config),
         Err(_) => Err(Fault::Config(ConfigFault::Toml)),
@@ -52,7 +61,7 @@ fn replay_file(
     tape: &str,
 ) -> Result<(), Fault> {
     let config = config_at(rt, config)?;
-    let bytes = read_file(rt, tape, TAPE_MAX)?;
+    let bytes = bytes_at(rt, tape, TAPE_MAX)?;
     match BufWriter::new(rt.alloc(), io::writer(rt)) {
         Ok(writer) => {
             let mut reader = CountedReader::new(bytes.as_slice());
@@ -63,13 +72,49 @@ fn replay_file(
     }
 }
 
-/// `srtgw check CONFIG`: prints the number of routes in the configuration.
-fn check_file(rt: &(impl Print + Files + AllocGlobal), config: &str) -> Result<(), Fault> {
-    let config = config_at(rt, config)?;
+/// Prints the number of routes in a configuration.
+fn print_routes(rt: &impl Print, config: &Config) -> Result<(), Fault> {
     let routes = config.entries.len();
     match println!(rt; "routes {routes}") {
         Ok(()) => Ok(()),
         Err(_) => Err(Fault::Output),
+    }
+}
+
+/// `srtgw check CONFIG`: prints the number of routes in the configuration.
+fn check_file(rt: &(impl Print + Files + AllocGlobal), config: &str) -> Result<(), Fault> {
+    let config = config_at(rt, config)?;
+    print_routes(rt, &config)
+}
+
+/// Prints what is unwise in a configuration, a line each, on standard error.
+fn print_warnings(rt: &impl Eprint, path: &str, explained: &Explained) {
+    for warning in explained.warnings.iter() {
+        let text = explained.text_of(*warning);
+        let _ = eprintln!(rt; "srtgw: {path}: {text}");
+    }
+}
+
+/// `srtgw check CONFIG --explain`: the same as without `--explain`, and an explanation on standard error.
+fn explain_file(rt: &(impl Print + Eprint + Files + AllocGlobal), path: &str) -> Result<(), Fault> {
+    let bytes = match read_file(rt, path, CONFIG_MAX) {
+        Ok(bytes) => bytes,
+        Err(unread) => {
+            let why = &unread;
+            let _ = eprintln!(rt; "srtgw: {path}: {why}");
+            return Err(unread.fault());
+        }
+    };
+    match explain(rt.alloc(), &bytes) {
+        Ok(explained) => {
+            print_warnings(rt, path, &explained);
+            print_routes(rt, &explained.config)
+        }
+        Err(explanation) => {
+            let why = &explanation;
+            let _ = eprintln!(rt; "srtgw: {path}: {why}");
+            Err(Fault::Config(explanation.into_fault()))
+        }
     }
 }
 
@@ -88,10 +133,15 @@ where
 
 fn run<R>(rt: &R, task: Task<'_>) -> Result<(), Fault>
 where
-    R: Print + Files + AllocGlobal + Net + Clock + Threads + Wait + Sync,
+    R: Print + Eprint + Files + AllocGlobal + Net + Clock + Threads + Wait + Sync,
 {
     match task {
-        Task::Check { config } => check_file(rt, config),
+        Task::Check { config, explains } => {
+            if explains {
+                return explain_file(rt, config);
+            }
+            check_file(rt, config)
+        }
         Task::Replay { config, tape } => replay_file(rt, config, tape),
         Task::Serve { config, rounds } => serve_file(rt, config, rounds),
     }

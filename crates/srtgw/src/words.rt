@@ -14,6 +14,8 @@ pub enum Task<'a> {
     Check {
         /// The configuration's file.
         config: &'a str,
+        /// Whether what came of it is explained on standard error.
+        explains: bool,
     },
     /// Run a tape's events, and print their results.
     Replay {
@@ -69,11 +71,19 @@ fn rounds<'a>(alloc: Global) -> Arg<'a> {
         )
 }
 
+fn explain<'a>(alloc: Global) -> Arg<'a> {
+    Arg::new(alloc, "explain")
+        .long("explain")
+        .action(ArgAction::SetTrue)
+        .help("Says on standard error where the fault is and how to mend it, or what is unwise")
+}
+
 /// The program's commands with their arguments and help. Takes memory; the only error is that it is refused.
 pub fn command<'a>(alloc: Global) -> Result<Command<'a>, AllocError> {
     let check = Command::new(alloc, "check")
         .about("Prints how many routes a configuration has, or its first fault")
-        .arg(config(alloc))?;
+        .arg(config(alloc))?
+        .arg(explain(alloc))?;
     let replay = Command::new(alloc, "replay")
         .about(
             "Runs the gateway's core over a tape, a text of events, and prints what comes of each event",
@@ -108,7 +118,10 @@ pub fn task_of<'a>(matches: &ArgMatches<'a>) -> Option<Task<'a>> {
     let (name, inner) = matches.subcommand()?;
     let config = inner.get_str("CONFIG")?;
     match name {
-        "check" => Some(Task::Check { config }),
+        "check" => Some(Task::Check {
+            config,
+            explains: inner.get_flag("explain"),
+        }),
         "serve" => Some(Task::Serve {
             config,
             rounds: inner.get_one("rounds")?,

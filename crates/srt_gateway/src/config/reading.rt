@@ -15,11 +15,12 @@ use std::alloc::Global;
 use toml::Table;
 
 /// The keys of the table.
-const TOP_KEYS: [Key; 4] = [Key::Secret, Key::Bind, Key::Workers, Key::Route];
+pub const TOP_KEYS: [Key; 4] = [Key::Secret, Key::Bind, Key::Workers, Key::Route];
 
-/// The configuration in a table, or its first fault.
+/// The configuration in a table that was read from its text, or its first fault: see [`read_config`]. Takes memory for
+/// the entries and their names; if it is refused, the result can be `OutOfMemory` instead of any other.
 #[tactic(auto, unfolding(crate::specs::Config::settings_at))]
-fn settings_at(alloc: Global, table: &Table) -> Result<Config, ConfigFault>
+pub fn read_table(alloc: Global, table: &Table) -> Result<Config, ConfigFault>
     ensures { Gives settings_of result (settings_at (table_view table.now)) }
 {
     only_known(alloc, &TOP_KEYS, table)?;
@@ -44,7 +45,7 @@ pub fn read_config(alloc: Global, text: &str) -> Result<Config, ConfigFault>
     ensures { Gives settings_of result (config_in (parse_document text.now)) }
 {
     match toml::table_from_str(alloc, text) {
-        Ok(table) => settings_at(alloc, &table),
+        Ok(table) => read_table(alloc, &table),
         Err(e) if e.is_memory() => Err(ConfigFault::OutOfMemory),
         Err(_) => Err(ConfigFault::Toml),
     }

@@ -19,7 +19,7 @@ use std::alloc::Global;
 use toml::{Table, Value};
 
 /// The keys of a route.
-const ROUTE_KEYS: [Key; 9] = [
+pub const ROUTE_KEYS: [Key; 9] = [
     Key::Name,
     Key::Mode,
     Key::LatencyMs,

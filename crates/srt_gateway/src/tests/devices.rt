@@ -85,6 +85,65 @@ impl Read for Stuck<'_> {
     }
 }
 
+/// Returns at most 16 bytes at a time. The read after this number of them fails, and so do those after it.
+#[derive(Drop)]
+pub(super) struct Breaking<'a> {
+    pub(super) bytes: &'a [u8],
+    pub(super) reads: u32,
+}
+
+impl Read for Breaking<'_> {
+    fn read(&mut self, buf: &mut [u8]) -> io::Result<usize> {
+        if self.reads == 0 {
+            return Err(Error::from(ErrorKind::Other));
+        }
+        self.reads -= 1;
+        let n = self.bytes.len().min(buf.len()).min(16);
+        buf[..n].copy_from_slice(&self.bytes[..n]);
+        self.bytes = &self.bytes[n..];
+        Ok(n)
+    }
+}
+
+/// Takes at most four bytes at a time. The call after this number of them, a write or a flush, fails, and so do those
+/// after it.
+#[derive(Drop)]
+pub(super) struct Failing {
+    pub(super) taken: Vec<u8>,
+    pub(super) calls: u32,
+    /// The number of calls that failed.
+    pub(super) failed: u32,
+}
+
+impl Failing {
+    fn may_call(&mut self) -> bool {
+        if self.calls == 0 {
+            self.failed = self.failed.saturating_add(1);
+            return false;
+        }
+        self.calls -= 1;
+        true
+    }
+}
+
+impl Write for Failing {
+    fn write(&mut self, buf: &[u8]) -> io::Result<usize> {
+        if !self.may_call() {
+            return Err(Error::from(ErrorKind::Other));
+        }
+        let n = buf.len().min(4);
+        self.taken.extend_from_slice(&buf[..n])?;
+        Ok(n)
+    }
+
+    fn flush(&mut self) -> io::Result<()> {
+        if !self.may_call() {
+            return Err(Error::from(ErrorKind::Other));
+        }
+        Ok(())
+    }
+}
+
 /// Takes bytes one at a time, is interrupted before each, and takes none once its room is used up. Its flushes are
 /// interrupted this many times, and then succeed, or fail if it is set to.
 #[derive(Drop)]

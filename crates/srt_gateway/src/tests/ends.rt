@@ -1,13 +1,13 @@
 //! How replays end.
 
-use super::devices::{Dripping, Narrow, Repeating, Stuck};
+use super::devices::{Breaking, Dripping, Failing, Narrow, Repeating, Stuck};
 use super::{RIGHT, config_of};
 use crate::{
     Brought, Config, CountedReader, CountedWriter, ReplayFault, Tried, replay, replay_over,
 };
 use srt_hub::SrtGateway;
 use std::alloc::Global;
-use std::io::{BufRead, BufReader};
+use std::io::{BufRead, BufReader, Write};
 use std::process::Abort;
 use std::test::Fail;
 
@@ -25,6 +25,16 @@ fn narrow(alloc: Global, room: usize) -> Narrow {
     }
 }
 
+/// How a replay over the gateway of a configuration ends.
+fn end_of<B: BufRead, W: Write>(
+    alloc: Global,
+    config: &Config,
+    reader: &mut CountedReader<B>,
+    writer: &mut CountedWriter<W>,
+) -> Result<(), ReplayFault> {
+    replay(alloc, config, reader, writer)
+}
+
 /// Asserts the end of a replay whose reader fails in its second line, and the number of flushes so far.
 fn assert_failed<B: BufRead + Drop>(
     rt: &(impl AllocGlobal + Abort),
@@ -34,7 +44,7 @@ fn assert_failed<B: BufRead + Drop>(
     flushes: u32,
 ) {
     assert_eq!(rt;
-        replay(rt.alloc(), config, reader, writer),
+        end_of(rt.alloc(), config, reader, writer),
         Err(ReplayFault::Read)
     );
     assert_eq!(rt;
@@ -59,6 +69,120 @@ fn a_reader_that_fails_in_a_line_ends_the_replay(rt: HostRuntime) -> Result<(), 
     // It is flushed, and not called again.
     assert_failed(&rt, &config, &mut reader, &mut writer, 1);
     assert_failed(&rt, &config, &mut reader, &mut writer, 2);
+    Ok(())
+}
+
+/// The answers to the two lines.
+const BOTH: &str = "dropped 1\ndropped 3\n";
+
+/// What is written before the reader fails, after 0, 1, 2 .. reads of 16 bytes: the answers to the lines that had been
+/// read whole, the first of 43 bytes and the second of 75.
+const AFTER_READS: [&str; 9] = [
+    "",
+    "",
+    "",
+    "dropped 1\n",
+    "dropped 1\n",
+    "dropped 1\n",
+    "dropped 1\n",
+    "dropped 1\n",
+    BOTH,
+];
+
+/// Asserts the end of a replay whose reader fails after this number of reads, and what it writes.
+fn assert_broken(
+    rt: &(impl AllocGlobal + Abort),
+    config: &Config,
+    reads: u32,
+    end: Result<(), ReplayFault>,
+    text: &str,
+) -> Result<(), Fail> {
+    let reader = Breaking {
+        bytes: TWO_LINES,
+        reads,
+    };
+    let mut reader = CountedReader::new(BufReader::with_capacity(rt.alloc(), 64, reader)?);
+    let mut writer = CountedWriter::new(Vec::new(rt.alloc()));
+    assert_eq!(rt; end_of(rt.alloc(), config, &mut reader, &mut writer), end);
+    assert_eq!(rt; writer.get_ref().as_slice(), text.as_bytes());
+    Ok(())
+}
+
+#[test]
+fn a_reader_may_fail_at_each_read(rt: HostRuntime) -> Result<(), Fail> {
+    let config = config_of(&rt, RIGHT)?;
+    for reads in 0..9 {
+        let text = AFTER_READS[reads as usize];
+        assert_broken(&rt, &config, reads, Err(ReplayFault::Read), text)?;
+    }
+    // The ninth read finds the end, and no other is made.
+    assert_broken(&rt, &config, 9, Ok(()), BOTH)
+}
+
+/// What is written before the writer fails, after 0, 1, 2 .. calls: three of them write an answer, and the last one is a
+/// flush.
+const AFTER_CALLS: [&str; 7] = [
+    "",
+    "drop",
+    "dropped ",
+    "dropped 1\n",
+    "dropped 1\ndrop",
+    "dropped 1\ndropped ",
+    BOTH,
+];
+
+/// Asserts the end of a replay whose writer fails after this number of calls, and what it writes. After a call that
+/// failed none is made.
+fn assert_unwritten(
+    rt: &(impl AllocGlobal + Abort),
+    config: &Config,
+    calls: u32,
+    end: Result<(), ReplayFault>,
+    text: &str,
+) -> Result<(), Fail> {
+    let mut reader = CountedReader::new(TWO_LINES);
+    let mut writer = CountedWriter::new(Failing {
+        taken: Vec::new(rt.alloc()),
+        calls,
+        failed: 0,
+    });
+    assert_eq!(rt; end_of(rt.alloc(), config, &mut reader, &mut writer), end);
+    let writer = writer.get_ref();
+    assert_eq!(rt; writer.taken.as_slice(), text.as_bytes());
+    assert_eq!(rt; writer.failed, u32::from(end.is_err()));
+    Ok(())
+}
+
+#[test]
+fn a_writer_may_fail_at_each_write_and_flush(rt: HostRuntime) -> Result<(), Fail> {
+    let config = config_of(&rt, RIGHT)?;
+    for calls in 0..7 {
+        let text = AFTER_CALLS[calls as usize];
+        assert_unwritten(&rt, &config, calls, Err(ReplayFault::Write), text)?;
+    }
+    // The seventh call is the flush, and no other is made.
+    assert_unwritten(&rt, &config, 7, Ok(()), BOTH)
+}
+
+#[test]
+fn a_flush_that_fails_after_a_failed_read_counts(rt: HostRuntime) -> Result<(), Fail> {
+    let config = config_of(&rt, RIGHT)?;
+    let reader = Breaking {
+        bytes: TWO_LINES,
+        reads: 3,
+    };
+    let mut reader = CountedReader::new(BufReader::with_capacity(rt.alloc(), 64, reader)?);
+    let mut writer = CountedWriter::new(Failing {
+        taken: Vec::new(rt.alloc()),
+        calls: 3,
+        failed: 0,
+    });
+    let end = end_of(rt.alloc(), &config, &mut reader, &mut writer);
+    assert_eq!(rt; end, Err(ReplayFault::Write));
+    assert_eq!(rt;
+        writer.get_ref().taken.as_slice(),
+        b"dropped 1\n".as_slice()
+    );
     Ok(())
 }
 
@@ -101,7 +225,7 @@ fn an_interrupted_read_counts(rt: HostRuntime) -> Result<(), Fail> {
     // Each byte, and the end, comes after an interruption.
     let reads = 2 * TWO_LINES.len() as u64 + 2;
     let ended = Ended {
-        text: "dropped 1\ndropped 3\n",
+        text: BOTH,
         result: Ok(()),
         brought: Brought::End,
     };
@@ -113,7 +237,7 @@ fn a_reader_that_is_always_interrupted_ends_the_replay(rt: HostRuntime) -> Resul
     let reader = Stuck { bytes: TWO_LINES };
     let reader = BufReader::with_capacity(rt.alloc(), 4096, reader)?;
     let ended = Ended {
-        text: "dropped 1\ndropped 3\n",
+        text: BOTH,
         result: Err(ReplayFault::Read),
         brought: Brought::Nothing,
     };
@@ -139,13 +263,13 @@ fn an_endless_reader_ends_the_replay(rt: HostRuntime) -> Result<(), Fail> {
 #[test]
 fn the_end_takes_a_read_of_its_own(rt: HostRuntime) -> Result<(), Fail> {
     let cut = Ended {
-        text: "dropped 1\ndropped 3\n",
+        text: BOTH,
         result: Err(ReplayFault::Read),
         brought: Brought::Bytes,
     };
     assert_within(&rt, TWO_LINES, 2, &cut)?;
     let ended = Ended {
-        text: "dropped 1\ndropped 3\n",
+        text: BOTH,
         result: Ok(()),
         brought: Brought::End,
     };
@@ -171,7 +295,7 @@ fn assert_written(
     let config = config_of(rt, RIGHT)?;
     let mut reader = CountedReader::new(tape);
     let mut writer = CountedWriter::new(narrow);
-    assert_eq!(rt; replay(rt.alloc(), &config, &mut reader, &mut writer), end);
+    assert_eq!(rt; end_of(rt.alloc(), &config, &mut reader, &mut writer), end);
     let narrow = writer.get_ref();
     assert_eq!(rt; narrow.taken.as_slice(), written.text.as_bytes());
     assert_eq!(rt; writer.tried(), written.tried);
@@ -187,7 +311,7 @@ fn an_interrupted_writer_is_written_on(rt: HostRuntime) -> Result<(), Fail> {
     let mut narrow = narrow(rt.alloc(), 20);
     narrow.interruptions = 3;
     let written = Written {
-        text: "dropped 1\ndropped 3\n",
+        text: BOTH,
         tried: Tried::Flushed,
         flushes: 1,
     };
@@ -210,7 +334,7 @@ fn a_failed_flush_ends_the_replay(rt: HostRuntime) -> Result<(), Fail> {
     let mut narrow = narrow(rt.alloc(), 20);
     narrow.flush_fails = true;
     let written = Written {
-        text: "dropped 1\ndropped 3\n",
+        text: BOTH,
         tried: Tried::Failure,
         flushes: 1,
     };
@@ -259,7 +383,7 @@ fn the_longest_line_is_written_byte_by_byte(rt: HostRuntime) -> Result<(), Fail>
     let mut reader = CountedReader::new(tape.as_slice());
     let mut writer = CountedWriter::new(narrow(rt.alloc(), 10_000));
     assert_eq!(rt;
-        replay(rt.alloc(), &config, &mut reader, &mut writer),
+        end_of(rt.alloc(), &config, &mut reader, &mut writer),
         Ok(())
     );
     assert!(rt;

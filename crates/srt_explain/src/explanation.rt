@@ -1,0 +1,106 @@
+//! What an explanation consists of.
+
+ghost use Rattle.std.specs.Prelude.{◌≡◌};
+
+use crate::places::TextPlace;
+use srt_gateway::{ConfigFault, Key};
+use std::fmt::InlineText;
+
+/// A route of a configuration.
+#[derive(Clone, Copy)]
+pub struct RouteAt {
+    /// Its place among the routes, counted from 1.
+    pub number: usize,
+    /// Its name; empty if it has none of the right form.
+    pub name: InlineText<64>,
+}
+
+/// What may help to mend a fault.
+#[derive(Clone, Copy)]
+pub enum Hint {
+    /// Nothing more than what is allowed.
+    Nothing,
+    /// The text can't be read from this place on.
+    Place(TextPlace),
+    /// The same, and a text without quotes stands there.
+    Unquoted(TextPlace),
+    /// The same, in the second line `[route]`.
+    OneBracket(TextPlace),
+    /// A key of the same table resembles the one that is unknown.
+    Resembles(Key),
+    /// The unknown key is one of the table, which stand above the routes.
+    OfTable(Key),
+    /// The unknown key is one of a route.
+    OfRoute(Key),
+    /// A number or a truth value stands in quotes.
+    Quoted,
+    /// The routes are written as one table.
+    OneTable,
+    /// The value of this number, counted from 1, in the list of routes isn't a table.
+    NoTable(usize),
+    /// There are this many routes.
+    Routes(usize),
+    /// The mode may be meant that has this text.
+    Mode(&'static str),
+    /// The route opens in this round.
+    Opens(i64),
+    /// The name is empty.
+    EmptyName,
+    /// The name has this many bytes.
+    LongName(usize),
+    /// The name has this character.
+    Character(char),
+    /// The route of this number, counted from 1, has the same name.
+    SameName(usize),
+    /// The secret has this many characters.
+    Characters(usize),
+    /// The character of this number, counted from 1, is no hexadecimal digit.
+    NoDigit(usize),
+    /// The address has no port.
+    NoPort,
+    /// The address has a port alone.
+    PortAlone,
+    /// The address is one of IPv6.
+    Ipv6,
+}
+
+/// A fault of a configuration, with what a person needs to mend it. Its text, without a line's end, is one line.
+#[derive(Drop)]
+pub struct Explanation {
+    /// The fault: the first one, as `srt_gateway::read_config` gives it.
+    pub fault: ConfigFault,
+    /// The route that has it; None if it isn't a route's.
+    pub route: Option<RouteAt>,
+    /// The value that is wrong, as TOML writes it, or its beginning, and at the fault `Toml` what the reader of TOML
+    /// says. Empty if there is none, and for the secret, which is to be printed nowhere.
+    pub value: InlineText<96>,
+    /// What may help.
+    pub hint: Hint,
+}
+
+impl Explanation {
+    /// The fault alone.
+    pub fn into_fault(self) -> ConfigFault
+        ensures { result ≡ self.fault }
+    {
+        let Explanation {
+            fault,
+            route: _,
+            value: _,
+            hint: _,
+        } = self;
+        fault
+    }
+}
+
+/// A fault of which nothing more is known.
+pub(crate) fn bare(fault: ConfigFault) -> Explanation
+    ensures { result.fault ≡ fault }
+{
+    Explanation {
+        fault,
+        route: None,
+        value: InlineText::new(),
+        hint: Hint::Nothing,
+    }
+}

@@ -1,0 +1,164 @@
+//! What may help to mend a fault.
+
+use crate::explanation::Hint;
+use crate::places::{line_at, place_after};
+use crate::resemblance::resembled;
+use crate::values::{Kind, kind_of, opening_of, routes_of, text_at, value_at};
+use srt_gateway::{Key, ROUTE_KEYS, TOP_KEYS};
+use srt_seq::limits::MAX_NAME;
+use toml::{Table, Value};
+
+/// Of a text that isn't TOML, from this place on.
+pub(crate) fn of_text(text: &[u8], at: usize) -> Hint {
+    let at = at.min(text.len());
+    let place = place_after(&text[..at]);
+    if line_at(text, at).starts_with(b"[route]") {
+        return Hint::OneBracket(place);
+    }
+    let begins = match text[at..].first() {
+        Some(byte) => byte.is_ascii_alphabetic(),
+        None => false,
+    };
+    let follows = at > 0 && text[..at].trim_ascii_end().ends_with(b"=");
+    if begins && follows {
+        return Hint::Unquoted(place);
+    }
+    Hint::Place(place)
+}
+
+/// The key of this spelling among these.
+fn key_named(keys: &[Key], text: &str) -> Option<Key> {
+    for key in keys {
+        if key.name() == text {
+            return Some(*key);
+        }
+    }
+    None
+}
+
+/// Of a key that isn't known in the table.
+pub(crate) fn of_unknown_above(text: &str) -> Hint {
+    match key_named(&ROUTE_KEYS, text) {
+        Some(key) => Hint::OfRoute(key),
+        None => match resembled(&TOP_KEYS, text.as_bytes()) {
+            Some(key) => Hint::Resembles(key),
+            None => Hint::Nothing,
+        },
+    }
+}
+
+/// Of a key that isn't known in a route.
+pub(crate) fn of_unknown_in_route(text: &str) -> Hint {
+    match key_named(&TOP_KEYS, text) {
+        Some(key) => Hint::OfTable(key),
+        None => match resembled(&ROUTE_KEYS, text.as_bytes()) {
+            Some(key) => Hint::Resembles(key),
+            None => Hint::Nothing,
+        },
+    }
+}
+
+/// Whether a text reads as a whole number, but for its quotes.
+fn is_number(text: &str) -> bool {
+    let digits = text.as_bytes();
+    !digits.is_empty()
+        && digits
+            .iter()
+            .all(|byte| byte.is_ascii_digit() || *byte == b'_')
+}
+
+/// The place among these values of the first that isn't a table.
+fn first_other(values: &[Value]) -> Option<usize> {
+    for at in 0..values.len() {
+        if values[at].as_table().is_none() {
+            return Some(at);
+        }
+    }
+    None
+}
+
+/// Of a value of the wrong kind.
+pub(crate) fn of_kind(table: &Table, key: Key) -> Hint {
+    let Some(value) = value_at(table, key) else {
+        return Hint::Nothing;
+    };
+    match kind_of(key) {
+        Kind::Text => Hint::Nothing,
+        Kind::Number(_, _) => match value.as_str() {
+            Some(text) if is_number(text) => Hint::Quoted,
+            _ => Hint::Nothing,
+        },
+        Kind::Tables => {
+            if value.is_table() {
+                return Hint::OneTable;
+            }
+            match first_other(routes_of(table)) {
+                Some(at) => Hint::NoTable(at.saturating_add(1)),
+                None => Hint::Nothing,
+            }
+        }
+    }
+}
+
+/// Of a value outside its limits.
+pub(crate) fn of_range(table: &Table, key: Key) -> Hint {
+    match key {
+        Key::Route => Hint::Routes(routes_of(table).len()),
+        Key::Mode => match text_at(table, Key::Mode) {
+            Some(text) if text.trim_ascii().eq_ignore_ascii_case("live") => Hint::Mode("live"),
+            Some(text) if text.trim_ascii().eq_ignore_ascii_case("buffer") => Hint::Mode("buffer"),
+            Some("file") => Hint::Mode("buffer"),
+            _ => Hint::Nothing,
+        },
+        Key::CloseRound => Hint::Opens(opening_of(table)),
+        _ => Hint::Nothing,
+    }
+}
+
+/// Whether a name may have this character.
+fn may_be_in_name(it: char) -> bool {
+    it.is_ascii_alphanumeric() || it == '-' || it == '_' || it == '.' || it == '/'
+}
+
+/// Of a name of the wrong form.
+pub(crate) fn of_name(name: &str) -> Hint {
+    for it in name.chars() {
+        if !may_be_in_name(it) {
+            return Hint::Character(it);
+        }
+    }
+    if name.is_empty() {
+        return Hint::EmptyName;
+    }
+    if name.len() > MAX_NAME {
+        return Hint::LongName(name.len());
+    }
+    Hint::Nothing
+}
+
+/// Of a secret that isn't 64 hexadecimal digits.
+pub(crate) fn of_secret(text: &str) -> Hint {
+    let mut count = 0usize;
+    for it in text.chars() {
+        count = count.saturating_add(1);
+        if !it.is_ascii_hexdigit() {
+            return Hint::NoDigit(count);
+        }
+    }
+    Hint::Characters(count)
+}
+
+/// Of an address of the wrong form.
+pub(crate) fn of_address(text: &str) -> Hint {
+    let colons = text.as_bytes().iter().filter(|byte| **byte == b':').count();
+    if text.starts_with("[") || colons > 1 {
+        return Hint::Ipv6;
+    }
+    if colons == 0 {
+        return Hint::NoPort;
+    }
+    if text.starts_with(":") {
+        return Hint::PortAlone;
+    }
+    Hint::Nothing
+}

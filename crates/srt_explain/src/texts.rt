@@ -1,0 +1,358 @@
+//! The words of explanations and warnings.
+
+use crate::explanation::{Explanation, Hint, RouteAt};
+use crate::values::{Kind, LAST_ROUND, ROUTES, kind_of};
+use crate::warnings::{Warning, WarningText};
+use srt_gateway::{ConfigFault, Key, ROUTE_KEYS, TOP_KEYS};
+use std::fmt;
+
+/// A key as it is written, in quotes if it isn't one of letters, digits, `-` and `_` alone.
+#[derive(Clone, Copy)]
+struct KeyText<'a>(&'a str);
+
+impl fmt::Display for KeyText<'_> {
+    fn fmt<W: fmt::Write>(&self, f: &mut fmt::Formatter<W>) -> fmt::Result {
+        let text = self.0;
+        let bytes = text.as_bytes();
+        let is_plain = !bytes.is_empty()
+            && bytes.iter().all(|byte| byte.is_ascii_alphanumeric()
+                || *byte == b'-'
+                || *byte == b'_');
+        if is_plain {
+            return f.write_str(text);
+        }
+        write!(f, "{text:?}")
+    }
+}
+
+/// What a key allows.
+#[derive(Clone, Copy)]
+struct Allowed(Key);
+
+impl fmt::Display for Allowed {
+    fn fmt<W: fmt::Write>(&self, f: &mut fmt::Formatter<W>) -> fmt::Result {
+        match self.0 {
+            Key::Secret => f.write_str("64 hexadecimal digits in quotes"),
+            Key::Bind => {
+                f.write_str("an IPv4 address and a UDP port in quotes, as \"0.0.0.0:9000\"")
+            }
+            Key::Name => f.write_str("1 to 64 letters, digits, -, _, . and / in quotes"),
+            Key::Mode => f.write_str("\"live\" and \"buffer\""),
+            Key::Route => {
+                let most = ROUTES;
+                write!(f, "1 to {most} routes, each begun by a line [[route]]")
+            }
+            key => match kind_of(key) {
+                Kind::Number(low, high) => write!(f, "{low} to {high}"),
+                Kind::Text | Kind::Tables => Ok(()),
+            },
+        }
+    }
+}
+
+/// Keys, with commas between them.
+#[derive(Clone, Copy)]
+struct Keys<'a>(&'a [Key]);
+
+impl fmt::Display for Keys<'_> {
+    fn fmt<W: fmt::Write>(&self, f: &mut fmt::Formatter<W>) -> fmt::Result {
+        let mut comma = "";
+        for key in self.0 {
+            f.write_str(comma)?;
+            f.write_str(key.name())?;
+            comma = ", ";
+        }
+        Ok(())
+    }
+}
+
+impl fmt::Display for RouteAt {
+    fn fmt<W: fmt::Write>(&self, f: &mut fmt::Formatter<W>) -> fmt::Result {
+        let number = self.number;
+        match self.name.as_str() {
+            "" => write!(f, "route {number}"),
+            name => write!(f, "route {number} ({name})"),
+        }
+    }
+}
+
+/// A text that can't be read.
+fn write_text_fault<W: fmt::Write>(
+    f: &mut fmt::Formatter<W>,
+    said: &str,
+    hint: Hint,
+) -> fmt::Result {
+    let (place, more) = match hint {
+        Hint::Place(place) => (place, ""),
+        Hint::Unquoted(place) => (place, "; a text stands in quotes"),
+        Hint::OneBracket(place) => (place, "; each route begins with a line [[route]]"),
+        _ => return f.write_str(said),
+    };
+    let (line, column) = (place.line, place.column);
+    write!(f, "line {line}, column {column}: {said}{more}")
+}
+
+fn write_unknown<W: fmt::Write>(
+    f: &mut fmt::Formatter<W>,
+    key: &str,
+    is_route: bool,
+    hint: Hint,
+) -> fmt::Result {
+    let key = KeyText(key);
+    match hint {
+        Hint::Resembles(meant) => {
+            let meant = meant.name();
+            write!(f, "{key}: unknown key; did you mean {meant}?")
+        }
+        Hint::OfTable(_) => {
+            write!(
+                f,
+                "{key}: unknown key of a route; it stands above the first line [[route]]"
+            )
+        }
+        Hint::OfRoute(_) => {
+            write!(
+                f,
+                "{key}: unknown key above the routes; it stands below a line [[route]]"
+            )
+        }
+        _ => {
+            let keys = match is_route {
+                true => Keys(&ROUTE_KEYS),
+                false => Keys(&TOP_KEYS),
+            };
+            write!(f, "{key}: unknown key; the keys here are {keys}")
+        }
+    }
+}
+
+fn write_missing<W: fmt::Write>(f: &mut fmt::Formatter<W>, key: Key) -> fmt::Result {
+    let (name, allowed) = (key.name(), Allowed(key));
+    write!(f, "{name} is missing; allowed are {allowed}")
+}
+
+fn write_routes_of_another_kind<W: fmt::Write>(
+    f: &mut fmt::Formatter<W>,
+    value: &str,
+    hint: Hint,
+) -> fmt::Result {
+    match hint {
+        Hint::OneTable => f.write_str(
+            "route: each route begins with a line [[route]], in two brackets",
+        ),
+        Hint::NoTable(number) => {
+            write!(
+                f,
+                "route: value {number} of the list isn't a table; each route begins with a line [[route]]"
+            )
+        }
+        _ => write!(
+            f,
+            "route = {value}: each route begins with a line [[route]]"
+        ),
+    }
+}
+
+fn write_wrong_kind<W: fmt::Write>(
+    f: &mut fmt::Formatter<W>,
+    key: Key,
+    value: &str,
+    hint: Hint,
+) -> fmt::Result {
+    let (name, allowed) = (key.name(), Allowed(key));
+    match kind_of(key) {
+        Kind::Tables => write_routes_of_another_kind(f, value, hint),
+        Kind::Text if value.is_empty() => { write!(f, "{name}: not a text; allowed are {allowed}") }
+        Kind::Text => write!(f, "{name} = {value}: not a text; allowed are {allowed}"),
+        Kind::Number(_, _) => {
+            let more = match hint {
+                Hint::Quoted => "; take the quotes away",
+                _ => "",
+            };
+            write!(
+                f,
+                "{name} = {value}: not a whole number; allowed are {allowed}{more}"
+            )
+        }
+    }
+}
+
+fn write_closing<W: fmt::Write>(f: &mut fmt::Formatter<W>, value: &str, opens: i64) -> fmt::Result {
+    let first = opens.saturating_add(1);
+    match usize::try_from(first) {
+        Ok(first) if first <= LAST_ROUND => {
+            write!(
+                f,
+                "close_round = {value}: allowed are {first} to {LAST_ROUND}, after open_round"
+            )
+        }
+        _ => write!(
+            f,
+            "close_round = {value}: no round is left after open_round = {opens}"
+        ),
+    }
+}
+
+fn write_out_of_range<W: fmt::Write>(
+    f: &mut fmt::Formatter<W>,
+    key: Key,
+    value: &str,
+    hint: Hint,
+) -> fmt::Result {
+    let (name, allowed) = (key.name(), Allowed(key));
+    match hint {
+        Hint::Routes(count) => write!(f, "route: there are {count}; allowed are {allowed}"),
+        Hint::Opens(opens) => write_closing(f, value, opens),
+        Hint::Mode(meant) => {
+            write!(
+                f,
+                "{name} = {value}: allowed are {allowed}; did you mean {meant:?}?"
+            )
+        }
+        _ => write!(f, "{name} = {value}: allowed are {allowed}"),
+    }
+}
+
+fn write_bad_name<W: fmt::Write>(
+    f: &mut fmt::Formatter<W>,
+    value: &str,
+    hint: Hint,
+) -> fmt::Result {
+    let allowed = Allowed(Key::Name);
+    write!(f, "name = {value}: allowed are {allowed}")?;
+    match hint {
+        Hint::EmptyName => f.write_str("; it is empty"),
+        Hint::LongName(count) => write!(f, "; it has {count} bytes"),
+        Hint::Character(it) => write!(f, "; {it:?} is none of these"),
+        _ => Ok(()),
+    }
+}
+
+fn write_repeated_name<W: fmt::Write>(
+    f: &mut fmt::Formatter<W>,
+    value: &str,
+    hint: Hint,
+) -> fmt::Result {
+    match hint {
+        Hint::SameName(number) => write!(f, "name = {value}: route {number} has this name"),
+        _ => write!(f, "name = {value}: another route has this name"),
+    }
+}
+
+fn write_bad_secret<W: fmt::Write>(f: &mut fmt::Formatter<W>, hint: Hint) -> fmt::Result {
+    let allowed = Allowed(Key::Secret);
+    write!(f, "secret: allowed are {allowed}")?;
+    match hint {
+        Hint::Characters(count) => write!(f, "; it has {count}")?,
+        Hint::NoDigit(number) => write!(f, "; its character {number} is none")?,
+        _ => {}
+    }
+    f.write_str("; openssl rand -hex 32 makes one")
+}
+
+fn write_bad_address<W: fmt::Write>(
+    f: &mut fmt::Formatter<W>,
+    value: &str,
+    hint: Hint,
+) -> fmt::Result {
+    let allowed = Allowed(Key::Bind);
+    let more = match hint {
+        Hint::NoPort => "; the port is missing",
+        Hint::PortAlone => "; the address is missing, 0.0.0.0 for all of this machine",
+        Hint::Ipv6 => "; IPv6 isn't served",
+        _ => "",
+    };
+    write!(f, "bind = {value}: allowed is {allowed}{more}")
+}
+
+impl fmt::Display for Explanation {
+    fn fmt<W: fmt::Write>(&self, f: &mut fmt::Formatter<W>) -> fmt::Result {
+        if let Some(route) = &self.route {
+            write!(f, "{route}: ")?;
+        }
+        let (value, hint) = (self.value.as_str(), self.hint);
+        match &self.fault {
+            ConfigFault::Toml => write_text_fault(f, value, hint),
+            ConfigFault::UnknownKey(key) => {
+                write_unknown(f, key.as_str(), self.route.is_some(), hint)
+            }
+            ConfigFault::Missing(key) => write_missing(f, *key),
+            ConfigFault::WrongKind(key) => write_wrong_kind(f, *key, value, hint),
+            ConfigFault::OutOfRange(key) => write_out_of_range(f, *key, value, hint),
+            ConfigFault::BadName => write_bad_name(f, value, hint),
+            ConfigFault::RepeatedName => write_repeated_name(f, value, hint),
+            ConfigFault::BadSecret => write_bad_secret(f, hint),
+            ConfigFault::BadAddress => write_bad_address(f, value, hint),
+            ConfigFault::OutOfMemory => f.write_str("memory was refused"),
+        }
+    }
+}
+
+fn write_small_outbox<W: fmt::Write>(
+    f: &mut fmt::Formatter<W>,
+    outbox: u32,
+    replies: u64,
+) -> fmt::Result {
+    write!(
+        f,
+        "outbox = {outbox}: one event can give {replies} replies (4 + 66 x sessions), "
+    )?;
+    write!(
+        f,
+        "and a full outbox holds the route up; write {replies} or more"
+    )
+}
+
+fn write_small_window<W: fmt::Write>(
+    f: &mut fmt::Formatter<W>,
+    buffer: u32,
+    packets: u64,
+    millis: u64,
+) -> fmt::Result {
+    write!(
+        f,
+        "buffer = {buffer}: a stream of 1 Mbit/s brings {packets} packets in {millis} ms, "
+    )?;
+    write!(
+        f,
+        "and what has no place is lost; write {packets} or more, "
+    )?;
+    f.write_str("and as many times more as the stream has Mbit/s")
+}
+
+impl fmt::Display for WarningText<'_> {
+    fn fmt<W: fmt::Write>(&self, f: &mut fmt::Formatter<W>) -> fmt::Result {
+        let name = self.name;
+        f.write_str("warning: ")?;
+        match self.warning {
+            Warning::ExampleSecret => {
+                f.write_str("secret: it is that of examples/gateway.toml, which everybody can ")?;
+                f.write_str("read; put the output of openssl rand -hex 32 in its place")
+            }
+            Warning::SmallOutbox {
+                route,
+                outbox,
+                replies,
+            } => {
+                write!(f, "route {route} ({name}): ")?;
+                write_small_outbox(f, outbox, replies)
+            }
+            Warning::SmallWindow {
+                route,
+                buffer,
+                packets,
+                millis,
+            } => {
+                write!(f, "route {route} ({name}): ")?;
+                write_small_window(f, buffer, packets, millis)
+            }
+            Warning::OneSession { route } => {
+                write!(
+                    f,
+                    "route {route} ({name}): sessions = 1: an encoder takes it, "
+                )?;
+                f.write_str("and nobody can receive; write 2 or more, 3 with a backup encoder")
+            }
+        }
+    }
+}

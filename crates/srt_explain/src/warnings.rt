@@ -1,0 +1,181 @@
+//! What is right in a configuration, and unwise.
+
+ghost use Rattle.std.specs.Prelude.{◌≡◌, ◌++◌, ◌^◌, ◌<◌, map, IfOk, OnOk};
+ghost use Rattle.toml.specs.View.{table_view};
+ghost use Rattle.srt_seq.specs.Terms.{terms_of};
+ghost use Rattle.srt_explain.specs.Warnings.{replies_of, packets_of, millis_of, is_small_outbox, is_small_window, has_one_session, outbox_warning, window_warning, given, has_example_secret, route_warnings, routes_warnings, warnings_of};
+
+use crate::values::text_at;
+use srt_gateway::Key;
+use srt_seq::{Entry, Mode};
+use std::alloc::{AllocError, Global};
+use toml::Table;
+
+/// What is unwise in a right configuration. Routes are numbered from 1.
+#[derive(Clone, Copy, Debug, PartialEq, Eq)]
+pub enum Warning {
+    /// The secret is the one of examples/gateway.toml.
+    ExampleSecret,
+    /// A route's outbox holds fewer replies than one event can give.
+    SmallOutbox {
+        /// The route.
+        route: usize,
+        /// Its outbox, in replies.
+        outbox: u32,
+        /// The most replies of one event.
+        replies: u64,
+    },
+    /// A live route's window holds fewer packets than a stream of 1 Mbit/s brings in its latency and one second more, or
+    /// in two seconds.
+    SmallWindow {
+        /// The route.
+        route: usize,
+        /// Its window, in packets.
+        buffer: u32,
+        /// What the stream brings, in packets.
+        packets: u64,
+        /// The time, in milliseconds.
+        millis: u64,
+    },
+    /// A route has a place for one session alone.
+    OneSession {
+        /// The route.
+        route: usize,
+    },
+}
+
+/// A warning, and the name of the route that it speaks of. Its text, without a line's end, is one line.
+#[derive(Clone, Copy)]
+pub struct WarningText<'a> {
+    /// The warning.
+    pub warning: Warning,
+    /// The route's name; not used for a warning that speaks of no route.
+    pub name: &'a str,
+}
+
+/// The secret of examples/gateway.toml.
+const EXAMPLE_SECRET: &str = "000102030405060708090a0b0c0d0e0f101112131415161718191a1b1c1d1e1f";
+
+fn is_example_secret(table: &Table) -> bool
+    ensures { result ≡ has_example_secret (table_view table.now) }
+{
+    match text_at(table, Key::Secret) {
+        Some(text) => text == EXAMPLE_SECRET,
+        None => false,
+    }
+}
+
+/// The most replies of one event of a route.
+fn replies_of(entry: &Entry) -> u64
+    ensures { result ≡ replies_of (terms_of entry.now) }
+{
+    4 + 66 * u64::from(entry.sessions)
+}
+
+/// The time whose packets a live route's window should hold, in milliseconds.
+fn millis_of(entry: &Entry) -> u64
+    ensures value { result ≡ millis_of (terms_of entry.now) }
+    ensures within { result < 2 ^ 33 }
+{
+    let millis = u64::from(entry.latency_ms) + 1000;
+    if millis < 2000 { 2000 } else { millis }
+}
+
+/// The packets that a stream of 1 Mbit/s brings in that time: 95 a second, each of 1316 bytes.
+fn packets_of(entry: &Entry) -> u64
+    ensures { result ≡ packets_of (terms_of entry.now) }
+{
+    (95 * millis_of(entry) + 999) / 1000
+}
+
+/// Whether a route's outbox holds fewer replies than one event can give.
+fn is_small_outbox(entry: &Entry) -> bool
+    ensures { result ≡ is_small_outbox (terms_of entry.now) }
+{
+    u64::from(entry.outbox) < replies_of(entry)
+}
+
+/// Whether a live route's window holds fewer packets than it should.
+fn is_small_window(entry: &Entry) -> bool
+    ensures { result ≡ is_small_window (terms_of entry.now) }
+{
+    match entry.mode {
+        Mode::Live => u64::from(entry.buffer) < packets_of(entry),
+        Mode::Buffer => false,
+    }
+}
+
+fn has_one_session(entry: &Entry) -> bool
+    ensures { result ≡ has_one_session (terms_of entry.now) }
+{
+    entry.sessions == 1
+}
+
+fn outbox_warning(route: usize, entry: &Entry) -> Warning
+    ensures { result ≡ outbox_warning route (terms_of entry.now) }
+{
+    Warning::SmallOutbox {
+        route,
+        outbox: entry.outbox,
+        replies: replies_of(entry),
+    }
+}
+
+fn window_warning(route: usize, entry: &Entry) -> Warning
+    ensures { result ≡ window_warning route (terms_of entry.now) }
+{
+    Warning::SmallWindow {
+        route,
+        buffer: entry.buffer,
+        packets: packets_of(entry),
+        millis: millis_of(entry),
+    }
+}
+
+fn push_if(list: &mut Vec<Warning>, some: bool, warning: Warning) -> Result<(), AllocError>
+    ensures { OnOk result (list.new.items ≡ list.old.items ++ given some warning) }
+{
+    if some {
+        list.push(warning)?;
+    }
+    Ok(())
+}
+
+/// Adds what is unwise in the route of this number.
+fn push_route(list: &mut Vec<Warning>, route: usize, entry: &Entry) -> Result<(), AllocError>
+    ensures { OnOk result (list.new.items ≡ list.old.items ++ route_warnings route (terms_of entry.now)) }
+{
+    push_if(list, is_small_outbox(entry), outbox_warning(route, entry))?;
+    push_if(list, is_small_window(entry), window_warning(route, entry))?;
+    push_if(list, has_one_session(entry), Warning::OneSession { route })?;
+    Ok(())
+}
+
+/// Adds what is unwise in these routes, which are numbered from 1.
+fn push_routes(list: &mut Vec<Warning>, entries: &[Entry]) -> Result<(), AllocError>
+    ensures { OnOk result (list.new.items ≡ list.old.items ++ routes_warnings 1 (map terms_of entries.now)) }
+{
+    let mut rest = entries;
+    let mut route = 1usize;
+    while !rest.is_empty() {
+        push_route(list, route, &rest[0])?;
+        rest = &rest[1..];
+        route += 1;
+    }
+    Ok(())
+}
+
+/// What is unwise in a configuration that was read from this table, and has these routes: first what the table above the
+/// routes has, then route after route. Takes memory for the list.
+pub(crate) fn warnings_of(
+    alloc: Global,
+    table: &Table,
+    entries: &[Entry],
+) -> Result<Vec<Warning>, AllocError>
+    ensures { IfOk result (λ list. list.items ≡ warnings_of (table_view table.now) (map terms_of entries.now)) }
+{
+    let mut list = Vec::new(alloc);
+    push_if(&mut list, is_example_secret(table), Warning::ExampleSecret)?;
+    push_routes(&mut list, entries)?;
+    Ok(list)
+}
