@@ -1,6 +1,7 @@
 //! All routes of a gateway behind its lobby.
 
-ghost use Rattle.std.specs.Prelude.{◌≡◌, ℕ, ◌+◌, ◌<◌, ◌≤◌, ◌^◌, List, [], false, None, Some, Err, IfOk, IfErr, OnErr, IfSome, IfNone, map, drop, length, is_err, if◌then◌else◌};
+ghost use Rattle.std.specs.Prelude.{◌≡◌, ℕ, ◌+◌, ◌<◌, ◌≤◌, ◌^◌, List, [], false, None, Some, Err, IfOk, IfErr, OnErr, IfSome, IfNone, map, take, drop, length, is_err, if◌then◌else◌};
+ghost use Rattle.srt_packet.specs.Held.{IsPacketOrNothing};
 ghost use Rattle.srt_hub.specs.World.{offered_to};
 
 use crate::answers::{Arrived, Closing, OutOfMemory, Ticked};
@@ -167,6 +168,7 @@ impl<R: RouteStep, L: Lobby> Hub<R, L> {
         ensures answer { RouteAnswers ⟦<Hub<R, L> as Gateway>⟧.stands self.old L.class R.reply r first_out (datagram_at out.new result) }
         ensures within { IfSome result (λ sent. sent.1 ≤ 1472) }
         ensures kept { IfSome result (λ sent. drop sent.1 out.new ≡ drop sent.1 out.old) }
+        ensures packet { IfSome result (λ sent. IsPacketOrNothing (take sent.1 out.new)) }
         ensures none { IfNone result (out.new ≡ out.old) }
         ensures routes { ⟦<Hub<R, L> as Gateway>⟧.routes self.new ≡ ⟦<Hub<R, L> as Gateway>⟧.routes self.old }
     {

@@ -1,8 +1,9 @@
 //! A route with its queues.
 
-ghost use Rattle.std.specs.Prelude.{◌≡◌, ℕ, ◌+◌, ◌<◌, ◌≤◌, true, IfOk, IfErr, IfSome, IfNone, map, drop, length};
+ghost use Rattle.std.specs.Prelude.{◌≡◌, ℕ, ◌+◌, ◌<◌, ◌≤◌, true, IfOk, IfErr, IfSome, IfNone, map, take, drop, length};
 ghost use Rattle.std.specs.Vec.{vec_capacity};
 ghost use Rattle.std.specs.VecDeque.{deque_capacity};
+ghost use Rattle.srt_packet.specs.Held.{IsPacketOrNothing};
 
 use crate::boxes::blank_boxes;
 use crate::items::Timely;
@@ -122,6 +123,7 @@ impl<R: RouteStep> Lane<R> {
         ensures answer { LaneAnswers ⟦<Lane<R> as Standing>⟧.is self.old first_out (datagram_at out.new result) }
         ensures within { IfSome result (λ sent. sent.1 ≤ 1472) }
         ensures kept { IfSome result (λ sent. drop sent.1 out.new ≡ drop sent.1 out.old) }
+        ensures packet { IfSome result (λ sent. IsPacketOrNothing (take sent.1 out.new)) }
         ensures none { IfNone result (out.new ≡ out.old) }
     {
         let reply = self.outbox.pop_front()?;

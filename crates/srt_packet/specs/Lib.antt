@@ -3,5 +3,5 @@ pub mod Reading
 pub mod View
 pub mod Text
 pub mod Sent
-pub mod Sendable
+pub mod Held
 pub mod Encoded

@@ -1,7 +1,7 @@
 //! The bytes of a packet, written where they stay until they are sent.
 
 ghost use Rattle.std.specs.Prelude.{◌≡◌, ◌≤◌, [], length, take, drop};
-ghost use Rattle.srt_packet.specs.Sendable.{IsPacketOrNothing};
+ghost use Rattle.srt_packet.specs.Held.{IsPacketOrNothing};
 ghost use Rattle.srt_packet.specs.Text.{text, IsWritable};
 
 use crate::writing::{Packet, encode};
@@ -21,14 +21,14 @@ pub struct EncodedPacket {
     len: usize,
     block: Block,
     pub ghost fits: { len ≤ 1472 },
-    pub ghost sendable: { IsPacketOrNothing (take len block.bytes) },
+    pub ghost holds: { IsPacketOrNothing (take len block.bytes) },
 }
 
 impl EncodedPacket {
     ghost use Rattle.srt_packet.specs.Encoded.{bytes_of, IsPacketText};
 
     /// No bytes. Takes no memory beyond the value itself, of fixed size.
-    #[tactic(auto, unfolding(crate::specs::Sendable::is_packet_or_nothing))]
+    #[tactic(auto, unfolding(crate::specs::Held::is_packet_or_nothing))]
     pub fn new() -> EncodedPacket
         ensures { bytes_of result ≡ [] }
     {
@@ -39,7 +39,7 @@ impl EncodedPacket {
     }
 
     /// Encodes a packet over what stood here. One copy of a payload; takes no memory.
-    #[tactic(auto, unfolding(crate::specs::Sendable::is_packet_or_nothing))]
+    #[tactic(auto, unfolding(crate::specs::Held::is_packet_or_nothing))]
     pub fn write(&mut self, packet: &Packet<'_>)
         requires { IsWritable packet.now.body }
         ensures written { bytes_of self.new ≡ text packet.now }
@@ -53,7 +53,7 @@ impl EncodedPacket {
     pub fn bytes(&self) -> &[u8]
         ensures value { result.now ≡ bytes_of self.now }
         ensures fits { length result.now ≤ 1472 }
-        ensures sendable { IsPacketOrNothing result.now }
+        ensures packet { IsPacketOrNothing result.now }
     {
         &self.block.bytes[..self.len]
     }
@@ -63,7 +63,7 @@ impl EncodedPacket {
         ensures within { result ≤ 1472 }
         ensures written { take result out.new ≡ bytes_of self.now }
         ensures kept { drop result out.new ≡ drop result out.old }
-        ensures sendable { IsPacketOrNothing (take result out.new) }
+        ensures packet { IsPacketOrNothing (take result out.new) }
     {
         write_at(out, 0, self.bytes())
     }

@@ -16,7 +16,8 @@ fn number(word: u32) -> Result<Seq31, Fail> {
     }
 }
 
-/// Asserts that `encode` writes these bytes, and an `EncodedPacket` likewise, which is longer before.
+/// Asserts that `encode` writes these bytes, and an `EncodedPacket` likewise, which is longer before; what it then holds
+/// is read as a packet.
 fn assert_written(
     rt: &(impl AllocGlobal + Abort),
     packet: &Packet<'_>,
@@ -44,6 +45,7 @@ fn assert_written(
     assert_eq!(rt; encoded.bytes().len(), 1472);
     encoded.write(packet);
     assert_eq!(rt; encoded.bytes(), wanted.as_slice());
+    assert!(rt; decode(encoded.bytes()).is_ok());
     let mut copy = [0xaau8; 1472];
     assert_eq!(rt; encoded.copy_to(&mut copy), len);
     assert!(rt; copy == out);

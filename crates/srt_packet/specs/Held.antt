@@ -1,4 +1,4 @@
--- What may be held to be sent.
+-- The bytes that an encoded packet may hold.
 use Rattle.std.specs.Prelude.{◌≡◌, ℕ, ◌==◌, ◌||◌, List, length, Bool, true, is_ok}
 use Rattle.srt_packet.specs.Reading.{packet_in}
 
