@@ -1,5 +1,6 @@
 -- After some rounds.
-use Rattle.std.proofs.Common.{◌≡◌, ◌∙◌, ap, subst, ℕ, ◌+◌, ◌*◌, ◌^◌, ◌<◌, ◌≤◌, Option, None, List, length, arith}
+use Rattle.std.proofs.Common.{◌≡◌, ◌⊎◌, ◌∙◌, inl, inr, refl, sym, ap, subst, ℕ, ◌+◌, ◌*◌, ◌^◌, ◌≤◌, Bool, true, false, Option, None, List, length, arith}
+use Rattle.std.specs.Prelude.{if◌then◌else◌}
 use Rattle.srt_seq.specs.declared.shared.Schedule.{Schedule}
 use Rattle.srt_lobby.specs.Names.{RouteName}
 use Rattle.srt_poller.specs.declared.ends.Ends.{Ends}
@@ -8,18 +9,18 @@ use Rattle.srt_poller.specs.declared.report.Report.{Report}
 use Rattle.srt_poller.specs.Devices.{Heard, Carried}
 use Rattle.srt_poller.specs.History.{Sorting, State, Phase, Kept, IsOver, kept_after, at_first}
 use Rattle.srt_poller.specs.Reports.{nothing, counted, with_kept, total}
-use Rattle.srt_poller.specs.Rounds.{Went, world}
+use Rattle.srt_poller.specs.Rounds.{WentClosing, world}
 use Rattle.srt_poller.specs.Pollers.{kept_in, turn, world_of}
-use Rattle.srt_poller.specs.Pumped.{Before, After, Pumped, before, after}
+use Rattle.srt_poller.specs.Pumped.{Before, After, PumpedUnder, before, after}
 use Rattle.srt_poller.proofs.Sums.{all_summed}
 use Rattle.srt_poller.proofs.Tallies.{tallied}
 use Rattle.srt_poller.proofs.Origins.{have_origins, kept_is}
 
-pub ended : (class : Sorting) (schedules : List Schedule) (names names' : List RouteName) (source source' : Heard) (wire wire' : Carried) (ends ends' : List Ends) (latest : ℕ) (phase : Phase) (p : Poller) (made : ℕ) (report : Report) →
-    made < 2 ^ 32 → IsOver phase →
-    Went class schedules (made * (259 + 64 * length ends)) made made (world source wire ends (at_first names) nothing) (world_of source' wire' ends' (turn names' made latest) phase p) →
-    report ≡ with_kept p.report (kept_in p) → Pumped class schedules made (before names source wire ends) (after names' source' wire' ends' report)
-ended class schedules names names' source source' wire wire' ends ends' latest phase p made report small over went is =
+pub ended : {goes closes : Type 0} (class : Sorting) (schedules : List Schedule) (names names' : List RouteName) (source source' : Heard) (wire wire' : Carried) (ends ends' : List Ends) (latest : ℕ) (phase : Phase) (p : Poller) (made closing : ℕ) (report : Report) →
+    made ≤ 2 ^ 48 → IsOver phase → (closing ≡ made) ⊎ goes → (closing ≡ 0) ⊎ closes →
+    WentClosing class schedules closing (made * (259 + 64 * length ends)) made made (world source wire ends (at_first names) nothing) (world_of source' wire' ends' (turn names' made latest) phase p) →
+    report ≡ with_kept p.report (kept_in p) → PumpedUnder goes closes class schedules made (before names source wire ends) (after names' source' wire' ends' report)
+ended {goes} {closes} class schedules names names' source source' wire wire' ends ends' latest phase p made closing report small over go close went is =
     let events = went.0 in
     let h = went.1 in
     let first : State = at_first names in
@@ -41,6 +42,8 @@ ended class schedules names names' source source' wire wire' ends ends' latest p
         report = report_is;
         sums = sums;
         tallies = λ routes. tallied events report (sums routes);
+        some_go = subst (λ (n : ℕ). (n ≡ made) ⊎ goes) (sym h.closed) go;
+        some_close = subst (λ (n : ℕ). (n ≡ 0) ⊎ closes) (sym h.closed) close;
         waits = h.waited;
         reads = let a = h.was_read in omega arith;
         few = h.few;
@@ -48,5 +51,16 @@ ended class schedules names names' source source' wire wire' ends ends' latest p
     )
 
 -- the number of rounds under another name
-pub as_told : {class : Sorting} {schedules : List Schedule} {made told : ℕ} {x : Before} {y : After} → made ≡ told → Pumped class schedules made x y → Pumped class schedules told x y
-as_told {class} {schedules} {made} {told} {x} {y} same h = subst (λ (n : ℕ). Pumped class schedules n x y) same h
+pub as_told : {goes closes : Type 0} {class : Sorting} {schedules : List Schedule} {made told : ℕ} {x : Before} {y : After} → made ≡ told → PumpedUnder goes closes class schedules made x y → PumpedUnder goes closes class schedules told x y
+as_told {goes} {closes} {class} {schedules} {made} {told} {x} {y} same h = subst (λ (n : ℕ). PumpedUnder goes closes class schedules n x y) same h
+
+-- one round more, which closes all or doesn't
+pub go_more : {goes : Type 0} (closing made : ℕ) (closes_all : Bool) → (closing ≡ made) ⊎ goes → (closes_all ≡ false → goes) → (closing + (if closes_all then 1 else 0) ≡ made + 1) ⊎ goes
+go_more closing made true (inl e) g = inl (ap (λ n. n + 1) e)
+go_more closing made true (inr x) g = inr x
+go_more closing made false h g = inr (g refl)
+
+pub close_more : {closes : Type 0} (closing : ℕ) (closes_all : Bool) → (closing ≡ 0) ⊎ closes → (closes_all ≡ true → closes) → (closing + (if closes_all then 1 else 0) ≡ 0) ⊎ closes
+close_more closing true h g = inr (g refl)
+close_more closing false (inl e) g = inl (omega (arith, e))
+close_more closing false (inr x) g = inr x

@@ -9,7 +9,7 @@ use Rattle.srt_seq.specs.Terms.{Terms}
 use Rattle.srt_lobby.specs.Opening.{fault_of}
 use Rattle.srt_lobby.proofs.Distinct.{names_are_distinct}
 use Rattle.srt_lobby.specs.Changing.{marked_at, hidden_at, shown_at}
-use Rattle.srt_poller.specs.Schedules.{CloseOffer, offered, opened, has_come, due_from, due, hidden_by, closed, AllDiffer}
+use Rattle.srt_poller.specs.Schedules.{CloseOffer, offered, opened, opened_if, is_due, due_from, due, hidden_by, closed, AllDiffer}
 use Rattle.srt_poller.specs.declared.ends.Ends.{Ends}
 use Rattle.srt_poller.specs.History.{State, Event, state_by, state_after, names_by, Begins, Waits, WaitFails, ReadsNothing, ReadFails, Answers, Accepts, Overflows, Refuses, Drops, Sends, Resends}
 use Rattle.srt_poller.specs.Doors.{all_shown, Rests, RouteRests, Closes, AreClosed}
@@ -42,35 +42,35 @@ opened_step round (suc r) (x ∷ ss) s (n ∷ ns) h e =
     by m true = refl
     by m false = refl
 
-due_from_step : (index round r : ℕ) (ss : List Schedule) (s : Schedule) (ns : List RouteName) → slice_get ss r ≡ Some s → length ss ≡ length ns →
-    due_from index round (take (r + 1) ss) ns ≡ due_from index round (take r ss) ns ++ (if has_come round s.close_round && is_shown_at ns r then (index + r) ∷ [] else [])
-due_from_step index round r [] s ns h e = cc
-due_from_step index round r (x ∷ ss) s [] h e = absurd (omega (arith, e))
-due_from_step index round zero (x ∷ ss) s (n ∷ ns) h e =
+due_from_step : (index : ℕ) (a : Bool) (round r : ℕ) (ss : List Schedule) (s : Schedule) (ns : List RouteName) → slice_get ss r ≡ Some s → length ss ≡ length ns →
+    due_from index a round (take (r + 1) ss) ns ≡ due_from index a round (take r ss) ns ++ (if is_due a round s.close_round && is_shown_at ns r then (index + r) ∷ [] else [])
+due_from_step index a round r [] s ns h e = cc
+due_from_step index a round r (x ∷ ss) s [] h e = absurd (omega (arith, e))
+due_from_step index a round zero (x ∷ ss) s (n ∷ ns) h e =
     let same : x ≡ s = cc in
     let at : index + 0 ≡ index = omega arith in
-    rw (same, at) (by (has_come round s.close_round && n.is_shown))
+    rw (same, at) (by (is_due a round s.close_round && n.is_shown))
   where
     by : (b : Bool) → (if b then index ∷ [] else []) ≡ [] ++ (if b then index ∷ [] else [])
     by true = refl
     by false = refl
-due_from_step index round (suc r) (x ∷ ss) s (n ∷ ns) h e =
+due_from_step index a round (suc r) (x ∷ ss) s (n ∷ ns) h e =
     let count : suc r + 1 ≡ suc (r + 1) = omega arith in
     let at : index + suc r ≡ suc index + r = omega arith in
-    ap (λ k. due_from index round (take k (x ∷ ss)) (n ∷ ns)) count
-    ∙ ap (λ (l : List ℕ). if has_come round x.close_round && n.is_shown then index ∷ l else l) (due_from_step (suc index) round r ss s ns h (omega (arith, e)))
-    ∙ by (has_come round x.close_round && n.is_shown) (due_from (suc index) round (take r ss) ns) (if has_come round s.close_round && is_shown_at ns r then (suc index + r) ∷ [] else [])
-    ∙ ap (λ k. (if has_come round x.close_round && n.is_shown then index ∷ due_from (suc index) round (take r ss) ns else due_from (suc index) round (take r ss) ns) ++ (if has_come round s.close_round && is_shown_at ns r then k ∷ [] else [])) (sym at)
+    ap (λ k. due_from index a round (take k (x ∷ ss)) (n ∷ ns)) count
+    ∙ ap (λ (l : List ℕ). if is_due a round x.close_round && n.is_shown then index ∷ l else l) (due_from_step (suc index) a round r ss s ns h (omega (arith, e)))
+    ∙ by (is_due a round x.close_round && n.is_shown) (due_from (suc index) a round (take r ss) ns) (if is_due a round s.close_round && is_shown_at ns r then (suc index + r) ∷ [] else [])
+    ∙ ap (λ k. (if is_due a round x.close_round && n.is_shown then index ∷ due_from (suc index) a round (take r ss) ns else due_from (suc index) a round (take r ss) ns) ++ (if is_due a round s.close_round && is_shown_at ns r then k ∷ [] else [])) (sym at)
   where
     by : (b : Bool) (xs ys : List ℕ) → (if b then index ∷ (xs ++ ys) else xs ++ ys) ≡ (if b then index ∷ xs else xs) ++ ys
     by true xs ys = refl
     by false xs ys = refl
 
-pub due_step : (round r : ℕ) (ss : List Schedule) (s : Schedule) (ns : List RouteName) → slice_get ss r ≡ Some s → length ss ≡ length ns →
-    due round (take (r + 1) ss) ns ≡ due round (take r ss) ns ++ (if has_come round s.close_round && is_shown_at ns r then r ∷ [] else [])
-due_step round r ss s ns h e =
+pub due_step : (a : Bool) (round r : ℕ) (ss : List Schedule) (s : Schedule) (ns : List RouteName) → slice_get ss r ≡ Some s → length ss ≡ length ns →
+    due a round (take (r + 1) ss) ns ≡ due a round (take r ss) ns ++ (if is_due a round s.close_round && is_shown_at ns r then r ∷ [] else [])
+due_step a round r ss s ns h e =
     let at : 0 + r ≡ r = omega arith in
-    due_from_step 0 round r ss s ns h e ∙ ap (λ k. due round (take r ss) ns ++ (if has_come round s.close_round && is_shown_at ns r then k ∷ [] else [])) at
+    due_from_step 0 a round r ss s ns h e ∙ ap (λ k. due a round (take r ss) ns ++ (if is_due a round s.close_round && is_shown_at ns r then k ∷ [] else [])) at
 
 -- one route more rests
 pub rests_none : (round : ℕ) (ns : List RouteName) → Rests round [] ns
@@ -80,7 +80,7 @@ pub rests_more : (round r : ℕ) (ss : List Schedule) (s : Schedule) (ns : List 
     Rests round (take r ss) ns → RouteRests round s (is_shown_at ns r) → Rests round (take (r + 1) ss) ns
 rests_more round r ss s ns h e before this = (
   opened_step round r ss s ns h e ∙ rw this.0 before.0,
-  due_step round r ss s ns h e ∙ rw (this.1, before.1) refl,
+  due_step false round r ss s ns h e ∙ rw (this.1, before.1) refl,
 )
 
 -- the texts stay
@@ -92,6 +92,10 @@ texts_opened round (s ∷ ss) (n ∷ ns) = by (s.open_round == round) ∙ ap (λ
     by : (b : Bool) → shown (if b then shown n.text else n).text ∷ all_shown (opened round ss ns) ≡ shown n.text ∷ all_shown (opened round ss ns)
     by true = refl
     by false = refl
+
+pub texts_opened_if : (closes_all : Bool) (round : ℕ) (ss : List Schedule) (ns : List RouteName) → all_shown (opened_if closes_all round ss ns) ≡ all_shown ns
+texts_opened_if true round ss ns = refl
+texts_opened_if false round ss ns = texts_opened round ss ns
 
 pub texts_marked : (b : Bool) (r : ℕ) (ns : List RouteName) → all_shown (marked_at b r ns) ≡ all_shown ns
 texts_marked b r [] = refl
@@ -115,7 +119,7 @@ texts_after schedules s [] = refl
 texts_after schedules s (event ∷ events) = texts_after schedules (state_by schedules s event) events ∙ by event
   where
     by : (e : Event) → all_shown (names_by schedules s e) ≡ all_shown s.names
-    by (Begins m os) = texts_closed os (opened s.round schedules s.names) ∙ texts_opened s.round schedules s.names
+    by (Begins b m os) = texts_closed os (opened_if b s.round schedules s.names) ∙ texts_opened_if b s.round schedules s.names
     by Waits = refl
     by WaitFails = refl
     by ReadsNothing = refl
@@ -153,8 +157,8 @@ pub closed_then : (os : List CloseOffer) (o : CloseOffer) (ns : List RouteName) 
 closed_then os o ns = fold-append hidden_by ns os (o ∷ [])
 
 -- the closings of the first routes
-pub closed_none : (moment round : ℕ) (ns : List RouteName) (es : List Ends) → AreClosed moment round [] ns ns es es
-closed_none moment round ns es = ([], record { routes = refl; names = refl; ends = are_later_none (Begins moment [] ∷ []) es (λ r. refl) (λ r. refl) })
+pub closed_none : (a : Bool) (moment round : ℕ) (ns : List RouteName) (es : List Ends) → AreClosed a moment round [] ns ns es es
+closed_none a moment round ns es = ([], record { routes = refl; names = refl; ends = are_later_none (Begins a moment [] ∷ []) es (λ r. refl) (λ r. refl) })
 
 -- what one list has at a place the other one has too, if they have the same there
 pub below_both : {A : Type 0} (xs ys : List A) (k : ℕ) → slice_get xs k ≡ slice_get ys k → k < length ys → k < length xs
@@ -165,31 +169,31 @@ below_both (x ∷ xs) [] k e lt = absurd (omega (arith, lt))
 below_both (x ∷ xs) (y ∷ ys) zero e lt = omega arith
 below_both (x ∷ xs) (y ∷ ys) (suc k) e lt = let h = below_both xs ys k e (omega (arith, lt)) in omega (arith, h)
 
-pub closed_skip : (moment round r : ℕ) (ss : List Schedule) (s : Schedule) (ns now : List RouteName) (before after : List Ends) → slice_get ss r ≡ Some s → length ss ≡ length ns →
-    slice_get now r ≡ slice_get ns r → (has_come round s.close_round && is_shown_at now r) ≡ false → AreClosed moment round (take r ss) ns now before after → AreClosed moment round (take (r + 1) ss) ns now before after
-closed_skip moment round r ss s ns now before after h e same rests c = (
+pub closed_skip : (a : Bool) (moment round r : ℕ) (ss : List Schedule) (s : Schedule) (ns now : List RouteName) (before after : List Ends) → slice_get ss r ≡ Some s → length ss ≡ length ns →
+    slice_get now r ≡ slice_get ns r → (is_due a round s.close_round && is_shown_at now r) ≡ false → AreClosed a moment round (take r ss) ns now before after → AreClosed a moment round (take (r + 1) ss) ns now before after
+closed_skip a moment round r ss s ns now before after h e same rests c = (
   c.0,
   record {
     routes =
-        let here : (has_come round s.close_round && is_shown_at ns r) ≡ false = ap (λ o. has_come round s.close_round && shows o) (sym same) ∙ rests in
-        c.1.routes ∙ sym (due_step round r ss s ns h e ∙ rw here (append-nil _));
+        let here : (is_due a round s.close_round && is_shown_at ns r) ≡ false = ap (λ o. is_due a round s.close_round && shows o) (sym same) ∙ rests in
+        c.1.routes ∙ sym (due_step a round r ss s ns h e ∙ rw here (append-nil _));
     names = c.1.names;
     ends = c.1.ends;
   },
 )
 
-pub closed_more : (moment round r : ℕ) (is_accepted : Bool) (ss : List Schedule) (s : Schedule) (ns now new : List RouteName) (before middle after : List Ends) → slice_get ss r ≡ Some s → length ss ≡ length ns →
-    slice_get now r ≡ slice_get ns r → (has_come round s.close_round && is_shown_at now r) ≡ true → AreClosed moment round (take r ss) ns now before middle → Closes moment (offered r is_accepted) now new middle after →
-    AreClosed moment round (take (r + 1) ss) ns new before after
-closed_more moment round r is_accepted ss s ns now new before middle after h e same comes c this = (
+pub closed_more : (a : Bool) (moment round r : ℕ) (is_accepted : Bool) (ss : List Schedule) (s : Schedule) (ns now new : List RouteName) (before middle after : List Ends) → slice_get ss r ≡ Some s → length ss ≡ length ns →
+    slice_get now r ≡ slice_get ns r → (is_due a round s.close_round && is_shown_at now r) ≡ true → AreClosed a moment round (take r ss) ns now before middle → Closes moment (offered r is_accepted) now new middle after →
+    AreClosed a moment round (take (r + 1) ss) ns new before after
+closed_more a moment round r is_accepted ss s ns now new before middle after h e same comes c this = (
   c.0 ++ offered r is_accepted ∷ [],
   record {
     routes =
-        let here : (has_come round s.close_round && is_shown_at ns r) ≡ true = ap (λ o. has_come round s.close_round && shows o) (sym same) ∙ comes in
-        let one : due round (take (r + 1) ss) ns ≡ due round (take r ss) ns ++ r ∷ [] = due_step round r ss s ns h e ∙ rw here refl in
+        let here : (is_due a round s.close_round && is_shown_at ns r) ≡ true = ap (λ o. is_due a round s.close_round && shows o) (sym same) ∙ comes in
+        let one : due a round (take (r + 1) ss) ns ≡ due a round (take r ss) ns ++ r ∷ [] = due_step a round r ss s ns h e ∙ rw here refl in
         map-append (λ (o : CloseOffer). o.route) c.0 (offered r is_accepted ∷ []) ∙ ap (λ (l : List ℕ). l ++ r ∷ []) c.1.routes ∙ sym one;
     names = this.0 ∙ ap (λ (l : List RouteName). hidden_by l (offered r is_accepted)) c.1.names ∙ sym (closed_then c.0 (offered r is_accepted) ns);
-    ends = closings_then moment c.0 (offered r is_accepted) before middle after c.1.ends this.1;
+    ends = closings_then a moment c.0 (offered r is_accepted) before middle after c.1.ends this.1;
   },
 )
 

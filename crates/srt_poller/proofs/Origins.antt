@@ -9,7 +9,7 @@ use Rattle.srt_poller.specs.Pumped.{HaveOrigins}
 
 pub lobby_origin : (events : List Event) → of_lobby (handed events) ≡ answered events
 lobby_origin [] = refl
-lobby_origin (Begins m os ∷ events) = lobby_origin events
+lobby_origin (Begins b m os ∷ events) = lobby_origin events
 lobby_origin (Waits ∷ events) = lobby_origin events
 lobby_origin (WaitFails ∷ events) = lobby_origin events
 lobby_origin (ReadsNothing ∷ events) = lobby_origin events
@@ -46,7 +46,7 @@ gone class r s d o events h =
 pub route_origin : (class : Sorting) (schedules : List Schedule) (r : ℕ) (s : State) (events : List Event) → Follow class schedules s events →
     of_route r (handed events) ++ kept_of r (kept_after s.kept events) ≡ kept_of r s.kept ++ drained r events
 route_origin class schedules r s [] h = sym (append-nil (kept_of r s.kept))
-route_origin class schedules r s (Begins m os ∷ events) h = route_origin class schedules r (state_by schedules s (Begins m os)) events h.1
+route_origin class schedules r s (Begins b m os ∷ events) h = route_origin class schedules r (state_by schedules s (Begins b m os)) events h.1
 route_origin class schedules r s (Waits ∷ events) h = route_origin class schedules r (state_by schedules s Waits) events h.1
 route_origin class schedules r s (WaitFails ∷ events) h = route_origin class schedules r (state_by schedules s WaitFails) events h.1
 route_origin class schedules r s (ReadsNothing ∷ events) h = route_origin class schedules r (state_by schedules s ReadsNothing) events h.1

@@ -17,9 +17,9 @@ use Rattle.srt_poller.specs.declared.devices.Sent.TheVariants.{Taken, Later, Fai
 use Rattle.srt_poller.specs.Devices.{Arrival, Heard, heard, Carried, Call, heard_more, handed_by_send, joined}
 use Rattle.srt_poller.specs.Pollers.{Turn, IsUpTo, Replies, ClosedAs}
 use Rattle.srt_poller.specs.Schedules.{CloseOffer, offered}
-use Rattle.srt_poller.specs.History.{Sorting, Event, State, Fits, Follow, state_by, state_after, Begins, closing_by, closings, given_by, given, calls_by, calls, attempts_by, attempts, Phase, Between, Begun, Reading, Sending, reading, sent_on, IsOver, MaySend, Handed, handed_by, handed, datagrams, accepted_by, accepted, drained_by, drained, at_route, waits_by, ready_by, reads_by, Waits, WaitFails, ReadsNothing, ReadFails, Answers, Accepts, Overflows, Refuses, Drops, Sends, Resends}
+use Rattle.srt_poller.specs.History.{Sorting, Event, State, Fits, Follow, state_by, state_after, Begins, closing_by, closings, given_by, given, calls_by, calls, attempts_by, attempts, Phase, Reading, Sending, reading, sent_on, IsOver, MaySend, Handed, handed_by, handed, datagrams, accepted_by, accepted, drained_by, drained, at_route, closes_all_by, waits_by, ready_by, reads_by, Waits, WaitFails, ReadsNothing, ReadFails, Answers, Accepts, Overflows, Refuses, Drops, Sends, Resends}
 use Rattle.srt_poller.specs.Reports.{counted_by, counted}
-use Rattle.srt_poller.specs.Rounds.{World, IsLater, AreLater, Happened, Went}
+use Rattle.srt_poller.specs.Rounds.{World, IsLater, AreLater, Happened, WentClosing, Went}
 
 pub joined_none : {A : Type 0} (o : Option (List A)) → joined o [] ≡ o
 joined_none None = refl
@@ -58,8 +58,8 @@ are_later_then us vs x y z h k = record {
 }
 
 -- no event, one event, and events after others
-pub happened_then : {class : Sorting} {schedules : List Schedule} {m n w v r s : ℕ} (us vs : List Event) (x y z : World) → Happened class schedules m w r us x y → Happened class schedules n v s vs y z → Happened class schedules (m + n) (w + v) (r + s) (us ++ vs) x z
-happened_then {class} {schedules} {m} {n} {w} {v} {r} {s} us vs x y z h k = record {
+pub happened_then : {class : Sorting} {schedules : List Schedule} {b c m n w v r s : ℕ} (us vs : List Event) (x y z : World) → Happened class schedules b m w r us x y → Happened class schedules c n v s vs y z → Happened class schedules (b + c) (m + n) (w + v) (r + s) (us ++ vs) x z
+happened_then {class} {schedules} {b} {c} {m} {n} {w} {v} {r} {s} us vs x y z h k = record {
   follow = follow_then x.state us (subst (λ (o : State). Follow class schedules o vs) h.state k.follow) h.follow;
   gave = k.gave ∙ ap (λ o. joined o (given vs)) h.gave ∙ joined_twice x.source.gave (given us) (given vs) ∙ ap (joined x.source.gave) (sym (flat_map-append given_by us vs));
   called = k.called ∙ ap (λ o. joined o (calls vs)) h.called ∙ joined_twice x.source.calls (calls us) (calls vs) ∙ ap (joined x.source.calls) (sym (flat_map-append calls_by us vs));
@@ -69,6 +69,7 @@ happened_then {class} {schedules} {m} {n} {w} {v} {r} {s} us vs x y z h k = reco
   ends = are_later_then us vs x.ends y.ends z.ends h.ends k.ends;
   state = k.state ∙ ap (λ o. state_after schedules o vs) h.state ∙ sym (fold-append (state_by schedules) x.state us vs);
   report = k.report ∙ ap (λ c. counted c vs) h.report ∙ sym (fold-append counted_by x.report us vs);
+  closed = let a = h.closed in let b = k.closed in omega (arith, sum_by-append closes_all_by us vs);
   few = let a = h.few in let b = k.few in omega (arith, length-append us vs);
   waited = let a = h.waited in let b = k.waited in omega (arith, sum_by-append waits_by us vs);
   was_read = let a = h.was_read in let b = k.was_read in omega (arith, sum_by-append ready_by us vs, sum_by-append reads_by us vs);
@@ -90,16 +91,17 @@ went_none class schedules most x = (
     ends = are_later_none [] x.ends (λ r. refl) (λ r. refl);
     state = refl;
     report = refl;
+    closed = refl;
     few = omega arith;
     waited = refl;
     was_read = omega arith;
   },
 )
 
-pub went_then : {class : Sorting} {schedules : List Schedule} {m n w v r s : ℕ} {x y z : World} → Went class schedules m w r x y → Went class schedules n v s y z → Went class schedules (m + n) (w + v) (r + s) x z
-went_then {class} {schedules} {m} {n} {w} {v} {r} {s} {x} {y} {z} h k = (h.0 ++ k.0, happened_then h.0 k.0 x y z h.1 k.1)
+pub went_then : {class : Sorting} {schedules : List Schedule} {b c m n w v r s : ℕ} {x y z : World} → WentClosing class schedules b m w r x y → WentClosing class schedules c n v s y z → WentClosing class schedules (b + c) (m + n) (w + v) (r + s) x z
+went_then {class} {schedules} {b} {c} {m} {n} {w} {v} {r} {s} {x} {y} {z} h k = (h.0 ++ k.0, happened_then h.0 k.0 x y z h.1 k.1)
 
-pub went_more : {class : Sorting} {schedules : List Schedule} {m n w r s : ℕ} {x y : World} → m ≤ n → s ≤ r → Went class schedules m w r x y → Went class schedules n w s x y
+pub went_more : {class : Sorting} {schedules : List Schedule} {b m n w r s : ℕ} {x y : World} → m ≤ n → s ≤ r → WentClosing class schedules b m w r x y → WentClosing class schedules b n w s x y
 went_more le less h = (
   h.0,
   record {
@@ -111,11 +113,16 @@ went_more le less h = (
     ends = h.1.ends;
     state = h.1.state;
     report = h.1.report;
+    closed = h.1.closed;
     few = let a = h.1.few in omega arith;
     waited = h.1.waited;
     was_read = let a = h.1.was_read in omega arith;
   },
 )
+
+-- the number of rounds that close all, said otherwise
+pub went_as : {class : Sorting} {schedules : List Schedule} {b c m w r : ℕ} {x y : World} → b ≡ c → WentClosing class schedules b m w r x y → WentClosing class schedules c m w r x y
+went_as {class} {schedules} {b} {c} {m} {w} {r} {x} {y} same h = subst (λ (n : ℕ). WentClosing class schedules n m w r x y) same h
 
 -- what one event makes of the records of the devices
 pub record HasRecorded (event : Event) (source source' : Heard) (wire wire' : Carried) : Type 0 where
@@ -125,7 +132,7 @@ pub record HasRecorded (event : Event) (source source' : Heard) (wire wire' : Ca
   pub attempted : wire'.attempts ≡ joined wire.attempts (attempts_by event)
 
 pub went_once : (class : Sorting) (schedules : List Schedule) (event : Event) (w r : ℕ) (x y : World) → waits_by event ≡ w → ready_by event + r ≤ reads_by event + w →
-    Fits class schedules x.state event → HasRecorded event x.source y.source x.wire y.wire → AreLater (event ∷ []) x.ends y.ends → y.state ≡ state_by schedules x.state event → y.report ≡ counted_by x.report event → Went class schedules 1 w r x y
+    Fits class schedules x.state event → HasRecorded event x.source y.source x.wire y.wire → AreLater (event ∷ []) x.ends y.ends → y.state ≡ state_by schedules x.state event → y.report ≡ counted_by x.report event → WentClosing class schedules (closes_all_by event) 1 w r x y
 went_once class schedules event w r x y waits reads fits recorded ends state report = (
   event ∷ [],
   record {
@@ -137,17 +144,18 @@ went_once class schedules event w r x y waits reads fits recorded ends state rep
     ends = ends;
     state = state;
     report = report;
+    closed = omega arith;
     few = omega arith;
     waited = omega (arith, waits);
     was_read = omega (arith, reads);
   },
 )
 
-pub went_one : (class : Sorting) (schedules : List Schedule) (event : Event) (x y : World) → Fits class schedules x.state event → HasRecorded event x.source y.source x.wire y.wire → AreLater (event ∷ []) x.ends y.ends → y.state ≡ state_by schedules x.state event → y.report ≡ counted_by x.report event → Went class schedules 1 (waits_by event) (reads_by event) x y
+pub went_one : (class : Sorting) (schedules : List Schedule) (event : Event) (x y : World) → Fits class schedules x.state event → HasRecorded event x.source y.source x.wire y.wire → AreLater (event ∷ []) x.ends y.ends → y.state ≡ state_by schedules x.state event → y.report ≡ counted_by x.report event → WentClosing class schedules (closes_all_by event) 1 (waits_by event) (reads_by event) x y
 went_one class schedules event x y fits recorded ends state report = went_once class schedules event (waits_by event) (reads_by event) x y refl (owed event) fits recorded ends state report
   where
     owed : (e : Event) → ready_by e + reads_by e ≤ reads_by e + waits_by e
-    owed (Begins m os) = omega arith
+    owed (Begins b m os) = omega arith
     owed Waits = omega arith
     owed WaitFails = omega arith
     owed ReadsNothing = omega arith
@@ -286,17 +294,17 @@ are_later_as us vs x y a d h = record {
 }
 
 -- one offer after others
-pub closings_then : (moment : ℕ) (us : List CloseOffer) (o : CloseOffer) (x y z : List Ends) → AreLater (Begins moment us ∷ []) x y → AreLater (Begins moment (o ∷ []) ∷ []) y z → AreLater (Begins moment (us ++ o ∷ []) ∷ []) x z
-closings_then moment us o x y z h k =
-    are_later_as (Begins moment us ∷ Begins moment (o ∷ []) ∷ []) (Begins moment (us ++ o ∷ []) ∷ []) x z
+pub closings_then : (b : Bool) (moment : ℕ) (us : List CloseOffer) (o : CloseOffer) (x y z : List Ends) → AreLater (Begins b moment us ∷ []) x y → AreLater (Begins false moment (o ∷ []) ∷ []) y z → AreLater (Begins b moment (us ++ o ∷ []) ∷ []) x z
+closings_then b moment us o x y z h k =
+    are_later_as (Begins b moment us ∷ Begins false moment (o ∷ []) ∷ []) (Begins b moment (us ++ o ∷ []) ∷ []) x z
     (λ r. ap (λ (items : List Item). closings moment r us ++ items) (append-nil (closings moment r (o ∷ []))) ∙ sym (flat_map-append (closing_by moment r) us (o ∷ [])) ∙ sym (append-nil (closings moment r (us ++ o ∷ []))))
-    (λ r. refl) (are_later_then (Begins moment us ∷ []) (Begins moment (o ∷ []) ∷ []) x y z h k)
+    (λ r. refl) (are_later_then (Begins b moment us ∷ []) (Begins false moment (o ∷ []) ∷ []) x y z h k)
 
 pub closed_here : (moment k : ℕ) (es : List Ends) (d z : Ends) → k < length es →
-    ClosedAs true moment (slice_index_or es k d).ingress z.ingress → z.drain ≡ (slice_index_or es k d).drain → AreLater (Begins moment (offered k true ∷ []) ∷ []) es (slice_set es k z)
+    ClosedAs true moment (slice_index_or es k d).ingress z.ingress → z.drain ≡ (slice_index_or es k d).drain → AreLater (Begins false moment (offered k true ∷ []) ∷ []) es (slice_set es k z)
 closed_here moment k es d z below h drain =
-    let own : accepted k (Begins moment (offered k true ∷ []) ∷ []) ≡ Close moment ∷ [] = append-nil _ ∙ append-nil _ ∙ at_own k _ in
-    one_changed (Begins moment (offered k true ∷ [])) k es d z below (λ r other. append-nil _ ∙ append-nil _ ∙ at_other k r _ other) (λ r other. refl) (rw own (record {
+    let own : accepted k (Begins false moment (offered k true ∷ []) ∷ []) ≡ Close moment ∷ [] = append-nil _ ∙ append-nil _ ∙ at_own k _ in
+    one_changed (Begins false moment (offered k true ∷ [])) k es d z below (λ r other. append-nil _ ∙ append-nil _ ∙ at_other k r _ other) (λ r other. refl) (rw own (record {
       inbox = h.0;
       inbox_capacity = h.1;
       offered = h.2;

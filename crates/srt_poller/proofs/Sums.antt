@@ -42,7 +42,7 @@ less n room h = omega arith
 counted_part : (n : Report) (room : ℕ) (event : Event) → HasRoom n (suc room) → counted_by n event ≡ plus n (part event)
 counted_part n room WaitFails h = same _ _ (sym (add-zero n.read)) (sym (add-zero n.answered)) (sym (add-zero n.accepted)) (sym (add-zero n.full)) (sym (add-zero n.dropped)) (sym (add-zero n.memory)) (sym (add-zero n.sent)) (sym (add-zero n.lost)) (one n.faults room h.faults)
 counted_part n room ReadFails h = same _ _ (sym (add-zero n.read)) (sym (add-zero n.answered)) (sym (add-zero n.accepted)) (sym (add-zero n.full)) (sym (add-zero n.dropped)) (sym (add-zero n.memory)) (sym (add-zero n.sent)) (sym (add-zero n.lost)) (one n.faults room h.faults)
-counted_part n room (Begins m os) h = same _ _ (sym (add-zero n.read)) (sym (add-zero n.answered)) (sym (add-zero n.accepted)) (sym (add-zero n.full)) (sym (add-zero n.dropped)) (sym (add-zero n.memory)) (sym (add-zero n.sent)) (sym (add-zero n.lost)) (sym (add-zero n.faults))
+counted_part n room (Begins b m os) h = same _ _ (sym (add-zero n.read)) (sym (add-zero n.answered)) (sym (add-zero n.accepted)) (sym (add-zero n.full)) (sym (add-zero n.dropped)) (sym (add-zero n.memory)) (sym (add-zero n.sent)) (sym (add-zero n.lost)) (sym (add-zero n.faults))
 counted_part n room Waits h = same _ _ (sym (add-zero n.read)) (sym (add-zero n.answered)) (sym (add-zero n.accepted)) (sym (add-zero n.full)) (sym (add-zero n.dropped)) (sym (add-zero n.memory)) (sym (add-zero n.sent)) (sym (add-zero n.lost)) (sym (add-zero n.faults))
 counted_part n room ReadsNothing h = same _ _ (sym (add-zero n.read)) (sym (add-zero n.answered)) (sym (add-zero n.accepted)) (sym (add-zero n.full)) (sym (add-zero n.dropped)) (sym (add-zero n.memory)) (sym (add-zero n.sent)) (sym (add-zero n.lost)) (sym (add-zero n.faults))
 counted_part n room (Answers a b Taken) h = same _ _ (one n.read room h.read) (one n.answered room h.answered) (sym (add-zero n.accepted)) (sym (add-zero n.full)) (sym (add-zero n.dropped)) (sym (add-zero n.memory)) (one n.sent room h.sent) (sym (add-zero n.lost)) (sym (add-zero n.faults))
@@ -62,7 +62,7 @@ counted_part n room (Resends r d Failed) h = same _ _ (sym (add-zero n.read)) (s
 counted_room : (n : Report) (room : ℕ) (event : Event) → HasRoom n (suc room) → HasRoom (counted_by n event) room
 counted_room n room WaitFails h = record { read = less n.read room h.read; answered = less n.answered room h.answered; accepted = less n.accepted room h.accepted; full = less n.full room h.full; dropped = less n.dropped room h.dropped; memory = less n.memory room h.memory; sent = less n.sent room h.sent; lost = less n.lost room h.lost; faults = one_room n.faults room h.faults }
 counted_room n room ReadFails h = record { read = less n.read room h.read; answered = less n.answered room h.answered; accepted = less n.accepted room h.accepted; full = less n.full room h.full; dropped = less n.dropped room h.dropped; memory = less n.memory room h.memory; sent = less n.sent room h.sent; lost = less n.lost room h.lost; faults = one_room n.faults room h.faults }
-counted_room n room (Begins m os) h = record { read = less n.read room h.read; answered = less n.answered room h.answered; accepted = less n.accepted room h.accepted; full = less n.full room h.full; dropped = less n.dropped room h.dropped; memory = less n.memory room h.memory; sent = less n.sent room h.sent; lost = less n.lost room h.lost; faults = less n.faults room h.faults }
+counted_room n room (Begins b m os) h = record { read = less n.read room h.read; answered = less n.answered room h.answered; accepted = less n.accepted room h.accepted; full = less n.full room h.full; dropped = less n.dropped room h.dropped; memory = less n.memory room h.memory; sent = less n.sent room h.sent; lost = less n.lost room h.lost; faults = less n.faults room h.faults }
 counted_room n room Waits h = record { read = less n.read room h.read; answered = less n.answered room h.answered; accepted = less n.accepted room h.accepted; full = less n.full room h.full; dropped = less n.dropped room h.dropped; memory = less n.memory room h.memory; sent = less n.sent room h.sent; lost = less n.lost room h.lost; faults = less n.faults room h.faults }
 counted_room n room ReadsNothing h = record { read = less n.read room h.read; answered = less n.answered room h.answered; accepted = less n.accepted room h.accepted; full = less n.full room h.full; dropped = less n.dropped room h.dropped; memory = less n.memory room h.memory; sent = less n.sent room h.sent; lost = less n.lost room h.lost; faults = less n.faults room h.faults }
 counted_room n room (Answers a b Taken) h = record { read = one_room n.read room h.read; answered = one_room n.answered room h.answered; accepted = less n.accepted room h.accepted; full = less n.full room h.full; dropped = less n.dropped room h.dropped; memory = less n.memory room h.memory; sent = one_room n.sent room h.sent; lost = less n.lost room h.lost; faults = less n.faults room h.faults }
@@ -90,14 +90,13 @@ summed n (event ∷ events) k h =
     ∙ ap (λ (m : Report). plus m (total events k)) (counted_part n (suc (length events)) event h)
     ∙ plus_assoc n (part event) (total events k)
 
-few_events : (count rounds routes : ℕ) → rounds < 2 ^ 32 → routes ≤ 511 → count ≤ rounds * (259 + 64 * routes) → count + 2 < 2 ^ 64
+few_events : (count rounds routes : ℕ) → rounds ≤ 2 ^ 48 → routes ≤ 511 → count ≤ rounds * (259 + 64 * routes) → count + 2 < 2 ^ 64
 few_events count rounds routes small few h =
     let each : 259 + 64 * routes ≤ 32963 = omega arith in
-    let below : rounds ≤ 2 ^ 32 = omega arith in
-    let all : rounds * (259 + 64 * routes) ≤ 2 ^ 32 * 32963 = mul-le-mul below each in
+    let all : rounds * (259 + 64 * routes) ≤ 2 ^ 48 * 32963 = mul-le-mul small each in
     omega arith
 
-pub all_summed : (events : List Event) (k : Option Kept) (rounds routes : ℕ) → rounds < 2 ^ 32 → length events ≤ rounds * (259 + 64 * routes) → routes ≤ 511 → with_kept (counted nothing events) k ≡ total events k
+pub all_summed : (events : List Event) (k : Option Kept) (rounds routes : ℕ) → rounds ≤ 2 ^ 48 → length events ≤ rounds * (259 + 64 * routes) → routes ≤ 511 → with_kept (counted nothing events) k ≡ total events k
 all_summed events k rounds routes small h few =
     let room : length events + 2 < 2 ^ 64 = few_events (length events) rounds routes small few h in
     let there : 0 + suc (length events) < 2 ^ 64 = omega arith in

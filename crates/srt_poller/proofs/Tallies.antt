@@ -31,7 +31,7 @@ record IsPart (e : Event) : Type 0 where
   pub lost : (part e).lost ≡ gives_up e + failed_in (attempts_by e)
 
 is_part : (e : Event) → IsPart e
-is_part (Begins m os) = record { read = refl; sent = refl; faults = refl; lost = refl }
+is_part (Begins b m os) = record { read = refl; sent = refl; faults = refl; lost = refl }
 is_part Waits = record { read = refl; sent = refl; faults = refl; lost = refl }
 is_part WaitFails = record { read = refl; sent = refl; faults = refl; lost = refl }
 is_part ReadsNothing = record { read = refl; sent = refl; faults = refl; lost = refl }

@@ -11,7 +11,7 @@ use Rattle.srt_lobby.specs.declared.classes.Cause.{Cause}
 use Rattle.srt_poller.specs.declared.devices.Sent.{Sent}
 use Rattle.srt_poller.specs.declared.devices.Sent.TheVariants.{Taken, Later, Failed}
 use Rattle.srt_poller.specs.Devices.{Arrival, handed_by_send, Attempt, attempt, Call, WaitEnded, WaitFailed, ReadGave, ReadEmpty, ReadFailed}
-use Rattle.srt_poller.specs.Schedules.{CloseOffer, offered_routes, opened, due, begun}
+use Rattle.srt_poller.specs.Schedules.{CloseOffer, offered_routes, opened_if, due, begun}
 
 -- the class that a lobby with these names gives to a datagram that comes at a moment
 abbrev pub Sorting : Type 0
@@ -19,8 +19,8 @@ Sorting = (names : List RouteName) → Datagram → (moment : ℕ) → Class
 
 pub data Event : Type 0 where
   -- a round began: the routes that open in it were shown, those to be closed were offered Close of this moment, and those whose inbox
-  -- accepted it were hidden
-  Begins : (moment : ℕ) (offers : List CloseOffer) → Event
+  -- accepted it were hidden. In a round that closes all, none opens, and all shown ones are to be closed
+  Begins : (closes_all : Bool) (moment : ℕ) (offers : List CloseOffer) → Event
   -- the source waited, and didn't fail
   Waits : Event
   -- a wait of the source failed
@@ -135,7 +135,7 @@ abbrev pub at_first : List RouteName → State
 at_first names = state names None 0 Between 0
 
 abbrev pub names_by : List Schedule → State → Event → List RouteName
-names_by schedules s (Begins moment offers) = begun s.round schedules offers s.names
+names_by schedules s (Begins closes_all moment offers) = begun closes_all s.round schedules offers s.names
 names_by schedules s _ = s.names
 
 abbrev pub round_by : (round : ℕ) → Event → ℕ
@@ -145,7 +145,7 @@ round_by round _ = round
 
 -- the phase after an event, which finds a reply kept or none
 abbrev pub phase_by : (is_kept : Bool) → Phase → Event → Phase
-phase_by is_kept phase (Begins moment offers) = Begun is_kept
+phase_by is_kept phase (Begins closes_all moment offers) = Begun is_kept
 phase_by is_kept phase Waits = Reading 0
 phase_by is_kept phase WaitFails = Sending 0 0
 phase_by is_kept phase ReadsNothing = Sending 0 0
@@ -179,13 +179,14 @@ abbrev pub class_in : Sorting → State → Arrival → Class
 class_in class s arrival = class s.names arrival.datagram arrival.moment
 
 -- A round begins where none has begun or the one before is over. It shows the routes that open in it, and then offers Close, of the greatest
--- moment that the source has given, once to each shown route whose round of closing has come, in the order of their indexes. If a reply is kept
+-- moment that the source has given, once to each shown route whose round of closing has come, in the order of their indexes; if it closes all,
+-- it shows none, and offers Close so to each shown route. If a reply is kept
 -- then, it is sent again, once, before the wait. The source waits once. Unless that failed, it is read until a read gives nothing or fails, or 256
 -- datagrams came; what happens to a datagram is what its class says. Then replies are sent in the order of their routes' indexes, at most 64 of a
 -- route, and none while one is kept
 abbrev pub Fits : Sorting → List Schedule → State → Event → Type 0
-Fits class schedules s (Begins moment offers) =
-    IsOver s.phase × (moment ≡ s.latest) × (offered_routes offers ≡ due s.round schedules (opened s.round schedules s.names))
+Fits class schedules s (Begins closes_all moment offers) =
+    IsOver s.phase × (moment ≡ s.latest) × (offered_routes offers ≡ due closes_all s.round schedules (opened_if closes_all s.round schedules s.names))
 Fits class schedules s Waits = s.phase ≡ Begun false
 Fits class schedules s WaitFails = s.phase ≡ Begun false
 Fits class schedules s ReadsNothing = IsReading s.phase
@@ -226,7 +227,7 @@ calls_by (Accepts arrival route) = ReadGave arrival ∷ []
 calls_by (Overflows arrival route) = ReadGave arrival ∷ []
 calls_by (Refuses arrival route) = ReadGave arrival ∷ []
 calls_by (Drops arrival cause) = ReadGave arrival ∷ []
-calls_by (Begins moment offers) = []
+calls_by (Begins closes_all moment offers) = []
 calls_by (Sends route reply sent) = []
 calls_by (Resends route reply sent) = []
 
@@ -256,7 +257,7 @@ closings moment r offers = flat_map (closing_by moment r) offers
 
 -- the items that this route's inbox accepted: datagrams and Close
 abbrev pub accepted_by : (r : ℕ) → Event → List Item
-accepted_by r (Begins moment offers) = closings moment r offers
+accepted_by r (Begins closes_all moment offers) = closings moment r offers
 accepted_by r (Accepts arrival route) = at_route route r (Received arrival.datagram arrival.moment)
 accepted_by r _ = []
 
@@ -330,6 +331,14 @@ waits_by _ = 0
 
 abbrev pub waits_in : List Event → ℕ
 waits_in events = sum_by waits_by events
+
+-- the number of the rounds that close all
+abbrev pub closes_all_by : Event → ℕ
+closes_all_by (Begins closes_all moment offers) = if closes_all then 1 else 0
+closes_all_by _ = 0
+
+abbrev pub closes_all_in : List Event → ℕ
+closes_all_in events = sum_by closes_all_by events
 
 abbrev pub ready_by : Event → ℕ
 ready_by Waits = 1

@@ -1,9 +1,9 @@
 -- A poller between the calls of its devices.
-use Rattle.std.specs.Prelude.{◌≡◌, ◌⊎◌, ℕ, suc, ◌+◌, ◌<◌, ◌≤◌, Bool, true, false, Option, List, ◌++◌, [], ◌∷◌, map, take, max, option_map}
+use Rattle.std.specs.Prelude.{◌≡◌, ◌⊎◌, ℕ, suc, ◌+◌, ◌*◌, ◌<◌, ◌≤◌, Bool, true, false, Option, List, ◌++◌, [], ◌∷◌, map, take, max, option_map}
 use Rattle.std.specs.Option.{is_some}
 use Rattle.crossbeam_queue.specs.Fifo.{Held}
 use Rattle.srt_seq.specs.declared.shared.Schedule.{Schedule}
-use Rattle.srt_seq.specs.Items.{Datagram, Received, Close, told}
+use Rattle.srt_seq.specs.Items.{Received, Close, told}
 use Rattle.srt_cookie.specs.declared.secret.Secret.{Secret}
 use Rattle.srt_cookie.specs.Cookie.{secret_bytes}
 use Rattle.srt_lobby.specs.Names.{RouteName, names_of}
@@ -20,8 +20,8 @@ use Rattle.srt_poller.specs.declared.poller.Incoming.{Incoming}
 use Rattle.srt_poller.specs.declared.poller.Poller.{Poller}
 use Rattle.srt_poller.specs.Bodies.{TakesMemory}
 use Rattle.srt_poller.specs.Devices.{Arrival, arrival, Heard, heard_more, Carried, ReadGave}
-use Rattle.srt_poller.specs.History.{Sorting, Kept, kept, Phase, Begun, Reading, Sending, reading, state}
-use Rattle.srt_poller.specs.Rounds.{World, world, Went}
+use Rattle.srt_poller.specs.History.{Sorting, Kept, kept, Phase, Begun, Reading, Sending, IsOver, reading, state}
+use Rattle.srt_poller.specs.Rounds.{World, world, WentClosing, Went}
 
 -- the classes that the lobby of this secret gives to datagrams
 abbrev pub sorting : Secret → Sorting
@@ -110,6 +110,13 @@ abbrev pub Replies : (first few last many most : ℕ) → (old new : Turn → Ph
 Replies first few last many most old new =
     (class : Sorting) (schedules : List Schedule) (t : Turn) (phase : Phase) (source : Heard) → IsUpTo first few phase →
     (next : Phase) × IsUpTo last many next × Went class schedules most 0 0 (old t phase source) (new t next source)
+
+-- This many rounds were made of a poller with this many routes, the last of which may end here. Rounds that close all began only if `closes` is
+-- known, and others only if `goes` is
+abbrev pub Rounds : (goes closes : Type 0) → Sorting → List Schedule → (rounds routes : ℕ) → (old new : Phase → World) → Type 0
+Rounds goes closes class schedules rounds routes old new =
+    (phase : Phase) → IsOver phase → (next : Phase) × IsOver next × (closing : ℕ) × ((closing ≡ rounds) ⊎ goes) × ((closing ≡ 0) ⊎ closes) ×
+    WentClosing class schedules closing (rounds * (259 + 64 * routes)) rounds rounds (old phase) (new next)
 
 -- the inbox was full at some moment, with these items of the poller's accepted
 abbrev pub WasFull : Producer → Type 0

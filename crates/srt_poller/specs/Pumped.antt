@@ -1,11 +1,11 @@
 -- The contract of a poller's rounds.
-use Rattle.std.specs.Prelude.{◌≡◌, ℕ, ◌+◌, ◌*◌, ◌≤◌, Option, None, List, ◌++◌, length}
+use Rattle.std.specs.Prelude.{◌≡◌, ◌⊎◌, ℕ, ◌+◌, ◌*◌, ◌≤◌, None, List, ◌++◌, length}
 use Rattle.srt_seq.specs.declared.shared.Schedule.{Schedule}
 use Rattle.srt_lobby.specs.Names.{RouteName}
 use Rattle.srt_poller.specs.declared.ends.Ends.{Ends}
 use Rattle.srt_poller.specs.declared.report.Report.{Report}
 use Rattle.srt_poller.specs.Devices.{Heard, Carried, joined}
-use Rattle.srt_poller.specs.History.{Sorting, Event, Follow, at_first, state_after, IsOver, kept_after, kept_of, given, calls, handed, datagrams, attempts, of_lobby, of_route, answered, drained, waits_in, ready_in, reads_in}
+use Rattle.srt_poller.specs.History.{Sorting, Event, Follow, at_first, state_after, IsOver, kept_after, kept_of, given, calls, handed, datagrams, attempts, of_lobby, of_route, answered, drained, closes_all_in, waits_in, ready_in, reads_in}
 use Rattle.srt_poller.specs.Reports.{nothing, counted, with_kept, total}
 use Rattle.srt_poller.specs.Tallies.{TalliesWith}
 use Rattle.srt_poller.specs.Rounds.{AreLater}
@@ -42,8 +42,9 @@ after names source wire ends report = record { names = names; source = source; w
 -- The source gave the datagrams of the events, and its calls, with its answers, are just theirs. The wire was handed the datagrams of the
 -- events, and its sends, with their outcomes, are just theirs. Each route's inbox accepted the items, and each outbox gave the replies, of the events. The report
 -- counts the events; with at most 511 routes no count reaches its limit, and then it has the numbers of the devices' records. The source waited once in each
--- round, and was read at least as often as it waited without a failure
-pub record PumpedBy (class : Sorting) (schedules : List Schedule) (rounds : ℕ) (before : Before) (after : After) (events : List Event) : Type 0 where
+-- round, and was read at least as often as it waited without a failure. A round that closes all began only if `closes` is known, and another one
+-- only if `goes` is
+pub record PumpedBy (goes closes : Type 0) (class : Sorting) (schedules : List Schedule) (rounds : ℕ) (before : Before) (after : After) (events : List Event) : Type 0 where
   pub follow : Follow class schedules (at_first before.names) events
   pub names : after.names ≡ (state_after schedules (at_first before.names) events).names
   pub over : IsOver (state_after schedules (at_first before.names) events).phase
@@ -56,10 +57,16 @@ pub record PumpedBy (class : Sorting) (schedules : List Schedule) (rounds : ℕ)
   pub report : after.report ≡ with_kept (counted nothing events) (kept_after None events)
   pub sums : length before.ends ≤ 511 → after.report ≡ total events (kept_after None events)
   pub tallies : length before.ends ≤ 511 → TalliesWith events after.report
+  pub some_go : (closes_all_in events ≡ rounds) ⊎ goes
+  pub some_close : (closes_all_in events ≡ 0) ⊎ closes
   pub waits : waits_in events ≡ rounds
   pub reads : ready_in events ≤ reads_in events
   pub few : length events ≤ rounds * (259 + 64 * length before.ends)
 
 -- some events happened, and this is what they did
+abbrev pub PumpedUnder : (goes closes : Type 0) → Sorting → List Schedule → (rounds : ℕ) → Before → After → Type 0
+PumpedUnder goes closes class schedules rounds before after = (events : List Event) × PumpedBy goes closes class schedules rounds before after events
+
+-- the same, and no round closed all
 abbrev pub Pumped : Sorting → List Schedule → (rounds : ℕ) → Before → After → Type 0
-Pumped class schedules rounds before after = (events : List Event) × PumpedBy class schedules rounds before after events
+Pumped class schedules rounds before after = PumpedUnder (Unit {0}) ⊥ class schedules rounds before after

@@ -42,7 +42,7 @@ with_dropped n = record n { read = one_more n.read; dropped = one_more n.dropped
 
 -- the counts after an event
 abbrev pub counted_by : Report → Event → Report
-counted_by n (Begins moment offers) = n
+counted_by n (Begins closes_all moment offers) = n
 counted_by n Waits = n
 counted_by n WaitFails = with_fault n
 counted_by n ReadsNothing = n
@@ -80,7 +80,7 @@ part_of_reply Failed = record nothing { lost = 1; faults = 1 }
 
 -- an event's part of the report
 abbrev pub part : Event → Report
-part (Begins moment offers) = nothing
+part (Begins closes_all moment offers) = nothing
 part Waits = nothing
 part WaitFails = record nothing { faults = 1 }
 part ReadsNothing = nothing

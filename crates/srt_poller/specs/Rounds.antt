@@ -1,12 +1,12 @@
 -- All that a poller touches, before and after some events.
-use Rattle.std.specs.Prelude.{◌≡◌, ℕ, ◌+◌, ◌<◌, ◌≤◌, Option, List, ◌++◌, length, map, slice_index_or}
+use Rattle.std.specs.Prelude.{◌≡◌, ℕ, ◌+◌, ◌<◌, ◌≤◌, List, ◌++◌, length, map, slice_index_or}
 use Rattle.srt_seq.specs.declared.shared.Schedule.{Schedule}
 use Rattle.srt_seq.specs.Items.{Datagram, Item, told}
 use Rattle.srt_route.specs.Written.{written}
 use Rattle.srt_poller.specs.declared.ends.Ends.{Ends}
 use Rattle.srt_poller.specs.declared.report.Report.{Report}
 use Rattle.srt_poller.specs.Devices.{Heard, Carried, joined}
-use Rattle.srt_poller.specs.History.{Sorting, Event, State, Follow, state_after, given, calls, handed, datagrams, attempts, accepted, drained, waits_in, ready_in, reads_in}
+use Rattle.srt_poller.specs.History.{Sorting, Event, State, Follow, state_after, given, calls, handed, datagrams, attempts, accepted, drained, closes_all_in, waits_in, ready_in, reads_in}
 use Rattle.srt_poller.specs.Reports.{counted}
 
 -- what the source and the wire have recorded, the ends of all routes, what the next event depends on, and the report
@@ -33,9 +33,9 @@ pub record AreLater (events : List Event) (old new : List Ends) : Type 0 where
   pub as_many : length new ≡ length old
   pub each : (r : ℕ) (e : Ends) → r < length old → IsLater (accepted r events) (drained r events) (slice_index_or old r e) (slice_index_or new r e)
 
--- These events lead from the old world to the new one. They are at most `most`, and `waits` of them are waits. The number of reads plus
--- `waits` is at least the number of waits without a failure plus `reads`
-pub record Happened (class : Sorting) (schedules : List Schedule) (most waits reads : ℕ) (events : List Event) (old new : World) : Type 0 where
+-- These events lead from the old world to the new one. They are at most `most`, `waits` of them are waits, and `closing` of them begin a round
+-- that closes all. The number of reads plus `waits` is at least the number of waits without a failure plus `reads`
+pub record Happened (class : Sorting) (schedules : List Schedule) (closing most waits reads : ℕ) (events : List Event) (old new : World) : Type 0 where
   pub follow : Follow class schedules old.state events
   pub gave : new.source.gave ≡ joined old.source.gave (given events)
   pub called : new.source.calls ≡ joined old.source.calls (calls events)
@@ -44,10 +44,15 @@ pub record Happened (class : Sorting) (schedules : List Schedule) (most waits re
   pub ends : AreLater events old.ends new.ends
   pub state : new.state ≡ state_after schedules old.state events
   pub report : new.report ≡ counted old.report events
+  pub closed : closes_all_in events ≡ closing
   pub few : length events ≤ most
   pub waited : waits_in events ≡ waits
   pub was_read : ready_in events + reads ≤ reads_in events + waits
 
--- some events lead from the old world to the new one
+-- some events lead from the old world to the new one, and this many rounds that close all began
+abbrev pub WentClosing : Sorting → List Schedule → (closing most waits reads : ℕ) → World → World → Type 0
+WentClosing class schedules closing most waits reads old new = (events : List Event) × Happened class schedules closing most waits reads events old new
+
+-- the same, and no round that closes all began
 abbrev pub Went : Sorting → List Schedule → (most waits reads : ℕ) → World → World → Type 0
-Went class schedules most waits reads old new = (events : List Event) × Happened class schedules most waits reads events old new
+Went class schedules most waits reads old new = WentClosing class schedules 0 most waits reads old new

@@ -1,5 +1,5 @@
 -- Which routes open and close at the beginning of a poller's round.
-use Rattle.std.specs.Prelude.{ℕ, suc, Bool, false, Option, None, Some, List, [], ◌∷◌, nat_le, ◌==◌, ◌&&◌, if◌then◌else◌, map}
+use Rattle.std.specs.Prelude.{ℕ, suc, Bool, false, Option, None, Some, List, [], ◌∷◌, nat_le, ◌==◌, ◌&&◌, ◌||◌, if◌then◌else◌, map}
 use Rattle.std.specs.List.{fold}
 use Rattle.srt_seq.specs.declared.shared.Schedule.{Schedule}
 use Rattle.srt_lobby.specs.Names.{RouteName, AreDistinct, shown}
@@ -11,22 +11,30 @@ opened round [] names = names
 opened round (s ∷ schedules) [] = []
 opened round (s ∷ schedules) (name ∷ names) = (if s.open_round == round then shown name.text else name) ∷ opened round schedules names
 
+-- the names after those that open in a round are shown: none, in a round that closes all
+abbrev pub opened_if : (closes_all : Bool) (round : ℕ) → List Schedule → List RouteName → List RouteName
+opened_if closes_all round schedules names = if closes_all then names else opened round schedules names
+
 -- whether the round of a route's closing has come
 abbrev pub has_come : (round : ℕ) → Option ℕ → Bool
 has_come round (Some close_round) = nat_le close_round round
 has_come round None = false
 
--- the indexes of the shown routes whose round of closing has come; the first name has this index
-abbrev pub due_from : (index round : ℕ) → List Schedule → List RouteName → List ℕ
-due_from index round [] names = []
-due_from index round (s ∷ schedules) [] = []
-due_from index round (s ∷ schedules) (name ∷ names) =
-    if has_come round s.close_round && name.is_shown
-    then index ∷ due_from (suc index) round schedules names else due_from (suc index) round schedules names
+-- whether a route is closed in this round, if it is shown: the round closes all, or that of the route's closing has come
+abbrev pub is_due : (closes_all : Bool) (round : ℕ) → Option ℕ → Bool
+is_due closes_all round close_round = closes_all || has_come round close_round
 
--- the routes that are offered Close in this round
-abbrev pub due : (round : ℕ) → List Schedule → List RouteName → List ℕ
-due round schedules names = due_from 0 round schedules names
+-- the indexes of the shown routes that are closed in this round; the first name has this index, and there is a schedule for each name
+abbrev pub due_from : (index : ℕ) (closes_all : Bool) (round : ℕ) → List Schedule → List RouteName → List ℕ
+due_from index closes_all round [] names = []
+due_from index closes_all round (s ∷ schedules) [] = []
+due_from index closes_all round (s ∷ schedules) (name ∷ names) =
+    if is_due closes_all round s.close_round && name.is_shown
+    then index ∷ due_from (suc index) closes_all round schedules names else due_from (suc index) closes_all round schedules names
+
+-- the routes that are offered Close in this round: the shown ones whose round of closing has come, or all shown ones
+abbrev pub due : (closes_all : Bool) (round : ℕ) → List Schedule → List RouteName → List ℕ
+due closes_all round schedules names = due_from 0 closes_all round schedules names
 
 -- a route that was offered Close, and whether its inbox accepted it
 pub record CloseOffer : Type 0 where
@@ -47,8 +55,8 @@ abbrev pub closed : List CloseOffer → List RouteName → List RouteName
 closed offers names = fold hidden_by names offers
 
 -- the names as they are after the beginning of a round
-abbrev pub begun : (round : ℕ) → List Schedule → List CloseOffer → List RouteName → List RouteName
-begun round schedules offers names = closed offers (opened round schedules names)
+abbrev pub begun : (closes_all : Bool) (round : ℕ) → List Schedule → List CloseOffer → List RouteName → List RouteName
+begun closes_all round schedules offers names = closed offers (opened_if closes_all round schedules names)
 
 -- no two routes have the same name, whether they are shown or not
 abbrev pub AllDiffer : List RouteName → Type 0

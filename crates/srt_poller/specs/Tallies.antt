@@ -58,7 +58,7 @@ puts_off Failed = 0
 
 abbrev pub gives_up : Event → ℕ
 gives_up (Answers arrival bytes sent) = puts_off sent
-gives_up (Begins moment offers) = 0
+gives_up (Begins closes_all moment offers) = 0
 gives_up Waits = 0
 gives_up WaitFails = 0
 gives_up ReadsNothing = 0

@@ -2,7 +2,7 @@
 
 ghost use Rattle.std.specs.Prelude.{◌≡◌, ◌<◌, ◌≤◌, ◌+◌, ◌^◌, ℕ, true, max, length};
 ghost use Rattle.srt_lobby.specs.Names.{names_of};
-ghost use Rattle.srt_poller.specs.Schedules.{offered, has_come, opened, AllDiffer};
+ghost use Rattle.srt_poller.specs.Schedules.{offered, is_due, opened, AllDiffer};
 ghost use Rattle.srt_poller.specs.Doors.{all_shown, RouteRests, RestBetween, Closes, AreClosed, Began};
 
 use crate::ends::Ends;
@@ -38,31 +38,34 @@ pub(crate) struct Doors<'a> {
     // one for each route, in the order of their indexes
     schedules: &'a [Schedule],
     // the first round in which a route may have to be shown or closed
-    due: u32,
+    due: u64,
     /// The latest arrival so far; a Close is given this moment.
     pub(crate) latest: Latest,
 }
 
-// Whether the round of a route's closing has come.
-fn is_over(schedule: &Schedule, round: u32) -> bool
-    ensures { result ≡ has_come round schedule.now.close_round }
+// Whether a route is closed in this round, if it is shown: the round closes all, or that of the route's closing has come.
+fn is_over(schedule: &Schedule, round: u64, closes_all: bool) -> bool
+    ensures { result ≡ is_due closes_all round schedule.now.close_round }
 {
     match schedule.close_round {
-        Some(close_round) => close_round <= round,
-        None => false,
+        Some(close_round) => closes_all | (close_round as u64 <= round),
+        None => closes_all,
     }
 }
 
-// The first round after this one in which a route may have to be shown or closed; 2^32 - 1 if there is none.
-fn next_of(schedule: &Schedule, is_shown: bool, round: u32) -> u32
+// The first round after this one in which a route may have to be shown or closed, if the rounds until then don't close
+// all; 2^64 - 1 if there is none.
+fn next_of(schedule: &Schedule, is_shown: bool, round: u64) -> u64
     ensures { (k : ℕ) → round < k → k < result → RouteRests k schedule.now is_shown }
 {
-    let mut next = u32::MAX;
-    if schedule.open_round > round {
-        next = schedule.open_round;
+    let mut next = u64::MAX;
+    let open_round = schedule.open_round as u64;
+    if open_round > round {
+        next = open_round;
     }
     match schedule.close_round {
         Some(close_round) => {
+            let close_round = close_round as u64;
             if close_round > round {
                 next.min(close_round)
             } else if is_shown {
@@ -90,14 +93,14 @@ impl<'a> Doors<'a> {
     }
 
     // Shows the routes that open in this round.
-    fn open(&self, names: &mut Names, round: u32)
+    fn open(&self, names: &mut Names, round: u64)
         requires known { length self.now.schedules.now ≡ length (names_of names.old) }
         requires differ { AllDiffer (names_of names.old) }
         ensures { names_of names.new ≡ opened round self.now.schedules.now (names_of names.old) }
     {
         let mut route = 0;
         for schedule in self.schedules {
-            if schedule.open_round == round {
+            if schedule.open_round as u64 == round {
                 names.show(route);
             }
             route += 1;
@@ -125,34 +128,37 @@ impl<'a> Doors<'a> {
         true
     }
 
-    // Offers Close to each shown route whose round of closing has come, in the order of their indexes.
+    // Offers Close to each shown route whose round of closing has come, or to each shown one, in the order of their
+    // indexes.
     fn close<R: Wait, G: Signals>(
         &self,
         rt: &R,
         signals: &G,
         names: &mut Names,
         ends: &mut [Ends],
-        round: u32,
+        round: u64,
+        closes_all: bool,
     )
         requires known { length self.now.schedules.now ≡ length (names_of names.old) }
         requires ends { length ends.old ≡ length (names_of names.old) }
-        ensures { AreClosed self.now.latest.moment round self.now.schedules.now (names_of names.old) (names_of names.new) ends.old ends.new }
+        ensures { AreClosed closes_all self.now.latest.moment round self.now.schedules.now (names_of names.old) (names_of names.new) ends.old ends.new }
     {
         let mut route = 0;
         for schedule in self.schedules {
-            if is_over(schedule, round) && names.shows(route) {
+            if is_over(schedule, round, closes_all) && names.shows(route) {
                 let _ = self.close_one(rt, signals, names, ends, route);
             }
             route += 1;
         }
     }
 
-    // The first round after this one in which a route may have to be shown or closed; 2^32 - 1 if there is none.
-    fn next_due(&self, names: &Names, round: u32) -> u32
+    // The first round after this one in which a route may have to be shown or closed, if the rounds until then don't
+    // close all; 2^64 - 1 if there is none.
+    fn next_due(&self, names: &Names, round: u64) -> u64
         requires { length self.now.schedules.now ≡ length (names_of names.now) }
         ensures { RestBetween (round + 1) result self.now.schedules.now (names_of names.now) }
     {
-        let mut next = u32::MAX;
+        let mut next = u64::MAX;
         let mut route = 0;
         for schedule in self.schedules {
             next = next.min(next_of(schedule, names.shows(route), round));
@@ -161,10 +167,31 @@ impl<'a> Doors<'a> {
         next
     }
 
+    // Begins a round that closes all.
+    fn close_all<R: Wait, G: Signals>(
+        &mut self,
+        rt: &R,
+        signals: &G,
+        names: &mut Names,
+        ends: &mut [Ends],
+        round: u64,
+    )
+        requires known { length self.old.schedules.now ≡ length (names_of names.old) }
+        requires ends { length ends.old ≡ length (names_of names.old) }
+        ensures began { Began true round self.old.latest.moment self.old.schedules.now (names_of names.old) (names_of names.new) ends.old ends.new }
+        ensures texts { all_shown (names_of names.new) ≡ all_shown (names_of names.old) }
+        ensures rest { RestBetween (round + 1) self.new.due self.old.schedules.now (names_of names.new) }
+        ensures schedules { self.new.schedules ≡ self.old.schedules }
+        ensures latest { self.new.latest ≡ self.old.latest }
+    {
+        self.close(rt, signals, names, ends, round, true);
+        self.due = self.next_due(names, round);
+    }
+
     /// Begins a round: shows the routes that open in it, and then offers Close to each shown route whose round of
     /// closing has come, in the order of their indexes. A route whose inbox accepts it is hidden; one whose inbox is
-    /// full is offered it again in the next round. Costs one comparison in a round with nothing to do, else some for
-    /// each route.
+    /// full is offered it again in the next round. If the round closes all, none opens, and each shown route is closed
+    /// so. Costs two comparisons in a round with nothing to do, else some for each route.
     #[inline(always)]
     pub(crate) fn begin<R: Wait, G: Signals>(
         &mut self,
@@ -172,23 +199,28 @@ impl<'a> Doors<'a> {
         signals: &G,
         names: &mut Names,
         ends: &mut [Ends],
-        round: u32,
+        round: u64,
+        closes_all: bool,
     )
         requires known { length self.old.schedules.now ≡ length (names_of names.old) }
         requires ends { length ends.old ≡ length (names_of names.old) }
         requires differ { AllDiffer (names_of names.old) }
         requires rest { RestBetween round self.old.due self.old.schedules.now (names_of names.old) }
-        ensures began { Began round self.old.latest.moment self.old.schedules.now (names_of names.old) (names_of names.new) ends.old ends.new }
+        ensures began { Began closes_all round self.old.latest.moment self.old.schedules.now (names_of names.old) (names_of names.new) ends.old ends.new }
         ensures texts { all_shown (names_of names.new) ≡ all_shown (names_of names.old) }
         ensures rest { RestBetween (round + 1) self.new.due self.old.schedules.now (names_of names.new) }
         ensures schedules { self.new.schedules ≡ self.old.schedules }
         ensures latest { self.new.latest ≡ self.old.latest }
     {
+        if closes_all {
+            self.close_all(rt, signals, names, ends, round);
+            return;
+        }
         if round < self.due {
             return;
         }
         self.open(names, round);
-        self.close(rt, signals, names, ends, round);
+        self.close(rt, signals, names, ends, round, false);
         self.due = self.next_due(names, round);
     }
 }

@@ -4,11 +4,12 @@
 //! (`srt_lobby` does) nor what a route replies (`srt_route`), and it serves no route (`srt_mailbox`).
 //!
 //! Types: a `Source` gives datagrams and a `Wire` takes them; `Ends` are the poller's ends of one route's queues; a
-//! `Report` has the counts; `Signals` are hints that save looks at empty outboxes. Devices in memory are
+//! `Report` has the counts; `Signals` are what is asked of a poller before a round (`Asked`), and hints that save looks
+//! at empty outboxes. Devices in memory are
 //! `SourceScript`, `WireScript` and `ClockScript`; `MioSource` and `MioWire` share one UDP socket.
 //!
 //! Calls: open the routes (`srt_mailbox::open_route`), hide those that open later (`srt_lobby::Names::hide`), bind or
-//! make the devices, then `pump` once for n rounds; or `pump_under`, with hints. Routes are shown and closed at the
+//! make the devices, then `pump` once for n rounds; or `pump_under`, until it is asked to end. Routes are shown and closed at the
 //! beginning of the rounds that their `srt_seq::Schedule` names.
 //!
 //! Files: the beginning of a round is in `beginning.rt`, its other steps are in `poller.rt` (limits, the reply that is
@@ -39,7 +40,7 @@ pub use report::Report;
 pub use scripts::{
     ClockScript, ScriptDatagram, SentDatagram, SourceScript, SourceStep, WireScript,
 };
-pub use signals::{Signals, Unsignalled};
+pub use signals::{Asked, Signals, Unsignalled};
 pub use sockets::{BindFault, MioSource, MioWire};
 pub use srt_mailbox::{Gate, Ungated};
 

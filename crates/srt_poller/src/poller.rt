@@ -68,6 +68,23 @@ pub(crate) struct Poller {
     left: bool,
 }
 
+// Tells a send that failed.
+#[inline(always)]
+fn tell_failure<G: Signals>(signals: &G, sent: Sent) {
+    match sent {
+        Sent::Failed => signals.failed(),
+        Sent::Taken | Sent::Later => {}
+    }
+}
+
+// Tells a reply that is a handshake.
+#[inline(always)]
+fn tell_handshake<G: Signals>(signals: &G, route: usize, peer: Peer, reply: &[u8]) {
+    if let [0x80, 0, 0, 0, ..] = reply {
+        signals.replied(route, peer, reply);
+    }
+}
+
 impl Poller {
     ghost use Rattle.srt_lobby.specs.declared.classes.Class.TheVariants.{Route};
     ghost use Rattle.srt_poller.specs.declared.ends.Ends.{Ends as TheEnds};
@@ -97,7 +114,7 @@ impl Poller {
 
     /// Sends the kept reply again, if there is one.
     #[inline(always)]
-    pub(crate) fn resend<W: Wire>(&mut self, wire: &mut W)
+    pub(crate) fn resend<W: Wire, G: Signals>(&mut self, signals: &G, wire: &mut W)
         ensures { (ends : List TheEnds) →
             Resent (begun_phase self.old) (sending (carried (W.handed wire.old) (W.attempts wire.old)) ends self.old)
             (sending (carried (W.handed wire.new) (W.attempts wire.new)) ends self.new) }
@@ -106,6 +123,7 @@ impl Poller {
             return;
         };
         let sent = wire.send(kept.peer, &self.text[..kept.len]);
+        tell_failure(signals, sent);
         self.report.count_reply(sent);
         match sent {
             Sent::Later => {}
@@ -115,7 +133,7 @@ impl Poller {
 
     /// Waits for datagrams. False if the wait failed.
     #[inline(always)]
-    fn wait<S: Source>(&mut self, source: &mut S) -> bool
+    fn wait<S: Source, G: Signals>(&mut self, signals: &G, source: &mut S) -> bool
         ensures ready { result ≡ true →
             Waited (waiting (heard (S.gave source.old) (S.calls source.old)) self.old) (waiting (heard (S.gave source.new) (S.calls source.new)) self.new) }
         ensures failed { result ≡ false →
@@ -124,6 +142,7 @@ impl Poller {
         match source.wait() {
             Polled::Ready => true,
             Polled::Failed => {
+                signals.failed();
                 self.report.count_fault();
                 false
             }
@@ -176,6 +195,8 @@ impl Poller {
         match classify(secret, names, incoming.peer, bytes, incoming.moment) {
             Class::Answer(answer) => {
                 let sent = wire.send(incoming.peer, &answer);
+                context.signals.answered(incoming.peer, bytes, &answer);
+                tell_failure(context.signals, sent);
                 self.report.count_answer(sent);
             }
             Class::Dropped(_) => self.report.count_dropped(),
@@ -200,7 +221,7 @@ impl Poller {
             (listening (heard (S.gave source.new) (S.calls source.new)) (carried (W.handed wire.new) (W.attempts wire.new)) ends.new self.new)
             latest.old.moment latest.new.moment }
     {
-        if !self.wait(source) {
+        if !self.wait(context.signals, source) {
             return;
         }
         for came in 0..256u32 {
@@ -215,6 +236,7 @@ impl Poller {
                     return;
                 }
                 Read::Failed => {
+                    context.signals.failed();
                     self.report.count_fault();
                     context.signals.read_ended(came);
                     return;
@@ -226,9 +248,9 @@ impl Poller {
 
     /// Takes a reply from an outbox and sends it. No reply may be kept.
     #[inline(always)]
-    fn drain_one<R: Wait, W: Wire>(
+    fn drain_one<R: Wait, W: Wire, G: Signals>(
         &mut self,
-        rt: &R,
+        context: &Context<R, G>,
         wire: &mut W,
         ends: &mut [Ends],
         route: usize,
@@ -242,13 +264,15 @@ impl Poller {
         ensures none { result ≡ Empty → self.new.kept ≡ None }
     {
         let end = &mut ends[route];
-        let Ok(()) = end.drain.take(rt) else {
+        let Ok(()) = end.drain.take(context.rt) else {
             return Drained::Empty;
         };
         self.bodies.keep(end.drain.take_body());
         let reply = end.drain.reply();
         let peer = reply.peer;
         let sent = wire.send(peer, reply.packet.bytes());
+        tell_handshake(context.signals, route, peer, reply.packet.bytes());
+        tell_failure(context.signals, sent);
         self.report.count_reply(sent);
         match sent {
             Sent::Taken | Sent::Failed => Drained::Gone,
@@ -281,7 +305,7 @@ impl Poller {
             return true;
         }
         for _ in 0..64u32 {
-            match self.drain_one(context.rt, wire, ends, route) {
+            match self.drain_one(context, wire, ends, route) {
                 Drained::Gone => {}
                 Drained::Empty => return true,
                 Drained::Kept => {

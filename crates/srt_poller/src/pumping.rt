@@ -1,11 +1,12 @@
 //! The poller's rounds.
 
-ghost use Rattle.std.specs.Prelude.{◌≡◌, ◌≤◌, ◌⊎◌, length};
-ghost use Rattle.srt_poller.specs.Schedules.{AllDiffer};
+ghost use Rattle.std.specs.Prelude.{◌≡◌, ◌+◌, ◌^◌, ◌<◌, ◌≤◌, ◌⊎◌, true, false, IfSome, IfNone, length};
 ghost use Rattle.srt_lobby.specs.Names.{names_of};
-ghost use Rattle.srt_poller.specs.Pollers.{sorting};
+ghost use Rattle.srt_poller.specs.Schedules.{AllDiffer};
+ghost use Rattle.srt_poller.specs.Pollers.{sorting, turn, listening, Rounds};
 ghost use Rattle.srt_poller.specs.Devices.{heard, carried};
-ghost use Rattle.srt_poller.specs.Pumped.{Pumped, before, after};
+ghost use Rattle.srt_poller.specs.Doors.{RestBetween};
+ghost use Rattle.srt_poller.specs.Pumped.{Pumped, PumpedUnder, before, after};
 
 use crate::beginning::Doors;
 use crate::context::{Context, Lobby};
@@ -13,7 +14,7 @@ use crate::devices::{Source, Wire};
 use crate::ends::Ends;
 use crate::poller::Poller;
 use crate::report::Report;
-use crate::signals::{Signals, Unsignalled};
+use crate::signals::{Asked, Signals, Unsignalled};
 use srt_cookie::Secret;
 use srt_lobby::Names;
 use srt_seq::Schedule;
@@ -26,7 +27,7 @@ pub struct Pumping {
     /// The counts.
     pub report: Report,
     /// The number of rounds that were made.
-    pub rounds: u32,
+    pub rounds: u64,
 }
 
 /// Does `rounds` rounds and returns the counts. `schedules` and `ends` are those of the routes of `names`, in the order
@@ -72,15 +73,16 @@ pub fn pump<R: Wait, S: Source, W: Wire>(
         source,
         wire,
         ends,
-        rounds,
+        rounds as u64,
         &Unsignalled,
     );
     pumping.report
 }
 
-/// As `pump`, with hints, and with fewer rounds if `goes_on` returns false before one: then that is the end. A route
-/// whose outbox has nothing by the hints is passed over, except in every 64th round, the first among them, and in the
-/// round after one that left an outbox before it was found empty.
+/// As `pump`, but before each round the poller is asked whether it is made, whether it closes all, or whether that is the
+/// end (`Asked`), and there are hints. A round that closes all shows no route, and offers `Close` to each shown one. A
+/// route whose outbox has nothing by the hints is passed over, except in every 64th round, the first among them, and in
+/// the round after one that left an outbox before it was found empty.
 pub fn pump_under<R: Wait, S: Source, W: Wire, G: Signals>(
     rt: &R,
     alloc: Global,
@@ -90,13 +92,14 @@ pub fn pump_under<R: Wait, S: Source, W: Wire, G: Signals>(
     source: &mut S,
     wire: &mut W,
     ends: &mut [Ends],
-    rounds: u32,
+    rounds: u64,
     signals: &G,
 ) -> Pumping
     requires ends { length ends.old ≡ length (names_of names.old) }
     requires schedules { length schedules.now ≡ length (names_of names.old) }
     requires differ { AllDiffer (names_of names.old) }
-    ensures pumped { Pumped (sorting secret.now) schedules.now result.rounds
+    requires few { rounds ≤ 2 ^ 48 }
+    ensures pumped { PumpedUnder (G.goes signals.now) (G.closes signals.now) (sorting secret.now) schedules.now result.rounds
         (before (names_of names.old) (heard (S.gave source.old) (S.calls source.old)) (carried (W.handed wire.old) (W.attempts wire.old)) ends.old)
         (after (names_of names.new) (heard (S.gave source.new) (S.calls source.new)) (carried (W.handed wire.new) (W.attempts wire.new)) ends.new result.report) }
     ensures rounds { result.rounds ≤ rounds }
@@ -104,15 +107,74 @@ pub fn pump_under<R: Wait, S: Source, W: Wire, G: Signals>(
 {
     let mut poller = Poller::new(alloc);
     let mut doors = Doors::new(schedules);
-    for round in 0..rounds {
-        if !signals.goes_on() {
-            let counts = poller.report();
-            return Pumping {
-                report: counts,
-                rounds: round,
-            };
-        }
-        doors.begin(rt, signals, names, ends, round);
+    let made = pump_from(
+        rt,
+        alloc,
+        secret,
+        names,
+        source,
+        wire,
+        ends,
+        &mut doors,
+        &mut poller,
+        0,
+        rounds,
+        signals,
+    );
+    Pumping {
+        report: poller.report(),
+        rounds: made,
+    }
+}
+
+// Whether the next round closes all. `None` if that is the end.
+#[inline(always)]
+fn ask<G: Signals>(signals: &G) -> Option<bool>
+    ensures round { IfSome result (λ closes_all. (closes_all ≡ false → G.goes signals.now) × (closes_all ≡ true → G.closes signals.now)) }
+    ensures end { IfNone result (G.stops signals.now) }
+{
+    match signals.asked() {
+        Asked::GoOn => Some(false),
+        Asked::CloseAll => Some(true),
+        Asked::End => None,
+    }
+}
+
+/// Makes at most `rounds` rounds, and returns how many were made. The first has the number `first`.
+#[inline(always)]
+pub(crate) fn pump_from<R: Wait, S: Source, W: Wire, G: Signals>(
+    rt: &R,
+    alloc: Global,
+    secret: &Secret,
+    names: &mut Names,
+    source: &mut S,
+    wire: &mut W,
+    ends: &mut [Ends],
+    doors: &mut Doors,
+    poller: &mut Poller,
+    first: u64,
+    rounds: u64,
+    signals: &G,
+) -> u64
+    requires ends { length ends.old ≡ length (names_of names.old) }
+    requires schedules { length doors.old.schedules.now ≡ length (names_of names.old) }
+    requires differ { AllDiffer (names_of names.old) }
+    requires rest { RestBetween first doors.old.due doors.old.schedules.now (names_of names.old) }
+    requires fits { first + rounds < 2 ^ 64 }
+    ensures went { Rounds (G.goes signals.now) (G.closes signals.now) (sorting secret.now) doors.old.schedules.now result (length ends.old)
+        (listening (heard (S.gave source.old) (S.calls source.old)) (carried (W.handed wire.old) (W.attempts wire.old)) ends.old poller.old
+        (turn (names_of names.old) first doors.old.latest.moment))
+        (listening (heard (S.gave source.new) (S.calls source.new)) (carried (W.handed wire.new) (W.attempts wire.new)) ends.new poller.new
+        (turn (names_of names.new) (first + result) doors.new.latest.moment)) }
+    ensures rounds { result ≤ rounds }
+    ensures whole { (result ≡ rounds) ⊎ G.stops signals.now }
+{
+    for made in 0..rounds {
+        let Some(closes_all) = ask(signals) else {
+            return made;
+        };
+        let round = first + made;
+        doors.begin(rt, signals, names, ends, round, closes_all);
         let due = round % 64 == 0;
         let context = Context {
             rt,
@@ -124,13 +186,9 @@ pub fn pump_under<R: Wait, S: Source, W: Wire, G: Signals>(
             signals,
             all: due | poller.looks_at_all(),
         };
-        poller.resend(wire);
+        poller.resend(signals, wire);
         poller.listen(&context, source, wire, ends, &mut doors.latest);
         poller.drain(&context, wire, ends);
     }
-    let all = poller.report();
-    Pumping {
-        report: all,
-        rounds,
-    }
+    rounds
 }

@@ -1,16 +1,41 @@
-//! Hints between a poller and the threads that serve the routes.
+//! Hints between a poller and the threads that serve the routes, and what a poller is asked before a round.
 
-/// Hints, in both directions, and whether the rounds go on. No other contract depends on them: a wrong hint makes
-/// replies leave up to 64 rounds later, and loses nothing. Calls come from the poller's thread.
+ghost use Rattle.std.specs.Prelude.{◌≡◌};
+
+use srt_seq::Peer;
+
+/// What a poller is asked before a round.
+#[derive(Clone, Copy, Debug, PartialEq, Eq)]
+pub enum Asked {
+    /// To make the round.
+    GoOn,
+    /// To make the round, and to close all routes in it: nothing opens, and Close is offered to each shown route.
+    CloseAll,
+    /// To end now, without the round.
+    End,
+}
+
+/// What is asked of a poller, and hints in both directions. No contract but those of the rounds that are made depends on
+/// what is asked, and none on a hint: a wrong one makes replies leave up to 64 rounds later, and loses nothing. Calls
+/// come from the poller's thread.
 pub trait Signals {
-    ghost use Rattle.std.specs.Prelude.{◌≡◌, false};
+    ghost use Rattle.std.specs.Prelude.{◌≡◌};
+    ghost use Rattle.srt_poller.specs.declared.signals.Asked.TheVariants.{GoOn, CloseAll, End};
 
-    /// What is known once `goes_on` has returned false. It may be nothing.
+    /// What is known once `asked` has returned `GoOn`. It may be nothing.
+    ghost goes: { Self → Type 0 };
+
+    /// What is known once `asked` has returned `CloseAll`. It may be nothing.
+    ghost closes: { Self → Type 0 };
+
+    /// What is known once `asked` has returned `End`. It may be nothing.
     ghost stops: { Self → Type 0 };
 
-    /// Whether another round is made; asked before each one.
-    fn goes_on(&self) -> bool
-        ensures { result ≡ false → stops self.now };
+    /// What is asked of the poller; called before each round, the first among them.
+    fn asked(&self) -> Asked
+        ensures goes { result ≡ GoOn → goes self.now }
+        ensures closes { result ≡ CloseAll → closes self.now }
+        ensures stops { result ≡ End → stops self.now };
 
     /// The inbox of the route with this index accepted a datagram.
     fn offered(&self, route: usize);
@@ -24,17 +49,32 @@ pub trait Signals {
 
     /// The least index from this one on for which `may_have` may return true; the route count or more if there is none.
     fn next_from(&self, route: usize) -> usize;
+
+    /// The lobby answered this datagram of this peer, and the answer was handed to the wire or lost. Called for every
+    /// answer.
+    fn answered(&self, peer: Peer, datagram: &[u8], answer: &[u8]);
+
+    /// A handshake, whose first word is 0x80000000, was taken from the outbox of the route with this index, for this
+    /// peer, and was handed to the wire, lost or kept.
+    fn replied(&self, route: usize, peer: Peer, handshake: &[u8]);
+
+    /// A wait, a read or a send failed: what the report counts as a fault.
+    fn failed(&self);
 }
 
-/// No hints: all rounds are made, and every outbox may have a reply, so each round looks at all of them.
+/// No hints: all rounds are made, none closes all, and every outbox may have a reply, so each round looks at all of them.
 #[derive(Clone, Copy, Debug, PartialEq, Eq)]
 pub struct Unsignalled;
 
 impl Signals for Unsignalled {
+    ghost goes = { λ s. Unit {0} };
+
+    ghost closes = { λ s. ⊥ };
+
     ghost stops = { λ s. ⊥ };
 
-    fn goes_on(&self) -> bool {
-        true
+    fn asked(&self) -> Asked {
+        Asked::GoOn
     }
 
     fn offered(&self, _route: usize) {}
@@ -48,4 +88,10 @@ impl Signals for Unsignalled {
     fn next_from(&self, route: usize) -> usize {
         route
     }
+
+    fn answered(&self, _peer: Peer, _datagram: &[u8], _answer: &[u8]) {}
+
+    fn replied(&self, _route: usize, _peer: Peer, _handshake: &[u8]) {}
+
+    fn failed(&self) {}
 }

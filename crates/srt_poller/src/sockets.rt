@@ -32,9 +32,10 @@ const NAP: i64 = 100_000;
 /// Why a socket could not be bound. Nothing is kept then. Its text is the line that the program prints.
 #[derive(Clone, Copy, Debug, Error, PartialEq, Eq)]
 pub enum BindFault {
-    /// The system refused a socket at this address, or refused to poll it.
+    /// The system refused a socket at this address, or refused to poll it: the number of its error, if it gave one.
+    /// `std::io::Error::from_raw_os_error` has its words.
     #[error("socket fault")]
-    Socket,
+    Socket(Option<i32>),
     /// Memory was refused.
     #[error("memory")]
     OutOfMemory,
@@ -173,19 +174,18 @@ impl<C: Clock> MioSource<C> {
         ensures source { IfOk result (λ r. ⟦<MioSource<C> as Source>⟧.failures r.0 ≡ 0) }
         ensures wire { IfOk result (λ r. ⟦<MioWire as Wire>⟧.failures r.1 ≡ 0) }
     {
-        let Ok(mut socket) = UdpSocket::bind(net, SocketAddr::V4(addr)) else {
-            return Err(BindFault::Socket);
+        let mut socket = match UdpSocket::bind(net, SocketAddr::V4(addr)) {
+            Ok(socket) => socket,
+            Err(error) => return Err(BindFault::Socket(error.raw_os_error())),
         };
         ask_for_room(&socket);
-        let Ok(poll) = Poll::new(net) else {
-            return Err(BindFault::Socket);
+        let poll = match Poll::new(net) {
+            Ok(poll) => poll,
+            Err(error) => return Err(BindFault::Socket(error.raw_os_error())),
         };
-        if poll
-            .registry()
-            .register(&mut socket, Token(0), Interest::READABLE)
-            .is_err()
-        {
-            return Err(BindFault::Socket);
+        let registry = poll.registry();
+        if let Err(error) = registry.register(&mut socket, Token(0), Interest::READABLE) {
+            return Err(BindFault::Socket(error.raw_os_error()));
         }
         let Ok(events) = Events::with_capacity(alloc, 4) else {
             return Err(BindFault::OutOfMemory);

@@ -2,7 +2,7 @@ use Rattle.std.proofs.Common.{◌≡◌, ◌∙◌, ◌&&◌, Bool, true, false,
 use Rattle.std.proofs.lemmas.Option.{slice_get-get_or}
 use Rattle.srt_seq.specs.declared.shared.Schedule.{Schedule}
 use Rattle.srt_lobby.specs.Names.{RouteName, names_of, is_shown_at}
-use Rattle.srt_poller.specs.Schedules.{offered, has_come}
+use Rattle.srt_poller.specs.Schedules.{offered, is_due}
 use Rattle.srt_poller.proofs.Openings.{no_schedule, closed_none, closed_skip, closed_more, below_both, hidden_stays}
 use Rattle.srt_poller.proofs.beginning.Doors.close.Goals.{then-is_over+then-shows, else-is_over, else-is_over-via-then-is_over+else-shows, else-is_over-via-else-is_over}
 use Rattle.srt_poller.proofs.beginning.Doors.close.Goals as goal
@@ -18,7 +18,7 @@ first_fails : (a b : Bool) → a ≡ false → (a && b) ≡ false
 first_fails a b p = rw p refl
 
 pub loop-schedule-init : goal.loop-schedule-init
-loop-schedule-init g c = (refl, closed_none c.args.self.now.latest.moment c.args.round (names_of c.args.names.now) c.args.ends.now, λ k le. refl)
+loop-schedule-init g c = (refl, closed_none c.args.closes_all c.args.self.now.latest.moment c.args.round (names_of c.args.names.now) c.args.ends.now, λ k le. refl)
 
 pub close_one-requires-clause-known : goal.close_one-requires-clause-known
 close_one-requires-clause-known g c =
@@ -36,17 +36,17 @@ loop-schedule-preserved g c =
     elim c.if-is_over.branch [
       | then-is_over+then-shows w ↦ (
         omega (arith, c.loop-schedule.invariant.0),
-        rw (w.names-is, w.ends-is) (closed_more c.args.self.now.latest.moment c.args.round r w.close_one.result ss s ns now _ _ _ _ h c.requires.known here
+        rw (w.names-is, w.ends-is) (closed_more c.args.closes_all c.args.self.now.latest.moment c.args.round r w.close_one.result ss s ns now _ _ _ _ h c.requires.known here
             (both_hold _ _ (sym c.is_over.ensures ∙ w.if-is_over.true) (sym w.shows.ensures ∙ w.if-shows.true)) c.loop-schedule.invariant.1 w.close_one.ensures),
         λ k le. ap (λ (l : List RouteName). slice_get l k) (ap names_of w.names-is ∙ w.close_one.ensures.0) ∙ hidden_stays (offered r w.close_one.result) now k (omega (arith, le)) ∙ c.loop-schedule.invariant.2 k (omega (arith, le)),
       )
       | else-is_over w ↦
-          let rests : (has_come c.args.round s.close_round && is_shown_at now r) ≡ false = elim w.else-is_over.branch [
+          let rests : (is_due c.args.closes_all c.args.round s.close_round && is_shown_at now r) ≡ false = elim w.else-is_over.branch [
             | else-is_over-via-then-is_over+else-shows u ↦ second_fails _ _ (sym u.shows.ensures ∙ u.if-shows.false)
             | else-is_over-via-else-is_over u ↦ first_fails _ _ (sym c.is_over.ensures ∙ u.if-is_over.false)
           ] in (
             omega (arith, c.loop-schedule.invariant.0),
-            rw (w.names-is, w.ends-is) (closed_skip c.args.self.now.latest.moment c.args.round r ss s ns now _ _ h c.requires.known here rests c.loop-schedule.invariant.1),
+            rw (w.names-is, w.ends-is) (closed_skip c.args.closes_all c.args.self.now.latest.moment c.args.round r ss s ns now _ _ h c.requires.known here rests c.loop-schedule.invariant.1),
             λ k le. ap (λ (l : List RouteName). slice_get l k) (ap names_of w.names-is) ∙ c.loop-schedule.invariant.2 k (omega (arith, le)),
           )
     ]

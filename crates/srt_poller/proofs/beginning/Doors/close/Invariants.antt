@@ -6,5 +6,5 @@ use Rattle.srt_poller.proofs.beginning.Doors.close.Given as goal
 abbrev pub invariant-loop-schedule : goal.invariant-loop-schedule
 invariant-loop-schedule g l =
     (l.route ≡ l.schedule-index)
-    × AreClosed l.self.latest.moment l.round (take l.route l.self.schedules.now) (names_of l.fn.names) (names_of l.names) l.fn.ends l.ends
+    × AreClosed l.closes_all l.self.latest.moment l.round (take l.route l.self.schedules.now) (names_of l.fn.names) (names_of l.names) l.fn.ends l.ends
     × ((k : ℕ) → l.route ≤ k → slice_get (names_of l.names) k ≡ slice_get (names_of l.fn.names) k)

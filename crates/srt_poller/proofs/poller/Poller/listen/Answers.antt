@@ -1,6 +1,6 @@
-use Rattle.std.proofs.Common.{◌≡◌, ◌+◌, ℕ, suc, refl, sym, subst, List, arith}
+use Rattle.std.proofs.Common.{◌≡◌, ◌+◌, suc, refl, subst, arith}
 use Rattle.srt_poller.specs.Devices.{Heard, heard, carried}
-use Rattle.srt_poller.specs.History.{Phase, Reading, Sending, reading, ReadsNothing, ReadFails}
+use Rattle.srt_poller.specs.History.{Phase, Reading, reading, ReadsNothing, ReadFails}
 use Rattle.srt_poller.specs.Pollers.{sorted_by, named_in, turn, world_of}
 use Rattle.srt_poller.specs.Rounds.{World, Went}
 use Rattle.srt_poller.proofs.Steps.{are_later_none, unsent, heard_as, reading_below, went_one, went_then, went_more}
