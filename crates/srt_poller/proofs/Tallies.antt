@@ -1,27 +1,11 @@
 -- The sums of a report are those of the devices' records.
-use Rattle.std.proofs.Common.{◌≡◌, ℕ, ◌+◌, Option, None, Some, List, [], ◌∷◌, ◌++◌, refl, sym, ap, ◌∙◌, arith, add_assoc, zero-add}
+use Rattle.std.proofs.Common.{◌≡◌, ℕ, ◌+◌, Option, None, Some, List, [], ◌∷◌, ◌++◌, refl, sym, ap, ◌∙◌, arith}
+use Rattle.std.proofs.lemmas.List.Sums.{sum_by-append, sum_by-cons}
 use Rattle.srt_poller.specs.declared.devices.Sent.TheVariants.{Taken, Later, Failed}
 use Rattle.srt_poller.specs.declared.report.Report.{Report}
-use Rattle.srt_poller.specs.Devices.{Attempt, Call}
 use Rattle.srt_poller.specs.History.{Event, Begins, Waits, WaitFails, ReadsNothing, ReadFails, Answers, Accepts, Overflows, Refuses, Drops, Sends, Resends, Kept, kept_after, calls_by, calls, attempts_by, attempts}
 use Rattle.srt_poller.specs.Reports.{part, total}
 use Rattle.srt_poller.specs.Tallies.{gives, given_in, fails, faults_in, takes, taken_in, loses, failed_in, gives_up, put_off_in, one_kept, TalliesWith}
-
-given_append : (xs ys : List Call) → given_in (xs ++ ys) ≡ given_in xs + given_in ys
-given_append [] ys = sym (zero-add (given_in ys))
-given_append (x ∷ xs) ys = ap (λ n. gives x + n) (given_append xs ys) ∙ sym (add_assoc (gives x) (given_in xs) (given_in ys))
-
-faults_append : (xs ys : List Call) → faults_in (xs ++ ys) ≡ faults_in xs + faults_in ys
-faults_append [] ys = sym (zero-add (faults_in ys))
-faults_append (x ∷ xs) ys = ap (λ n. fails x + n) (faults_append xs ys) ∙ sym (add_assoc (fails x) (faults_in xs) (faults_in ys))
-
-taken_append : (xs ys : List Attempt) → taken_in (xs ++ ys) ≡ taken_in xs + taken_in ys
-taken_append [] ys = sym (zero-add (taken_in ys))
-taken_append (x ∷ xs) ys = ap (λ n. takes x.sent + n) (taken_append xs ys) ∙ sym (add_assoc (takes x.sent) (taken_in xs) (taken_in ys))
-
-failed_append : (xs ys : List Attempt) → failed_in (xs ++ ys) ≡ failed_in xs + failed_in ys
-failed_append [] ys = sym (zero-add (failed_in ys))
-failed_append (x ∷ xs) ys = ap (λ n. loses x.sent + n) (failed_append xs ys) ∙ sym (add_assoc (loses x.sent) (failed_in xs) (failed_in ys))
 
 -- one event
 record IsPart (e : Event) : Type 0 where
@@ -71,17 +55,18 @@ are_parts (e ∷ es) k =
     let there = are_parts es k in
     let rest : Report = total es k in
     record {
-      read = ap (λ n. n + rest.read) here.read ∙ ap (λ n. given_in (calls_by e) + n) there.read ∙ sym (given_append (calls_by e) (calls es));
-      sent = ap (λ n. n + rest.sent) here.sent ∙ ap (λ n. taken_in (attempts_by e) + n) there.sent ∙ sym (taken_append (attempts_by e) (attempts es));
+      read = ap (λ n. n + rest.read) here.read ∙ ap (λ n. given_in (calls_by e) + n) there.read ∙ sym (sum_by-append gives (calls_by e) (calls es));
+      sent = ap (λ n. n + rest.sent) here.sent ∙ ap (λ n. taken_in (attempts_by e) + n) there.sent ∙ sym (sum_by-append takes (attempts_by e) (attempts es));
       faults =
           ap (λ n. n + rest.faults) here.faults ∙ ap (λ n. faults_in (calls_by e) + failed_in (attempts_by e) + n) there.faults
           ∙ sorted (faults_in (calls_by e)) (failed_in (attempts_by e)) (faults_in (calls es)) (failed_in (attempts es))
-          ∙ ap (λ n. n + (failed_in (attempts_by e) + failed_in (attempts es))) (sym (faults_append (calls_by e) (calls es)))
-          ∙ ap (λ n. faults_in (calls_by e ++ calls es) + n) (sym (failed_append (attempts_by e) (attempts es)));
+          ∙ ap (λ n. n + (failed_in (attempts_by e) + failed_in (attempts es))) (sym (sum_by-append fails (calls_by e) (calls es)))
+          ∙ ap (λ n. faults_in (calls_by e ++ calls es) + n) (sym (sum_by-append loses (attempts_by e) (attempts es)));
       lost =
           ap (λ n. n + rest.lost) here.lost ∙ ap (λ n. gives_up e + failed_in (attempts_by e) + n) there.lost
           ∙ sorted_too (gives_up e) (failed_in (attempts_by e)) (put_off_in es) (failed_in (attempts es)) (one_kept k)
-          ∙ ap (λ n. gives_up e + put_off_in es + n + one_kept k) (sym (failed_append (attempts_by e) (attempts es)));
+          ∙ ap (λ n. gives_up e + put_off_in es + n + one_kept k) (sym (sum_by-append loses (attempts_by e) (attempts es)))
+          ∙ ap (λ n. n + failed_in (attempts_by e ++ attempts es) + one_kept k) (sym (sum_by-cons gives_up e es));
     }
 
 pub tallied : (events : List Event) (report : Report) → report ≡ total events (kept_after None events) → TalliesWith events report

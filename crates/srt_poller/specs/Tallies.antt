@@ -1,5 +1,6 @@
 -- A report beside the records of the devices.
-use Rattle.std.specs.Prelude.{◌≡◌, ℕ, ◌+◌, Option, None, Some, List, [], ◌∷◌}
+use Rattle.std.specs.Prelude.{◌≡◌, ℕ, ◌+◌, Option, None, Some, List}
+use Rattle.std.specs.List.{sum_by}
 use Rattle.srt_poller.specs.declared.devices.Sent.{Sent}
 use Rattle.srt_poller.specs.declared.devices.Sent.TheVariants.{Taken, Later, Failed}
 use Rattle.srt_poller.specs.declared.report.Report.{Report}
@@ -15,8 +16,7 @@ gives ReadEmpty = 0
 gives ReadFailed = 0
 
 abbrev pub given_in : List Call → ℕ
-given_in [] = 0
-given_in (call ∷ calls) = gives call + given_in calls
+given_in calls = sum_by gives calls
 
 -- the number of its waits and reads that failed
 abbrev pub fails : Call → ℕ
@@ -27,28 +27,31 @@ fails ReadEmpty = 0
 fails ReadFailed = 1
 
 abbrev pub faults_in : List Call → ℕ
-faults_in [] = 0
-faults_in (call ∷ calls) = fails call + faults_in calls
+faults_in calls = sum_by fails calls
 
 -- the number of sends that the wire took
-abbrev pub takes : Sent → ℕ
-takes Taken = 1
-takes Later = 0
-takes Failed = 0
+abbrev pub takes_by : Sent → ℕ
+takes_by Taken = 1
+takes_by Later = 0
+takes_by Failed = 0
+
+abbrev pub takes : Attempt → ℕ
+takes a = takes_by a.sent
 
 abbrev pub taken_in : List Attempt → ℕ
-taken_in [] = 0
-taken_in (a ∷ attempts) = takes a.sent + taken_in attempts
+taken_in attempts = sum_by takes attempts
 
 -- the number of sends that failed
-abbrev pub loses : Sent → ℕ
-loses Taken = 0
-loses Later = 0
-loses Failed = 1
+abbrev pub loses_by : Sent → ℕ
+loses_by Taken = 0
+loses_by Later = 0
+loses_by Failed = 1
+
+abbrev pub loses : Attempt → ℕ
+loses a = loses_by a.sent
 
 abbrev pub failed_in : List Attempt → ℕ
-failed_in [] = 0
-failed_in (a ∷ attempts) = loses a.sent + failed_in attempts
+failed_in attempts = sum_by loses attempts
 
 -- the number of the lobby's answers that were put off
 abbrev pub puts_off : Sent → ℕ
@@ -71,8 +74,7 @@ gives_up (Sends route reply sent) = 0
 gives_up (Resends route reply sent) = 0
 
 abbrev pub put_off_in : List Event → ℕ
-put_off_in [] = 0
-put_off_in (event ∷ events) = gives_up event + put_off_in events
+put_off_in events = sum_by gives_up events
 
 abbrev pub one_kept : Option Kept → ℕ
 one_kept None = 0

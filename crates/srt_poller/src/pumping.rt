@@ -121,8 +121,9 @@ pub fn pump_under<R: Wait, S: Source, W: Wire, G: Signals>(
         rounds,
         signals,
     );
+    let counts = poller.report();
     Pumping {
-        report: poller.report(),
+        report: counts,
         rounds: made,
     }
 }

@@ -5,16 +5,21 @@ ghost use Rattle.std.specs.Prelude.{◌≡◌, ◌<◌, ◌≤◌, ◌^◌, IfOk
 ghost use Rattle.srt_lobby.specs.Names.{names_of};
 ghost use Rattle.srt_poller.specs.Schedules.{AllDiffer};
 
+mod asking;
 mod copies;
 mod faults;
 mod hints;
+mod late;
 mod limits;
 mod rounds;
+mod stops;
+mod telling;
 mod waits;
 
 use crate::{
-    BindFault, ClockScript, Ends, MioSource, MioWire, Polled, Read, Report, ScriptDatagram, Sent,
-    Source, SourceScript, SourceStep, Wire, WireScript, pump,
+    BindFault, ClockScript, Ends, MioSource, MioWire, Polled, Pumping, Read, Report,
+    ScriptDatagram, Sent, Signals, Source, SourceScript, SourceStep, Wire, WireScript, pump,
+    pump_under,
 };
 use mio::net::UdpSocket;
 use srt_cookie::Secret;
@@ -186,6 +191,35 @@ fn pumped<S: Source, W: Wire>(
         wire,
         ends,
         rounds,
+    ))
+}
+
+/// What the poller did in this many rounds over these devices, under these signals.
+fn pumped_under<S: Source, W: Wire, G: Signals>(
+    rt: &(impl AllocGlobal + Wait),
+    schedules: [Schedule; 2],
+    ends: &mut [Ends; 2],
+    source: &mut S,
+    wire: &mut W,
+    rounds: u64,
+    signals: &G,
+) -> Result<Pumping, Fail>
+    requires { rounds ≤ 2 ^ 48 }
+{
+    let alloc = rt.alloc();
+    let entries = [entry(alloc, &ROUTES[0])?, entry(alloc, &ROUTES[1])?];
+    let mut names = named(alloc, &entries, schedules[0])?;
+    Ok(pump_under(
+        rt,
+        alloc,
+        &Secret::new(SECRET),
+        &mut names,
+        &schedules,
+        source,
+        wire,
+        ends,
+        rounds,
+        signals,
     ))
 }
 
@@ -768,7 +802,8 @@ fn a_port_that_is_taken_is_refused(rt: HostRuntime) -> Result<(), Fail> {
     match MioSource::bind(&rt, alloc, taken, clock) {
         Ok(_) => Err(Fail::from("a port is bound twice")),
         Err(fault) => {
-            assert!(&rt; fault == BindFault::Socket);
+            // EADDRINUSE
+            assert!(&rt; fault == BindFault::Socket(Some(98)));
             Ok(())
         }
     }

@@ -2,9 +2,10 @@
 //! were worked out by hand. A failed wait or read loses nothing: what was to be read is read a round later. A failed
 //! send loses that datagram alone. A send that returns Later loses an answer, and delays a reply by a round.
 
+use super::asking::Asking;
 use super::{
     ALWAYS, CONCLUSION, CONCLUSION_ANSWER, INDUCTION, INDUCTION_ANSWER, REFUSAL, STANDBY, STRAY,
-    Serving, comes, comes_of, open_routes, pumped, with,
+    Serving, comes, comes_of, open_routes, pumped_under, with,
 };
 use crate::{Report, Sent, Source, SourceStep, Wire, WireScript};
 use std::alloc::Global;
@@ -28,6 +29,8 @@ enum Fault {
 #[derive(Drop)]
 struct Outcome {
     report: Report,
+    /// How often a failure was told.
+    told: u64,
     source: u64,
     wire: u64,
     handed: u32,
@@ -106,7 +109,9 @@ fn played(rt: &(impl AllocGlobal + Wait), fault: Fault) -> Result<Outcome, Fail>
     let mut routes = open_routes(alloc)?;
     let mut wire = WireScript::new(alloc, answers(alloc, fault)?);
     let mut source = Serving::new(rt, &routes.cells, script(alloc, fault)?);
-    let report = pumped(rt, [ALWAYS; 2], &mut routes.ends, &mut source, &mut wire, 6)?;
+    let asking = Asking::of(alloc, &[]);
+    let ends = &mut routes.ends;
+    let pumping = pumped_under(rt, [ALWAYS; 2], ends, &mut source, &mut wire, 6, &asking)?;
     let mut handed = 0u32;
     for sent in wire.handed() {
         handed = handed
@@ -114,7 +119,8 @@ fn played(rt: &(impl AllocGlobal + Wait), fault: Fault) -> Result<Outcome, Fail>
             .wrapping_add(digit(alloc, &sent.bytes)?);
     }
     Ok(Outcome {
-        report,
+        report: pumping.report,
+        told: asking.failed.get(),
         source: source.failures(),
         wire: wire.failures(),
         handed,
@@ -145,6 +151,7 @@ fn wanted(fault: Fault, handed: u32) -> Outcome {
     };
     Outcome {
         report,
+        told: report.faults,
         source,
         wire,
         handed,
@@ -160,6 +167,7 @@ fn assert_played(
     let found = played(rt, fault)?;
     let expected = wanted(fault, handed);
     assert_eq!(rt; found.report, expected.report);
+    assert_eq!(rt; found.told, expected.told);
     assert_eq!(rt; found.source, expected.source);
     assert_eq!(rt; found.wire, expected.wire);
     assert_eq!(rt; found.handed, expected.handed);

@@ -1,15 +1,12 @@
-//! Rounds in which no outbox has a hint, and rounds that end early. The expected outcomes were worked out from the rules by hand.
+//! Rounds in which no outbox has a hint. The expected outcomes were worked out from the rules by hand.
 
 use super::{
-    ALWAYS, CONCLUSION, ROUTES, Routes, SECRET, Serving, assert_replies, comes, conclude, entry,
-    named, open_routes, with_places, with_replies,
+    ALWAYS, CONCLUSION, Routes, Serving, assert_replies, comes, conclude, open_routes,
+    pumped_under, with_places, with_replies,
 };
-use crate::{
-    Ends, Pumping, Report, Sent, Signals, Source, SourceScript, SourceStep, WireScript, pump_under,
-};
-use srt_cookie::Secret;
+use crate::{Asked, Ends, Sent, Signals, Source, SourceScript, WireScript};
+use srt_seq::Peer;
 use std::alloc::Global;
-use std::cell::Cell;
 use std::process::Abort;
 use std::sync::Wait;
 use std::test::Fail;
@@ -18,10 +15,14 @@ use std::test::Fail;
 struct Silent;
 
 impl Signals for Silent {
+    ghost goes = { λ s. Unit {0} };
+
+    ghost closes = { λ s. ⊥ };
+
     ghost stops = { λ s. ⊥ };
 
-    fn goes_on(&self) -> bool {
-        true
+    fn asked(&self) -> Asked {
+        Asked::GoOn
     }
 
     fn offered(&self, _route: usize) {}
@@ -35,6 +36,12 @@ impl Signals for Silent {
     fn next_from(&self, _route: usize) -> usize {
         usize::MAX
     }
+
+    fn answered(&self, _peer: Peer, _datagram: &[u8], _answer: &[u8]) {}
+
+    fn replied(&self, _route: usize, _peer: Peer, _handshake: &[u8]) {}
+
+    fn failed(&self) {}
 }
 
 /// The number of datagrams that this many rounds without hints send.
@@ -43,23 +50,9 @@ fn sent<S: Source>(
     ends: &mut [Ends; 2],
     source: &mut S,
     wire: &mut WireScript,
-    rounds: u32,
+    rounds: u64,
 ) -> Result<u64, Fail> {
-    let alloc = rt.alloc();
-    let entries = [entry(alloc, &ROUTES[0])?, entry(alloc, &ROUTES[1])?];
-    let mut names = named(alloc, &entries, ALWAYS)?;
-    let pumping = pump_under(
-        rt,
-        alloc,
-        &Secret::new(SECRET),
-        &mut names,
-        &[ALWAYS; 2],
-        source,
-        wire,
-        ends,
-        rounds,
-        &Silent,
-    );
+    let pumping = pumped_under(rt, [ALWAYS; 2], ends, source, wire, rounds, &Silent)?;
     Ok(pumping.report.sent)
 }
 
@@ -90,7 +83,7 @@ fn an_outbox_whose_reply_was_put_off_is_looked_at_later(rt: HostRuntime) -> Resu
 
 /// The number of datagrams that this many rounds send, if a conclusion comes in the first one and its reply is in the
 /// outbox from the second one on.
-fn sent_late(rt: &(impl AllocGlobal + Wait), rounds: u32) -> Result<u64, Fail> {
+fn sent_late(rt: &(impl AllocGlobal + Wait), rounds: u64) -> Result<u64, Fail> {
     let alloc = rt.alloc();
     let Routes {
         mut ends,
@@ -107,81 +100,5 @@ fn sent_late(rt: &(impl AllocGlobal + Wait), rounds: u32) -> Result<u64, Fail> {
 fn a_reply_without_a_hint_leaves_in_the_next_64th_round(rt: HostRuntime) -> Result<(), Fail> {
     assert_eq!(&rt; sent_late(&rt, 64)?, 0);
     assert_eq!(&rt; sent_late(&rt, 65)?, 1);
-    Ok(())
-}
-
-/// All outboxes have hints, and this many rounds are made.
-#[derive(Drop)]
-struct Limited {
-    left: Cell<u32>,
-}
-
-impl Signals for Limited {
-    ghost stops = { λ s. Unit {0} };
-
-    fn goes_on(&self) -> bool {
-        let left = self.left.replace(0);
-        self.left.set(left.saturating_sub(1));
-        left > 0
-    }
-
-    fn offered(&self, _route: usize) {}
-
-    fn read_ended(&self, _datagrams: u32) {}
-
-    fn may_have(&self, _route: usize) -> bool {
-        true
-    }
-
-    fn next_from(&self, route: usize) -> usize {
-        route
-    }
-}
-
-/// What the poller did in at most this many rounds, three of which would each read a conclusion, if they end after `limit`.
-fn pumped_within(rt: &(impl AllocGlobal + Wait), rounds: u32, limit: u32) -> Result<Pumping, Fail> {
-    let alloc = rt.alloc();
-    let entries = [entry(alloc, &ROUTES[0])?, entry(alloc, &ROUTES[1])?];
-    let mut names = named(alloc, &entries, ALWAYS)?;
-    let Routes { mut ends, .. } = open_routes(alloc)?;
-    let mut steps = Vec::new(alloc);
-    for _ in 0..3 {
-        steps.push(SourceStep::Wait)?;
-        steps.push(comes(alloc, CONCLUSION)?)?;
-        steps.push(SourceStep::Empty)?;
-    }
-    let mut source = SourceScript::new(steps);
-    let mut wire = WireScript::new(alloc, Vec::new(alloc));
-    let signals = Limited {
-        left: Cell::new(limit),
-    };
-    Ok(pump_under(
-        rt,
-        alloc,
-        &Secret::new(SECRET),
-        &mut names,
-        &[ALWAYS; 2],
-        &mut source,
-        &mut wire,
-        &mut ends,
-        rounds,
-        &signals,
-    ))
-}
-
-#[test]
-fn rounds_end_once_the_signals_say_so(rt: HostRuntime) -> Result<(), Fail> {
-    for (rounds, limit, made) in [(9, 0, 0), (9, 2, 2), (3, 3, 3), (2, 9, 2)] {
-        let pumping = pumped_within(&rt, rounds, limit)?;
-        assert_eq!(&rt; pumping.rounds, made);
-        assert_eq!(&rt;
-            pumping.report,
-            Report {
-                read: made as u64,
-                accepted: made as u64,
-                ..Report::NOTHING
-            }
-        );
-    }
     Ok(())
 }

@@ -11,7 +11,7 @@ use std::sync::Wait;
 use std::test::Fail;
 
 /// The answer to the conclusion while its route is hidden: reason 1002.
-const HIDDEN: &str =
+pub const HIDDEN: &str =
     "80000000000000000000000000000001000000050000000000000005000005dc00002000000003ea000000010000000000000000000000000000000000000000";
 
 /// A conclusion as the first one, but with caller ID 2 and the flag STREAM, that asks to publish on the second route.
@@ -39,17 +39,17 @@ const FILES_SHUTDOWN: &str = "80050000000000000007a12000000002";
 const NOTHING: &str = "";
 
 /// What comes, with its moment.
-type Coming = (&'static str, u64);
+pub type Coming = (&'static str, u64);
 
 /// A conclusion comes.
-const AGAIN: Coming = (CONCLUSION, 1_000_000);
+pub const AGAIN: Coming = (CONCLUSION, 1_000_000);
 
 /// The rest comes in later rounds.
-const LATER: Coming = (NOTHING, 0);
+pub const LATER: Coming = (NOTHING, 0);
 
 /// A conclusion comes in the rounds 0, 1, 2 and 4, and at the end a data packet. In round 3 come two stray datagrams, of
 /// which the first has the greatest moment of all.
-const FOUR_CONCLUSIONS: [Coming; 11] = [
+pub const FOUR_CONCLUSIONS: [Coming; 11] = [
     AGAIN,
     LATER,
     AGAIN,
@@ -64,7 +64,7 @@ const FOUR_CONCLUSIONS: [Coming; 11] = [
 ];
 
 /// In round 0 come 16 conclusions, and one each in the rounds 1 and 2.
-const MANY_CONCLUSIONS: [Coming; 20] = [
+pub const MANY_CONCLUSIONS: [Coming; 20] = [
     AGAIN, AGAIN, AGAIN, AGAIN, AGAIN, AGAIN, AGAIN, AGAIN, AGAIN, AGAIN, AGAIN, AGAIN, AGAIN,
     AGAIN, AGAIN, AGAIN, LATER, AGAIN, LATER, AGAIN,
 ];
@@ -79,7 +79,7 @@ const STILL_MORE_CONCLUSIONS: [Coming; 26] = [
 const LATE_CONCLUSION: [Coming; 3] = [LATER, LATER, AGAIN];
 
 /// A conclusion for each route comes in round 0, and again in round 2. In round 1 comes a stray datagram.
-const BOTH_CONCLUSIONS: [Coming; 7] = [
+pub const BOTH_CONCLUSIONS: [Coming; 7] = [
     AGAIN,
     (FILES_CONCLUSION, 1_000_000),
     LATER,
@@ -87,6 +87,16 @@ const BOTH_CONCLUSIONS: [Coming; 7] = [
     LATER,
     (CONCLUSION, 1_500_000),
     (FILES_CONCLUSION, 1_500_000),
+];
+
+/// What is sent if both routes close in round 2 and these come.
+pub const BOTH_ENDED: [&str; 6] = [
+    CONCLUSION_ANSWER,
+    FILES_ANSWER,
+    HIDDEN,
+    FILES_HIDDEN,
+    SHUTDOWN,
+    FILES_SHUTDOWN,
 ];
 
 fn step(alloc: Global, coming: &Coming) -> Result<SourceStep, Fail> {
@@ -100,7 +110,7 @@ fn step(alloc: Global, coming: &Coming) -> Result<SourceStep, Fail> {
     Ok(step)
 }
 
-fn script(alloc: Global, comings: &[Coming]) -> Result<Vec<SourceStep>, Fail> {
+pub fn script(alloc: Global, comings: &[Coming]) -> Result<Vec<SourceStep>, Fail> {
     let mut steps = Vec::new(alloc);
     for coming in comings {
         steps.push(step(alloc, coming)?)?;
@@ -233,15 +243,7 @@ fn two_routes_close_in_one_round(rt: HostRuntime) -> Result<(), Fail> {
         ..Report::NOTHING
     };
     let wire = assert_played(&rt, play, wanted, 4)?;
-    let answers = [
-        CONCLUSION_ANSWER,
-        FILES_ANSWER,
-        HIDDEN,
-        FILES_HIDDEN,
-        SHUTDOWN,
-        FILES_SHUTDOWN,
-    ];
-    assert_handed(&rt, &wire, &answers)
+    assert_handed(&rt, &wire, &BOTH_ENDED)
 }
 
 /// The first route closes in round 1, but 16 conclusions fill its inbox, which is first served at the wait of round 4.

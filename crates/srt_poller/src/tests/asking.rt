@@ -1,0 +1,100 @@
+//! Signals that ask what they are told to ask, and note what they are told.
+
+use super::peer;
+use crate::{Asked, Signals};
+use srt_seq::Peer;
+use std::alloc::Global;
+use std::cell::Cell;
+
+/// What a poller told in one call: the route's index for a reply, and what it told of a peer with port 5000.
+#[derive(Drop)]
+pub struct Told {
+    pub route: usize,
+    pub datagram: Vec<u8>,
+    pub answer: Vec<u8>,
+}
+
+/// Asks for these, in turn, and then to go on. All outboxes have hints.
+#[derive(Drop)]
+pub struct Asking<'a> {
+    asked: &'a [Asked],
+    at: Cell<usize>,
+    /// What is to be told, in this order: replies have no datagram, and answers no route.
+    expected: Vec<Told>,
+    /// The number of calls of `answered` and `replied`, and of those that told just what was expected.
+    pub told: Cell<usize>,
+    pub right: Cell<usize>,
+    /// The number of calls of `failed`.
+    pub failed: Cell<u64>,
+}
+
+impl<'a> Asking<'a> {
+    pub fn new(asked: &'a [Asked], expected: Vec<Told>) -> Asking<'a> {
+        Asking {
+            asked,
+            at: Cell::new(0),
+            expected,
+            told: Cell::new(0),
+            right: Cell::new(0),
+            failed: Cell::new(0),
+        }
+    }
+
+    /// Asks so, and expects to be told nothing of answers and replies.
+    pub fn of(alloc: Global, asked: &'a [Asked]) -> Asking<'a> {
+        Asking::new(asked, Vec::new(alloc))
+    }
+
+    fn note(&self, route: usize, to: Peer, datagram: &[u8], answer: &[u8]) {
+        let at = self.told.get();
+        self.told.set(at.wrapping_add(1));
+        let Some(told) = self.expected.get(at) else {
+            return;
+        };
+        let is_right = told.route == route
+            && to == peer(5000)
+            && told.datagram.as_slice() == datagram
+            && told.answer.as_slice() == answer;
+        if is_right {
+            self.right.set(self.right.get().wrapping_add(1));
+        }
+    }
+}
+
+impl Signals for Asking<'_> {
+    ghost goes = { λ s. Unit {0} };
+
+    ghost closes = { λ s. Unit {0} };
+
+    ghost stops = { λ s. Unit {0} };
+
+    fn asked(&self) -> Asked {
+        let at = self.at.get();
+        self.at.set(at.wrapping_add(1));
+        self.asked.get(at).copied().unwrap_or(Asked::GoOn)
+    }
+
+    fn offered(&self, _route: usize) {}
+
+    fn read_ended(&self, _datagrams: u32) {}
+
+    fn may_have(&self, _route: usize) -> bool {
+        true
+    }
+
+    fn next_from(&self, route: usize) -> usize {
+        route
+    }
+
+    fn answered(&self, peer: Peer, datagram: &[u8], answer: &[u8]) {
+        self.note(0, peer, datagram, answer);
+    }
+
+    fn replied(&self, route: usize, peer: Peer, handshake: &[u8]) {
+        self.note(route, peer, &[], handshake);
+    }
+
+    fn failed(&self) {
+        self.failed.set(self.failed.get().wrapping_add(1));
+    }
+}

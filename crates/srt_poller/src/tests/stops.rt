@@ -1,0 +1,199 @@
+//! Rounds that end early, and rounds that close all routes. The expected outcomes were worked out from the rules by hand.
+
+ghost use Rattle.std.specs.Prelude.{◌≤◌, ◌^◌};
+
+use super::asking::Asking;
+use super::rounds::{
+    BOTH_CONCLUSIONS, BOTH_ENDED, Coming, FOUR_CONCLUSIONS, HIDDEN, MANY_CONCLUSIONS, script,
+};
+use super::{
+    ALWAYS, CONCLUSION, Serving, assert_handed, comes, open_routes, pumped_under, scheduled,
+};
+use crate::{Asked, Pumping, Report, SourceScript, SourceStep, WireScript};
+use srt_seq::Schedule;
+use std::alloc::Global;
+use std::process::Abort;
+use std::sync::Wait;
+use std::test::Fail;
+
+/// Asked in each of the first rounds.
+const ON: Asked = Asked::GoOn;
+
+const CLOSE: Asked = Asked::CloseAll;
+
+const END: Asked = Asked::End;
+
+/// What the poller did in at most this many rounds, three of which would each read a conclusion, if it is asked for these.
+fn pumped_within(
+    rt: &(impl AllocGlobal + Wait),
+    rounds: u64,
+    asked: &[Asked],
+) -> Result<Pumping, Fail>
+    requires { rounds ≤ 2 ^ 48 }
+{
+    let alloc = rt.alloc();
+    let mut routes = open_routes(alloc)?;
+    let mut steps = Vec::new(alloc);
+    for _ in 0..3 {
+        steps.push(SourceStep::Wait)?;
+        steps.push(comes(alloc, CONCLUSION)?)?;
+        steps.push(SourceStep::Empty)?;
+    }
+    let mut source = SourceScript::new(steps);
+    let mut wire = WireScript::new(alloc, Vec::new(alloc));
+    let asking = Asking::of(alloc, asked);
+    let ends = &mut routes.ends;
+    pumped_under(
+        rt,
+        [ALWAYS; 2],
+        ends,
+        &mut source,
+        &mut wire,
+        rounds,
+        &asking,
+    )
+}
+
+/// Asserts that just this many of at most so many rounds are made if the poller is asked for these, and that each reads
+/// a conclusion, which its route accepts.
+fn assert_made(
+    rt: &(impl AllocGlobal + Wait + Abort),
+    rounds: u64,
+    asked: &[Asked],
+    made: u64,
+) -> Result<(), Fail>
+    requires { rounds ≤ 2 ^ 48 }
+{
+    let pumping = pumped_within(rt, rounds, asked)?;
+    assert_eq!(rt; pumping.rounds, made);
+    assert_eq!(rt;
+        pumping.report,
+        Report {
+            read: made,
+            accepted: made,
+            ..Report::NOTHING
+        }
+    );
+    Ok(())
+}
+
+#[test]
+fn rounds_end_once_the_signals_say_so(rt: HostRuntime) -> Result<(), Fail> {
+    assert_made(&rt, 9, &[END], 0)?;
+    assert_made(&rt, 9, &[ON, ON, END], 2)?;
+    assert_made(&rt, 3, &[ON, ON, ON, END], 3)?;
+    assert_made(&rt, 2, &[], 2)
+}
+
+/// All routes are closed in the second round: its conclusion is answered by the lobby, and no third one is made.
+#[test]
+fn rounds_end_after_one_that_closes_all(rt: HostRuntime) -> Result<(), Fail> {
+    let pumping = pumped_within(&rt, 9, &[ON, CLOSE, END])?;
+    assert_eq!(&rt; pumping.rounds, 2);
+    assert_eq!(&rt;
+        pumping.report,
+        Report {
+            read: 2,
+            answered: 1,
+            accepted: 1,
+            sent: 1,
+            ..Report::NOTHING
+        }
+    );
+    Ok(())
+}
+
+/// Asserts the report of six rounds in which these come and the poller is asked for these, and the number of items that
+/// were applied to the routes, of which the first has this schedule. Returns the wire.
+fn assert_asked(
+    rt: &(impl AllocGlobal + Wait + Abort),
+    first: Schedule,
+    comings: &[Coming],
+    asked: &[Asked],
+    wanted: Report,
+    applied: u32,
+) -> Result<WireScript, Fail> {
+    let alloc = rt.alloc();
+    let schedules = [first, ALWAYS];
+    let mut routes = scheduled(alloc, schedules)?;
+    let mut wire = WireScript::new(alloc, Vec::new(alloc));
+    let mut source = Serving::new(rt, &routes.cells, script(alloc, comings)?);
+    let asking = Asking::of(alloc, asked);
+    let ends = &mut routes.ends;
+    let pumping = pumped_under(rt, schedules, ends, &mut source, &mut wire, 6, &asking)?;
+    assert_eq!(rt; pumping.rounds, 6);
+    assert_eq!(rt; pumping.report, wanted);
+    assert_eq!(rt; source.applied, applied);
+    Ok(wire)
+}
+
+/// In round 2 all are closed: each session gets its SHUTDOWN, and both routes are hidden from the conclusions of that
+/// round, as if each had closed in it by its schedule. In the rounds 3 to 5 no route is shown, and none is offered Close.
+#[test]
+fn a_round_that_closes_all_closes_each_shown_route(rt: HostRuntime) -> Result<(), Fail> {
+    let wanted = Report {
+        read: 5,
+        answered: 2,
+        accepted: 2,
+        dropped: 1,
+        sent: 6,
+        ..Report::NOTHING
+    };
+    let asked = [ON, ON, CLOSE, CLOSE, CLOSE, CLOSE];
+    let wire = assert_asked(&rt, ALWAYS, &BOTH_CONCLUSIONS, &asked, wanted, 4)?;
+    assert_handed(&rt, &wire, &BOTH_ENDED)
+}
+
+/// In round 1 all are closed, but 16 conclusions fill the inbox of the first route, which is first served at the wait of
+/// that round. So the conclusion of round 1 is accepted. In round 2 the first route is offered Close again, and accepts
+/// it. The second route is offered it once.
+#[test]
+fn a_route_whose_inbox_is_full_is_closed_in_the_next_round(rt: HostRuntime) -> Result<(), Fail> {
+    let wanted = Report {
+        read: 18,
+        answered: 1,
+        accepted: 17,
+        sent: 19,
+        ..Report::NOTHING
+    };
+    let asked = [ON, CLOSE, CLOSE, CLOSE];
+    let _ = assert_asked(&rt, ALWAYS, &MANY_CONCLUSIONS, &asked, wanted, 19)?;
+    Ok(())
+}
+
+/// The same, but in round 2 the poller is asked to go on: the first route isn't offered Close again.
+#[test]
+fn a_route_stays_open_if_its_inbox_was_full_and_no_more_is_asked(
+    rt: HostRuntime,
+) -> Result<(), Fail> {
+    let wanted = Report {
+        read: 18,
+        accepted: 18,
+        sent: 18,
+        ..Report::NOTHING
+    };
+    let _ = assert_asked(&rt, ALWAYS, &MANY_CONCLUSIONS, &[ON, CLOSE], wanted, 19)?;
+    Ok(())
+}
+
+/// The first route would open in round 2, but in the rounds 1 to 3 all are closed: it isn't shown, and gets no Close. The
+/// second route gets one.
+#[test]
+fn a_round_that_closes_all_opens_none_and_offers_none_to_a_hidden_route(
+    rt: HostRuntime,
+) -> Result<(), Fail> {
+    let late = Schedule {
+        open_round: 2,
+        close_round: None,
+    };
+    let wanted = Report {
+        read: 7,
+        answered: 4,
+        dropped: 3,
+        sent: 4,
+        ..Report::NOTHING
+    };
+    let asked = [ON, CLOSE, CLOSE, CLOSE];
+    let wire = assert_asked(&rt, late, &FOUR_CONCLUSIONS, &asked, wanted, 1)?;
+    assert_handed(&rt, &wire, &[HIDDEN; 4])
+}

@@ -1,0 +1,80 @@
+//! What a poller tells its signals. The expected bytes are those of the other tests.
+
+use super::asking::{Asking, Told};
+use super::rounds::HIDDEN;
+use super::{
+    ALWAYS, CONCLUSION, CONCLUSION_ANSWER, INDUCTION, INDUCTION_ANSWER, STRAY, Serving, comes,
+    pumped_under, scheduled,
+};
+use crate::{Asked, Sent, SourceStep, WireScript};
+use srt_seq::Schedule;
+use std::alloc::Global;
+use std::process::Abort;
+use std::sync::Wait;
+use std::test::Fail;
+
+/// What is told of this answer to this datagram, or of this reply of a route to none.
+fn told(alloc: Global, datagram: &str, answer: &str) -> Result<Told, Fail> {
+    Ok(Told {
+        route: 0,
+        datagram: hex::decode(alloc, datagram)?,
+        answer: hex::decode(alloc, answer)?,
+    })
+}
+
+/// Asserts that six rounds, in which these datagrams come and the sends have these outcomes, tell just these answers and
+/// replies. The first route has this schedule. The poller is asked for these.
+fn assert_told(
+    rt: &(impl AllocGlobal + Wait + Abort),
+    first: Schedule,
+    steps: Vec<SourceStep>,
+    sends: Vec<Sent>,
+    asked: &[Asked],
+    expected: Vec<Told>,
+) -> Result<(), Fail> {
+    let alloc = rt.alloc();
+    let schedules = [first, ALWAYS];
+    let mut routes = scheduled(alloc, schedules)?;
+    let mut wire = WireScript::new(alloc, sends);
+    let mut source = Serving::new(rt, &routes.cells, steps);
+    let count = expected.len();
+    let asking = Asking::new(asked, expected);
+    let ends = &mut routes.ends;
+    let _ = pumped_under(rt, schedules, ends, &mut source, &mut wire, 6, &asking)?;
+    assert_eq!(rt; asking.told.get(), count);
+    assert_eq!(rt; asking.right.get(), count);
+    Ok(())
+}
+
+/// The first route is hidden, so the lobby refuses the conclusion. The first answer is lost, and is told all the same.
+#[test]
+fn each_answer_of_the_lobby_is_told(rt: HostRuntime) -> Result<(), Fail> {
+    let alloc = rt.alloc();
+    let late = Schedule {
+        open_round: 9,
+        close_round: None,
+    };
+    let steps = vec![in alloc;
+        comes(alloc, INDUCTION)?,
+        comes(alloc, STRAY)?,
+        comes(alloc, CONCLUSION)?,
+    ]?;
+    let expected = vec![in alloc;
+        told(alloc, INDUCTION, INDUCTION_ANSWER)?,
+        told(alloc, CONCLUSION, HIDDEN)?,
+    ]?;
+    let sends = vec![in alloc; Sent::Later]?;
+    assert_told(&rt, late, steps, sends, &[], expected)
+}
+
+/// In round 2 all routes are closed: the SHUTDOWN of the session is no handshake. The answer to the conclusion is put off
+/// once, and told once.
+#[test]
+fn each_handshake_of_a_route_is_told(rt: HostRuntime) -> Result<(), Fail> {
+    let alloc = rt.alloc();
+    let steps = vec![in alloc; comes(alloc, CONCLUSION)?]?;
+    let expected = vec![in alloc; told(alloc, "", CONCLUSION_ANSWER)?]?;
+    let sends = vec![in alloc; Sent::Later]?;
+    let asked = [Asked::GoOn, Asked::GoOn, Asked::CloseAll];
+    assert_told(&rt, ALWAYS, steps, sends, &asked, expected)
+}
