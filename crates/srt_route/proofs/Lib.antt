@@ -37,3 +37,6 @@ pub mod Ending
 pub mod Closed
 pub mod Alone
 pub mod Views
+pub mod Noting
+pub mod Told
+pub mod Tallied

@@ -21,3 +21,7 @@ pub mod Calls
 pub mod Closed
 pub mod Bounds
 pub mod Viewing
+pub mod Totals
+pub mod Ledgers
+pub mod Ends
+pub mod Tallies

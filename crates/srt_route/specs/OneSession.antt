@@ -18,6 +18,7 @@ use Rattle.srt_pub.specs.Heard as to_publisher
 use Rattle.srt_pub.specs.Publishing as publishing
 use Rattle.srt_pub.specs.Says as publisher_text
 use Rattle.srt_pub.specs.Stands as publisher
+use Rattle.srt_pub.specs.declared.ends.PubEnd.{PubEnd}
 use Rattle.srt_pub.specs.declared.session.Publisher.{Publisher}
 use Rattle.srt_sub.specs.Heard as to_subscriber
 use Rattle.srt_sub.specs.Says as subscriber_text
@@ -72,6 +73,13 @@ PublisherTook clock packet old new =
     (terms : publishing.Terms) (initial opening stamp caller time : ℕ) (m : publishing.Publishing) → clock ≡ opening + time
     → publisher.StandsFor terms initial opening stamp caller old m
     → publisher.StandsFor terms initial opening stamp caller new (publishing.took terms time (stamped_from stamp packet.stamp) (to_publisher.heard_from initial packet.body) m)
+
+-- why the packet ends the publisher's session, if it does
+abbrev pub PublisherEndsFor : Packet → Publisher → Option PubEnd → Type 0
+PublisherEndsFor packet old end =
+    (terms : publishing.Terms) (initial opening stamp caller : ℕ) (m : publishing.Publishing)
+    → publisher.StandsFor terms initial opening stamp caller old m
+    → end ≡ ended terms initial packet.body m
 
 -- the publisher's seat after the packet
 abbrev pub PublisherEnds : (clock : ℕ) → Packet → Publisher → (seat new : Seat) → Type 0

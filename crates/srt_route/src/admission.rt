@@ -1,18 +1,20 @@
 //! Step 3 of an event, a conclusion at its route (sections 3.2.1 and 4.3.1.2): every refusal in its order, and how a
 //! session opens.
 
-ghost use Rattle.std.specs.Prelude.{◌≡◌, ◌<◌, ◌^◌, ◌∷◌, [], length, IfOk};
+ghost use Rattle.std.specs.Prelude.{◌≡◌, ◌<◌, ◌^◌, ◌∷◌, [], Some, length, IfOk};
 ghost use Rattle.srt_seq.specs.Given.{given};
 ghost use Rattle.srt_route.specs.Route.{is_buffer, refused};
 ghost use Rattle.srt_route.specs.Written.{written};
 ghost use Rattle.srt_route.specs.Tables.{written_of};
-ghost use Rattle.srt_route.specs.Admission.{older_after};
+ghost use Rattle.srt_route.specs.Admission.{admitted, older_after};
+ghost use Rattle.srt_route.specs.Tallies.{Tallies, admitted_tally, conclusion_tally};
 ghost use Rattle.srt_route.specs.Calls.{Admits, OpensSession, TakesConclusion, TakesFirst};
 
 use crate::agreement::{Agreement, agree};
 use crate::answer::{accepted, answer_to, refusal};
 use crate::arrival::Arrival;
 use crate::conclusion::Conclusion;
+use crate::ledger::Ledger;
 use crate::places::place_of;
 use crate::replies::Reply;
 use crate::seat::{Session, count_publishers, free_slot, have_publisher, slot_of};
@@ -127,13 +129,25 @@ fn open_session(
 }
 
 /// Admits or refuses a conclusion of a caller without a session, and writes the answer into `reply`.
-fn consider(table: &mut Table, arrival: Arrival, c: Conclusion, reply: &mut Reply)
+fn consider(
+    table: &mut Table,
+    ledger: &mut Ledger,
+    arrival: Arrival,
+    c: Conclusion,
+    reply: &mut Reply,
+)
     requires { c.initial < 2 ^ 31 }
-    ensures { TakesFirst arrival c table.old table.new (written reply.new ∷ []) }
+    ensures taken { TakesFirst arrival c table.old table.new (written reply.new ∷ []) }
+    ensures ended { ledger.new.ended ≡ ledger.old.ended }
+    ensures tally { Tallies arrival.clock (λ e sessions. admitted_tally (admitted e sessions c)) table.old ledger.old ledger.new }
 {
     match admit(table, &c) {
-        Ok(admission) => open_session(table, admission, arrival, c, reply),
+        Ok(admission) => {
+            ledger.open();
+            open_session(table, admission, arrival, c, reply);
+        }
         Err(reason) => {
+            ledger.refuse(reason);
             answer_to(reply, arrival.peer, c.caller, &refusal(c.initial, reason));
         }
     }
@@ -141,13 +155,21 @@ fn consider(table: &mut Table, arrival: Arrival, c: Conclusion, reply: &mut Repl
 
 /// Applies a conclusion. A caller with an open session gets its first answer again; another one is admitted or refused.
 /// Returns true if `reply` has an answer.
-pub fn conclude(table: &mut Table, arrival: Arrival, c: Conclusion, reply: &mut Reply) -> bool
+pub fn conclude(
+    table: &mut Table,
+    ledger: &mut Ledger,
+    arrival: Arrival,
+    c: Conclusion,
+    reply: &mut Reply,
+) -> bool
     requires { c.initial < 2 ^ 31 }
-    ensures { TakesConclusion arrival c table.old table.new (written_of (given result reply.new)) }
+    ensures taken { TakesConclusion arrival c table.old table.new (written_of (given result reply.new)) }
+    ensures ended { ledger.new.ended ≡ ledger.old.ended }
+    ensures tally { Tallies arrival.clock (λ e sessions. conclusion_tally e arrival.peer sessions (Some c)) table.old ledger.old ledger.new }
 {
     if let Some(at) = slot_of(&table.seats, arrival.peer, c.caller) {
         return table.seats[at].again(arrival.clock, arrival.peer, reply);
     }
-    consider(table, arrival, c, reply);
+    consider(table, ledger, arrival, c, reply);
     true
 }

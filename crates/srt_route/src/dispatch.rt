@@ -9,13 +9,18 @@ ghost use Rattle.srt_sub.specs.Endings.{is_ended, is_shutdown};
 ghost use Rattle.srt_sub.specs.Stands.{texts_of};
 ghost use Rattle.srt_route.specs.Buffers.{datagrams_to};
 ghost use Rattle.srt_route.specs.Tables.{stored_after, written_of};
-ghost use Rattle.srt_route.specs.OneSession.{PublisherTook, PublisherEnds, SubscriberTook, SubscriberAnswers};
+ghost use Rattle.srt_route.specs.OneSession.{PublisherTook, PublisherEndsFor, SubscriberTook, SubscriberAnswers};
+ghost use Rattle.srt_packet.specs.Reading.{packet_in};
+ghost use Rattle.srt_route.specs.Ledgers.{CountsStay};
+ghost use Rattle.srt_route.specs.Ends.{Ends, arrived_end, destined_end, read_end, item_end};
+ghost use Rattle.srt_route.specs.Tallies.{Tallies, item_tally, packet_tally, read_tally};
 ghost use Rattle.srt_route.specs.Calls.{AnswersItem, AnswersPacket, TakenBySession, TakesDatagram, TakesItem, TakesPacket};
 
 use crate::admission::conclude;
 use crate::arrival::Arrival;
 use crate::closing::close_seats;
 use crate::conclusion::conclusion_in;
+use crate::ledger::{Ledger, cause_of, shutdown_cause};
 use crate::places::place_of;
 use crate::replies::Reply;
 use crate::reply_queue::ReplyQueue;
@@ -23,18 +28,17 @@ use crate::seat::Seat;
 use crate::socket_ids::slot_in;
 use crate::table::Table;
 use srt_packet::{Kind, PacketRef, decode_parts};
-use srt_pub::Publisher;
+use srt_pub::{PubEnd, Publisher};
 use srt_seq::{Item, Peer};
 use srt_sub::Took;
 
-/// Applies a packet to the publisher in this seat: its session is heard of, or ends.
-fn hear_publisher(seat: &mut Seat, publisher: &mut Publisher, clock: u64, packet: &PacketRef<'_>)
+/// Applies a packet to a publisher's buffers. Returns why it ends the session, if it does.
+fn hear_publisher(publisher: &mut Publisher, clock: u64, packet: &PacketRef<'_>) -> Option<PubEnd>
     requires { clock < 2 ^ 62 }
     ensures publisher { PublisherTook clock (packet_of packet.now) publisher.old publisher.new }
-    ensures seat { PublisherEnds clock (packet_of packet.now) publisher.old seat.old seat.new }
+    ensures end { PublisherEndsFor (packet_of packet.now) publisher.old result }
 {
-    let end = publisher.datagram(packet, clock);
-    seat.keep_or_end(clock, end.is_some());
+    publisher.datagram(packet, clock)
 }
 
 fn is_ended(took: Took) -> bool
@@ -82,12 +86,15 @@ fn hear_subscriber(
 /// true if `reply` has an answer.
 fn to_session(
     table: &mut Table,
+    ledger: &mut Ledger,
     arrival: Arrival,
     packet: &PacketRef<'_>,
     reply: &mut Reply,
 ) -> bool
     requires { arrival.clock < 2 ^ 62 }
-    ensures { TakenBySession arrival (packet_of packet.now) table.old table.new (written_of (given result reply.new)) }
+    ensures taken { TakenBySession arrival (packet_of packet.now) table.old table.new (written_of (given result reply.new)) }
+    ensures ends { Ends arrival.clock (λ e index. arrived_end e index arrival.peer (packet_of packet.now)) table.old ledger.old ledger.new }
+    ensures counts { CountsStay ledger.old ledger.new }
 {
     let at = slot_in(packet.dest);
     if at >= table.seats.len() {
@@ -98,14 +105,16 @@ fn to_session(
     }
     if table.seats[at].has_publisher() {
         let second = table.seats[at].uses_second();
-        hear_publisher(
-            &mut table.seats[at],
+        let end = hear_publisher(
             &mut table.publishers[place_of(second)],
             arrival.clock,
             packet,
         );
+        ledger.note(table, at, cause_of(end), arrival.clock);
+        table.seats[at].keep_or_end(arrival.clock, end.is_some());
         return false;
     }
+    ledger.note(table, at, shutdown_cause(&packet.kind), arrival.clock);
     hear_subscriber(&mut table.seats[at], arrival, packet, reply)
 }
 
@@ -113,6 +122,7 @@ fn to_session(
 /// if `reply` has an answer.
 fn to_destination(
     table: &mut Table,
+    ledger: &mut Ledger,
     arrival: Arrival,
     packet: &PacketRef<'_>,
     reply: &mut Reply,
@@ -121,9 +131,11 @@ fn to_destination(
     requires early { arrival.clock < 2 ^ 62 }
     ensures table { TakesPacket arrival (packet_of packet.now) table.old table.new }
     ensures answer { AnswersPacket arrival (packet_of packet.now) table.old (written_of (given result reply.new)) }
+    ensures ends { Ends arrival.clock (λ e index. destined_end e index arrival.peer (packet_of packet.now)) table.old ledger.old ledger.new }
+    ensures tally { Tallies arrival.clock (λ e sessions. packet_tally e arrival.peer (packet_of packet.now) sessions) table.old ledger.old ledger.new }
 {
     if packet.dest != 0 {
-        return to_session(table, arrival, packet, reply);
+        return to_session(table, ledger, arrival, packet, reply);
     }
     let Kind::Handshake { info } = packet.kind else {
         return false;
@@ -131,13 +143,14 @@ fn to_destination(
     let Some(c) = conclusion_in(info) else {
         return false;
     };
-    conclude(table, arrival, c, reply)
+    conclude(table, ledger, arrival, c, reply)
 }
 
 /// Applies a datagram with this header and these bytes after it. Returns true if `reply` has an answer. A datagram that
 /// isn't a packet changes nothing.
 fn take_datagram(
     table: &mut Table,
+    ledger: &mut Ledger,
     clock: u64,
     peer: Peer,
     head: &[u8; 16],
@@ -145,7 +158,9 @@ fn take_datagram(
     reply: &mut Reply,
 ) -> bool
     requires { clock < 2 ^ 62 }
-    ensures { TakesDatagram clock peer (head.now ++ body.now) table.old table.new (written_of (given result reply.new)) }
+    ensures taken { TakesDatagram clock peer (head.now ++ body.now) table.old table.new (written_of (given result reply.new)) }
+    ensures ends { Ends clock (λ e index. read_end e index peer (packet_in (head.now ++ body.now))) table.old ledger.old ledger.new }
+    ensures tally { Tallies clock (λ e sessions. read_tally e peer (packet_in (head.now ++ body.now)) sessions) table.old ledger.old ledger.new }
 {
     match decode_parts(head, body) {
         Ok(packet) => {
@@ -154,7 +169,7 @@ fn take_datagram(
                 peer,
                 stamp: packet.stamp,
             };
-            to_destination(table, arrival, &packet, reply)
+            to_destination(table, ledger, arrival, &packet, reply)
         }
         Err(_) => false,
     }
@@ -163,6 +178,7 @@ fn take_datagram(
 /// Applies an item at this clock in microseconds, and queues the replies to it. A tick changes nothing here.
 pub fn dispatch(
     table: &mut Table,
+    ledger: &mut Ledger,
     clock: u64,
     item: &Item,
     hand: &mut Box<Reply>,
@@ -171,17 +187,22 @@ pub fn dispatch(
     requires { clock < 2 ^ 62 }
     ensures table { TakesItem clock (told item.now) table.old table.new }
     ensures said { AnswersItem clock (told item.now) table.old waiting.old waiting.new }
+    ensures ends { Ends clock (λ e index. item_end e index (told item.now)) table.old ledger.old ledger.new }
+    ensures tally { Tallies clock (λ e sessions. item_tally e (told item.now) sessions) table.old ledger.old ledger.new }
 {
     match item {
         Item::Tick { moment: _ } => {}
-        Item::Close { moment: _ } => close_seats(table, clock, hand, waiting),
+        Item::Close { moment: _ } => {
+            ledger.note_closed(table, clock);
+            close_seats(table, clock, hand, waiting);
+        }
         Item::Datagram {
             peer,
             moment: _,
             head,
             body,
         } => {
-            let answered = take_datagram(table, clock, *peer, head, body, hand);
+            let answered = take_datagram(table, ledger, clock, *peer, head, body, hand);
             waiting.put_if(hand, answered);
         }
     }

@@ -13,7 +13,7 @@ use srt_seq::limits::PEER_IDLE_TIMEOUT_US;
 
 impl Seat {
     /// Whether the session's peer sent nothing for five seconds.
-    fn peer_idle(&self, clock: u64) -> bool
+    pub fn peer_idle(&self, clock: u64) -> bool
         ensures { result ≡ session_passes (peer_idle clock) self.now.session }
     {
         match &self.session {

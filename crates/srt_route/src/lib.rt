@@ -28,6 +28,7 @@ mod delivery;
 mod dispatch;
 mod idle;
 pub mod laws;
+mod ledger;
 mod opening;
 mod places;
 mod replies;
@@ -38,11 +39,14 @@ mod socket_ids;
 mod start;
 mod state;
 mod table;
+mod totals;
 mod transmit;
 mod view;
 
+pub use ledger::{EndCause, EndedSession};
 pub use replies::Reply;
 pub use state::Route;
+pub use totals::Totals;
 pub use view::{SessionView, Traffic};
 
 #[cfg(test)]

@@ -12,11 +12,15 @@ ghost use Rattle.srt_route.specs.Route.{Route as TheRoute, sent, after, taken_by
 ghost use Rattle.srt_route.specs.Tables.{written_of};
 ghost use Rattle.srt_route.specs.Waits.{replies_of, places_of};
 ghost use Rattle.srt_route.specs.Reports.{AreSaid};
+ghost use Rattle.srt_route.specs.Ledgers.{ended_in};
+ghost use Rattle.srt_route.specs.Ends.{KeepsEnds};
+ghost use Rattle.srt_route.specs.Tallies.{no_tally, tally_after, tally_in};
 ghost use Rattle.srt_route.specs.Stands.{IsRoute, stands, waiting, places};
 
 use crate::delivery::deliver;
 use crate::dispatch::dispatch;
 use crate::idle::end_idle;
+use crate::ledger::Ledger;
 use crate::opening::check_entry;
 use crate::replies::Reply;
 use crate::reply_queue::{ReplyQueue, ScratchBoxes};
@@ -66,6 +70,8 @@ impl Route {
     pub fn open(alloc: Global, entry: &Entry, index: usize) -> Result<Route, OpenFault>
         ensures stands { IfOk result (λ route. stands route (terms_of entry.now) index []) }
         ensures none_waits { IfOk result (λ route. waiting route ≡ []) }
+        ensures none_ended { IfOk result (λ route. (slot : ℕ) → ended_in slot route ≡ None) }
+        ensures tally { IfOk result (λ route. tally_in route ≡ no_tally) }
         ensures room { IfOk result (λ route. places route ≡ 4 + 66 * entry.now.sessions) }
         ensures sound { IfOk result (λ _. fault_of (terms_of entry.now) index ≡ None) }
         ensures fault { (fault : TheFault) → fault_of (terms_of entry.now) index ≡ Some fault → result ≡ Err fault }
@@ -87,6 +93,7 @@ impl Route {
             scratch,
             waiting,
             closed: false,
+            ledger: Ledger::new(),
         })
     }
 
@@ -100,6 +107,10 @@ impl Route {
         ensures stands { (e : Terms) (index : ℕ) (items : List TheItem) → stands self.old e index items → stands self.new e index (told item.now ∷ items) }
         ensures replies { (e : Terms) (index : ℕ) (items : List TheItem) →
             stands self.old e index items → waiting self.new ≡ reply e index (told item.now ∷ items) }
+        ensures ends { (e : Terms) (index : ℕ) (items : List TheItem) → stands self.old e index items →
+            KeepsEnds e index (told item.now) (after e index items) (λ slot. ended_in slot self.old) (λ slot. ended_in slot self.new) }
+        ensures tally { (e : Terms) (index : ℕ) (items : List TheItem) →
+            stands self.old e index items → tally_in self.new ≡ tally_after e (told item.now) (after e index items) (tally_in self.old) }
     {
         // 1: the clock never goes back. After a Close nothing else goes on.
         self.clock = later(self.clock, moment(item));
@@ -108,10 +119,12 @@ impl Route {
         }
         self.closed = closes(item);
         // 2: idle sessions end, and what is too late is dropped.
+        self.ledger.note_idle(&self.table, self.clock);
         end_idle(&mut self.table, self.clock);
         // 3: a datagram is for a session, or is a conclusion; a Close ends every session.
         dispatch(
             &mut self.table,
+            &mut self.ledger,
             self.clock,
             item,
             &mut self.scratch.reply,
@@ -163,6 +176,8 @@ impl Route {
     pub fn next_reply(&mut self, place: &mut Box<Reply>) -> bool
         ensures first { result ≡ true → waiting self.old ≡ written place.new.value ∷ waiting self.new }
         ensures none { result ≡ false → (waiting self.old ≡ []) × (self.new ≡ self.old) × (place.new ≡ place.old) }
+        ensures kept { (slot : ℕ) → ended_in slot self.new ≡ ended_in slot self.old }
+        ensures tally { tally_in self.new ≡ tally_in self.old }
         ensures stands { (e : Terms) (index : ℕ) (items : List TheItem) → stands self.old e index items → stands self.new e index items }
     {
         self.waiting.next(place)

@@ -2,6 +2,7 @@
 
 ghost use Rattle.std.specs.Prelude.{◌<◌, ◌^◌};
 
+use crate::ledger::Ledger;
 use crate::reply_queue::{ReplyQueue, ScratchBoxes};
 use crate::table::Table;
 use srt_seq::Payload;
@@ -22,5 +23,7 @@ pub struct Route {
     pub(crate) scratch: ScratchBoxes,
     /// The buffer for the payload that is being delivered.
     pub(crate) payload: Payload,
+    /// What is kept of sessions that ended, and what is counted.
+    pub(crate) ledger: Ledger,
     pub(crate) ghost early: { clock < 2 ^ 62 },
 }

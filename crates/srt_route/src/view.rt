@@ -5,14 +5,16 @@ ghost use Rattle.srt_seq.specs.Terms.{Terms};
 ghost use Rattle.srt_seq.specs.Items.{Item as TheItem};
 ghost use Rattle.srt_route.specs.Route.{after};
 ghost use Rattle.srt_route.specs.Stands.{stands};
-ghost use Rattle.srt_route.specs.Viewing.{delay_of, is_active_by, latency_in, ShowsSlot, ShowsSession, TellsTraffic};
+ghost use Rattle.srt_route.specs.Ledgers.{ended_in, opened_in, refused_in};
+ghost use Rattle.srt_route.specs.Viewing.{delay_of, is_active_by, latency_in, SeesSlot, ShowsSlot, ShowsSession, TellsTraffic};
 
 use crate::delivery::active_buffers;
+use crate::ledger::EndedSession;
 use crate::places::place_of;
 use crate::seat::{Session, publishes};
 use crate::state::Route;
 use crate::table::Table;
-use srt_hs::{AnswerKind, HsAnswer};
+use srt_hs::{AnswerKind, HsAnswer, RefusalCode};
 use srt_pub::Publisher;
 use srt_seq::{Peer, Role};
 use srt_sub::Subscriber;
@@ -100,8 +102,9 @@ fn traffic_of(role: Role, publisher: &Publisher, subscriber: &Subscriber) -> Tra
 
 impl Table {
     /// The open session of a slot; None if none is open there, or if there is no such slot.
-    fn look(&self, slot: usize) -> Option<SessionView>
-        ensures { ShowsSlot slot self.now result }
+    pub fn look(&self, slot: usize) -> Option<SessionView>
+        ensures shows { ShowsSlot slot self.now result }
+        ensures stored { SeesSlot slot self.now result }
     {
         if slot >= self.seats.len() {
             return None;
@@ -137,5 +140,30 @@ impl Route {
             stands self.now e index items → ShowsSession e index slot (after e index items).sessions result }
     {
         self.table.look(slot)
+    }
+
+    /// The session that ended last in a slot, from 0, with the cause and the moment; None if none ended there.
+    pub fn ended(&self, slot: usize) -> Option<EndedSession>
+        ensures { result ≡ ended_in slot self.now }
+    {
+        if slot >= self.ledger.ended.len() {
+            return None;
+        }
+        self.ledger.ended[slot]
+    }
+
+    /// The sessions that opened so far. A conclusion that comes again opens none. Stops at 2^64 - 1.
+    pub fn opened(&self) -> u64
+        ensures { result ≡ opened_in self.now }
+    {
+        self.ledger.opened
+    }
+
+    /// The conclusions that this route refused so far for this reason, each copy of one. What `srt_lobby` refuses comes
+    /// to no route. Stops at 2^64 - 1.
+    pub fn refused(&self, code: RefusalCode) -> u64
+        ensures { result ≡ refused_in code self.now }
+    {
+        self.ledger.refused(code)
     }
 }

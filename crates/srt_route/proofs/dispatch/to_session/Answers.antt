@@ -1,42 +1,49 @@
-use Rattle.std.proofs.Common.{◌≡◌, ℕ, ◌∙◌, true, false, get_or, set, refl, sym, ap, subst, arith}
+use Rattle.std.proofs.Common.{◌≡◌, ℕ, Bool, Option, is_some, ◌∙◌, true, false, get_or, set, refl, sym, ap, subst, arith}
 use Rattle.srt_packet.specs.View.{packet_of}
+use Rattle.srt_pub.specs.Publishing.{Publishing, Terms}
+use Rattle.srt_pub.specs.Stands.{StandsFor}
+use Rattle.srt_pub.specs.declared.ends.PubEnd.{PubEnd}
 use Rattle.srt_route.specs.declared.seat.Seat.{Seat}
 use Rattle.srt_seq.specs.Given.{given}
-use Rattle.srt_route.specs.Tables.{is_stored_for, session_passes, has_publisher, uses_second, written_of}
+use Rattle.srt_route.specs.Tables.{is_stored_for, session_passes, has_publisher, uses_second, stored_after, with_stored, written_of}
 use Rattle.srt_route.proofs.Stored.{for_none_beyond, for_none_stored, for_one, same_read}
 use Rattle.srt_route.proofs.Taking.{none_arrived, publisher_arrived, subscriber_arrived, stored_role}
+use Rattle.srt_route.proofs.Told.{none_for, publisher_told, subscriber_told}
 use Rattle.srt_route.proofs.dispatch.to_session.Goals as goal
 
-pub returns-then-at-len : goal.returns-then-at-len
-returns-then-at-len c e index sessions h =
+pub returns-then-at-len-clause-taken : goal.returns-then-at-len-clause-taken
+returns-then-at-len-clause-taken c e index sessions h =
     none_arrived e index c.args.arrival.clock c.args.arrival.peer (packet_of c.args.packet.now) c.args.table.now _ sessions h (refl, refl, refl, refl, refl) refl refl
     (for_none_beyond index c.args.arrival.peer c.args.packet.now.dest e.sessions sessions (omega (arith, c.args.table.now.few, h.places_are)) (omega (arith, c.slot_in-at.ensures, c.if-at-len.true, c.len.ensures, h.places_are)))
 
-pub returns-then-not-is_for : goal.returns-then-not-is_for
-returns-then-not-is_for c e index sessions h =
+pub returns-then-not-is_for-clause-taken : goal.returns-then-not-is_for-clause-taken
+returns-then-not-is_for-clause-taken c e index sessions h =
     none_arrived e index c.args.arrival.clock c.args.arrival.peer (packet_of c.args.packet.now) c.args.table.now _ sessions h (refl, refl, refl, refl, refl) refl refl
     (for_none_stored e index c.args.arrival.clock c.args.table.now sessions c.args.arrival.peer c.args.packet.now.dest c.slot_in-at.result c.index.result.now h c.args.table.now.few c.slot_in-at.ensures (omega (arith, c.if-at-len.false, c.len.ensures)) c.index.ensures (sym c.is_for.ensures ∙ c.if-not-is_for.true))
 
-pub returns-then-has_publisher : goal.returns-then-has_publisher
-returns-then-has_publisher c e index sessions h =
+pub returns-then-has_publisher-clause-taken : goal.returns-then-has_publisher-clause-taken
+returns-then-has_publisher-clause-taken c e index sessions h =
     let packet = packet_of c.args.packet.now in
     let at = c.slot_in-at.result in
-    let seat = c.index_mut.result.now in
+    let seat = c.index_mut-then-has_publisher.result.now in
     let seats = c.args.table.now.seats.items in
-    let same : c.index.result.now ≡ seat = same_read seats at c.index.result.now seat (omega (arith, c.if-at-len.false, c.len.ensures)) c.index.ensures c.index_mut.ensures.value in
-    let same_too : c.index-2.result.now ≡ seat = same_read seats at c.index-2.result.now seat (omega (arith, c.if-at-len.false, c.len.ensures)) c.index-2.ensures c.index_mut.ensures.value in
-    let here = for_one e index c.args.arrival.clock c.args.table.now sessions c.args.arrival.peer packet.dest at seat h c.args.table.now.few c.slot_in-at.ensures (omega (arith, c.if-at-len.false, c.len.ensures)) c.index_mut.ensures.value (ap (λ (x : Seat). session_passes (is_stored_for c.args.arrival.peer packet.dest) x.session) (sym same) ∙ (sym c.is_for.ensures ∙ c.if-not-is_for.false)) in
+    let same : c.index.result.now ≡ seat = same_read seats at c.index.result.now seat (omega (arith, c.if-at-len.false, c.len.ensures)) c.index.ensures c.index_mut-then-has_publisher.ensures.value in
+    let same_too : c.index-2.result.now ≡ seat = same_read seats at c.index-2.result.now seat (omega (arith, c.if-at-len.false, c.len.ensures)) c.index-2.ensures c.index_mut-then-has_publisher.ensures.value in
+    let here = for_one e index c.args.arrival.clock c.args.table.now sessions c.args.arrival.peer packet.dest at seat h c.args.table.now.few c.slot_in-at.ensures (omega (arith, c.if-at-len.false, c.len.ensures)) c.index_mut-then-has_publisher.ensures.value (ap (λ (x : Seat). session_passes (is_stored_for c.args.arrival.peer packet.dest) x.session) (sym same) ∙ (sym c.is_for.ensures ∙ c.if-not-is_for.false)) in
     let role = stored_role e index sessions c.args.arrival.peer packet.dest at seat here.0 here.1 true here.2 (ap has_publisher (sym same_too) ∙ (sym c.has_publisher.ensures ∙ c.if-has_publisher.true)) in
     let second = c.uses_second-second.result in
     let place = c.place_of.ensures.value in
-    let same_again : c.index-then-has_publisher.result.now ≡ seat = same_read seats at c.index-then-has_publisher.result.now seat (omega (arith, c.if-at-len.false, c.len.ensures)) c.index-then-has_publisher.ensures c.index_mut.ensures.value in
+    let same_again : c.index-then-has_publisher.result.now ≡ seat = same_read seats at c.index-then-has_publisher.result.now seat (omega (arith, c.if-at-len.false, c.len.ensures)) c.index-then-has_publisher.ensures c.index_mut-then-has_publisher.ensures.value in
     let uses : second ≡ uses_second seat = c.uses_second-second.ensures ∙ ap uses_second same_again in
-    publisher_arrived e index c.args.arrival.clock c.args.arrival.peer packet c.args.table.now _ sessions at second c.index_mut-then-has_publisher.result.now c.hear_publisher.new.publisher seat c.hear_publisher.new.seat here.0 here.1 h c.index_mut.ensures.value here.2 role uses
-    (subst (λ (n : ℕ). c.index_mut-then-has_publisher.result.now ≡ get_or c.args.table.now.publishers.items n c.index_mut-then-has_publisher.result.now) place c.index_mut-then-has_publisher.ensures.value) c.hear_publisher.ensures.publisher c.hear_publisher.ensures.seat (refl, refl, refl, refl, refl) refl
-    (ap (λ (n : ℕ). set c.args.table.now.publishers.items n c.hear_publisher.new.publisher) place)
+    let ends = λ (terms : Terms) (initial opening stamp caller : ℕ) (m : Publishing) (stands : StandsFor terms initial opening stamp caller c.index_mut.result.now m).
+    c.keep_or_end.ensures
+    ∙ ap {B = Seat} (λ (b : Bool). with_stored (stored_after b c.args.arrival.clock seat.session) seat) (c.is_some.ensures ∙ ap (λ (o : Option PubEnd). is_some o) (c.hear_publisher-end.ensures.end terms initial opening stamp caller m stands)) in
+    publisher_arrived e index c.args.arrival.clock c.args.arrival.peer packet c.args.table.now _ sessions at second c.index_mut.result.now c.hear_publisher-end.new.publisher seat c.keep_or_end.new.self here.0 here.1 h c.index_mut-then-has_publisher.ensures.value here.2 role uses
+    (subst (λ (n : ℕ). c.index_mut.result.now ≡ get_or c.args.table.now.publishers.items n c.index_mut.result.now) place c.index_mut.ensures.value) c.hear_publisher-end.ensures.publisher ends (refl, refl, refl, refl, refl) refl
+    (ap (λ (n : ℕ). set c.args.table.now.publishers.items n c.hear_publisher-end.new.publisher) place)
 
-pub returns : goal.returns
-returns c e index sessions h =
+pub returns-clause-taken : goal.returns-clause-taken
+returns-clause-taken c e index sessions h =
     let packet = packet_of c.args.packet.now in
     let at = c.slot_in-at.result in
     let seat = c.index_mut-2.result.now in
@@ -46,3 +53,41 @@ returns c e index sessions h =
     let here = for_one e index c.args.arrival.clock c.args.table.now sessions c.args.arrival.peer packet.dest at seat h c.args.table.now.few c.slot_in-at.ensures (omega (arith, c.if-at-len.false, c.len.ensures)) c.index_mut-2.ensures.value (ap (λ (x : Seat). session_passes (is_stored_for c.args.arrival.peer packet.dest) x.session) (sym same) ∙ (sym c.is_for.ensures ∙ c.if-not-is_for.false)) in
     let role = stored_role e index sessions c.args.arrival.peer packet.dest at seat here.0 here.1 false here.2 (ap has_publisher (sym same_too) ∙ (sym c.has_publisher.ensures ∙ c.if-has_publisher.false)) in
     subscriber_arrived e index c.args.arrival.clock c.args.arrival.peer packet c.args.table.now _ sessions at seat c.hear_subscriber.new.seat (written_of (given c.hear_subscriber.result c.hear_subscriber.new.reply)) here.0 here.1 h c.index_mut-2.ensures.value here.2 role c.hear_subscriber.ensures.subscriber c.hear_subscriber.ensures.generation c.hear_subscriber.ensures.session c.hear_subscriber.ensures.answer (refl, refl, refl, refl, refl) refl refl
+
+pub returns-then-at-len-clause-ends : goal.returns-then-at-len-clause-ends
+returns-then-at-len-clause-ends c e index sessions h =
+    none_for e index c.args.arrival.clock c.args.arrival.peer (packet_of c.args.packet.now) c.args.table.now sessions c.args.ledger.now h
+    (for_none_beyond index c.args.arrival.peer c.args.packet.now.dest e.sessions sessions (omega (arith, c.args.table.now.few, h.places_are)) (omega (arith, c.slot_in-at.ensures, c.if-at-len.true, c.len.ensures, h.places_are)))
+
+pub returns-then-not-is_for-clause-ends : goal.returns-then-not-is_for-clause-ends
+returns-then-not-is_for-clause-ends c e index sessions h =
+    none_for e index c.args.arrival.clock c.args.arrival.peer (packet_of c.args.packet.now) c.args.table.now sessions c.args.ledger.now h
+    (for_none_stored e index c.args.arrival.clock c.args.table.now sessions c.args.arrival.peer c.args.packet.now.dest c.slot_in-at.result c.index.result.now h c.args.table.now.few c.slot_in-at.ensures (omega (arith, c.if-at-len.false, c.len.ensures)) c.index.ensures (sym c.is_for.ensures ∙ c.if-not-is_for.true))
+
+pub returns-then-has_publisher-clause-ends : goal.returns-then-has_publisher-clause-ends
+returns-then-has_publisher-clause-ends c e index sessions h =
+    let packet = packet_of c.args.packet.now in
+    let at = c.slot_in-at.result in
+    let seat = c.index_mut-then-has_publisher.result.now in
+    let seats = c.args.table.now.seats.items in
+    let same : c.index.result.now ≡ seat = same_read seats at c.index.result.now seat (omega (arith, c.if-at-len.false, c.len.ensures)) c.index.ensures c.index_mut-then-has_publisher.ensures.value in
+    let same_too : c.index-2.result.now ≡ seat = same_read seats at c.index-2.result.now seat (omega (arith, c.if-at-len.false, c.len.ensures)) c.index-2.ensures c.index_mut-then-has_publisher.ensures.value in
+    let here = for_one e index c.args.arrival.clock c.args.table.now sessions c.args.arrival.peer packet.dest at seat h c.args.table.now.few c.slot_in-at.ensures (omega (arith, c.if-at-len.false, c.len.ensures)) c.index_mut-then-has_publisher.ensures.value (ap (λ (x : Seat). session_passes (is_stored_for c.args.arrival.peer packet.dest) x.session) (sym same) ∙ (sym c.is_for.ensures ∙ c.if-not-is_for.false)) in
+    let role = stored_role e index sessions c.args.arrival.peer packet.dest at seat here.0 here.1 true here.2 (ap has_publisher (sym same_too) ∙ (sym c.has_publisher.ensures ∙ c.if-has_publisher.true)) in
+    let second = c.uses_second-second.result in
+    let same_again : c.index-then-has_publisher.result.now ≡ seat = same_read seats at c.index-then-has_publisher.result.now seat (omega (arith, c.if-at-len.false, c.len.ensures)) c.index-then-has_publisher.ensures c.index_mut-then-has_publisher.ensures.value in
+    let uses : second ≡ uses_second seat = c.uses_second-second.ensures ∙ ap uses_second same_again in
+    publisher_told e index c.args.arrival.clock c.args.arrival.peer packet c.args.table.now sessions at second c.index_mut.result.now seat here.0 here.1 c.hear_publisher-end.result c.cause_of.result c.args.ledger.now c.note.new.self h c.index_mut-then-has_publisher.ensures.value here.2 role uses
+    (subst (λ (n : ℕ). c.index_mut.result.now ≡ get_or c.args.table.now.publishers.items n c.index_mut.result.now) c.place_of.ensures.value c.index_mut.ensures.value) c.hear_publisher-end.ensures.end c.cause_of.ensures c.note.ensures
+
+pub returns-clause-ends : goal.returns-clause-ends
+returns-clause-ends c e index sessions h =
+    let packet = packet_of c.args.packet.now in
+    let at = c.slot_in-at.result in
+    let seat = c.index_mut-2.result.now in
+    let seats = c.args.table.now.seats.items in
+    let same : c.index.result.now ≡ seat = same_read seats at c.index.result.now seat (omega (arith, c.if-at-len.false, c.len.ensures)) c.index.ensures c.index_mut-2.ensures.value in
+    let same_too : c.index-2.result.now ≡ seat = same_read seats at c.index-2.result.now seat (omega (arith, c.if-at-len.false, c.len.ensures)) c.index-2.ensures c.index_mut-2.ensures.value in
+    let here = for_one e index c.args.arrival.clock c.args.table.now sessions c.args.arrival.peer packet.dest at seat h c.args.table.now.few c.slot_in-at.ensures (omega (arith, c.if-at-len.false, c.len.ensures)) c.index_mut-2.ensures.value (ap (λ (x : Seat). session_passes (is_stored_for c.args.arrival.peer packet.dest) x.session) (sym same) ∙ (sym c.is_for.ensures ∙ c.if-not-is_for.false)) in
+    let role = stored_role e index sessions c.args.arrival.peer packet.dest at seat here.0 here.1 false here.2 (ap has_publisher (sym same_too) ∙ (sym c.has_publisher.ensures ∙ c.if-has_publisher.false)) in
+    subscriber_told e index c.args.arrival.clock c.args.arrival.peer packet c.args.table.now sessions at seat here.0 here.1 c.shutdown_cause.result c.args.ledger.now c.note-2.new.self h c.index_mut-2.ensures.value here.2 role c.shutdown_cause.ensures c.note-2.ensures

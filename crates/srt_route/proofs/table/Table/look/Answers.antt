@@ -22,15 +22,15 @@ view_with t active latency traffic =
       traffic = traffic;
     }
 
-pub returns-then-slot-len : goal.returns-then-slot-len
-returns-then-slot-len c e index clock ss is = none_past e index clock c.args.self.now ss c.args.slot is (omega (arith, c.if-slot-len.true, c.len.ensures))
+pub returns-then-slot-len-clause-shows : goal.returns-then-slot-len-clause-shows
+returns-then-slot-len-clause-shows c e index clock ss is = none_past e index clock c.args.self.now ss c.args.slot is (omega (arith, c.if-slot-len.true, c.len.ensures))
 
-pub returns-in-None : goal.returns-in-None
-returns-in-None c e index clock ss is =
+pub returns-in-None-clause-shows : goal.returns-in-None-clause-shows
+returns-in-None-clause-shows c e index clock ss is =
     none_stored e index clock c.args.self.now ss c.args.slot c.index-seat.result.now is (omega (arith, c.if-slot-len.false, c.len.ensures)) (ap (λ (x : Seat). x.session) (sym c.index-seat.ensures) ∙ c.in-None.is)
 
-pub returns-in-Some : goal.returns-in-Some
-returns-in-Some c e index clock ss is =
+pub returns-in-Some-clause-shows : goal.returns-in-Some-clause-shows
+returns-in-Some-clause-shows c e index clock ss is =
     let table = c.args.self.now in
     let d = c.index-seat.result.now in
     let p = c.index.result.now in

@@ -1,0 +1,120 @@
+-- What a route keeps of the sessions that ended, and what it counts.
+use Rattle.std.specs.Prelude.{◌≡◌, ◌≢◌, ℕ, ◌+◌, ◌-◌, ◌^◌, ◌<◌, ◌≤◌, min, Option, None, Some, List, length, slice_index_or, if◌then◌else◌, ⊤}
+use Rattle.srt_hs.specs.declared.refusals.RefusalCode.{RefusalCode}
+use Rattle.srt_hs.specs.declared.refusals.RefusalCode.TheVariants as codes
+use Rattle.srt_packet.specs.Grammar.{Body, Shutdown}
+use Rattle.srt_pub.specs.declared.ends.PubEnd.{PubEnd}
+use Rattle.srt_pub.specs.declared.ends.PubEnd.TheVariants as ends
+use Rattle.srt_route.specs.declared.seat.Session.{Session as TheSession}
+use Rattle.srt_route.specs.declared.seat.Seat.{Seat}
+use Rattle.srt_route.specs.declared.state.Route.{Route as TheRoute}
+use Rattle.srt_route.specs.declared.table.Table.{Table}
+use Rattle.srt_route.specs.declared.ledger.EndCause.{EndCause}
+use Rattle.srt_route.specs.declared.ledger.EndCause.TheVariants as causes
+use Rattle.srt_route.specs.declared.ledger.EndedSession.{EndedSession}
+use Rattle.srt_route.specs.declared.ledger.Ledger.{Ledger}
+use Rattle.srt_route.specs.declared.ledger.Refusals.{Refusals}
+use Rattle.srt_route.specs.Tables.{session_passes, peer_idle}
+
+-- the session that ended last in a slot
+abbrev pub entry_of : Ledger → (at : ℕ) → Option EndedSession
+entry_of ledger at = slice_index_or ledger.ended at None
+
+-- the causes of an end: by a packet, by silence, by a Close
+abbrev pub cause_of : Option PubEnd → Option EndCause
+cause_of None = None
+cause_of (Some ends.Shutdown) = Some causes.Shutdown
+cause_of (Some ends.WindowLost) = Some causes.WindowLost
+
+abbrev pub shutdown_cause : Body → Option EndCause
+shutdown_cause Shutdown = Some causes.Shutdown
+shutdown_cause _ = None
+
+abbrev pub idle_cause : (clock : ℕ) → Option TheSession → Option EndCause
+idle_cause clock o = if session_passes (peer_idle clock) o then Some causes.Silence else None
+
+abbrev pub closed_cause : Option TheSession → Option EndCause
+closed_cause o = Some causes.Closed
+
+-- a session that a packet ends was heard of at its end
+abbrev pub heard_at_end : EndCause → (heard moment : ℕ) → ℕ
+heard_at_end causes.Shutdown heard moment = moment
+heard_at_end causes.WindowLost heard moment = moment
+heard_at_end causes.Silence heard moment = heard
+heard_at_end causes.Closed heard moment = heard
+
+-- this tells the end of a stored session
+pub record IsEndOf (cause : EndCause) (moment : ℕ) (t : TheSession) (x : EndedSession) : Type 0 where
+  pub cause_is : x.cause ≡ cause
+  pub moment_is : x.moment ≡ moment
+  pub peer_is : x.view.peer ≡ t.peer
+  pub caller_is : x.view.caller ≡ t.caller
+  pub id_is : x.view.id ≡ t.id
+  pub role_is : x.view.role ≡ t.role
+  pub opened_is : x.view.opened ≡ t.opened
+  pub heard_is : x.view.heard ≡ heard_at_end cause t.heard moment
+
+-- what a slot's entry becomes if its session ends for this cause, and that it stays if none ends
+abbrev pub TellsEnd : EndCause → (moment : ℕ) → TheSession → Option EndedSession → Type 0
+TellsEnd cause moment t None = ⊥
+TellsEnd cause moment t (Some x) = IsEndOf cause moment t x
+
+abbrev pub Tells : Option EndCause → (moment : ℕ) → Option TheSession → (old new : Option EndedSession) → Type 0
+Tells None moment o old new = new ≡ old
+Tells (Some cause) moment None old new = new ≡ old
+Tells (Some cause) moment (Some t) old new = TellsEnd cause moment t new
+
+-- the counts of openings and refusals stay
+abbrev pub CountsStay : (old new : Ledger) → Type 0
+CountsStay old new = (new.opened ≡ old.opened) × (new.refusals ≡ old.refusals)
+
+-- one slot's end is noted
+pub record NotesAt (at : ℕ) (cause : Option EndCause) (moment : ℕ) (o : Option TheSession) (old new : Ledger) : Type 0 where
+  pub told : Tells cause moment o (entry_of old at) (entry_of new at)
+  pub others : (k : ℕ) → k ≢ at → entry_of new k ≡ entry_of old k
+  pub counts : CountsStay old new
+
+-- the end of the session that a table has in this slot
+abbrev pub Notes : (at : ℕ) → Option EndCause → (moment : ℕ) → Table → (old new : Ledger) → Type 0
+Notes at cause moment table old new = (d : Seat) → NotesAt at cause moment (slice_index_or table.seats.items at d).session old new
+
+-- the end of each session of a table is noted for which there is a cause
+pub record NotesEach (cause : Option TheSession → Option EndCause) (moment : ℕ) (table : Table) (old new : Ledger) : Type 0 where
+  pub told : (at : ℕ) (d : Seat) → at < length table.seats.items
+      → Tells (cause (slice_index_or table.seats.items at d).session) moment (slice_index_or table.seats.items at d).session (entry_of old at) (entry_of new at)
+  pub others : (at : ℕ) → length table.seats.items ≤ at → entry_of new at ≡ entry_of old at
+  pub counts : CountsStay old new
+
+-- one session more, and one refusal more; each count stops at 2^64 - 1
+abbrev pub more : ℕ → ℕ
+more n = min (2 ^ 64 - 1) (n + 1)
+
+abbrev pub with_opening : Ledger → Ledger
+with_opening ledger = record ledger { opened = more ledger.opened }
+
+abbrev pub refusals_with : RefusalCode → Refusals → Refusals
+refusals_with codes.Peer r = record r { peer = more r.peer }
+refusals_with codes.Resource r = record r { resource = more r.resource }
+refusals_with codes.Rogue r = record r { rogue = more r.rogue }
+refusals_with codes.MessageApi r = record r { message_api = more r.message_api }
+refusals_with _ r = r
+
+abbrev pub with_refusal : RefusalCode → Ledger → Ledger
+with_refusal reason ledger = record ledger { refusals = refusals_with reason ledger.refusals }
+
+abbrev pub refused_by : RefusalCode → Refusals → ℕ
+refused_by codes.Peer r = r.peer
+refused_by codes.Resource r = r.resource
+refused_by codes.Rogue r = r.rogue
+refused_by codes.MessageApi r = r.message_api
+refused_by _ r = 0
+
+-- what a route keeps and counts
+abbrev pub ended_in : (slot : ℕ) → TheRoute → Option EndedSession
+ended_in slot r = entry_of r.ledger slot
+
+abbrev pub opened_in : TheRoute → ℕ
+opened_in r = r.ledger.opened
+
+abbrev pub refused_in : RefusalCode → TheRoute → ℕ
+refused_in reason r = refused_by reason r.ledger.refusals

@@ -1,0 +1,40 @@
+-- Sums over sessions of what each counts.
+use Rattle.std.specs.Prelude.{ℕ, ◌+◌, ◌-◌, ◌^◌, min}
+use Rattle.srt_pub.specs.declared.counts.Counts.{Counts as Received}
+use Rattle.srt_sub.specs.declared.counts.Counts.{Counts as Queued}
+use Rattle.srt_sub.specs.declared.counts.Sendings.{Sendings}
+use Rattle.srt_route.specs.declared.totals.Totals.{Totals}
+use Rattle.srt_route.specs.declared.view.Traffic.{Traffic}
+use Rattle.srt_route.specs.declared.view.Traffic.TheVariants as of
+
+-- a count stops at 2^64 - 1
+abbrev pub both : ℕ → ℕ → ℕ
+both a b = min (2 ^ 64 - 1) (a + b)
+
+abbrev pub both_received : Received → Received → Received
+both_received a b =
+    record {
+      came = both a.came b.came;
+      received = both a.received b.received;
+      bytes = both a.bytes b.bytes;
+      delivered = both a.delivered b.delivered;
+      given_up = both a.given_up b.given_up;
+      naks = both a.naks b.naks;
+    }
+
+abbrev pub both_queued : Queued → Queued → Queued
+both_queued a b =
+    record {
+      queued = both a.queued b.queued;
+      bytes = both a.bytes b.bytes;
+      naks = both a.naks b.naks;
+      given_up = both a.given_up b.given_up;
+    }
+
+abbrev pub both_sent : Sendings → Sendings → Sendings
+both_sent a b = record { fresh = both a.fresh b.fresh; again = both a.again b.again }
+
+-- the totals with what one session more counts
+abbrev pub with_traffic : Traffic → Totals → Totals
+with_traffic (of.Received x) t = record { received = both_received t.received x.counts; queued = t.queued; sent = t.sent }
+with_traffic (of.Sent x) t = record { received = t.received; queued = both_queued t.queued x.counts; sent = both_sent t.sent x.sendings }

@@ -1,0 +1,235 @@
+//! What a route keeps of what is over: the session that ended last in each slot, the sums of what sessions that ended
+//! counted, and how many sessions opened and conclusions were refused. It is kept beside the sessions, so that nothing
+//! else that an event does can change it, and it is written only when a session opens or ends or a conclusion is refused.
+
+ghost use Rattle.std.specs.Prelude.{◌≡◌, ◌<◌, ℕ, None, Some, length, slice_set};
+ghost use Rattle.srt_packet.specs.View.{body_of};
+ghost use Rattle.srt_route.specs.Tallies.{no_tally, tally_of};
+ghost use Rattle.srt_route.specs.Totals.{with_traffic};
+ghost use Rattle.srt_route.specs.Ledgers.{Notes, NotesEach, cause_of, closed_cause, entry_of, idle_cause, heard_at_end, refused_by, with_opening, with_refusal, shutdown_cause};
+
+use crate::seat::Seat;
+use crate::table::Table;
+use crate::totals::Totals;
+use crate::view::SessionView;
+use srt_hs::RefusalCode;
+use srt_packet::Kind;
+use srt_pub::PubEnd;
+
+/// The most sessions that a route has at once.
+const SLOTS: usize = 17;
+
+/// Why a session ended.
+#[derive(Clone, Copy, Debug, PartialEq, Eq)]
+pub enum EndCause {
+    /// Its peer sent a SHUTDOWN (section 3.2.7).
+    Shutdown,
+    /// Its peer sent nothing for five seconds.
+    Silence,
+    /// A publisher's in live mode: its numbers went on past a window that held nothing more to deliver.
+    WindowLost,
+    /// Its route was closed.
+    Closed,
+}
+
+/// A session that ended.
+#[derive(Clone, Copy, Debug)]
+pub struct EndedSession {
+    /// The session as it was at its end, with the packet that ended it.
+    pub view: SessionView,
+    /// Why it ended.
+    pub cause: EndCause,
+    /// The moment of its end, in microseconds of the route's clock.
+    pub moment: u64,
+}
+
+/// Conclusions that a route refused, by reason. Each count stops at 2^64 - 1.
+#[derive(Clone, Copy)]
+pub(crate) struct Refusals {
+    /// 1002: a third publisher.
+    pub peer: u64,
+    /// 1003: no slot is free.
+    pub resource: u64,
+    /// 1004: the MTU or the flow window.
+    pub rogue: u64,
+    /// 1012: the flag STREAM and the route's mode differ.
+    pub message_api: u64,
+}
+
+/// What a route keeps of what is over.
+#[derive(Drop)]
+pub(crate) struct Ledger {
+    /// The session that ended last in each slot.
+    pub ended: [Option<EndedSession>; SLOTS],
+    /// The sums of what sessions that ended counted.
+    pub totals: Totals,
+    /// Sessions that opened: at most 2^64 - 1.
+    pub opened: u64,
+    /// Conclusions that were refused.
+    pub refusals: Refusals,
+}
+
+/// The cause of a publisher's end by a packet, if it ended.
+pub(crate) fn cause_of(end: Option<PubEnd>) -> Option<EndCause>
+    ensures { result ≡ cause_of end }
+{
+    match end {
+        Some(PubEnd::Shutdown) => Some(EndCause::Shutdown),
+        Some(PubEnd::WindowLost) => Some(EndCause::WindowLost),
+        None => None,
+    }
+}
+
+/// The cause of a subscriber's end by a packet of this kind, if that ends it.
+pub(crate) fn shutdown_cause(kind: &Kind<'_>) -> Option<EndCause>
+    ensures { result ≡ shutdown_cause (body_of kind.now) }
+{
+    match kind {
+        Kind::Shutdown => Some(EndCause::Shutdown),
+        _ => None,
+    }
+}
+
+/// The cause of an idle session's end at this clock; None where none is open, or where its peer was heard of.
+fn idle_cause(seat: &Seat, clock: u64) -> Option<EndCause>
+    ensures { result ≡ idle_cause clock seat.now.session }
+{
+    if seat.peer_idle(clock) {
+        Some(EndCause::Silence)
+    } else {
+        None
+    }
+}
+
+/// When the peer of a session was last heard of: a session that ends by a packet was heard of at its end.
+fn heard_at_end(cause: EndCause, heard: u64, moment: u64) -> u64
+    ensures { result ≡ heard_at_end cause heard moment }
+{
+    match cause {
+        EndCause::Shutdown => moment,
+        EndCause::WindowLost => moment,
+        EndCause::Silence => heard,
+        EndCause::Closed => heard,
+    }
+}
+
+impl Ledger {
+    /// Nothing ended yet, and nothing is counted.
+    pub fn new() -> Ledger
+        ensures ended { (at : ℕ) → entry_of result at ≡ None }
+        ensures tally { tally_of result ≡ no_tally }
+    {
+        Ledger {
+            ended: [None; SLOTS],
+            totals: Totals::none(),
+            opened: 0,
+            refusals: Refusals {
+                peer: 0,
+                resource: 0,
+                rogue: 0,
+                message_api: 0,
+            },
+        }
+    }
+
+    /// Counts a session that opened.
+    pub fn open(&mut self)
+        ensures { self.new ≡ with_opening self.old }
+    {
+        self.opened = self.opened.saturating_add(1);
+    }
+
+    /// Counts a conclusion that was refused for this reason; of one that a route never gives, none is counted.
+    pub fn refuse(&mut self, reason: RefusalCode)
+        ensures { self.new ≡ with_refusal reason self.old }
+    {
+        let refusals = &mut self.refusals;
+        match reason {
+            RefusalCode::Peer => refusals.peer = refusals.peer.saturating_add(1),
+            RefusalCode::Resource => refusals.resource = refusals.resource.saturating_add(1),
+            RefusalCode::Rogue => refusals.rogue = refusals.rogue.saturating_add(1),
+            RefusalCode::MessageApi => {
+                refusals.message_api = refusals.message_api.saturating_add(1)
+            }
+            RefusalCode::Version => {}
+            RefusalCode::Unsecure => {}
+            RefusalCode::Filter => {}
+            RefusalCode::Group => {}
+        }
+    }
+
+    /// The conclusions that were refused for this reason.
+    pub fn refused(&self, reason: RefusalCode) -> u64
+        ensures { result ≡ refused_by reason self.now.refusals }
+    {
+        match reason {
+            RefusalCode::Peer => self.refusals.peer,
+            RefusalCode::Resource => self.refusals.resource,
+            RefusalCode::Rogue => self.refusals.rogue,
+            RefusalCode::MessageApi => self.refusals.message_api,
+            RefusalCode::Version => 0,
+            RefusalCode::Unsecure => 0,
+            RefusalCode::Filter => 0,
+            RefusalCode::Group => 0,
+        }
+    }
+
+    /// Keeps a session that ended as the last one of its slot, and adds what it counted to the sums.
+    fn put(&mut self, at: usize, session: EndedSession)
+        requires { at < 17 }
+        ensures { self.new ≡ record { ended = slice_set self.old.ended at (Some session); totals = with_traffic session.view.traffic self.old.totals; opened = self.old.opened; refusals = self.old.refusals } }
+    {
+        self.totals = self.totals.with(&session.view.traffic);
+        self.ended[at] = Some(session);
+    }
+
+    /// Keeps the session of this slot as one that ends now for this cause, and adds what it counts to the sums.
+    #[inline(never)]
+    fn keep(&mut self, table: &Table, at: usize, cause: EndCause, moment: u64)
+        requires { at < length table.now.seats.items }
+        ensures { Notes at (Some cause) moment table.now self.old self.new }
+    {
+        let Some(view) = table.look(at) else {
+            return;
+        };
+        let mut view = view;
+        view.heard = heard_at_end(cause, view.heard, moment);
+        self.put(
+            at,
+            EndedSession {
+                view,
+                cause,
+                moment,
+            },
+        );
+    }
+
+    /// Notes that the session of this slot ends now, if there is a cause.
+    #[inline(always)]
+    pub fn note(&mut self, table: &Table, at: usize, cause: Option<EndCause>, moment: u64)
+        requires { at < length table.now.seats.items }
+        ensures { Notes at cause moment table.now self.old self.new }
+    {
+        if let Some(cause) = cause {
+            self.keep(table, at, cause, moment);
+        }
+    }
+
+    /// Notes the end of each session whose peer is idle at this clock, before any of them ends.
+    pub fn note_idle(&mut self, table: &Table, clock: u64)
+        ensures { NotesEach (idle_cause clock) clock table.now self.old self.new }
+    {
+        for at in 0..table.seats.len() {
+            self.note(table, at, idle_cause(&table.seats[at], clock), clock);
+        }
+    }
+
+    /// Notes the end of every open session of a route that is closed now, before any of them ends.
+    pub fn note_closed(&mut self, table: &Table, clock: u64)
+        ensures { NotesEach closed_cause clock table.now self.old self.new }
+    {
+        for at in 0..table.seats.len() {
+            self.note(table, at, Some(EndCause::Closed), clock);
+        }
+    }
+}

@@ -1,0 +1,94 @@
+//! Sums over sessions of what each counts.
+
+ghost use Rattle.std.specs.Prelude.{◌≡◌};
+ghost use Rattle.srt_route.specs.Totals.{both_received, both_queued, both_sent, with_traffic};
+
+use crate::view::Traffic;
+
+/// What the sessions of a route counted, those that ended and those that are open. Each count stops at 2^64 - 1.
+#[derive(Clone, Copy, Debug, PartialEq, Eq)]
+pub struct Totals {
+    /// Of all publishers' sessions: what came, was received, was delivered or passed over, and was given up.
+    pub received: srt_pub::Counts,
+    /// Of all subscribers' sessions: what was queued, asked for, and given up.
+    pub queued: srt_sub::Counts,
+    /// Of all subscribers' sessions: the data packets that were sent, and sent again.
+    pub sent: srt_sub::Sendings,
+}
+
+/// The sums of two publishers' counts.
+fn both_received(a: srt_pub::Counts, b: srt_pub::Counts) -> srt_pub::Counts
+    ensures { result ≡ both_received a b }
+{
+    srt_pub::Counts {
+        came: a.came.saturating_add(b.came),
+        received: a.received.saturating_add(b.received),
+        bytes: a.bytes.saturating_add(b.bytes),
+        delivered: a.delivered.saturating_add(b.delivered),
+        given_up: a.given_up.saturating_add(b.given_up),
+        naks: a.naks.saturating_add(b.naks),
+    }
+}
+
+/// The sums of two subscribers' counts of payloads and loss lists.
+fn both_queued(a: srt_sub::Counts, b: srt_sub::Counts) -> srt_sub::Counts
+    ensures { result ≡ both_queued a b }
+{
+    srt_sub::Counts {
+        queued: a.queued.saturating_add(b.queued),
+        bytes: a.bytes.saturating_add(b.bytes),
+        naks: a.naks.saturating_add(b.naks),
+        given_up: a.given_up.saturating_add(b.given_up),
+    }
+}
+
+/// The sums of two subscribers' counts of data packets.
+fn both_sent(a: srt_sub::Sendings, b: srt_sub::Sendings) -> srt_sub::Sendings
+    ensures { result ≡ both_sent a b }
+{
+    srt_sub::Sendings {
+        fresh: a.fresh.saturating_add(b.fresh),
+        again: a.again.saturating_add(b.again),
+    }
+}
+
+impl Totals {
+    /// The totals of no session.
+    pub(crate) fn none() -> Totals {
+        Totals {
+            received: srt_pub::Counts {
+                came: 0,
+                received: 0,
+                bytes: 0,
+                delivered: 0,
+                given_up: 0,
+                naks: 0,
+            },
+            queued: srt_sub::Counts {
+                queued: 0,
+                bytes: 0,
+                naks: 0,
+                given_up: 0,
+            },
+            sent: srt_sub::Sendings { fresh: 0, again: 0 },
+        }
+    }
+
+    /// These totals and what one session more counts.
+    pub(crate) fn with(&self, traffic: &Traffic) -> Totals
+        ensures { result ≡ with_traffic traffic.now self.now }
+    {
+        match traffic {
+            Traffic::Received(x) => Totals {
+                received: both_received(self.received, x.counts),
+                queued: self.queued,
+                sent: self.sent,
+            },
+            Traffic::Sent(x) => Totals {
+                received: self.received,
+                queued: both_queued(self.queued, x.counts),
+                sent: both_sent(self.sent, x.sendings),
+            },
+        }
+    }
+}
