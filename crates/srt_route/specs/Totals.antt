@@ -1,11 +1,16 @@
 -- Sums over sessions of what each counts.
-use Rattle.std.specs.Prelude.{ℕ, ◌+◌, ◌-◌, ◌^◌, min}
+use Rattle.std.specs.Prelude.{◌≡◌, ℕ, zero, suc, ◌+◌, ◌-◌, ◌^◌, min, Option, None, Some, List}
+use Rattle.srt_seq.specs.Terms.{Terms}
 use Rattle.srt_pub.specs.declared.counts.Counts.{Counts as Received}
 use Rattle.srt_sub.specs.declared.counts.Counts.{Counts as Queued}
 use Rattle.srt_sub.specs.declared.counts.Sendings.{Sendings}
+use Rattle.srt_route.specs.declared.state.Route.{Route as TheRoute}
 use Rattle.srt_route.specs.declared.totals.Totals.{Totals}
+use Rattle.srt_route.specs.declared.view.SessionView.{SessionView}
 use Rattle.srt_route.specs.declared.view.Traffic.{Traffic}
 use Rattle.srt_route.specs.declared.view.Traffic.TheVariants as of
+use Rattle.srt_route.specs.Sessions.{Session}
+use Rattle.srt_route.specs.Viewing.{ShowsSession}
 
 -- a count stops at 2^64 - 1
 abbrev pub both : ℕ → ℕ → ℕ
@@ -38,3 +43,23 @@ both_sent a b = record { fresh = both a.fresh b.fresh; again = both a.again b.ag
 abbrev pub with_traffic : Traffic → Totals → Totals
 with_traffic (of.Received x) t = record { received = both_received t.received x.counts; queued = t.queued; sent = t.sent }
 with_traffic (of.Sent x) t = record { received = t.received; queued = both_queued t.queued x.counts; sent = both_sent t.sent x.sendings }
+
+abbrev pub with_shown : Option SessionView → Totals → Totals
+with_shown None t = t
+with_shown (Some v) t = with_traffic v.traffic t
+
+-- the sums of what sessions that ended counted
+abbrev pub totals_of_ended : TheRoute → Totals
+totals_of_ended r = r.ledger.totals
+
+-- totals with those of the open sessions in the slots below a number, each as a look shows it
+pub record AddsOne (e : Terms) (index slot : ℕ) (sessions : List Session) (Before : Totals → Type 0) (all : Totals) : Type 0 where
+  pub before : Totals
+  pub shown : Option SessionView
+  pub before_is : Before before
+  pub shows : ShowsSession e index slot sessions shown
+  pub all_is : all ≡ with_shown shown before
+
+abbrev pub AddUp : (e : Terms) (index : ℕ) → List Session → (slots : ℕ) → (ended all : Totals) → Type 0
+AddUp e index sessions zero ended all = all ≡ ended
+AddUp e index sessions (suc slots) ended all = AddsOne e index slots sessions (λ before. AddUp e index sessions slots ended before) all

@@ -50,4 +50,6 @@ pub use totals::Totals;
 pub use view::{SessionView, Traffic};
 
 #[cfg(test)]
+mod ledger_tests;
+#[cfg(test)]
 mod tests;

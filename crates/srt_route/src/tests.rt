@@ -7,13 +7,13 @@ use std::alloc::Global;
 use std::process::Abort;
 use std::test::Fail;
 
-const PUBLISH: &str = "000500063a3a212374733d726f696475703d6d2c696c627500006873";
+pub(crate) const PUBLISH: &str = "000500063a3a212374733d726f696475703d6d2c696c627500006873";
 
-const REQUEST: &str = "000500026475747300006f69";
+pub(crate) const REQUEST: &str = "000500026475747300006f69";
 
-const HSREQ: &str = "0001000300010500000000bf00780078";
+pub(crate) const HSREQ: &str = "0001000300010500000000bf00780078";
 
-fn peer(port: u16) -> Peer {
+pub(crate) fn peer(port: u16) -> Peer {
     let mut ip = [0u8; 16];
     ip[10] = 0xff;
     ip[11] = 0xff;
@@ -38,7 +38,7 @@ fn entry(alloc: Global, name: &str, mode: Mode) -> Result<Entry, Fail> {
     })
 }
 
-fn studio(alloc: Global) -> Result<Route, Fail> {
+pub(crate) fn studio(alloc: Global) -> Result<Route, Fail> {
     match Route::open(alloc, &entry(alloc, "studio", Mode::Live)?, 0) {
         Ok(route) => Ok(route),
         Err(_) => Err(Fail::from("the route opens")),
@@ -55,7 +55,11 @@ fn joined(alloc: Global, parts: &[&str]) -> Result<String, Fail> {
 }
 
 /// A conclusion with this initial number, MTU, flow window and caller's ID, all of 8 digits.
-fn conclusion(alloc: Global, fields: [&str; 4], blocks: &[&str]) -> Result<String, Fail> {
+pub(crate) fn conclusion(
+    alloc: Global,
+    fields: [&str; 4],
+    blocks: &[&str],
+) -> Result<String, Fail> {
     let blocks = joined(alloc, blocks)?;
     joined(
         alloc,
@@ -163,9 +167,9 @@ fn agreed(alloc: Global, id: &str, delays: &str) -> Result<String, Fail> {
     )
 }
 
-const FIRST: [&str; 4] = ["00000005", "000005dc", "00002000", "00000001"];
+pub(crate) const FIRST: [&str; 4] = ["00000005", "000005dc", "00002000", "00000001"];
 
-const SECOND: [&str; 4] = ["00000009", "000005dc", "00002000", "00000002"];
+pub(crate) const SECOND: [&str; 4] = ["00000009", "000005dc", "00002000", "00000002"];
 
 /// The answer to the second caller, in slot 1.
 const SECOND_ANSWER: &str = "8000000000000000000000000000000200000005000000010000000900\

@@ -6,6 +6,7 @@ ghost use Rattle.srt_seq.specs.Items.{Item as TheItem};
 ghost use Rattle.srt_route.specs.Route.{after};
 ghost use Rattle.srt_route.specs.Stands.{stands};
 ghost use Rattle.srt_route.specs.Ledgers.{ended_in, opened_in, refused_in};
+ghost use Rattle.srt_route.specs.Totals.{AddUp, totals_of_ended, with_shown};
 ghost use Rattle.srt_route.specs.Viewing.{delay_of, is_active_by, latency_in, SeesSlot, ShowsSlot, ShowsSession, TellsTraffic};
 
 use crate::delivery::active_buffers;
@@ -14,6 +15,7 @@ use crate::places::place_of;
 use crate::seat::{Session, publishes};
 use crate::state::Route;
 use crate::table::Table;
+use crate::totals::Totals;
 use srt_hs::{AnswerKind, HsAnswer, RefusalCode};
 use srt_pub::Publisher;
 use srt_seq::{Peer, Role};
@@ -132,6 +134,16 @@ impl Table {
     }
 }
 
+/// These totals and what is shown of one slot more.
+fn with_shown(totals: Totals, shown: Option<SessionView>) -> Totals
+    ensures { result ≡ with_shown shown totals }
+{
+    match shown {
+        Some(view) => totals.with(&view.traffic),
+        None => totals,
+    }
+}
+
 impl Route {
     /// The open session of a slot, from 0; None if none is open there, or if the slot isn't below the number of sessions
     /// that the route's terms allow. Takes no memory. Linear in the seats, at most 17.
@@ -165,5 +177,18 @@ impl Route {
         ensures { result ≡ refused_in code self.now }
     {
         self.ledger.refused(code)
+    }
+
+    /// What all sessions of the route counted so far, those that ended and those that are open. When a session ends, its
+    /// counts stay in the sums. Takes no memory. Linear in the square of the seats.
+    pub fn totals(&self) -> Totals
+        ensures { (e : Terms) (index : ℕ) (items : List TheItem) →
+            stands self.now e index items → AddUp e index (after e index items).sessions e.sessions (totals_of_ended self.now) result }
+    {
+        let mut totals = self.ledger.totals;
+        for at in 0..self.table.seats.len() {
+            totals = with_shown(totals, self.table.look(at));
+        }
+        totals
     }
 }

@@ -1,0 +1,334 @@
+//! What a route tells of sessions that ended: each cause, in slots that are used again and where a publisher stands by;
+//! and what it counts.
+
+use crate::tests::{FIRST, HSREQ, PUBLISH, REQUEST, SECOND, conclusion, peer, studio};
+use crate::{EndCause, EndedSession, Reply, Route, SessionView, Traffic};
+use srt_hs::RefusalCode;
+use srt_seq::{Item, Peer, Role};
+use std::process::Abort;
+use std::test::Fail;
+
+/// A data packet with number 5, sent one millisecond after its conclusion.
+const DATA: &str = "00000005e0000001000003e8001000006869";
+
+/// A data packet with number 1029: with a window of 1024 packets from number 5 it is the first one past it.
+const PAST_THE_WINDOW: &str = "00000405e0000001000003e8001000006869";
+
+/// SHUTDOWNs to the first sessions in slots 0, 1 and 2, and to the second one in slot 0.
+const TO_SLOT_0: &str = "80050000000000000000000000100000";
+
+const TO_SLOT_1: &str = "80050000000000000000000000100001";
+
+const TO_SLOT_2: &str = "80050000000000000000000000100002";
+
+const TO_SLOT_0_AGAIN: &str = "80050000000000000000000000100100";
+
+/// Takes all replies that wait, up to a hundred.
+fn drain(rt: &(impl AllocGlobal + Abort), route: &mut Route) -> Result<(), Fail> {
+    let mut place = Box::new(rt.alloc(), Reply::blank())?;
+    for _ in 0..100 {
+        let _ = route.next_reply(&mut place);
+    }
+    Ok(())
+}
+
+/// Gives a route this item, which comes early, and drops its replies.
+fn give(rt: &(impl AllocGlobal + Abort), route: &mut Route, item: &Item) -> Result<(), Fail> {
+    let moment = match item {
+        Item::Tick { moment } => *moment,
+        Item::Close { moment } => *moment,
+        Item::Datagram {
+            peer: _,
+            moment,
+            head: _,
+            body: _,
+        } => *moment,
+    };
+    if route.waits() || moment > 1_000_000_000 {
+        return Err(Fail::from("an early moment, and no reply that waits"));
+    }
+    let _ = route.step(item);
+    drain(rt, route)
+}
+
+/// Gives a route these bytes of a peer at this moment.
+fn tell(
+    rt: &(impl AllocGlobal + Abort),
+    route: &mut Route,
+    moment: u64,
+    from: Peer,
+    text: &str,
+) -> Result<(), Fail> {
+    let bytes = hex::decode(rt.alloc(), text)?;
+    if bytes.len() < 16 {
+        return Err(Fail::from("a header"));
+    }
+    let mut head = [0u8; 16];
+    head.copy_from_slice(&bytes[..16]);
+    let item = Item::Datagram {
+        peer: from,
+        moment,
+        head,
+        body: Vec::from_slice(rt.alloc(), &bytes[16..])?,
+    };
+    give(rt, route, &item)
+}
+
+/// Opens a session of the caller 1 at this port, one second after the route's opening.
+fn open(
+    rt: &(impl AllocGlobal + Abort),
+    route: &mut Route,
+    port: u16,
+    wants: &str,
+) -> Result<(), Fail> {
+    let text = conclusion(rt.alloc(), FIRST, &[HSREQ, wants])?;
+    tell(rt, route, 1_000_000, peer(port), text.as_str())
+}
+
+/// Asserts the end of a session that opened at one second: its port, socket ID, cause and moment.
+fn assert_ended(
+    rt: &(impl AllocGlobal + Abort),
+    ended: Option<EndedSession>,
+    port: u16,
+    id: u32,
+    cause: EndCause,
+    moment: u64,
+) -> Result<SessionView, Fail> {
+    let Some(session) = ended else {
+        return Err(Fail::from("a session ended in the slot"));
+    };
+    assert_eq!(rt; (session.cause, session.moment), (cause, moment));
+    let view = session.view;
+    assert!(rt; view.peer == peer(port));
+    assert_eq!(rt; (view.caller, view.id), (1, id));
+    assert_eq!(rt; (view.opened, view.latency_ms), (1_000_000, 120));
+    Ok(view)
+}
+
+#[test]
+fn a_shutdown_of_a_publisher_is_told(rt: HostRuntime) -> Result<(), Fail> {
+    let mut route = studio(rt.alloc())?;
+    open(&rt, &mut route, 5000, PUBLISH)?;
+    assert!(rt; route.ended(0).is_none());
+    tell(&rt, &mut route, 1_100_000, peer(5000), DATA)?;
+    tell(&rt, &mut route, 1_200_000, peer(5000), TO_SLOT_0)?;
+    let end = route.ended(0);
+    let view = assert_ended(&rt, end, 5000, 0x10_0000, EndCause::Shutdown, 1_200_000)?;
+    assert!(rt; view.role == Role::Publish && view.is_active);
+    assert_eq!(rt; view.heard, 1_200_000);
+    match view.traffic {
+        Traffic::Received(x) => assert_eq!(rt; (x.counts.received, x.counts.bytes), (1, 2)),
+        Traffic::Sent(_) => return Err(Fail::from("a publisher's counts")),
+    }
+    assert!(rt; route.ended(1).is_none() && route.ended(16).is_none() && route.ended(17).is_none());
+    Ok(())
+}
+
+#[test]
+fn a_shutdown_of_a_subscriber_is_told(rt: HostRuntime) -> Result<(), Fail> {
+    let mut route = studio(rt.alloc())?;
+    open(&rt, &mut route, 5000, PUBLISH)?;
+    open(&rt, &mut route, 5001, REQUEST)?;
+    tell(&rt, &mut route, 1_300_000, peer(5001), TO_SLOT_1)?;
+    let end = route.ended(1);
+    let view = assert_ended(&rt, end, 5001, 0x10_0001, EndCause::Shutdown, 1_300_000)?;
+    assert!(rt; view.role == Role::Request && !view.is_active);
+    assert_eq!(rt; view.heard, 1_300_000);
+    assert!(rt; route.ended(0).is_none());
+    Ok(())
+}
+
+#[test]
+fn silence_is_told(rt: HostRuntime) -> Result<(), Fail> {
+    let mut route = studio(rt.alloc())?;
+    open(&rt, &mut route, 5000, REQUEST)?;
+    give(&rt, &mut route, &Item::Tick { moment: 5_999_999 })?;
+    assert!(rt; route.ended(0).is_none());
+    give(&rt, &mut route, &Item::Tick { moment: 6_000_000 })?;
+    let end = route.ended(0);
+    let view = assert_ended(&rt, end, 5000, 0x10_0000, EndCause::Silence, 6_000_000)?;
+    assert_eq!(rt; view.heard, 1_000_000);
+    Ok(())
+}
+
+#[test]
+fn a_lost_window_is_told(rt: HostRuntime) -> Result<(), Fail> {
+    let mut route = studio(rt.alloc())?;
+    open(&rt, &mut route, 5000, PUBLISH)?;
+    tell(&rt, &mut route, 1_400_000, peer(5000), PAST_THE_WINDOW)?;
+    let end = route.ended(0);
+    let view = assert_ended(&rt, end, 5000, 0x10_0000, EndCause::WindowLost, 1_400_000)?;
+    assert_eq!(rt; view.heard, 1_400_000);
+    match view.traffic {
+        Traffic::Received(x) => assert_eq!(rt; (x.counts.came, x.counts.received), (1, 0)),
+        Traffic::Sent(_) => return Err(Fail::from("a publisher's counts")),
+    }
+    Ok(())
+}
+
+#[test]
+fn a_close_is_told_of_each_session(rt: HostRuntime) -> Result<(), Fail> {
+    let mut route = studio(rt.alloc())?;
+    open(&rt, &mut route, 5000, PUBLISH)?;
+    open(&rt, &mut route, 5001, PUBLISH)?;
+    open(&rt, &mut route, 5002, REQUEST)?;
+    tell(&rt, &mut route, 1_100_000, peer(5002), TO_SLOT_2)?;
+    give(&rt, &mut route, &Item::Close { moment: 2_000_000 })?;
+    let end = route.ended(0);
+    let active = assert_ended(&rt, end, 5000, 0x10_0000, EndCause::Closed, 2_000_000)?;
+    assert_eq!(rt; (active.is_active, active.heard), (true, 1_000_000));
+    let end = route.ended(1);
+    let standby = assert_ended(&rt, end, 5001, 0x10_0001, EndCause::Closed, 2_000_000)?;
+    assert!(rt; !standby.is_active);
+    let end = route.ended(2);
+    let _ = assert_ended(&rt, end, 5002, 0x10_0002, EndCause::Shutdown, 1_100_000)?;
+    // After a Close nothing more is told.
+    give(&rt, &mut route, &Item::Close { moment: 9_000_000 })?;
+    let end = route.ended(0);
+    let _ = assert_ended(&rt, end, 5000, 0x10_0000, EndCause::Closed, 2_000_000)?;
+    Ok(())
+}
+
+#[test]
+fn a_slot_tells_the_last_session_that_ended_in_it(rt: HostRuntime) -> Result<(), Fail> {
+    let mut route = studio(rt.alloc())?;
+    open(&rt, &mut route, 5000, REQUEST)?;
+    tell(&rt, &mut route, 1_000_000, peer(5000), TO_SLOT_0)?;
+    open(&rt, &mut route, 5003, PUBLISH)?;
+    assert_eq!(rt; route.opened(), 2);
+    let end = route.ended(0);
+    let first = assert_ended(&rt, end, 5000, 0x10_0000, EndCause::Shutdown, 1_000_000)?;
+    assert!(rt; first.role == Role::Request);
+    tell(&rt, &mut route, 1_500_000, peer(5003), TO_SLOT_0_AGAIN)?;
+    let end = route.ended(0);
+    let second = assert_ended(&rt, end, 5003, 0x10_0100, EndCause::Shutdown, 1_500_000)?;
+    assert!(rt; second.role == Role::Publish);
+    Ok(())
+}
+
+#[test]
+fn the_end_of_a_publisher_that_a_standby_follows_is_told(rt: HostRuntime) -> Result<(), Fail> {
+    let mut route = studio(rt.alloc())?;
+    open(&rt, &mut route, 5000, PUBLISH)?;
+    open(&rt, &mut route, 5001, PUBLISH)?;
+    tell(&rt, &mut route, 1_200_000, peer(5000), TO_SLOT_0)?;
+    let end = route.ended(0);
+    let first = assert_ended(&rt, end, 5000, 0x10_0000, EndCause::Shutdown, 1_200_000)?;
+    assert!(rt; first.is_active);
+    tell(&rt, &mut route, 1_200_000, peer(5001), TO_SLOT_1)?;
+    let end = route.ended(1);
+    let second = assert_ended(&rt, end, 5001, 0x10_0001, EndCause::Shutdown, 1_200_000)?;
+    assert!(rt; second.is_active);
+    Ok(())
+}
+
+#[test]
+fn of_two_publishers_that_fall_silent_one_was_active(rt: HostRuntime) -> Result<(), Fail> {
+    let mut route = studio(rt.alloc())?;
+    open(&rt, &mut route, 5000, PUBLISH)?;
+    open(&rt, &mut route, 5001, PUBLISH)?;
+    give(&rt, &mut route, &Item::Tick { moment: 7_000_000 })?;
+    let end = route.ended(0);
+    let first = assert_ended(&rt, end, 5000, 0x10_0000, EndCause::Silence, 7_000_000)?;
+    let end = route.ended(1);
+    let second = assert_ended(&rt, end, 5001, 0x10_0001, EndCause::Silence, 7_000_000)?;
+    assert_eq!(rt; (first.is_active, second.is_active), (true, false));
+    Ok(())
+}
+
+/// Asserts how many conclusions were refused with the codes 1002, 1003, 1004 and 1012.
+fn assert_refused(rt: &(impl AllocGlobal + Abort), route: &Route, counts: [u64; 4]) {
+    let refused = [
+        route.refused(RefusalCode::Peer),
+        route.refused(RefusalCode::Resource),
+        route.refused(RefusalCode::Rogue),
+        route.refused(RefusalCode::MessageApi),
+    ];
+    assert!(rt; refused == counts);
+    assert_eq!(rt; route.refused(RefusalCode::Version), 0);
+}
+
+#[test]
+fn refusals_are_counted_by_code(rt: HostRuntime) -> Result<(), Fail> {
+    let alloc = rt.alloc();
+    let mut route = studio(alloc)?;
+    assert_refused(&rt, &route, [0, 0, 0, 0]);
+    let stream = conclusion(alloc, FIRST, &["0001000300010500000000ff00780078", PUBLISH])?;
+    tell(&rt, &mut route, 1_000_000, peer(5000), stream.as_str())?;
+    tell(&rt, &mut route, 1_000_000, peer(5000), stream.as_str())?;
+    assert_refused(&rt, &route, [0, 0, 0, 2]);
+    let fields = ["00000005", "0000004b", "00002000", "00000001"];
+    let small = conclusion(alloc, fields, &[HSREQ, PUBLISH])?;
+    tell(&rt, &mut route, 1_000_000, peer(5000), small.as_str())?;
+    assert_refused(&rt, &route, [0, 0, 1, 2]);
+    assert_eq!(rt; route.opened(), 0);
+    open(&rt, &mut route, 5000, PUBLISH)?;
+    open(&rt, &mut route, 5001, PUBLISH)?;
+    open(&rt, &mut route, 5002, PUBLISH)?;
+    assert_refused(&rt, &route, [1, 0, 1, 2]);
+    open(&rt, &mut route, 5002, REQUEST)?;
+    open(&rt, &mut route, 5003, REQUEST)?;
+    open(&rt, &mut route, 5004, REQUEST)?;
+    open(&rt, &mut route, 5005, REQUEST)?;
+    assert_refused(&rt, &route, [1, 1, 1, 2]);
+    assert_eq!(rt; route.opened(), 5);
+    Ok(())
+}
+
+#[test]
+fn a_conclusion_that_comes_again_opens_nothing(rt: HostRuntime) -> Result<(), Fail> {
+    let alloc = rt.alloc();
+    let mut route = studio(alloc)?;
+    open(&rt, &mut route, 5000, PUBLISH)?;
+    open(&rt, &mut route, 5000, PUBLISH)?;
+    // The same caller wants something that would be refused: it gets its first answer.
+    let stream = conclusion(alloc, FIRST, &["0001000300010500000000ff00780078", PUBLISH])?;
+    tell(&rt, &mut route, 1_000_000, peer(5000), stream.as_str())?;
+    assert_eq!(rt; route.opened(), 1);
+    assert_refused(&rt, &route, [0, 0, 0, 0]);
+    let second = conclusion(alloc, SECOND, &[HSREQ, PUBLISH])?;
+    tell(&rt, &mut route, 1_000_000, peer(5000), second.as_str())?;
+    assert_eq!(rt; route.opened(), 2);
+    Ok(())
+}
+
+/// Asserts the received and delivered packets, the queued ones and those that were sent, of all sessions.
+fn assert_totals(rt: &(impl AllocGlobal + Abort), route: &Route, counts: [u64; 4]) {
+    let totals = route.totals();
+    let told = [
+        totals.received.received,
+        totals.received.delivered,
+        totals.queued.queued,
+        totals.sent.fresh,
+    ];
+    assert!(rt; told == counts);
+    assert_eq!(rt; totals.received.bytes, 2 * counts[0]);
+    assert_eq!(rt; totals.queued.bytes, 2 * counts[2]);
+}
+
+#[test]
+fn totals_stay_when_sessions_end(rt: HostRuntime) -> Result<(), Fail> {
+    let mut route = studio(rt.alloc())?;
+    open(&rt, &mut route, 5000, PUBLISH)?;
+    open(&rt, &mut route, 5001, REQUEST)?;
+    open(&rt, &mut route, 5002, REQUEST)?;
+    assert_totals(&rt, &route, [0, 0, 0, 0]);
+    tell(&rt, &mut route, 1_010_000, peer(5000), DATA)?;
+    assert_totals(&rt, &route, [1, 0, 0, 0]);
+    give(&rt, &mut route, &Item::Tick { moment: 1_200_000 })?;
+    assert_totals(&rt, &route, [1, 1, 2, 2]);
+    tell(&rt, &mut route, 1_300_000, peer(5001), TO_SLOT_1)?;
+    assert_totals(&rt, &route, [1, 1, 2, 2]);
+    tell(&rt, &mut route, 1_300_000, peer(5000), TO_SLOT_0)?;
+    assert_totals(&rt, &route, [1, 1, 2, 2]);
+    // Another publisher in the same slot and buffers.
+    let text = conclusion(rt.alloc(), FIRST, &[HSREQ, PUBLISH])?;
+    tell(&rt, &mut route, 1_400_000, peer(5003), text.as_str())?;
+    assert_totals(&rt, &route, [1, 1, 2, 2]);
+    let data = "00000005e0000001000003e8001001006869";
+    tell(&rt, &mut route, 1_410_000, peer(5003), data)?;
+    assert_totals(&rt, &route, [2, 1, 2, 2]);
+    give(&rt, &mut route, &Item::Close { moment: 1_420_000 })?;
+    assert_totals(&rt, &route, [2, 1, 2, 2]);
+    Ok(())
+}
