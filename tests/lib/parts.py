@@ -61,6 +61,11 @@ def callers() -> Count:
     return counted([f"{TOP}/tests/callers/run"], r"callers: (\d+) passed, (\d+) failed, \d+ skipped")
 
 
+def operate() -> Count:
+    """Plays the operator's day of tests/operate, whose last line counts its cases."""
+    return counted([f"{TOP}/tests/operate/run"], r"operate: (\d+) passed, (\d+) failed, \d+ skipped")
+
+
 def cases(word: str = "") -> Count:
     """The command-line cases whose name has the word."""
     return all_of([told("case", it, command_lines.play(it)) for it in command_lines.names_of_cases(word)])
@@ -79,6 +84,7 @@ PARTS: dict[str, Callable[[], Count]] = {
     "examples": examples,
     "hostile": lambda: subjects("hostile"),
     "callers": callers,
+    "operate": operate,
     "refusals": lambda: subjects("refusals"),
 }
 # Those that read files alone, and those that play for a short while against the built program.

@@ -9,7 +9,8 @@ import time
 
 class Proxy(threading.Thread):
     """Forwards datagrams in both directions. `loss`, `double` and `late` are probabilities from 0 to 1, and may be set while
-    it runs. A late datagram is held for at most `hold` seconds, so that others overtake it."""
+    it runs. A late datagram is held for at most `hold` seconds, so that others overtake it. `there` counts the datagrams that
+    went to the gateway, `back_here` those that came from it."""
 
     def __init__(self, target, seed, loss=0.0, double=0.0, late=0.0, hold=0.02):
         super().__init__(daemon=True)
@@ -19,7 +20,7 @@ class Proxy(threading.Thread):
         self.front.bind(("127.0.0.1", 0))
         self.address = self.front.getsockname()
         self.backs, self.peers, self.held, self.count = {}, {}, [], 0
-        self.lost = self.doubled = self.delayed = self.passed = 0
+        self.lost = self.doubled = self.delayed = self.passed = self.there = self.back_here = 0
         self.stops = threading.Event()
         self.start()
 
@@ -27,6 +28,7 @@ class Proxy(threading.Thread):
         """The socket that forwards a caller's datagrams to the gateway."""
         if peer not in self.backs:
             back = socket.socket(socket.AF_INET, socket.SOCK_DGRAM)
+            back.setsockopt(socket.SOL_SOCKET, socket.SO_RCVBUF, 1 << 22)
             back.connect(self.target)
             self.backs[peer], self.peers[back] = back, peer
         return self.backs[peer]
@@ -34,6 +36,7 @@ class Proxy(threading.Thread):
     def hand(self, out, peer, datagram):
         try:
             out.sendto(datagram, peer) if peer else out.send(datagram)
+            self.there += peer is None
         except OSError:
             pass
 
@@ -66,7 +69,9 @@ class Proxy(threading.Thread):
                         datagram, peer = ready.recvfrom(2048)
                         self.take(self.back(peer), None, datagram)
                     else:
-                        self.take(self.front, self.peers[ready], ready.recv(2048))
+                        datagram = ready.recv(2048)
+                        self.back_here += 1
+                        self.take(self.front, self.peers[ready], datagram)
                 except OSError:
                     pass
 

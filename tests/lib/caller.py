@@ -1,7 +1,9 @@
 """SRT callers in the publisher's and the subscriber's role, written from draft-sharabayko-srt-01 alone.
 
-Each caller is a thread with one UDP socket. It numbers packets from its initial number on without a limit, and writes the
-numbers modulo 2^31. Sections named in comments are the draft's."""
+Each caller is a thread with one UDP socket. It counts the datagrams that it sent (`given`) and received (`taken`). It numbers
+packets from its initial number on without a limit, and writes the numbers modulo 2^31. Sections named in comments are the
+draft's."""
+import collections
 import random
 import select
 import socket
@@ -36,12 +38,15 @@ class Caller(threading.Thread):
     """What both roles share: the handshake, timestamps, KEEPALIVE and the end of a session."""
 
     def __init__(self, address, stream_id=None, mode="live", receiver_ms=120, sender_ms=0, mtu=1500, window=8192,
-                 initial=None, version=5, flags=None, asks=True, more=b"", congestion=None):
+                 initial=None, version=5, flags=None, asks=True, more=b"", congestion=None, source=None):
         super().__init__(daemon=True)
         self.socket = socket.socket(socket.AF_INET, socket.SOCK_DGRAM)
         self.socket.setsockopt(socket.SOL_SOCKET, socket.SO_RCVBUF, 1 << 22)
+        if source is not None:
+            self.socket.bind((source, 0))
         self.socket.connect(address)
         self.socket.setblocking(False)
+        self.here = self.socket.getsockname()
         self.began = now()
         self.mode, self.mtu, self.window, self.version = mode, mtu, window, version
         self.socket_id = random.getrandbits(30) + 1
@@ -58,7 +63,8 @@ class Caller(threading.Thread):
         self.blocks += more
         self.answer, self.cookie, self.peer_id = None, 0, 0
         self.rtt, self.variance = 100_000, 50_000
-        self.heard = self.sent = self.kept_alive = 0
+        self.heard = self.sent = self.kept_alive = self.given = self.taken = 0
+        self.handshakes = collections.Counter()
         self.stops, self.shut, self.error = threading.Event(), threading.Event(), None
 
     # The handshake (section 4.3.1).
@@ -69,7 +75,7 @@ class Caller(threading.Thread):
     def send(self, datagram):
         try:
             self.socket.send(datagram)
-            self.sent = now()
+            self.sent, self.given = now(), self.given + 1
         except (ConnectionRefusedError, BlockingIOError):
             pass
 
@@ -81,14 +87,17 @@ class Caller(threading.Thread):
         if not select.select([self.socket], [], [], max(0, seconds))[0]:
             return None
         try:
-            return packets.read(self.socket.recv(2048))
+            datagram = self.socket.recv(2048)
         except (ConnectionRefusedError, BlockingIOError):
             return None
+        self.taken += 1
+        return packets.read(datagram)
 
     def asked(self, body, wanted, until):
         """Sends a handshake every 250 ms until an answer of the wanted type comes. Raises Refused, or Silent after `until`."""
         while now() < until:
             self.send(packets.control(packets.HANDSHAKE, 0, self.stamp(), 0, body))
+            self.handshakes[wanted] += 1
             again = min(until, now() + SECOND // 4)
             while now() < again:
                 packet = self.receive((again - now()) / SECOND)

@@ -1,0 +1,118 @@
+"""A run that can't begin: each wrong configuration, a file that can't be read, an address that can't be bound. What `run` says
+is held to the rows and cases of tests/cli that hold `check --explain`."""
+import errno
+import os
+import socket
+import subprocess
+import tempfile
+from concurrent.futures import ThreadPoolExecutor
+
+import command_lines
+from cases import case
+from expecting import expect
+from gateway import configuration, live
+from machine import free_port
+from rows import rows_of
+from running import Run, Skipped
+from tree import PROGRAM
+
+ROWS = ("explained_faults", "explained_routes", "explained_texts", "explained_steps")
+FILES = ("explained_file_missing", "explained_file_is_a_folder", "explained_file_of_65537_bytes", "explained_not_utf8")
+WARNINGS = "explained_warnings"
+FORE = "warning: "
+
+
+def configurations(name):
+    """The rows of a case of tests/cli, each with the configuration that it makes."""
+    folder = f"{command_lines.CASES}/{name}"
+    kind = "steps" if os.path.isfile(f"{folder}/steps") else "rows"
+    text = command_lines.bytes_of(f"{folder}/{command_lines.words_of(folder)[-1]}").decode()
+    for row in rows_of(command_lines.lines_of(f"{folder}/{kind}")):
+        changed = row.changed(text)
+        text = changed if kind == "steps" else text
+        yield row, changed
+
+
+def ended(text, *words):
+    """The end of a run with this configuration: its status, standard output, and the lines of standard error."""
+    with Run((), *words, text=text) as run:
+        end = run.end(20)
+        return end.status, end.output, run.texts()
+
+
+def wrong_of_row(name, row, text):
+    """What is wrong with the run of a wrong configuration, or an empty text."""
+    wanted = (row.status, row.output, [f"srtgw: gateway.toml: {it}" for it in row.errors])
+    found = ended(text)
+    return "" if found == wanted else f"{name}, {row.name}: it ended with {found}"
+
+
+@case("a hundred wrong configurations, as `check --explain` explains them")
+def wrong_configurations():
+    rows = [(name, row, text) for name in ROWS for row, text in configurations(name) if row.status == 1]
+    expect(len(rows) >= 100, f"there are {len(rows)} rows only")
+    with ThreadPoolExecutor(4) as pool:
+        wrong = [it for it in pool.map(lambda it: wrong_of_row(*it), rows) if it]
+    expect(not wrong, f"{len(wrong)} of {len(rows)}: {'; '.join(wrong[:3])}")
+
+
+def wrong_of_warnings(row, text):
+    """What is wrong with the warnings of a run, or an empty text."""
+    said = [it for it in ended(text, "--no-time", "--for", "1s")[2] if FORE in it]
+    wanted = [it.removeprefix(FORE) for it in row.errors]
+    good = len(said) == len(wanted) and all(one.endswith(other.partition("): ")[2] or other) for one, other in zip(said, wanted))
+    return "" if good else f"{row.name}: the warnings are {said}"
+
+
+@case("unwise configurations, with the warnings of `check --explain`")
+def unwise_configurations():
+    rows = [(row, text) for row, text in configurations(WARNINGS) if row.status == 0]
+    expect(len(rows) >= 10, f"there are {len(rows)} rows only")
+    with ThreadPoolExecutor(4) as pool:
+        wrong = [it for it in pool.map(lambda it: wrong_of_warnings(*it), rows) if it]
+    expect(not wrong, f"{len(wrong)} of {len(rows)}: {'; '.join(wrong[:3])}")
+
+
+@case("files that can't be read, or aren't text, as `check --explain` explains them")
+def wrong_files():
+    for name in FILES:
+        folder = f"{command_lines.CASES}/{name}"
+        path = command_lines.words_of(folder)[-1]
+        with tempfile.TemporaryDirectory(prefix="srtgw-file-") as room:
+            command_lines.lay_out(folder, room)
+            it = subprocess.run([PROGRAM, "run", path], cwd=room, stdin=subprocess.DEVNULL, capture_output=True, timeout=20)
+        output, errors = command_lines.bytes_of(f"{folder}/stdout").decode(), command_lines.bytes_of(f"{folder}/stderr").decode()
+        found = (it.returncode, it.stdout.decode(), it.stderr.decode())
+        expect(found == (1, output, errors), f"{name}: it ended with {found}")
+
+
+def expect_not_bound(text, address, number):
+    """Expects that a run ends since its address can't be bound, with the system's words for this error."""
+    wanted = (1, "socket fault\n", [f"srtgw: {address}: {os.strerror(number)} (os error {number})"])
+    found = ended(text)
+    expect(found == wanted, f"it ended with {found}")
+
+
+@case("a port that is taken")
+def port_taken():
+    with socket.socket(socket.AF_INET, socket.SOCK_DGRAM) as taker:
+        taker.bind(("127.0.0.1", 0))
+        port = taker.getsockname()[1]
+        expect_not_bound(configuration([live("studio")], port), f"127.0.0.1:{port}", errno.EADDRINUSE)
+
+
+@case("an address of another machine")
+def other_machine():
+    """192.0.2.1 is an address for documents (RFC 5737)."""
+    port = free_port()
+    text = configuration([live("studio")], port).replace("127.0.0.1", "192.0.2.1")
+    expect_not_bound(text, f"192.0.2.1:{port}", errno.EADDRNOTAVAIL)
+
+
+@case("a port without the right to it")
+def no_right():
+    with open("/proc/sys/net/ipv4/ip_unprivileged_port_start") as it:
+        first = int(it.read())
+    if os.geteuid() == 0 or first < 2:
+        raise Skipped("each port may be bound here")
+    expect_not_bound(configuration([live("studio")], 1), "127.0.0.1:1", errno.EACCES)

@@ -1,0 +1,115 @@
+"""Floods of refusals: the log stays short, its counts add up, and a stream of another route loses nothing."""
+import re
+import threading
+import time
+
+import packets
+from caller import Caller, Publisher, Subscriber, stream
+from cases import case
+from expecting import expect, expect_run, publish
+from gateway import files, live
+from running import TIME, Run, expect_polite, seconds_of
+
+LINES = 50  # In one second, besides those that say how many were left out.
+LEFT_OUT = r"lines left out (\d+)"
+
+
+class Flood(threading.Thread):
+    """Makes the same conclusion again and again from one socket, `count` times at `rate` a second, and counts the refusals
+    that come back."""
+
+    def __init__(self, address, stream_id, count, rate):
+        super().__init__(daemon=True)
+        self.caller, self.count, self.rate, self.refused = Caller(address, stream_id), count, rate, 0
+        self.caller.induce()
+
+    def run(self):
+        it = self.caller
+        body = packets.handshake(5, it.extension, it.initial, it.mtu, it.window, packets.CONCLUSION, it.socket_id, it.cookie, it.blocks)
+        began, sent = time.monotonic(), 0
+        while sent < self.count:
+            due = min(self.count, int((time.monotonic() - began) * self.rate))
+            for _ in range(due - sent):
+                it.send(packets.control(packets.HANDSHAKE, 0, it.stamp(), 0, body))
+            sent = max(sent, due)
+            self.take(0.001)
+        until = time.monotonic() + 1
+        while self.refused < self.count and time.monotonic() < until:
+            self.take(0.01)
+
+    def take(self, seconds):
+        packet = self.caller.receive(seconds)
+        while packet is not None:
+            answer = packets.read_handshake(packet.body) if isinstance(packet, packets.Control) else None
+            self.refused += answer is not None and answer.kind >= 1000
+            packet = self.caller.receive(0)
+
+
+def beside_a_stream(run, flood, count=2_400):
+    """Plays a stream of 400 packets a second on the route `steady` while the flood comes."""
+    publisher, subscriber = Publisher(run.address, publish("steady"), stream(count), 2_500), Subscriber(run.address, "steady")
+    for one in (subscriber, publisher):
+        one.call()
+        one.start()
+    flood.start()
+    flood.join()
+    expect(publisher.wait_delivered(20) and subscriber.wait(10, count), "the stream beside the flood stops")
+    expect_run(subscriber.got, 0, count, "the subscriber beside the flood")
+    expect(publisher.dropped == subscriber.dropped == 0, "packets beside the flood were dropped")
+    for one in (publisher, subscriber):
+        one.close()
+
+
+def expect_few(run, seconds):
+    """Expects that the log has at most 50 lines in each of its seconds, which needn't begin with those of the system's clock."""
+    times = [seconds_of(it.text[:24]) for it in run.lines if not re.fullmatch(f"{TIME} {LEFT_OUT}", it.text)]
+    most = max(sum(first <= it < first + 1 for it in times) for first in times)
+    expect(most <= 2 * LINES, f"{most} lines came within a second")
+    expect(len(times) <= LINES * (seconds + 2), f"{len(times)} lines came in {seconds:.1f} s")
+
+
+def play_flood(routes, stream_id, line, counted):
+    """Plays a flood of 20,000 conclusions that all are refused. `counted` sums those that the log counts in other lines."""
+    count = 20_000
+    with Run([live("steady"), *routes]) as run:
+        run.is_up()
+        began = time.monotonic()
+        flood = Flood(run.address, stream_id, count, 5_000)
+        beside_a_stream(run, flood)
+        time.sleep(1.5)
+        spent = time.monotonic() - began
+        end = run.stop()
+        expect_polite(end, ["steady", *(re.search('"(.*)"', it)[1] for it in routes)])
+        expect_few(run, spent)
+        texts = run.texts()
+        expect(end.report["full"] == end.report["memory"] == 0, f"{end.report}")
+        expect(flood.refused == count, f"{flood.refused} refusals came back")
+        told = [it for it in texts if re.fullmatch(line.format(flood.caller.here[1]), it)]
+        expect(LINES / 2 <= len(told) <= LINES * (spent + 2), f"{len(told)} refusals are told")
+        left_out = sum(int(found[1]) for found in (re.fullmatch(LEFT_OUT, it) for it in texts) if found)
+        others = [it for it in texts if it not in told and not re.fullmatch(LEFT_OUT, it)]
+        expect(len(told) + left_out + counted(texts) == count, f"{len(told)} are told and {left_out} left out of {count}; beside them {others}")
+        return end
+
+
+def unseen_of(route):
+    """A function that sums the refusals of a route which the log counts without a line of their own."""
+    def counted(texts):
+        found = (re.fullmatch(rf"{route}: \d+ sessions opened and ended unseen, (\d+) conclusions refused", it) for it in texts)
+        return sum(int(it[1]) for it in found if it)
+    return counted
+
+
+@case("20,000 conclusions that the lobby refuses")
+def lobby_flood():
+    line = r'127\.0\.0\.1:{} refused, 1002 PEER, asked for "nowhere"'
+    end = play_flood([], "nowhere", line, lambda texts: 0)
+    expect(end.report["answered"] == 20_003, f"{end.report}")
+
+
+@case("20,000 conclusions that a route refuses")
+def route_flood():
+    """The flooded route is in buffer mode, and its callers want live mode."""
+    line = r'127\.0\.0\.1:{} refused, 1012 MESSAGEAPI, asked for "files"'
+    end = play_flood([files("files", inbox=4096, outbox=4096)], "files", line, unseen_of("files"))
+    expect(end.report["answered"] == 3, f"{end.report}")

@@ -1,0 +1,33 @@
+"""The forms of the log's lines about callers, with what these callers know of themselves."""
+import re
+
+NAMES = {1001: "SYSTEM", 1002: "PEER", 1003: "RESOURCE", 1004: "ROGUE", 1005: "BACKLOG", 1006: "IPE", 1007: "CLOSE", 1008: "VERSION", 1009: "RDVCOOKIE",
+         1010: "BADSECRET", 1011: "UNSECURE", 1012: "MESSAGEAPI", 1013: "CONGESTION", 1014: "FILTER", 1015: "GROUP"}
+
+
+def peer_of(caller):
+    """A caller's address and port."""
+    host, port = caller.here
+    return f"{host}:{port}"
+
+
+def opened_line(route, role, caller, latency_ms, standby=False):
+    """The form of a session's opening. `latency_ms` is None in buffer mode."""
+    latency = "" if latency_ms is None else f", latency {latency_ms} ms"
+    return re.escape(f"{route}: {role} {peer_of(caller)} opened{' as standby' if standby else ''}, socket 0x{caller.peer_id:08x}{latency}")
+
+
+def ended_line(route, role, caller, reason):
+    """The form of a session's end. Groups: after (ms), packets, bytes, lost, resent."""
+    front = re.escape(f"{route}: {role} {peer_of(caller)} ended, socket 0x{caller.peer_id:08x}, {reason}, after ")
+    return front + r"(?P<after>\d+) ms, (?P<packets>\d+) packets, (?P<bytes>\d+) bytes, (?P<lost>\d+) lost, (?P<resent>\d+) resent"
+
+
+def took_over_line(route, caller):
+    return re.escape(f"{route}: publisher {peer_of(caller)} took over, socket 0x{caller.peer_id:08x}")
+
+
+def refused_line(code, caller, asked):
+    """The form of a refusal. `asked` is the name that the line shows; None for any."""
+    name = '[^"]*' if asked is None else re.escape(asked)
+    return re.escape(f'{peer_of(caller)} refused, {code} {NAMES[code]}, asked for "') + name + '"'

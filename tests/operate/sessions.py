@@ -1,0 +1,264 @@
+"""The log: each session's opening and end, take-overs, refusals, warnings, faults of the socket and what the kernel dropped."""
+import re
+import signal
+import socket
+import struct
+import time
+
+import packets
+from caller import Caller, Publisher, Subscriber, stream
+from cases import case
+from expecting import expect, expect_refusal, expect_run, publish, request
+from gateway import files, live
+from lines import ended_line, opened_line, refused_line, took_over_line
+from machine import free_port
+from proxy import Proxy
+from running import Run, Skipped, expect_polite
+from tree import TOP
+
+LOOK = 1.5  # Two looks at the routes, and some time for a busy machine.
+IDLE = 5.0
+
+
+def opens(run, route, role, caller, latency_ms, standby=False):
+    """Opens a session and starts its caller. Returns when; its line is waited for."""
+    caller.call()
+    began = time.monotonic()
+    caller.start()
+    run.line(opened_line(route, role, caller, latency_ms, standby), LOOK)
+    return began
+
+
+def expect_lasted(found, began, until):
+    """Expects that a session's line says how long it lasted, to 300 ms."""
+    lasted, right = int(found["after"]), 1000 * (until - began)
+    expect(abs(lasted - right) <= 300, f"it says that the session lasted {lasted} ms, and it were {right:.0f}")
+
+
+def counts_of(found):
+    return [int(found[it]) for it in ("packets", "bytes", "lost", "resent")]
+
+
+@case("a publisher and a subscriber open and end, a standby takes over")
+def opens_and_ends():
+    count = 300
+    with Run([live("studio")], "--no-time") as run:
+        run.is_up()
+        subscriber = Subscriber(run.address, request("studio"), receiver_ms=250)
+        opened = opens(run, "studio", "subscriber", subscriber, 250)
+        main = Publisher(run.address, publish("studio"), stream(count), 4_000, sender_ms=300)
+        began = opens(run, "studio", "publisher", main, 300)
+        backup = Publisher(run.address, publish("studio"), [])
+        opens(run, "studio", "publisher", backup, 120, standby=True)
+        expect(main.wait_delivered(10) and subscriber.wait(5, count), "the stream doesn't flow")
+        main.close()
+        closed = time.monotonic()
+        number, found = run.line(ended_line("studio", "publisher", main, "its peer sent a SHUTDOWN"), LOOK)
+        expect_lasted(found, began, closed)
+        expect(counts_of(found) == [count, 1316 * count, 0, 0], f"the publisher sent {count} packets: {found[0]}")
+        over, _ = run.line(took_over_line("studio", backup), LOOK)
+        expect(over > number, "the take-over is told before the end")
+        time.sleep(1)
+        expect(run.find(took_over_line("studio", main)) is None, "the first publisher took over from nobody")
+        subscriber.close()
+        _, found = run.line(ended_line("studio", "subscriber", subscriber, "its peer sent a SHUTDOWN"), LOOK)
+        expect_lasted(found, opened, time.monotonic())
+        expect(counts_of(found)[:3] == [count, 1316 * count, 0], f"the subscriber received {count} packets: {found[0]}")
+        backup.close()
+        run.line(ended_line("studio", "publisher", backup, "its peer sent a SHUTDOWN"), LOOK)
+        expect_polite(run.stop(), ["studio"])
+        expect(len(run.lines) == 10, f"it says more: {run.texts()}")
+
+
+@case("sessions of a route in buffer mode have no latency")
+def opens_in_buffer_mode():
+    with Run([live("studio"), files("files")], "--no-time") as run:
+        run.is_up()
+        for role, one in (("publisher", Publisher(run.address, publish("files"), [], mode="buffer", congestion=b"file")),
+                          ("subscriber", Subscriber(run.address, "files", mode="buffer", congestion=b"file"))):
+            opens(run, "files", role, one, None)
+            one.close()
+            run.line(ended_line("files", role, one, "its peer sent a SHUTDOWN"), LOOK)
+        run.stop()
+
+
+@case("a session that falls silent ends after five seconds")
+def ends_by_silence():
+    with Run([live("studio")], "--no-time") as run:
+        run.is_up()
+        callers = [("publisher", Publisher(run.address, publish("studio"), [])), ("subscriber", Subscriber(run.address, "studio"))]
+        began = [opens(run, "studio", role, it, 120) for role, it in callers]
+        time.sleep(0.5)
+        for _, one in callers:
+            one.stop()
+        for (role, one), start in zip(callers, began):
+            _, found = run.line(ended_line("studio", role, one, "nothing came from its peer"), IDLE + LOOK)
+            heard = one.sent / 1e6 - start  # The clock of callers is time.monotonic().
+            lasted = int(found["after"]) / 1000
+            expect(abs(lasted - heard - IDLE) <= 0.3, f"the {role} was heard for {heard:.2f} s, and its session lasted {lasted} s")
+        run.stop()
+
+
+@case("a session counts what is lost and resent on a bad line")
+def counts_losses():
+    count = 800
+    with Run([live("studio", latency_ms=500)], "--no-time") as run:
+        run.is_up()
+        there, back = Proxy(run.address, 21), Proxy(run.address, 22)
+        publisher, subscriber = Publisher(there.address, publish("studio"), stream(count), 4_000), Subscriber(back.address, "studio")
+        for one in (subscriber, publisher):
+            one.call()
+            one.start()
+        there.loss = back.loss = 0.05
+        expect(publisher.wait_delivered(15) and subscriber.wait(10, count), "the stream doesn't flow")
+        there.loss = back.loss = 0
+        expect_run(subscriber.got, 0, count)
+        time.sleep(0.7)
+        for one in (publisher, subscriber):
+            one.close()
+        lines = {role: run.line(rf"studio: {role} .* ended, .*, after \d+ ms, (\d+) packets, (\d+) bytes, (\d+) lost, (\d+) resent", LOOK)[1] for role in ("publisher", "subscriber")}
+        found = {role: [int(it) for it in line.groups()] for role, line in lines.items()}
+        for role, counts in found.items():
+            expect(counts[:3] == [count, 1316 * count, 0], f"the {role}'s line says {counts}, and {count} packets came through")
+        # Each of the subscriber's repeats is one that was sent again, and each loss on its line asks for at least one.
+        expect(1 <= subscriber.asked_again and found["subscriber"][3] >= max(1, subscriber.repeats), f"the subscriber had {subscriber.repeats} repeats: {found}")
+        for line in (there, back):
+            line.stop()
+        run.stop()
+
+
+@case("the lobby's refusals, with the name that was asked for")
+def lobby_refuses():
+    with Run([live("studio")], "--no-time") as run:
+        run.is_up()
+        kinds = [(1002, dict(stream_id="nowhere"), "nowhere"), (1002, dict(stream_id=publish("no/where")), "no/where"),
+                 (1002, dict(stream_id='a"b\\c'), "a\\x22b\\x5cc"), (1002, dict(stream_id="studi\u00e9"), "studi\\xc3\\xa9"),
+                 (1002, dict(stream_id=b"new\nline\x1b"), "new\\x0aline\\x1b"), (1002, dict(), "")]
+        for code, words, asked in kinds:
+            caller = Caller(run.address, **words)
+            expect_refusal(code, caller, f"{words}")
+            run.line(refused_line(code, caller, asked), LOOK)
+        for code, words in ((1004, dict(stream_id="studio", asks=False)), (1008, dict(stream_id="studio", version=4)),
+                            (1011, dict(stream_id="studio", more=packets.block(packets.KMREQ, bytes(32)))),
+                            (1014, dict(stream_id="studio", more=packets.block(packets.FILTER, packets.text_words(b"fec,cols:10")))),
+                            (1015, dict(stream_id="studio", more=packets.block(packets.GROUP, bytes(8))))):
+            caller = Caller(run.address, **words)
+            expect_refusal(code, caller, f"{words}")
+            run.line(refused_line(code, caller, None), LOOK)
+        end = run.stop()
+        expect_polite(end, ["studio"])
+        refused = [it for it in run.texts() if " refused, " in it]
+        expect(len(refused) == len(kinds) + 5, f"{len(refused)} refusals are told: {refused}")
+
+
+@case("a route's refusals")
+def route_refuses():
+    with Run([live("studio", sessions=3), files("files")], "--no-time") as run:
+        run.is_up()
+        held = [*(Publisher(run.address, publish("studio"), []) for _ in range(2)), Subscriber(run.address, "studio")]
+        for one in held:
+            one.call()
+            one.start()
+        for code, words in ((1003, dict(stream_id="studio")), (1002, dict(stream_id=publish("studio"))), (1004, dict(stream_id=publish("files"), mtu=75)),
+                            (1012, dict(stream_id="files"))):
+            caller = Caller(run.address, **words)
+            expect_refusal(code, caller, f"{words}")
+            run.line(refused_line(code, caller, "files" if "files" in words["stream_id"] else "studio"), LOOK)
+        end = run.stop()
+        for one in held:
+            one.stop()
+        expect_polite(end, ["studio", "files"])
+        refused = [it for it in run.texts() if " refused, " in it]
+        expect(len(refused) == 4 and not any("unseen" in it for it in run.texts()), f"refusals are told as {run.texts()}")
+
+
+@case("sessions that come and go between two looks are counted")
+def comes_and_goes():
+    count = 30
+    with Run([live("studio")], "--no-time") as run:
+        run.is_up()
+        for _ in range(count):
+            one = Subscriber(run.address, "studio")
+            one.call()
+            one.close()
+            time.sleep(0.02)
+        end = run.stop()
+        expect_polite(end, ["studio"])
+        texts = run.texts()
+        seen = [re.fullmatch(r"studio: subscriber \S+ opened, (socket 0x[0-9a-f]{8}), .*", it) for it in texts]
+        gone = [re.fullmatch(r"studio: subscriber \S+ ended, (socket 0x[0-9a-f]{8}), .*", it) for it in texts]
+        unseen = [re.fullmatch(r"studio: (\d+) sessions opened and ended unseen, 0 conclusions refused", it) for it in texts]
+        told = [it[1] for it in seen if it]
+        expect(sorted(told) == sorted(it[1] for it in gone if it), f"openings and ends aren't of the same sessions: {texts}")
+        passed = sum(int(it[1]) for it in unseen if it)
+        expect(len(told) + passed == count and passed > 0, f"{count} sessions came and went, {len(told)} are told and {passed} counted: {texts}")
+
+
+@case("warnings of the configuration follow the start")
+def warns():
+    with open(f"{TOP}/examples/gateway.toml") as file:
+        port = free_port()
+        text = re.sub(r'bind = "[^"]*"', f'bind = "127.0.0.1:{port}"', file.read())
+    with Run(text=text, port=port) as run:
+        run.is_up()
+        _, found = run.line(r"(?:(\S+): )?warning: secret: it is that of examples/gateway\.toml, .*", 1)
+        expect(run.texts()[1] == found[0], f"it isn't the second line: {run.texts()}")
+        run.stop()
+
+
+# What the system does.
+
+
+def drops_of(port):
+    """How many datagrams the kernel dropped at the UDP socket of this port, as /proc/net/udp has it."""
+    with open("/proc/net/udp") as file:
+        rows = [it.split() for it in file.readlines()[1:]]
+    return sum(int(it[-1]) for it in rows if int(it[1].split(":")[1], 16) == port)
+
+
+@case("datagrams that the kernel dropped are counted")
+def kernel_drops():
+    with Run([live("studio")], "--no-time") as run:
+        run.is_up()
+        run.process.send_signal(signal.SIGSTOP)
+        try:
+            with socket.socket(socket.AF_INET, socket.SOCK_DGRAM) as flood:
+                for _ in range(12_000):
+                    flood.sendto(bytes(1316), run.address)
+            time.sleep(0.1)
+            dropped = drops_of(run.address[1])
+        finally:
+            run.process.send_signal(signal.SIGCONT)
+        if not dropped:
+            raise Skipped("the kernel drops nothing")
+        run.line(rf"datagrams dropped by the kernel {dropped}", LOOK)
+        time.sleep(0.8)
+        end = run.stop()
+        expect_polite(end, ["studio"])
+        expect(end.report["read"] == 12_000 - dropped, f"{end.report}, and {dropped} were dropped")
+        told = [it for it in run.texts() if "dropped by the kernel" in it]
+        expect(len(told) == 1, f"they are told as {told}")
+
+
+def spoofed(source, target, body):
+    """A datagram of IPv4 and UDP from an address and port that aren't ours."""
+    words = struct.pack("!4H", source[1], target[1], 8 + len(body), 0)
+    head = struct.pack("!BBHHHBBH4s4s", 0x45, 0, 28 + len(body), 0, 0, 64, socket.IPPROTO_UDP, 0, socket.inet_aton(source[0]), socket.inet_aton(target[0]))
+    return head + words + body
+
+
+@case("a send that the socket refuses is told as a fault")
+def socket_faults():
+    """An induction whose source port is 0 gets an answer that can't be sent."""
+    try:
+        raw = socket.socket(socket.AF_INET, socket.SOCK_RAW, socket.IPPROTO_RAW)
+    except PermissionError:
+        raise Skipped("raw sockets aren't allowed") from None
+    with raw, Run([live("studio")], "--no-time") as run:
+        run.is_up()
+        body = packets.handshake(4, 2, 1, 1500, 8192, packets.INDUCTION, 7, 0)
+        raw.sendto(spoofed(("127.0.0.1", 0), run.address, packets.control(packets.HANDSHAKE, 0, 0, 0, body)), run.address)
+        run.line("socket faults 1", LOOK)
+        end = run.stop()
+        expect_polite(end, ["studio"])
+        expect(end.report["faults"] == 1 and end.report["lost"] == 1, f"{end.report}")

@@ -1,0 +1,106 @@
+"""How a run starts: its first lines, with and without times and the launcher; and how long `--for` lets it run."""
+import re
+import signal
+import subprocess
+import time
+
+from cases import case
+from expecting import expect
+from gateway import live
+from running import TIME, WARNS_OF_SIGNALS, Run, can_block, expect_polite, launcher, seconds_of
+from tree import PROGRAM, TOP
+
+WRONG_DURATIONS = ["0s", "5x", "366d", "", "s", "7", "-1s", "1.5h", "0d", "8761h", "31536001s", "2 s", "1h30m", "99999999999999999999s"]
+SMALL = dict(buffer=64, sessions=2, inbox=16, outbox=136)
+
+
+def expect_started(run, routes, workers):
+    """Expects that the first line says where it serves callers, and returns the kibibytes that it says."""
+    number, found = run.line(rf"serving at 127\.0\.0\.1:{run.address[1]}, routes {routes}, workers {workers}, memory (\d+) KiB", 10)
+    expect(number == 0, f"it isn't the first line: {run.texts()}")
+    return int(found[1])
+
+
+@case("the first line, without times")
+def starts():
+    with Run([live("studio"), live("other", **SMALL)], "--no-time", workers=3) as run:
+        said = expect_started(run, 2, 3)
+        # Three windows of 1024 packets and the replies of five sessions, each with the 1316 bytes of a full packet at least.
+        expect(said >= 3 * 1024 * 1316 // 1024, f"the memory of its routes can't be {said} KiB")
+        time.sleep(0.3)
+        if can_block():
+            expect(len(run.lines) == 1, f"another line came: {run.texts()}")
+        end = run.stop()
+        expect_polite(end, ["studio", "other"])
+        expect(all("Z " not in it.text[:26] for it in run.lines), "a line has a time")
+
+
+@case("the first line, with its time")
+def starts_with_time():
+    with Run([live("studio", **SMALL)]) as run:
+        expect_started(run, 1, 2)
+        run.stop()
+        for line in run.lines:
+            found = re.match(f"({TIME}) ", line.text)
+            expect(found, f"a line has no time: {line.text!r}")
+            expect(abs(seconds_of(found[1]) - line.came) < 1, f"a line came at {line.came}: {line.text!r}")
+        times = [it.text[:24] for it in run.lines]
+        expect(times == sorted(times), f"times go back: {times}")
+
+
+@case("without the launcher it says that a signal ends it at once, and it does")
+def starts_without_launcher():
+    for which in (signal.SIGTERM, signal.SIGINT):
+        with Run([live("studio", **SMALL)], "--no-time", launched=False) as run:
+            expect_started(run, 1, 2)
+            number, _ = run.line(WARNS_OF_SIGNALS, 1)
+            expect(number == 1, f"it isn't the second line: {run.texts()}")
+            end = run.stop(which, 2)
+            expect(end.status == -which, f"the status is {end.status}")
+            expect(end.seconds < 0.3, f"it took {end.seconds:.2f} s")
+            expect(end.output == "" and len(run.lines) == 2, f"it printed {end.output!r}, {run.texts()}")
+
+
+@case("with the launcher a signal doesn't end it at once")
+def starts_with_launcher():
+    with Run([live("studio", **SMALL)], "--no-time") as run:
+        run.is_up()
+        expect(run.find(WARNS_OF_SIGNALS) is None, f"it says that a signal ends it: {run.texts()}")
+        expect_polite(run.stop(), ["studio"])
+
+
+@case("the launcher starts other commands as they are")
+def other_commands():
+    for words in (["--version"], ["check", f"{TOP}/examples/gateway.toml"], ["serve"], []):
+        launched, plain = (subprocess.run([it, *words], capture_output=True, text=True) for it in (launcher(), PROGRAM))
+        ends = [(it.returncode, it.stdout, it.stderr) for it in (launched, plain)]
+        expect(ends[0] == ends[1], f"{words}: {ends}")
+
+
+@case("a run of two seconds stops by itself")
+def runs_for_a_time():
+    for words in (["--for", "2s", "--no-time"], ["--no-time", "--for", "2s"]):
+        with Run([live("studio", **SMALL)], *words) as run:
+            run.is_up()
+            end = run.end(6)
+            expect(1.8 <= end.seconds <= 3, f"it took {end.seconds:.2f} s")
+            expect_polite(end, ["studio"])
+            expect(run.texts()[-2:] == ["stopping, the time of --for is over", "stopped"], f"the log ends with {run.texts()[-3:]}")
+
+
+@case("a signal stops a run of a minute")
+def runs_for_less():
+    with Run([live("studio", **SMALL)], "--no-time", "--for", "1m") as run:
+        run.is_up()
+        expect_polite(run.stop(), ["studio"])
+        expect(run.texts()[-2:] == ["stopping, by a signal", "stopped"], f"the log ends with {run.texts()[-3:]}")
+
+
+@case("wrong durations")
+def wrong_durations():
+    for duration in WRONG_DURATIONS:
+        with Run([live("studio", **SMALL)], f"--for={duration}") as run:
+            end = run.end(5)
+            said = "\n".join(run.texts())
+        expect(end.status == 2 and end.output == "", f"--for={duration}: status {end.status}, {end.output!r}")
+        expect("--for" in said, f"--for={duration}: it says {said!r}")
