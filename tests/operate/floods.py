@@ -12,6 +12,10 @@ from running import TIME, Run, expect_polite, seconds_of
 
 LINES = 50  # In one second, besides those that say how many were left out.
 LEFT_OUT = r"lines left out (\d+)"
+# The other lines of a run with the stream's two sessions: the start, the sessions' openings and ends, and the stop. A flood may
+# leave out some of them.
+OTHERS = r"serving at .*|steady: .* opened, .*|steady: .* ended, .*|stopping, .*|stopped"
+EVENTS = 7
 
 
 class Flood(threading.Thread):
@@ -87,8 +91,9 @@ def play_flood(routes, stream_id, line, counted):
         told = [it for it in texts if re.fullmatch(line.format(flood.caller.here[1]), it)]
         expect(LINES / 2 <= len(told) <= LINES * (spent + 2), f"{len(told)} refusals are told")
         left_out = sum(int(found[1]) for found in (re.fullmatch(LEFT_OUT, it) for it in texts) if found)
-        others = [it for it in texts if it not in told and not re.fullmatch(LEFT_OUT, it)]
-        expect(len(told) + left_out + counted(texts) == count, f"{len(told)} are told and {left_out} left out of {count}; beside them {others}")
+        others = [it for it in texts if re.fullmatch(OTHERS, it)]
+        found, wanted = len(told) + left_out + counted(texts) + len(others), count + EVENTS
+        expect(found == wanted, f"{len(told)} refusals are told and {left_out} lines left out of {wanted}; beside them {others}")
         return end
 
 

@@ -159,7 +159,7 @@ def route_refuses():
         for one in held:
             one.call()
             one.start()
-        for code, words in ((1003, dict(stream_id="studio")), (1002, dict(stream_id=publish("studio"))), (1004, dict(stream_id=publish("files"), mtu=75)),
+        for code, words in ((1003, dict(stream_id="studio")), (1002, dict(stream_id=publish("studio"))), (1004, dict(stream_id=publish("files"), mode="buffer", mtu=75)),
                             (1012, dict(stream_id="files"))):
             caller = Caller(run.address, **words)
             expect_refusal(code, caller, f"{words}")
