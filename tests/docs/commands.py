@@ -1,4 +1,5 @@
 """Example commands and configurations: commands parse (programs, subcommands, flags, files), configurations have known keys."""
+import itertools
 import os
 import re
 import shlex
@@ -10,6 +11,7 @@ from texts import Block, Document, ticked
 
 PLACEHOLDER = re.compile(r"[A-Z][A-Z_]*(?:\.\w+)?")
 ASSIGNMENT = re.compile(r"[A-Z_]+=\S*")
+DURATION = re.compile(r"[1-9]\d*[smhd]")
 RT = {
     "all": "--jobs",
     "check": "--only --test --progress --fix-imports",
@@ -32,12 +34,20 @@ RT = {
 
 @dataclass
 class Command:
-    """A subcommand of the program: the names of its arguments, its options with the greatest number that each takes, and its flags,
-    which take nothing and may be left out."""
+    """A subcommand of the program: the names of its arguments, its options with the greatest number that each takes (0 if it takes
+    a duration), those that may not be left out, and its flags, which take nothing and may be left out."""
 
     arguments: List[str] = field(default_factory=list)
     options: Dict[str, int] = field(default_factory=dict)
+    required: Set[str] = field(default_factory=set)
     flags: Set[str] = field(default_factory=set)
+
+    def takes(self, option: str, value: str) -> bool:
+        """Whether an option takes this value, or a placeholder of its value."""
+        if PLACEHOLDER.fullmatch(value):
+            return True
+        most = self.options[option]
+        return value.isdigit() and int(value) <= most if most else bool(DURATION.fullmatch(value))
 
 
 def program_of(index: Index) -> Dict[str, Command]:
@@ -56,6 +66,7 @@ def program_of(index: Index) -> Dict[str, Command]:
                 command.flags.add(f"--{option.group(1)}")
             elif option:
                 command.options[f"--{option.group(1)}"] = constants.get(most.group(1), 0) if most else 0
+                command.required |= {f"--{option.group(1)}"} if ".required(true)" in body else set()
             else:
                 command.arguments.append(argument)
     return found
@@ -89,7 +100,7 @@ class Checker:
         return bool(self.known(first) or re.match(r"(?:\./)?(?:bin|tests|bench)/[\w/]+$", first))
 
     def known(self, first: str) -> bool:
-        own = first in {"rt", "cd"} or os.path.basename(first) == "srtgw"
+        own = first in {"rt", "cd"} or os.path.basename(first) in {"srtgw", "env"}
         return own or first in self.programs or first.startswith("srt://")
 
     # ---- one command ----
@@ -114,11 +125,11 @@ class Checker:
                     return f"srtgw {words[0]} has no flag {word}"
                 value = rest.pop(0) if rest else ""
                 given.add(word)
-                if not (PLACEHOLDER.fullmatch(value) or value.isdigit() and int(value) <= command.options[word]):
+                if not command.takes(word, value):
                     return f"{word} takes no {value!r}"
             else:
                 files.append(word)
-        if len(files) != len(command.arguments) or given != set(command.options):
+        if len(files) != len(command.arguments) or not command.required <= given:
             return f"srtgw {words[0]} takes {' '.join(command.arguments)} {' '.join(command.options)}"
         missing = [it for it in files if not self.has_file(it)]
         return f"no file {missing[0]}" if missing else None
@@ -176,6 +187,8 @@ class Checker:
             return self.change(rest)
         if first == "rt":
             return self.prover(rest)
+        if os.path.basename(first) == "env":
+            return self.one(list(itertools.dropwhile(lambda it: it.startswith("--"), rest)))
         if os.path.basename(first) == "srtgw" and (path in self.index.files or first == "srtgw" or first.startswith("/")):
             return self.program(rest)
         if first in self.programs or first.startswith("srt://"):
