@@ -2,6 +2,7 @@
 is held to the rows and cases of tests/cli that hold `check --explain`."""
 import errno
 import os
+import resource
 import socket
 import subprocess
 import tempfile
@@ -10,7 +11,7 @@ from concurrent.futures import ThreadPoolExecutor
 import command_lines
 from cases import case
 from expecting import expect
-from gateway import configuration, live
+from gateway import configuration, live, room_for
 from machine import free_port
 from rows import rows_of
 from running import Run, Skipped
@@ -19,7 +20,6 @@ from tree import PROGRAM
 ROWS = ("explained_faults", "explained_routes", "explained_texts", "explained_steps")
 FILES = ("explained_file_missing", "explained_file_is_a_folder", "explained_file_of_65537_bytes", "explained_not_utf8")
 WARNINGS = "explained_warnings"
-FORE = "warning: "
 
 
 def configurations(name):
@@ -58,10 +58,10 @@ def wrong_configurations():
 
 def wrong_of_warnings(row, text):
     """What is wrong with the warnings of a run, or an empty text."""
-    said = [it for it in ended(text, "--no-time", "--for", "1s")[2] if FORE in it]
-    wanted = [it.removeprefix(FORE) for it in row.errors]
-    good = len(said) == len(wanted) and all(one.endswith(other.partition("): ")[2] or other) for one, other in zip(said, wanted))
-    return "" if good else f"{row.name}: the warnings are {said}"
+    status, _, lines = ended(text, "--no-time", "--for", "1s")
+    wanted = ["serving at ", *row.errors, "stopping, "]
+    good = status == 0 and len(lines) == len(wanted) + 1 and all(map(str.startswith, lines, wanted))
+    return "" if good else f"{row.name}: the log is {lines}"
 
 
 @case("unwise configurations, with the warnings of `check --explain`")
@@ -107,6 +107,28 @@ def other_machine():
     port = free_port()
     text = configuration([live("studio")], port).replace("127.0.0.1", "192.0.2.1")
     expect_not_bound(text, f"192.0.2.1:{port}", errno.EADDRNOTAVAIL)
+
+
+def expect_refused(line, word, **options):
+    """Expects a run that begins and can't have what it needs: the fault on standard output, and in the last line why."""
+    with Run(launched=False, **options) as run:
+        end = run.end(30)
+        said = run.texts()
+    expect((end.status, end.output) == (1, f"{line}\n"), f"it ended with {end.status}, {end.output!r}, {said}")
+    expect(said and said[-1].startswith("srtgw: gateway.toml: ") and word in said[-1], f"it says {said}")
+    expect("stopped" not in said, f"it says {said}")
+
+
+@case("memory that is refused")
+def memory_refused():
+    routes = [live(f"r{index}", buffer=8192, sessions=17, outbox=1126) for index in range(20)]
+    expect_refused("memory", "memory", routes=routes, limit=lambda: resource.setrlimit(resource.RLIMIT_AS, (400 << 20, 400 << 20)))
+
+
+@case("threads that can't be started")
+def threads_refused():
+    for count in range(2):
+        expect_refused("thread fault", "thread", routes=[live("none", buffer=32, sessions=2, inbox=16, outbox=136)], limit=room_for(count))
 
 
 @case("a port without the right to it")

@@ -18,9 +18,9 @@ def opened_line(route, role, caller, latency_ms, standby=False):
 
 
 def ended_line(route, role, caller, reason):
-    """The form of a session's end. Groups: after (ms), packets, bytes, lost, resent."""
-    front = re.escape(f"{route}: {role} {peer_of(caller)} ended, socket 0x{caller.peer_id:08x}, {reason}, after ")
-    return front + r"(?P<after>\d+) ms, (?P<packets>\d+) packets, (?P<bytes>\d+) bytes, (?P<lost>\d+) lost, (?P<resent>\d+) resent"
+    """The form of a session's end, with the form of its reason. Groups: after (ms), packets, bytes, lost, resent."""
+    front = re.escape(f"{route}: {role} {peer_of(caller)} ended, socket 0x{caller.peer_id:08x}, ")
+    return front + rf"{reason}, after " + r"(?P<after>\d+) ms, (?P<packets>\d+) packets, (?P<bytes>\d+) bytes, (?P<lost>\d+) lost, (?P<resent>\d+) resent"
 
 
 def took_over_line(route, caller):

@@ -21,8 +21,8 @@ TIME = r"\d{4}-\d\d-\d\dT\d\d:\d\d:\d\d\.\d{3}Z"
 ACCOUNT = re.compile(r"route (\S+) taken (\d+) left (\d+) waiting (\d+) queued (\d+) drained (\d+)")
 OUTCOMES = ("answered", "accepted", "full", "dropped", "memory")
 STOP_SECONDS = 1.5
-# A signal ends a gateway that wasn't started by the launcher, and its second line says so.
-WARNS_OF_SIGNALS = r".*signal.*ends.* at once.*"
+# The second line of a gateway that wasn't started by the launcher.
+UNBLOCKED = "SIGINT or SIGTERM ends the gateway at once, without a report: bin/srtgw run blocks them"
 
 
 class Skipped(Exception):
@@ -99,9 +99,9 @@ def seconds_of(time_text):
 
 class Run:
     """A gateway that runs until it is stopped. `words` come after the configuration; `launched` says whether bin/srtgw starts
-    it, `text` is a configuration in place of that of the routes."""
+    it, `text` is a configuration in place of that of the routes, `limit` is called by the process before it runs the program."""
 
-    def __init__(self, routes=(), *words, launched=True, port=None, workers=2, text=None):
+    def __init__(self, routes=(), *words, launched=True, port=None, workers=2, text=None, limit=lambda: None):
         self.address, self.launched = ("127.0.0.1", free_port() if port is None else port), launched
         self.room = tempfile.mkdtemp(prefix="srtgw-run-")
         self.file = f"{self.room}/gateway.toml"
@@ -109,8 +109,8 @@ class Run:
             it.write(configuration(routes, self.address[1], workers) if text is None else text)
         self.lines, self.output, self.began = [], "", time.time()
         command = [launcher() if launched else PROGRAM, "run", "gateway.toml", *words]
-        self.process = subprocess.Popen(command, cwd=self.room, stdin=subprocess.DEVNULL, stdout=subprocess.PIPE, stderr=subprocess.PIPE,
-                                        text=True, errors="replace", preexec_fn=usual_signals)
+        pipes = dict(stdin=subprocess.DEVNULL, stdout=subprocess.PIPE, stderr=subprocess.PIPE, text=True, errors="replace")
+        self.process = subprocess.Popen(command, cwd=self.room, preexec_fn=lambda: (usual_signals(), limit()), env={**os.environ, "MALLOC_ARENA_MAX": "1"}, **pipes)
         self.readers = [threading.Thread(target=it, daemon=True) for it in (self.read_log, self.read_output)]
         for it in self.readers:
             it.start()

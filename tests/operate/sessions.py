@@ -8,7 +8,7 @@ import time
 import packets
 from caller import Caller, Publisher, Subscriber, stream
 from cases import case
-from expecting import expect, expect_refusal, expect_run, publish, request
+from expecting import Wrong, expect, expect_refusal, expect_run, publish, request
 from gateway import files, live
 from lines import ended_line, opened_line, refused_line, took_over_line
 from machine import free_port
@@ -99,6 +99,41 @@ def ends_by_silence():
         run.stop()
 
 
+@case("a session whose window is lost, and one whose route closes")
+def ends_otherwise():
+    with Run([live("studio", buffer=64), live("guest", close_round=1_500)], "--no-time") as run:
+        run.is_up()
+        guest, one = Subscriber(run.address, "guest"), Publisher(run.address, publish("studio"), [])
+        opens(run, "guest", "subscriber", guest, 120)
+        opens(run, "studio", "publisher", one, 120)
+        one.send(packets.data((one.initial + 1_000) % packets.NUMBERS, 1, one.stamp(), one.peer_id, bytes(1316)))
+        _, found = run.line(ended_line("studio", "publisher", one, "its window was lost"), LOOK)
+        expect(counts_of(found)[:2] == [0, 0], f"it received nothing: {found[0]}")
+        run.line(ended_line("guest", "subscriber", guest, "its route was closed"), 20)
+        expect(guest.shut.wait(1), "the caller of the route that closed got no SHUTDOWN")
+        one.stop()
+        run.stop()
+
+
+@case("a session whose slot is taken again between two looks")
+def slot_taken_again():
+    with Run([live("studio")], "--no-time") as run:
+        run.is_up()
+        for _ in range(5):
+            first, second = Subscriber(run.address, "studio"), Subscriber(run.address, "studio")
+            opens(run, "studio", "subscriber", first, 120)
+            first.close()
+            second.call()
+            run.line(opened_line("studio", "subscriber", second, 120), LOOK)
+            _, found = run.line(ended_line("studio", "subscriber", first, "its (?:slot was taken again|peer sent a SHUTDOWN)"), 0)
+            second.close()
+            run.line(ended_line("studio", "subscriber", second, "its peer sent a SHUTDOWN"), LOOK)
+            if "taken again" in found[0]:
+                run.stop()
+                return
+        raise Wrong("five times a look came between the end of a session and the opening of the next one")
+
+
 @case("a session counts what is lost and resent on a bad line")
 def counts_losses():
     count = 800
@@ -120,8 +155,9 @@ def counts_losses():
         found = {role: [int(it) for it in line.groups()] for role, line in lines.items()}
         for role, counts in found.items():
             expect(counts[:3] == [count, 1316 * count, 0], f"the {role}'s line says {counts}, and {count} packets came through")
-        # Each of the subscriber's repeats is one that was sent again, and each loss on its line asks for at least one.
-        expect(1 <= subscriber.asked_again and found["subscriber"][3] >= max(1, subscriber.repeats), f"the subscriber had {subscriber.repeats} repeats: {found}")
+        # What the subscriber got twice was sent again. Of the publisher's packets those count that came beside the received ones.
+        expect(found["subscriber"][3] >= max(1, subscriber.repeats), f"the subscriber had {subscriber.repeats} repeats: {found}")
+        expect(found["publisher"][3] <= publisher.resent, f"the publisher sent {publisher.resent} again: {found}")
         for line in (there, back):
             line.stop()
         run.stop()

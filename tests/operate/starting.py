@@ -7,7 +7,7 @@ import time
 from cases import case
 from expecting import expect
 from gateway import live
-from running import TIME, WARNS_OF_SIGNALS, Run, can_block, expect_polite, launcher, seconds_of
+from running import TIME, UNBLOCKED, Run, can_block, expect_polite, launcher, seconds_of
 from tree import PROGRAM, TOP
 
 WRONG_DURATIONS = ["0s", "5x", "366d", "", "s", "7", "-1s", "1.5h", "0d", "8761h", "31536001s", "2 s", "1h30m", "99999999999999999999s"]
@@ -53,7 +53,7 @@ def starts_without_launcher():
     for which in (signal.SIGTERM, signal.SIGINT):
         with Run([live("studio", **SMALL)], "--no-time", launched=False) as run:
             expect_started(run, 1, 2)
-            number, _ = run.line(WARNS_OF_SIGNALS, 1)
+            number, _ = run.line(re.escape(UNBLOCKED), 1)
             expect(number == 1, f"it isn't the second line: {run.texts()}")
             end = run.stop(which, 2)
             expect(end.status == -which, f"the status is {end.status}")
@@ -65,7 +65,7 @@ def starts_without_launcher():
 def starts_with_launcher():
     with Run([live("studio", **SMALL)], "--no-time") as run:
         run.is_up()
-        expect(run.find(WARNS_OF_SIGNALS) is None, f"it says that a signal ends it: {run.texts()}")
+        expect(run.find(re.escape(UNBLOCKED)) is None, f"it says that a signal ends it: {run.texts()}")
         expect_polite(run.stop(), ["studio"])
 
 
