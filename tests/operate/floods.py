@@ -1,4 +1,5 @@
 """Floods of refusals: the log stays short, its counts add up, and a stream of another route loses nothing."""
+import os
 import re
 import threading
 import time
@@ -95,6 +96,29 @@ def play_flood(routes, stream_id, line, counted):
         found, wanted = len(told) + left_out + counted(texts) + len(others), count + EVENTS
         expect(found == wanted, f"{len(told)} refusals are told and {left_out} lines left out of {wanted}; beside them {others}")
         return end
+
+
+@case("a log that nobody reads holds up no packet, and the stop comes when it is read")
+def unread_log():
+    with Run([live("steady")], "--no-time", reads=False) as run:
+        Caller(run.address).induce(10)
+        flood = Flood(run.address, "nowhere", 2_000, 500)
+        beside_a_stream(run, flood)
+        expect(flood.refused == 2_000, f"{flood.refused} refusals came back")
+        expect(run.runs(), "it ended")
+        run.read()
+        run.line("steady: publisher .* ended, .*", 5)
+        expect_polite(run.stop(), ["steady"])
+
+
+@case("a log that can't be written stops nothing")
+def unwritten_log():
+    with open("/dev/full", "w") as full, Run([live("steady")], "--no-time", limit=lambda: os.dup2(full.fileno(), 2)) as run:
+        Caller(run.address).induce(10)
+        beside_a_stream(run, Flood(run.address, "nowhere", 200, 1_000), 400)
+        end = run.stop()
+        expect_polite(end, ["steady"])
+        expect(not run.lines and end.report["answered"] >= 203, f"{end.report}, {run.texts()}")
 
 
 def unseen_of(route):

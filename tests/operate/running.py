@@ -1,6 +1,7 @@
 """`srtgw run` as a process of its own: its start, its log and its end."""
 import atexit
 import calendar
+import fcntl
 import functools
 import os
 import re
@@ -21,6 +22,7 @@ TIME = r"\d{4}-\d\d-\d\dT\d\d:\d\d:\d\d\.\d{3}Z"
 ACCOUNT = re.compile(r"route (\S+) taken (\d+) left (\d+) waiting (\d+) queued (\d+) drained (\d+)")
 OUTCOMES = ("answered", "accepted", "full", "dropped", "memory")
 STOP_SECONDS = 1.5
+PAGE = 4096
 # The second line of a gateway that wasn't started by the launcher.
 UNBLOCKED = "SIGINT or SIGTERM ends the gateway at once, without a report: bin/srtgw run blocks them"
 
@@ -99,9 +101,10 @@ def seconds_of(time_text):
 
 class Run:
     """A gateway that runs until it is stopped. `words` come after the configuration; `launched` says whether bin/srtgw starts
-    it, `text` is a configuration in place of that of the routes, `limit` is called by the process before it runs the program."""
+    it, `text` is a configuration in place of that of the routes, `limit` is called by the process before it runs the program. If
+    not `reads`, nobody reads its log, and the pipe has room for a page, until `read` is called."""
 
-    def __init__(self, routes=(), *words, launched=True, port=None, workers=2, text=None, limit=lambda: None):
+    def __init__(self, routes=(), *words, launched=True, port=None, workers=2, text=None, limit=lambda: None, reads=True):
         self.address, self.launched = ("127.0.0.1", free_port() if port is None else port), launched
         self.room = tempfile.mkdtemp(prefix="srtgw-run-")
         self.file = f"{self.room}/gateway.toml"
@@ -111,6 +114,14 @@ class Run:
         command = [launcher() if launched else PROGRAM, "run", "gateway.toml", *words]
         pipes = dict(stdin=subprocess.DEVNULL, stdout=subprocess.PIPE, stderr=subprocess.PIPE, text=True, errors="replace")
         self.process = subprocess.Popen(command, cwd=self.room, preexec_fn=lambda: (usual_signals(), limit()), env={**os.environ, "MALLOC_ARENA_MAX": "1"}, **pipes)
+        self.readers = []
+        if reads:
+            self.read()
+        else:
+            fcntl.fcntl(self.process.stderr, fcntl.F_SETPIPE_SZ, PAGE)
+
+    def read(self):
+        """Begins to read what it says."""
         self.readers = [threading.Thread(target=it, daemon=True) for it in (self.read_log, self.read_output)]
         for it in self.readers:
             it.start()
