@@ -9,6 +9,10 @@ use Rattle.srt_cookie.specs.declared.secret.Secret.{Secret}
 abbrev pub secret_bytes : Secret → List ℕ
 secret_bytes s = s.bytes
 
+-- the secret of one run: SHA-256 (FIPS 180-4, section 6.2) of the configured secret and of the start, in microseconds, in network byte order
+abbrev pub secret_of_run : (configured : List ℕ) → (start : ℕ) → List ℕ
+secret_of_run configured start = sha256 (configured ++ to_be_bytes w64 start)
+
 -- the 58 bytes that are hashed: secret, address, port and minute, each number in network byte order
 abbrev pub hashed : List ℕ → Peer → (minute : ℕ) → List ℕ
 hashed secret peer minute = secret ++ peer.ip ++ to_be_bytes w16 peer.port ++ to_be_bytes w64 minute

@@ -6,7 +6,7 @@
 //! and it is checked by computing it again. It is no proof of identity and no encryption. It takes no memory and reads
 //! no clock.
 //!
-//! Calls: `Secret::new` once (`secret.rt`); [`cookie`] with [`minute_of`] the moment, for an induction; [`right`] for a
+//! Calls: `Secret::new` once, and `of_run` if each run is to have cookies of its own (`secret.rt`); [`cookie`] with [`minute_of`] the moment, for an induction; [`right`] for a
 //! conclusion (all in `cookies.rt`). `srt_lobby` makes these calls. The formula is in `specs/Cookie.antt`.
 #![tactic(auto)]
 

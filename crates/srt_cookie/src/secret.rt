@@ -1,7 +1,9 @@
 //! The secret that makes cookies hard to guess.
 
 ghost use Rattle.std.specs.Prelude.{◌≡◌};
-ghost use Rattle.srt_cookie.specs.Cookie.{secret_bytes};
+ghost use Rattle.srt_cookie.specs.Cookie.{secret_bytes, secret_of_run};
+
+use sha2::{Digest, Sha256};
 
 /// 32 bytes that only the gateway knows. They can't be read back, printed or compared.
 #[derive(Clone, Copy)]
@@ -15,5 +17,17 @@ impl Secret {
         ensures { secret_bytes result ≡ bytes }
     {
         Secret { bytes }
+    }
+    /// The secret of a run that starts at this time, in microseconds since 1970: SHA-256 of this secret and of the start
+    /// in network byte order. So no cookie of one run is right in the next.
+    pub fn of_run(&self, start: u64) -> Secret
+        ensures { secret_bytes result ≡ secret_of_run (secret_bytes self.now) start }
+    {
+        let mut hasher = Sha256::new();
+        hasher.update(&self.bytes);
+        hasher.update(&start.to_be_bytes());
+        Secret {
+            bytes: hasher.finalize(),
+        }
     }
 }

@@ -71,8 +71,8 @@ abbrev pub unseen_text : (route : List ℕ) → (opened refused : ℕ) → List 
 unseen_text route opened refused =
     escaped_all route ++ codes ": " ++ decimal opened ++ codes " sessions opened and ended unseen, " ++ decimal refused ++ codes " conclusions refused"
 
-abbrev pub warned_text : (route warning : List ℕ) → List ℕ
-warned_text route warning = escaped_all route ++ codes ": warning: " ++ escaped_all warning
+abbrev pub unblocked_text : List ℕ
+unblocked_text = codes "SIGINT or SIGTERM ends the gateway at once, without a report: bin/srtgw run blocks them"
 
 abbrev pub cause_text : StopCause → List ℕ
 cause_text causes.Signal = codes "stopping, by a signal"
@@ -97,7 +97,8 @@ event_text (events.Ended caller reason lasted_ms counts) = ended_text caller rea
 event_text (events.TookOver caller) = took_over_text caller
 event_text (events.Refused code peer asked) = refused_text code peer asked.now
 event_text (events.Unseen route opened refused) = unseen_text route.now opened refused
-event_text (events.Warned route warning) = warned_text route.now warning.now
+event_text events.Unblocked = unblocked_text
+event_text (events.Warned warning) = escaped_all warning.now
 event_text (events.SocketFaults count) = count_text (codes "socket faults ") count
 event_text (events.KernelDrops count) = count_text (codes "datagrams dropped by the kernel ") count
 event_text (events.LeftOut count) = count_text (codes "lines left out ") count

@@ -117,10 +117,10 @@ pub enum LogEvent<'a> {
         /// Conclusions that were refused.
         refused: u64,
     },
-    /// The configuration has something that is allowed, and most likely wrong.
+    /// SIGINT and SIGTERM aren't blocked, so that either ends the gateway at once.
+    Unblocked,
+    /// The configuration has something that is allowed, and unwise.
     Warned {
-        /// The name of the route that it is about.
-        route: &'a [u8],
         /// What it is.
         warning: &'a [u8],
     },

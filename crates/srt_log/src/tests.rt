@@ -232,11 +232,16 @@ fn lines_of_what_came_and_went(rt: HostRuntime) -> Result<(), Fail> {
     assert_line(
         &rt,
         None,
+        LogEvent::Unblocked,
+        "SIGINT or SIGTERM ends the gateway at once, without a report: bin/srtgw run blocks them\n",
+    )?;
+    assert_line(
+        &rt,
+        None,
         LogEvent::Warned {
-            route: b"studio",
-            warning: b"outbox is below 17 x 66",
+            warning: b"warning: route 1 (studio): sessions = 1",
         },
-        "studio: warning: outbox is below 17 x 66\n",
+        "warning: route 1 (studio): sessions = 1\n",
     )
 }
 

@@ -3,7 +3,7 @@
 ghost use Rattle.std.specs.Prelude.{◌≡◌, ◌++◌, [], OnOk};
 ghost use Rattle.std.specs.Io.KnownBytes.{Appends};
 ghost use Rattle.srt_log.specs.Texts.{put};
-ghost use Rattle.srt_log.specs.Events.{role_text, caller_text, latency_text, opened_text, session_opened_text, took_over_text, reason_text, counts_text, ended_text, code_text, started_text, refused_text, unseen_text, warned_text, count_text, cause_text, event_text, time_text, line_text};
+ghost use Rattle.srt_log.specs.Events.{role_text, caller_text, latency_text, opened_text, session_opened_text, took_over_text, reason_text, counts_text, ended_text, code_text, started_text, refused_text, unseen_text, unblocked_text, count_text, cause_text, event_text, time_text, line_text};
 
 use crate::events::{Caller, EndReason, LogEvent, SessionCounts, StopCause};
 use crate::line::Line;
@@ -202,14 +202,9 @@ fn put_unseen(line: &mut Line, route: &[u8], opened: u64, refused: u64)
     line.put(b" conclusions refused");
 }
 
-#[tactic(auto, using(crate::proofs::Puts::put_put))]
-fn put_warned(line: &mut Line, route: &[u8], warning: &[u8])
-    ensures { line.new.text.items ≡ put line.old.text.items (warned_text route.now warning.now) }
-{
-    line.put_escaped(route);
-    line.put(b": warning: ");
-    line.put_escaped(warning);
-}
+/// The text of a start without blocked signals.
+const UNBLOCKED: &[u8] =
+    b"SIGINT or SIGTERM ends the gateway at once, without a report: bin/srtgw run blocks them";
 
 fn put_cause(line: &mut Line, cause: StopCause)
     ensures { line.new.text.items ≡ put line.old.text.items (cause_text cause) }
@@ -251,7 +246,8 @@ fn put_event(line: &mut Line, event: LogEvent<'_>)
             opened,
             refused,
         } => put_unseen(line, route, opened, refused),
-        LogEvent::Warned { route, warning } => put_warned(line, route, warning),
+        LogEvent::Unblocked => line.put(UNBLOCKED),
+        LogEvent::Warned { warning } => line.put_escaped(warning),
         LogEvent::SocketFaults { count } => put_count(line, b"socket faults ", count),
         LogEvent::KernelDrops { count } => put_count(
             line,

@@ -5,4 +5,5 @@ pub mod Drops
 pub mod Durations
 pub mod Dates
 pub mod Times
-pub mod Secrets
+pub mod Stopping
+pub mod Memory

@@ -12,10 +12,11 @@ use crate::parts::behind_key;
 use std::rt::Files;
 
 /// The process's status, as proc(5) describes it.
-const STATUS: &str = "/proc/self/status";
+pub(crate) const STATUS: &str = "/proc/self/status";
 
-/// As much of the status as is read, in bytes: more than the kernel writes before the masks of signals.
-const STATUS_MAX: usize = 16_384;
+/// As much of the status as is read, in bytes: more than the kernel writes before the masks of signals, which follow the
+/// memory.
+pub(crate) const STATUS_MAX: usize = 16_384;
 
 /// The key of the signals that are pending for the process.
 const PROCESS_PENDING: &[u8] = b"ShdPnd:\t";

@@ -1,10 +1,9 @@
-//! Texts of /proc that a kernel wrote, dates from `date -u` and RFC 3339, and hashes from Python's hashlib.
+//! Texts of /proc that a kernel wrote, dates from `date -u` and RFC 3339.
 
 use crate::{
-    asks_to_stop, blocks_signals, drops_in, duration_in, fresh_secret, kernel_drops,
-    signals_are_blocked, stop_asked, utc_text,
+    StopStep, asks_to_stop, blocks_signals, drops_in, duration_in, kernel_drops, memory_in,
+    resident_memory, signals_are_blocked, stop_asked, stop_step, utc_text,
 };
-use std::array;
 use std::net::{Net, UdpSocket};
 use std::process::Abort;
 use std::test::Fail;
@@ -155,35 +154,25 @@ fn the_last_moment_that_has_a_text(rt: HostRuntime) {
     assert_text(&rt, u64::MAX, b"9999-12-31T23:59:59.999Z");
 }
 
-/// The bytes 0 to 31.
-fn configured() -> [u8; 32] {
-    array::from_fn(|i| i as u8)
+#[test]
+fn a_stop_ends_when_all_is_sent_or_after_a_second(rt: HostRuntime) {
+    assert_eq!(rt; stop_step(None, u64::MAX, true), StopStep::GoOn);
+    let asked = Some(7_000_000);
+    assert_eq!(rt; stop_step(asked, 7_000_000, true), StopStep::Close);
+    assert_eq!(rt; stop_step(asked, 7_049_999, true), StopStep::Close);
+    assert_eq!(rt; stop_step(asked, 7_050_000, true), StopStep::End);
+    assert_eq!(rt; stop_step(asked, 7_999_999, false), StopStep::Close);
+    assert_eq!(rt; stop_step(asked, 8_000_000, false), StopStep::End);
+    assert_eq!(rt; stop_step(Some(u64::MAX), u64::MAX, false), StopStep::Close);
 }
 
 #[test]
-fn each_start_has_its_secret(rt: HostRuntime) {
-    assert_eq!(rt;
-        fresh_secret(&configured(), 0),
-        [
-            0xa9, 0xd6, 0xe5, 0x00, 0x29, 0x3a, 0x88, 0xbd, 0x38, 0xcb, 0xe2, 0x13, 0xd0, 0x7a,
-            0xb7, 0x1f, 0x8c, 0xb2, 0x25, 0x85, 0x52, 0x07, 0x2a, 0x01, 0xbd, 0xf1, 0xc4, 0x0b,
-            0xe5, 0x27, 0xf4, 0xd0,
-        ]
-    );
-    assert_eq!(rt;
-        fresh_secret(&configured(), 1_795_705_445_123_456),
-        [
-            0x7e, 0xc2, 0x19, 0xdf, 0xa2, 0x51, 0xff, 0xb9, 0x9d, 0x10, 0x39, 0x96, 0xbb, 0xc8,
-            0x64, 0xc5, 0x11, 0x33, 0x36, 0xc3, 0x80, 0xe2, 0x52, 0x5a, 0xc2, 0x8d, 0xf7, 0x89,
-            0xa1, 0x07, 0x08, 0x59,
-        ]
-    );
-    assert_eq!(rt;
-        fresh_secret(&configured(), u64::MAX),
-        [
-            0x7e, 0x6b, 0xcc, 0xb1, 0x0c, 0xce, 0x44, 0x27, 0x9b, 0x07, 0x9b, 0x34, 0xdf, 0xaa,
-            0xbb, 0xc5, 0x4e, 0x7c, 0x72, 0xe2, 0x28, 0x81, 0x62, 0xc2, 0xab, 0x06, 0x16, 0x38,
-            0x21, 0xa2, 0x37, 0x3e,
-        ]
-    );
+fn resident_memory_is_in_the_status(rt: HostRuntime) {
+    let status = b"Name:\tsrtgw\nVmPeak:\t   20480 kB\nVmRSS:\t   12345 kB\nThreads:\t4\n";
+    assert_eq!(rt; memory_in(status), Some(12_641_280));
+    assert_eq!(rt; memory_in(b"VmRSS:\t       0 kB\n"), Some(0));
+    assert_eq!(rt; memory_in(b"VmRSS:\t kB\n"), None);
+    assert_eq!(rt; memory_in(b"VmRSS:\t 18014398509481984 kB\n"), None);
+    assert_eq!(rt; memory_in(b"Name:\tsrtgw\n"), None);
+    assert!(rt; resident_memory(&rt).is_some());
 }
