@@ -6,18 +6,22 @@
 //!
 //! Types: `Task` (`words.rt`), what the command line asks for; `Fault` (`faults.rt`), why a run ended early.
 //!
-//! Calls: `main` reads the words, `command` and `task_of` make a task of them, and `run` does it: `check` reads a
+//! Calls: `main` reads the words, `command` and `given_in` make a task of them, and `run` does it: `check` reads a
 //! configuration (what `--explain` tells is `srt_explain`'s), `replay` runs a tape, `serve` (`serving.rt`) binds the UDP
-//! socket and runs threads until the rounds are over. `files.rt` reads whole files up to a limit. docs/OPERATING.md has
-//! the commands, docs/PROTOCOL.md each line of output and each status.
+//! socket and runs threads until the rounds are over, `run` (`running.rt`) until it is told to stop, with a watcher
+//! (`srt_watch`) to which `host.rt` is the machine. `clocks.rt` has the routes' clock, `files.rt` reads whole files up to a
+//! limit. docs/OPERATING.md has the commands, docs/PROTOCOL.md each line of output and each status.
 #![tactic(auto)]
 
 ghost use Rattle.std.specs.Prelude.{◌≡◌};
 ghost use Rattle.std.specs.Process.{exit_status};
 ghost use Rattle.srtgw.specs.Ends.{status_after};
 
+mod clocks;
 mod faults;
 mod files;
+mod host;
+mod running;
 mod serving;
 #[cfg(test)]
 mod tests;
@@ -25,6 +29,7 @@ mod words;
 
 use faults::Fault;
 use files::{CONFIG_MAX, TAPE_MAX, read_file};
+use running::{Manner, run_gateway};
 use serving::{print_report, serve};
 use srt_explain::{Explained, explain};
 use srt_gateway::{Config, ConfigFault, CountedReader, CountedWriter, read_config, replay};
@@ -35,7 +40,7 @@ use std::rt::{Clock, Env, Files};
 use std::sync::Wait;
 use std::thread::Threads;
 use std::{env, str};
-use words::{Task, command, task_of};
+use words::{Given, Task, command, given_in, wrong_duration};
 
 /// Reads a whole file of at most `limit` bytes.
 fn bytes_at(rt: &(impl Files + AllocGlobal), path: &str, limit: u64) -> Result<Vec<u8>, Fault> {
@@ -95,8 +100,11 @@ fn print_warnings(rt: &impl Eprint, path: &str, explained: &Explained) {
     }
 }
 
-/// `srtgw check CONFIG --explain`: the same as without `--explain`, and an explanation on standard error.
-fn explain_file(rt: &(impl Print + Eprint + Files + AllocGlobal), path: &str) -> Result<(), Fault> {
+/// Reads a configuration's file with what is unwise in it. What is wrong is explained on standard error.
+fn explained_at(
+    rt: &(impl Eprint + Files + AllocGlobal),
+    path: &str,
+) -> Result<Explained, Fault> {
     let bytes = match read_file(rt, path, CONFIG_MAX) {
         Ok(bytes) => bytes,
         Err(unread) => {
@@ -106,16 +114,29 @@ fn explain_file(rt: &(impl Print + Eprint + Files + AllocGlobal), path: &str) ->
         }
     };
     match explain(rt.alloc(), &bytes) {
-        Ok(explained) => {
-            print_warnings(rt, path, &explained);
-            print_routes(rt, &explained.config)
-        }
+        Ok(explained) => Ok(explained),
         Err(explanation) => {
             let why = &explanation;
             let _ = eprintln!(rt; "srtgw: {path}: {why}");
             Err(Fault::Config(explanation.into_fault()))
         }
     }
+}
+
+/// `srtgw check CONFIG --explain`: the same as without `--explain`, and an explanation on standard error.
+fn explain_file(rt: &(impl Print + Eprint + Files + AllocGlobal), path: &str) -> Result<(), Fault> {
+    let explained = explained_at(rt, path)?;
+    print_warnings(rt, path, &explained);
+    print_routes(rt, &explained.config)
+}
+
+/// `srtgw run CONFIG`: serves callers until the gateway is told to stop, with a log on standard error.
+fn run_file<R>(rt: &R, path: &str, manner: Manner) -> Result<(), Fault>
+where
+    R: Print + Eprint + Files + AllocGlobal + Net + Clock + Threads + Wait + Sync,
+{
+    let explained = explained_at(rt, path)?;
+    run_gateway(rt, path, &explained, manner)
 }
 
 /// `srtgw serve CONFIG --rounds N`: serves callers for N rounds, and then prints the report.
@@ -144,6 +165,7 @@ where
         }
         Task::Replay { config, tape } => replay_file(rt, config, tape),
         Task::Serve { config, rounds } => serve_file(rt, config, rounds),
+        Task::Run { config, manner } => run_file(rt, config, manner),
     }
 }
 
@@ -162,6 +184,16 @@ fn status_of(rt: &impl Print, ended: Result<(), Fault>) -> ExitCode
     }
 }
 
+/// Prints what is wrong with the words, or the text that they ask for, and returns the status.
+fn tell_words<R: Print + Eprint + AllocGlobal>(rt: &R, error: clap::Error) -> Result<ExitCode, Fault> {
+    let status = error.exit_code() as u8;
+    match error.print(rt) {
+        // A text that was asked for is output. For wrong words the status suffices.
+        Err(_) if status == 0 => Err(Fault::Output),
+        _ => Ok(ExitCode::from(status)),
+    }
+}
+
 /// Runs the task of these words. Wrong words give status 2 and a text on standard error.
 fn obey<R>(rt: &R, words: &[String]) -> Result<ExitCode, Fault>
 where
@@ -171,19 +203,16 @@ where
         return Err(Fault::Memory);
     };
     match command.try_get_matches_from(words) {
-        Ok(matches) => match task_of(&matches) {
-            Some(task) => Ok(status_of(rt, run(rt, task))),
+        Ok(matches) => match given_in(&matches) {
+            Some(Given::Task(task)) => Ok(status_of(rt, run(rt, task))),
+            Some(Given::WrongDuration) => match wrong_duration(rt.alloc()) {
+                Ok(error) => tell_words(rt, error),
+                Err(_) => Err(Fault::Memory),
+            },
             None => Err(Fault::Memory),
         },
         Err(error) if error.kind() == clap::error::ErrorKind::OutOfMemory => Err(Fault::Memory),
-        Err(error) => {
-            let status = error.exit_code() as u8;
-            match error.print(rt) {
-                // A text that was asked for is output. For wrong words the status suffices.
-                Err(_) if status == 0 => Err(Fault::Output),
-                _ => Ok(ExitCode::from(status)),
-            }
-        }
+        Err(error) => tell_words(rt, error),
     }
 }
 

@@ -1,7 +1,10 @@
 //! The command line.
 
 use clap::builder::ValueParser;
-use clap::{Arg, ArgAction, ArgMatches, Command};
+use crate::running::Manner;
+use clap::error::ErrorKind;
+use clap::{Arg, ArgAction, ArgMatches, Command, Error};
+use srt_operate::duration_in;
 use std::alloc::{AllocError, Global};
 
 /// The greatest number of rounds of a run.
@@ -31,6 +34,22 @@ pub enum Task<'a> {
         /// The number of rounds: how often the socket is polled, at most 1,000,000,000.
         rounds: u32,
     },
+    /// Serve the routes of a configuration until the gateway is told to stop, with a log.
+    Run {
+        /// The configuration's file.
+        config: &'a str,
+        /// How it runs.
+        manner: Manner,
+    },
+}
+
+/// What the words of a command line are.
+#[derive(Clone, Copy)]
+pub enum Given<'a> {
+    /// A task.
+    Task(Task<'a>),
+    /// The time of `--for` is no duration.
+    WrongDuration,
 }
 
 /// The version, as CHANGELOG.md has it.
@@ -78,6 +97,21 @@ fn explain<'a>(alloc: Global) -> Arg<'a> {
         .help("Says on standard error where the fault is and how to mend it, or what is unwise")
 }
 
+fn duration<'a>(alloc: Global) -> Arg<'a> {
+    Arg::new(alloc, "for")
+        .long("for")
+        .value_name("DURATION")
+        .action(ArgAction::Set)
+        .help("Stops by itself after this time: a number and s, m, h or d, from 1s to 365d")
+}
+
+fn no_time<'a>(alloc: Global) -> Arg<'a> {
+    Arg::new(alloc, "no-time")
+        .long("no-time")
+        .action(ArgAction::SetTrue)
+        .help("Leaves out the time at the beginning of each line of the log, for a journal that has its own")
+}
+
 /// The program's commands with their arguments and help. Takes memory; the only error is that it is refused.
 pub fn command<'a>(alloc: Global) -> Result<Command<'a>, AllocError> {
     let check = Command::new(alloc, "check")
@@ -102,6 +136,16 @@ pub fn command<'a>(alloc: Global) -> Result<Command<'a>, AllocError> {
         )
         .arg(config(alloc))?
         .arg(rounds(alloc))?;
+    let run = Command::new(alloc, "run")
+        .about(
+            "Serves SRT callers until it is told to stop, tells on standard error what happens, and prints a report at the end",
+        )
+        .after_help(
+            "SIGINT and SIGTERM stop it if it was started by bin/srtgw, which blocks them: then every session gets a SHUTDOWN. docs/OPERATING.md has each line of the log.",
+        )
+        .arg(config(alloc))?
+        .arg(duration(alloc))?
+        .arg(no_time(alloc))?;
     Command::new(alloc, "srtgw")
         .about(
             "A gateway for SRT live streams: what a publisher sends on a route goes to each of the route's subscribers",
@@ -110,25 +154,50 @@ pub fn command<'a>(alloc: Global) -> Result<Command<'a>, AllocError> {
         .subcommand_required(true)
         .subcommand(check)?
         .subcommand(replay)?
-        .subcommand(serve)
+        .subcommand(serve)?
+        .subcommand(run)
+}
+
+/// The error of a time of `--for` that is no duration. Takes memory; the only error is that it is refused.
+pub fn wrong_duration(alloc: Global) -> Result<Error, AllocError> {
+    let mut command = command(alloc)?;
+    command.error(
+        ErrorKind::ValueValidation,
+        "the time of --for is a number and s, m, h or d, from 1s to 365d, such as 8h",
+    )
+}
+
+/// How a gateway runs by these words; None if the time of `--for` is no duration.
+fn manner_of(matches: &ArgMatches<'_>) -> Option<Manner> {
+    let is_timed = !matches.get_flag("no-time");
+    let lasts = match matches.get_str("for") {
+        Some(text) => Some(duration_in(text.as_bytes())?),
+        None => None,
+    };
+    Some(Manner { lasts, is_timed })
 }
 
 /// The task of a command line that was parsed; None if a word is missing, which `command` doesn't accept.
-pub fn task_of<'a>(matches: &ArgMatches<'a>) -> Option<Task<'a>> {
+pub fn given_in<'a>(matches: &ArgMatches<'a>) -> Option<Given<'a>> {
     let (name, inner) = matches.subcommand()?;
     let config = inner.get_str("CONFIG")?;
-    match name {
-        "check" => Some(Task::Check {
+    let task = match name {
+        "check" => Task::Check {
             config,
             explains: inner.get_flag("explain"),
-        }),
-        "serve" => Some(Task::Serve {
+        },
+        "serve" => Task::Serve {
             config,
             rounds: inner.get_one("rounds")?,
-        }),
-        _ => Some(Task::Replay {
+        },
+        "run" => match manner_of(inner) {
+            Some(manner) => Task::Run { config, manner },
+            None => return Some(Given::WrongDuration),
+        },
+        _ => Task::Replay {
             config,
             tape: inner.get_str("TAPE")?,
-        }),
-    }
+        },
+    };
+    Some(Given::Task(task))
 }

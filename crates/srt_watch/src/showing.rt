@@ -1,0 +1,123 @@
+//! What a look has of the sessions of a route.
+
+ghost use Rattle.std.specs.Prelude.{◌≡◌};
+ghost use Rattle.srt_watch.specs.Showing.{reason_of, counts_of, latency_of, look_of, end_of, slot_of};
+
+use srt_log::{EndReason, RouteLook, SLOTS, SessionCounts, SessionEnd, SessionLook};
+use srt_route::{EndCause, EndedSession, Route, SessionView, Traffic};
+
+/// Why a session ended, for a log.
+fn reason_of(stops: bool, cause: EndCause) -> EndReason
+    ensures { result ≡ reason_of stops cause }
+{
+    match cause {
+        EndCause::Shutdown => EndReason::Shutdown,
+        EndCause::Silence => EndReason::Silence,
+        EndCause::WindowLost => EndReason::WindowLost,
+        EndCause::Closed => {
+            if stops {
+                EndReason::GatewayStops
+            } else {
+                EndReason::RouteClosed
+            }
+        }
+    }
+}
+
+/// What a session took and gave. Of a publisher's, `resent` counts packets that came beside those that were received:
+/// again, too late, or too far ahead.
+fn counts_of(traffic: &Traffic) -> SessionCounts
+    ensures { result ≡ counts_of traffic.now }
+{
+    match traffic {
+        Traffic::Received(statistics) => SessionCounts {
+            packets: statistics.counts.received,
+            bytes: statistics.counts.bytes,
+            lost: statistics.counts.given_up,
+            resent: statistics.counts.came.saturating_sub(statistics.counts.received),
+        },
+        Traffic::Sent(statistics) => SessionCounts {
+            packets: statistics.sendings.fresh,
+            bytes: statistics.counts.bytes,
+            lost: statistics.counts.given_up,
+            resent: statistics.sendings.again,
+        },
+    }
+}
+
+/// A latency in milliseconds; `None` for 0, which only a route in buffer mode has.
+fn latency_of(latency_ms: u16) -> Option<u32>
+    ensures { result ≡ latency_of latency_ms }
+{
+    if latency_ms == 0 {
+        None
+    } else {
+        Some(u32::from(latency_ms))
+    }
+}
+
+fn look_of(view: &SessionView, end: Option<SessionEnd>) -> SessionLook
+    ensures { result ≡ look_of view.now end }
+{
+    SessionLook {
+        id: view.id,
+        opened_at: view.opened,
+        role: view.role,
+        active: view.is_active,
+        peer: view.peer,
+        latency_ms: latency_of(view.latency_ms),
+        end,
+        counts: counts_of(&view.traffic),
+    }
+}
+
+fn end_of(stops: bool, session: &EndedSession) -> SessionEnd
+    ensures { result ≡ end_of stops session.now }
+{
+    SessionEnd {
+        reason: reason_of(stops, session.cause),
+        moment: session.moment,
+    }
+}
+
+/// What a look has of a slot: the session that is open in it, or else the one that ended last in it.
+fn slot_of(
+    stops: bool,
+    open: Option<SessionView>,
+    ended: Option<EndedSession>,
+) -> Option<SessionLook>
+    ensures { result ≡ slot_of stops open ended }
+{
+    match open {
+        Some(view) => Some(look_of(&view, None)),
+        None => match ended {
+            Some(session) => Some(look_of(&session.view, Some(end_of(stops, &session)))),
+            None => None,
+        },
+    }
+}
+
+/// A route at a moment, in microseconds. `stops`: the gateway is about to end, and that closed the route. Refusals are
+/// told one by one, and not by looks.
+pub(crate) fn look_at(route: &Route, moment: u64, stops: bool) -> RouteLook {
+    let mut slots = [None; SLOTS];
+    for slot in 0..SLOTS {
+        slots[slot] = slot_of(stops, route.session(slot), route.ended(slot));
+    }
+    RouteLook {
+        moment,
+        slots,
+        opened: route.opened(),
+        refused: 0,
+    }
+}
+
+/// A look at a route before its first event.
+pub(crate) fn look_at_none() -> RouteLook {
+    RouteLook {
+        moment: 0,
+        slots: [None; SLOTS],
+        opened: 0,
+        refused: 0,
+    }
+}

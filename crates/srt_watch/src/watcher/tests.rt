@@ -1,0 +1,328 @@
+//! A watcher over a machine in memory, and routes that are given datagrams. The bytes of conclusions are worked out from
+//! the draft by hand; socket IDs are those of slots of the route with index 0.
+
+use crate::{Machine, Start, Watcher};
+use arrayvec::ArrayVec;
+use srt_poller::Asked;
+use srt_route::Route;
+use srt_seq::{Entry, Item, Mode, Peer};
+use srt_serve::{Refusal, Told, Watch};
+use std::alloc::Global;
+use std::process::Abort;
+use std::test::Fail;
+
+/// A CONCLUSION with caller ID 1 that asks to publish on the route `studio`, latency 120 ms.
+const PUBLISHER: &str =
+    "80000000000000000000000000000000000000050000000500000005000005dc00002000ffffffff00000001ecc958a6000000000000000000000000000000000001000300010500000000bf00780078000500063a3a212374733d726f696475703d6d2c696c627500006873";
+
+/// A SHUTDOWN for the first slot's session.
+const SHUTDOWN: &str = "80050000000000000000000000100000";
+
+/// The caller.
+const CALLER: Peer = Peer {
+    ip: [0, 0, 0, 0, 0, 0, 0, 0, 0, 0, 0xff, 0xff, 127, 0, 0, 1],
+    port: 5000,
+};
+
+/// What a gateway is told while nothing happens.
+const NOTHING: Told = Told {
+    is_quiet: false,
+    faults: 0,
+    missed: 0,
+};
+
+/// A machine that says what it was set to.
+#[derive(Drop)]
+struct Set {
+    moment: u64,
+    stops: bool,
+    drops: u64,
+}
+
+impl Machine for Set {
+    fn rest(&self) {}
+
+    fn moment(&mut self) -> u64 {
+        self.moment
+    }
+
+    /// 2026-11-26T15:04:05.123Z and the moment.
+    fn time(&self) -> u64 {
+        1_795_705_445_123_000 + self.moment
+    }
+
+    fn stop_asked(&self) -> bool {
+        self.stops
+    }
+
+    fn memory(&self) -> u64 {
+        73_240_576
+    }
+
+    fn drops(&self) -> u64 {
+        self.drops
+    }
+}
+
+type Watching<'a> = Watcher<'a, Set, Vec<u8>>;
+
+fn entry(alloc: Global) -> Result<Entry, Fail> {
+    Ok(Entry {
+        name: String::from_str(alloc, "studio")?,
+        mode: Mode::Live,
+        latency_ms: 120,
+        buffer: 32,
+        sessions: 2,
+        inbox: 16,
+        outbox: 16,
+    })
+}
+
+fn start(is_blocked: bool, lasts: Option<u64>) -> Start {
+    Start {
+        ip: [192, 0, 2, 1],
+        port: 9000,
+        workers: 2,
+        is_blocked,
+        lasts,
+    }
+}
+
+fn watcher<'a>(
+    alloc: Global,
+    entries: &'a [Entry],
+    is_timed: bool,
+    start: Start,
+) -> Result<Watching<'a>, Fail> {
+    let machine = Set {
+        moment: 0,
+        stops: false,
+        drops: 0,
+    };
+    let out = Vec::with_capacity(alloc, 16_384)?;
+    Ok(Watcher::open(alloc, machine, out, is_timed, entries, start)?)
+}
+
+/// Asserts that these lines were written since the last such call, and nothing else.
+fn assert_lines(rt: &impl Abort, watcher: &mut Watching<'_>, lines: &str) {
+    assert_eq!(rt; watcher.log.out.as_slice(), lines.as_bytes());
+    watcher.log.out.clear();
+}
+
+/// A datagram comes to the route.
+fn hear(alloc: Global, route: &mut Route, moment: u64, text: &str) -> Result<(), Fail> {
+    let bytes = hex::decode(alloc, text)?;
+    let mut head = [0u8; 16];
+    head.copy_from_slice(&bytes[..16]);
+    let item = Item::Datagram {
+        peer: CALLER,
+        moment,
+        head,
+        body: Vec::from_slice(alloc, &bytes[16..])?,
+    };
+    let _ = route.step(&item);
+    Ok(())
+}
+
+#[test]
+fn the_first_lines(rt: HostRuntime) -> Result<(), Fail> {
+    let entries = vec![in rt.alloc(); entry(rt.alloc())?]?;
+    let mut watcher = watcher(rt.alloc(), &entries, true, start(false, None))?;
+    watcher.warn("warning: route 1 (studio): sessions = 2");
+    assert_lines(&rt, &mut watcher,
+        "2026-11-26T15:04:05.123Z warning: route 1 (studio): sessions = 2\n",
+    );
+    watcher.machine.moment = 2_000;
+    assert_eq!(rt; watcher.next(NOTHING), Asked::GoOn);
+    assert_lines(&rt, &mut watcher,
+        "2026-11-26T15:04:05.125Z serving at 192.0.2.1:9000, routes 1, workers 2, memory 71524 KiB\n2026-11-26T15:04:05.125Z SIGINT or SIGTERM ends the gateway at once, without a report: bin/srtgw run blocks them\n",
+    );
+    assert_eq!(rt; watcher.next(NOTHING), Asked::GoOn);
+    assert_lines(&rt, &mut watcher, "");
+    Ok(())
+}
+
+#[test]
+fn a_signal_stops_it(rt: HostRuntime) -> Result<(), Fail> {
+    let entries = vec![in rt.alloc(); entry(rt.alloc())?]?;
+    let mut watcher = watcher(rt.alloc(), &entries, false, start(true, None))?;
+    assert_eq!(rt; watcher.next(NOTHING), Asked::GoOn);
+    watcher.log.out.clear();
+    watcher.machine.stops = true;
+    watcher.machine.moment = 1_000_000;
+    assert_eq!(rt; watcher.next(NOTHING), Asked::CloseAll);
+    assert_lines(&rt, &mut watcher, "stopping, by a signal\n");
+    let quiet = Told {
+        is_quiet: true,
+        ..NOTHING
+    };
+    watcher.machine.moment = 1_049_999;
+    assert_eq!(rt; watcher.next(quiet), Asked::CloseAll);
+    watcher.machine.moment = 1_999_999;
+    assert_eq!(rt; watcher.next(NOTHING), Asked::CloseAll);
+    assert_eq!(rt; watcher.next(quiet), Asked::End);
+    watcher.machine.moment = 2_000_000;
+    assert_eq!(rt; watcher.next(NOTHING), Asked::End);
+    watcher.end();
+    assert_lines(&rt, &mut watcher, "stopped\n");
+    Ok(())
+}
+
+#[test]
+fn it_stops_after_its_time(rt: HostRuntime) -> Result<(), Fail> {
+    let entries = vec![in rt.alloc(); entry(rt.alloc())?]?;
+    let mut watcher = watcher(rt.alloc(), &entries, false, start(true, Some(3_000_000)))?;
+    watcher.machine.moment = 500_000;
+    assert_eq!(rt; watcher.next(NOTHING), Asked::GoOn);
+    watcher.log.out.clear();
+    watcher.machine.moment = 3_499_999;
+    assert_eq!(rt; watcher.next(NOTHING), Asked::GoOn);
+    watcher.machine.moment = 3_500_000;
+    assert_eq!(rt; watcher.next(NOTHING), Asked::CloseAll);
+    assert_lines(&rt, &mut watcher, "stopping, the time of --for is over\n");
+    Ok(())
+}
+
+#[test]
+fn it_looks_twice_a_second(rt: HostRuntime) -> Result<(), Fail> {
+    let entries = vec![in rt.alloc(); entry(rt.alloc())?]?;
+    let mut watcher = watcher(rt.alloc(), &entries, false, start(true, None))?;
+    assert!(rt; watcher.looks());
+    assert!(rt; !watcher.looks());
+    watcher.machine.moment = 499_999;
+    assert!(rt; !watcher.looks());
+    watcher.machine.moment = 500_000;
+    assert!(rt; watcher.looks());
+    assert!(rt; !watcher.looks());
+    Ok(())
+}
+
+#[test]
+fn a_session_opens_and_ends(rt: HostRuntime) -> Result<(), Fail> {
+    let entries = vec![in rt.alloc(); entry(rt.alloc())?]?;
+    let mut watcher = watcher(rt.alloc(), &entries, false, start(true, None))?;
+    let mut route = Route::open(rt.alloc(), &entries[0], 0)?;
+    watcher.see(0, &route);
+    hear(rt.alloc(), &mut route, 1_000_000, PUBLISHER)?;
+    watcher.see(0, &route);
+    assert_lines(&rt, &mut watcher,
+        "studio: publisher 127.0.0.1:5000 opened, socket 0x00100000, latency 120 ms\n",
+    );
+    watcher.see(0, &route);
+    assert_lines(&rt, &mut watcher, "");
+    hear(rt.alloc(), &mut route, 3_500_000, SHUTDOWN)?;
+    watcher.see(0, &route);
+    assert_lines(&rt, &mut watcher,
+        "studio: publisher 127.0.0.1:5000 ended, socket 0x00100000, its peer sent a SHUTDOWN, after 2500 ms, 0 packets, 0 bytes, 0 lost, 0 resent\n",
+    );
+    hear(rt.alloc(), &mut route, 4_000_000, PUBLISHER)?;
+    watcher.see(0, &route);
+    watcher.log.out.clear();
+    let _ = route.step(&Item::Close { moment: 5_000_000 });
+    watcher.see(0, &route);
+    assert_lines(&rt, &mut watcher,
+        "studio: publisher 127.0.0.1:5000 ended, socket 0x00100000, its route was closed, after 1000 ms, 0 packets, 0 bytes, 0 lost, 0 resent\n",
+    );
+    Ok(())
+}
+
+#[test]
+fn a_stop_is_told_as_the_cause(rt: HostRuntime) -> Result<(), Fail> {
+    let entries = vec![in rt.alloc(); entry(rt.alloc())?]?;
+    let mut watcher = watcher(rt.alloc(), &entries, false, start(true, None))?;
+    let mut route = Route::open(rt.alloc(), &entries[0], 0)?;
+    hear(rt.alloc(), &mut route, 1_000_000, PUBLISHER)?;
+    watcher.see(0, &route);
+    watcher.machine.stops = true;
+    assert_eq!(rt; watcher.next(NOTHING), Asked::CloseAll);
+    watcher.log.out.clear();
+    let _ = route.step(&Item::Close { moment: 1_500_000 });
+    watcher.see(0, &route);
+    assert_lines(&rt, &mut watcher,
+        "studio: publisher 127.0.0.1:5000 ended, socket 0x00100000, the gateway stops, after 500 ms, 0 packets, 0 bytes, 0 lost, 0 resent\n",
+    );
+    Ok(())
+}
+
+#[test]
+fn what_came_and_went_between_two_looks(rt: HostRuntime) -> Result<(), Fail> {
+    let entries = vec![in rt.alloc(); entry(rt.alloc())?]?;
+    let mut watcher = watcher(rt.alloc(), &entries, false, start(true, None))?;
+    let mut route = Route::open(rt.alloc(), &entries[0], 0)?;
+    watcher.see(0, &route);
+    for second in 1..4u64 {
+        hear(rt.alloc(), &mut route, second * 1_000_000, PUBLISHER)?;
+        hear(rt.alloc(), &mut route, second * 1_000_000 + 1_000, SHUTDOWN)?;
+    }
+    watcher.see(0, &route);
+    assert_lines(&rt, &mut watcher,
+        "studio: publisher 127.0.0.1:5000 opened, socket 0x00100000, latency 120 ms\nstudio: publisher 127.0.0.1:5000 ended, socket 0x00100000, its peer sent a SHUTDOWN, after 1 ms, 0 packets, 0 bytes, 0 lost, 0 resent\nstudio: 2 sessions opened and ended unseen, 0 conclusions refused\n",
+    );
+    Ok(())
+}
+
+fn refusal(route: Option<usize>, name: &[u8]) -> Result<Refusal, Fail> {
+    let mut asked = ArrayVec::new();
+    let _ = asked.try_extend_from_slice(name);
+    Ok(Refusal {
+        route,
+        peer: CALLER,
+        code: 1002,
+        name: asked,
+    })
+}
+
+#[test]
+fn refusals_are_told_with_what_was_asked_for(rt: HostRuntime) -> Result<(), Fail> {
+    let entries = vec![in rt.alloc(); entry(rt.alloc())?]?;
+    let mut watcher = watcher(rt.alloc(), &entries, false, start(true, None))?;
+    watcher.refused(&refusal(None, b"studia")?);
+    watcher.refused(&refusal(Some(0), b"")?);
+    assert_lines(&rt, &mut watcher,
+        "127.0.0.1:5000 refused, 1002 PEER, asked for \"studia\"\n127.0.0.1:5000 refused, 1002 PEER, asked for \"studio\"\n",
+    );
+    Ok(())
+}
+
+#[test]
+fn a_flood_has_fifty_lines_a_second(rt: HostRuntime) -> Result<(), Fail> {
+    let entries = vec![in rt.alloc(); entry(rt.alloc())?]?;
+    let mut watcher = watcher(rt.alloc(), &entries, false, start(true, None))?;
+    let flood = refusal(None, b"x")?;
+    assert_eq!(rt; watcher.next(NOTHING), Asked::GoOn);
+    watcher.log.out.clear();
+    watcher.machine.moment = 1_000_000;
+    for _ in 0..1_000 {
+        watcher.refused(&flood);
+    }
+    let lines = watcher.log.out.iter().filter(|byte| **byte == b'\n').count();
+    assert_eq!(rt; lines, 50);
+    watcher.log.out.clear();
+    watcher.machine.moment = 2_000_000;
+    assert_eq!(rt; watcher.next(NOTHING), Asked::GoOn);
+    assert_lines(&rt, &mut watcher, "lines left out 950\n");
+    Ok(())
+}
+
+#[test]
+fn counts_are_told_when_they_grow(rt: HostRuntime) -> Result<(), Fail> {
+    let entries = vec![in rt.alloc(); entry(rt.alloc())?]?;
+    let mut watcher = watcher(rt.alloc(), &entries, false, start(true, None))?;
+    assert_eq!(rt; watcher.next(NOTHING), Asked::GoOn);
+    watcher.log.out.clear();
+    let told = Told {
+        is_quiet: false,
+        faults: 3,
+        missed: 7,
+    };
+    assert_eq!(rt; watcher.next(told), Asked::GoOn);
+    assert_eq!(rt; watcher.next(told), Asked::GoOn);
+    assert_lines(&rt, &mut watcher, "socket faults 3\nlines left out 7\n");
+    watcher.machine.drops = 208;
+    assert!(rt; watcher.looks());
+    assert_lines(&rt, &mut watcher, "datagrams dropped by the kernel 208\n");
+    watcher.machine.drops = 210;
+    watcher.end();
+    assert_lines(&rt, &mut watcher, "datagrams dropped by the kernel 2\nstopped\n");
+    Ok(())
+}

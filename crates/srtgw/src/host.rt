@@ -1,0 +1,99 @@
+//! The machine as a watcher asks it, and standard error as it writes to it.
+
+use crate::clocks::Since;
+use srt_gateway::BindAddress;
+use srt_operate::{kernel_drops, resident_memory, stop_asked};
+use srt_watch::Machine;
+use std::io::{self, Error, ErrorKind, Write};
+use std::rt::Files;
+use std::str;
+use std::thread;
+use std::time::{Clock, Duration, Instant, SystemTime};
+
+/// The time between two questions of a watcher, in milliseconds.
+const REST: u64 = 20;
+
+/// The present time, in microseconds since 1970; 0 if the system's clock can't be read.
+pub fn time_now(clock: &impl Clock) -> u64 {
+    let Ok(now) = SystemTime::now(clock) else {
+        return 0;
+    };
+    match now.duration_since(SystemTime::UNIX_EPOCH) {
+        Ok(since) => u64::try_from(since.as_micros()).unwrap_or(u64::MAX),
+        Err(_) => 0,
+    }
+}
+
+/// The machine that the gateway runs on.
+#[derive(Drop)]
+pub struct Host<'a, R> {
+    rt: &'a R,
+    since: Since<'a, R>,
+    bind: BindAddress,
+}
+
+impl<'a, R: Clock> Host<'a, R> {
+    /// Of a gateway that started at this moment, with its socket at this address.
+    pub fn new(rt: &'a R, start: Option<Instant>, bind: BindAddress) -> Host<'a, R> {
+        Host {
+            rt,
+            since: Since::new(rt, start),
+            bind,
+        }
+    }
+}
+
+impl<R: Clock + Files + AllocGlobal> Machine for Host<'_, R> {
+    fn rest(&self) {
+        thread::sleep(self.rt, Duration::from_millis(REST));
+    }
+
+    fn moment(&mut self) -> u64 {
+        self.since.moment()
+    }
+
+    fn time(&self) -> u64 {
+        time_now(self.rt)
+    }
+
+    fn stop_asked(&self) -> bool {
+        stop_asked(self.rt)
+    }
+
+    fn memory(&self) -> u64 {
+        resident_memory(self.rt).unwrap_or(0)
+    }
+
+    fn drops(&self) -> u64 {
+        kernel_drops(self.rt, self.bind.ip, self.bind.port).unwrap_or(0)
+    }
+}
+
+/// Standard error as a writer of text.
+#[derive(Drop)]
+pub struct Errors<'a, R> {
+    rt: &'a R,
+}
+
+impl<'a, R> Errors<'a, R> {
+    /// That of this host.
+    pub fn new(rt: &'a R) -> Errors<'a, R> {
+        Errors { rt }
+    }
+}
+
+impl<R: Eprint> Write for Errors<'_, R> {
+    fn write(&mut self, bytes: &[u8]) -> io::Result<usize> {
+        match str::from_utf8(bytes) {
+            Ok(text) => {
+                self.rt.eprint(text)?;
+                Ok(bytes.len())
+            }
+            Err(_) => Err(Error::from(ErrorKind::InvalidData)),
+        }
+    }
+
+    fn flush(&mut self) -> io::Result<()> {
+        Ok(())
+    }
+}

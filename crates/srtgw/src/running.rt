@@ -1,0 +1,149 @@
+//! `srtgw run`: the gateway at a UDP socket, until it is told to stop.
+
+use crate::clocks::Ticks;
+use crate::faults::Fault;
+use crate::host::{Errors, Host, time_now};
+use crate::serving::{bind, gates, print_report};
+use srt_explain::Explained;
+use srt_gateway::Config;
+use srt_mailbox::Account;
+use srt_operate::signals_are_blocked;
+use srt_poller::BindFault;
+use srt_serve::{RunFault, Watched, run_until};
+use srt_watch::{Start, Watcher};
+use std::fmt::InlineText;
+use std::io;
+use std::net::{Ipv4Addr, Net};
+use std::rt::{Clock, Files};
+use std::sync::Wait;
+use std::thread::Threads;
+use std::time::Instant;
+
+/// The most rounds of a run: at one a microsecond they last nine years.
+const ROUNDS_MAX: u64 = 1 << 48;
+
+/// How a gateway runs.
+#[derive(Clone, Copy, Debug)]
+pub struct Manner {
+    /// How long it serves callers, in microseconds; `None` until it is told to stop.
+    pub lasts: Option<u64>,
+    /// Whether each line of the log begins with the time.
+    pub is_timed: bool,
+}
+
+/// Says on standard error why no socket was bound.
+fn explain_bind(rt: &impl Eprint, config: &Config, fault: BindFault) {
+    let [a, b, c, d] = config.bind.ip;
+    let ip = Ipv4Addr::new(a, b, c, d);
+    let port = config.bind.port;
+    let _ = match fault {
+        BindFault::Socket(Some(number)) => {
+            let why = io::Error::from_raw_os_error(number);
+            eprintln!(rt; "srtgw: {ip}:{port}: {why}")
+        }
+        BindFault::Socket(None) => eprintln!(rt; "srtgw: {ip}:{port}: the socket can't be used"),
+        BindFault::OutOfMemory => eprintln!(rt; "srtgw: {ip}:{port}: memory was refused"),
+    };
+}
+
+/// Says on standard error why the routes weren't served.
+fn explain_run(rt: &impl Eprint, path: &str, fault: RunFault) {
+    let why = match fault {
+        RunFault::OutOfMemory => {
+            "memory was refused for the routes: less buffer, sessions, inbox or outbox take less"
+        }
+        RunFault::Thread => "a thread can't be started, or isn't running after ten seconds",
+        RunFault::Busy => "a route's account can't be taken, since another thread still has it",
+    };
+    let _ = eprintln!(rt; "srtgw: {path}: {why}");
+}
+
+/// Prints the account of each route, a line each, in the order of the routes' indexes.
+fn print_accounts(rt: &impl Print, config: &Config, accounts: &[Account]) -> io::Result<()> {
+    for (entry, account) in config.entries.iter().zip(accounts.iter()) {
+        let name = entry.name.as_str();
+        let Account {
+            taken,
+            left,
+            waiting,
+            queued,
+            drained,
+        } = *account;
+        println!(rt;
+            "route {name} taken {taken} left {left} waiting {waiting} queued {queued} drained {drained}"
+        )?;
+    }
+    Ok(())
+}
+
+/// Serves the routes of an explained configuration until SIGINT or SIGTERM is pending or its time is over, and tells a log
+/// on standard error what happens. Then every route is closed, and what is left is sent, for a second at most. Prints
+/// the report and an account of each route. `path` is that of the configuration.
+pub fn run_gateway<R>(rt: &R, path: &str, explained: &Explained, manner: Manner) -> Result<(), Fault>
+where
+    R: Print + Eprint + Files + AllocGlobal + Net + Clock + Threads + Wait + Sync,
+{
+    let config = &explained.config;
+    let start = Instant::now(rt).ok();
+    let (mut source, mut wire) = match bind(rt, config, start) {
+        Ok(both) => both,
+        Err(fault) => {
+            explain_bind(rt, config, fault);
+            return Err(Fault::Bind(fault));
+        }
+    };
+    let gates = gates(rt.alloc(), config.workers)?;
+    let beginning = Start {
+        ip: config.bind.ip,
+        port: config.bind.port,
+        workers: config.workers,
+        is_blocked: signals_are_blocked(rt),
+        lasts: manner.lasts,
+    };
+    let host = Host::new(rt, start, config.bind);
+    let entries = config.entries.as_slice();
+    let Ok(mut watcher) = Watcher::open(
+        rt.alloc(),
+        host,
+        Errors::new(rt),
+        manner.is_timed,
+        entries,
+        beginning,
+    ) else {
+        return Err(Fault::Memory);
+    };
+    for warning in explained.warnings.iter() {
+        watcher.warn(InlineText::<512>::of(&explained.text_of(*warning)).as_str());
+    }
+    let ran = run_until(
+        rt,
+        rt.alloc(),
+        &config.secret.of_run(time_now(rt)),
+        entries,
+        config.schedules.as_slice(),
+        &mut source,
+        &mut wire,
+        Ticks::new(rt, start),
+        gates,
+        watcher,
+        ROUNDS_MAX,
+    );
+    let Watched {
+        report,
+        accounts,
+        watch: mut watcher,
+        ..
+    } = match ran {
+        Ok(watched) => watched,
+        Err(fault) => {
+            explain_run(rt, path, fault);
+            return Err(Fault::Run(fault));
+        }
+    };
+    watcher.end();
+    let printed = print_report(rt, &report);
+    match printed.and_then(|_| print_accounts(rt, config, &accounts)) {
+        Ok(()) => Ok(()),
+        Err(_) => Err(Fault::Output),
+    }
+}
