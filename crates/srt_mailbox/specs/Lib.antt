@@ -8,5 +8,6 @@ pub mod Runs
 pub mod Asked
 pub mod Visits
 pub mod Cells
+pub mod Looks
 pub mod Settled
 pub mod Names

@@ -1,14 +1,16 @@
 //! The cell in which workers find a route: the route and a claim word. A worker that finds the route claimed doesn't
 //! wait for it.
 
-ghost use Rattle.std.specs.Prelude.{◌≡◌, ◌≢◌, ◌≤◌, Some, None, IfSome, IfOk, IfErr, option_map};
+ghost use Rattle.std.specs.Prelude.{◌≡◌, ◌≢◌, ◌≤◌, true, false, Some, None, IfSome, IfOk, IfErr, option_map};
 ghost use Rattle.srt_seq.specs.Terms.{terms_of};
 ghost use Rattle.srt_mailbox.specs.Counts.{Grew};
 ghost use Rattle.srt_mailbox.specs.Cells.{Name, Bears};
+ghost use Rattle.srt_mailbox.specs.Looks.{Seen, OneWasShown, SawMore};
 ghost use Rattle.srt_mailbox.specs.declared.gates.Served.TheVariants.{Held, Busy};
 
 use crate::gates::{Gate, Served, Visit};
 use crate::inbox_rule::Inbox;
+use crate::looks::Look;
 use crate::outbox_rule::Outbox;
 use crate::running::Running;
 use counted_slot::{Counted, FREE, Fits, PRESENT, TAKEN};
@@ -154,6 +156,29 @@ impl RouteCell {
         self.give_back(rt, boxed);
         visit
     }
+
+    // Puts a route back that is as it was when it was claimed.
+    fn give_back_same<R: Wait>(&self, rt: &R, boxed: Boxed, _claimed: Snapshot<Boxed>)
+        requires bears { Bears (name_in self.now) boxed.running.value }
+        requires same { boxed ≡ _claimed.value }
+    {
+        self.give_back(rt, boxed);
+    }
+
+    /// Shows the route, once, if no other call has it. False if another call has it; then nothing was shown. Makes no
+    /// turn: the route is given back as it was. Takes no memory and doesn't wait for the route.
+    pub fn show<R: Wait, L: Look>(&self, rt: &R, look: &mut L) -> bool
+        ensures shown { result ≡ true → OneWasShown (name_in self.now) (L.looked look.old) (L.looked look.new) }
+        ensures busy { result ≡ false → look.new ≡ look.old }
+    {
+        let Some(boxed) = self.claim() else {
+            return false;
+        };
+        let claimed = Snapshot::of(&boxed);
+        boxed.running.show(look);
+        self.give_back_same(rt, boxed, claimed);
+        true
+    }
 }
 
 /// A route that can be served: what `RouteCell` does for workers. Code that hands cells to threads is generic over this
@@ -171,6 +196,11 @@ pub trait Serve {
     /// Makes one turn of the route, as `RouteCell::serve` does.
     fn serve<R: Wait, G: Gate>(&self, rt: &R, gate: &mut G) -> Served
         ensures held { result ≡ Held → Grew (G.held gate.old) (G.held gate.new) };
+
+    /// Shows the route, as `RouteCell::show` does.
+    fn show<R: Wait, L: Look>(&self, rt: &R, look: &mut L) -> bool
+        ensures shown { result ≡ true → (s : Seen) × SawMore s (L.looked look.old) (L.looked look.new) }
+        ensures busy { result ≡ false → look.new ≡ look.old };
 }
 
 impl Serve for RouteCell {
@@ -180,6 +210,10 @@ impl Serve for RouteCell {
 
     fn serve<R: Wait, G: Gate>(&self, rt: &R, gate: &mut G) -> Served {
         RouteCell::serve(self, rt, gate)
+    }
+
+    fn show<R: Wait, L: Look>(&self, rt: &R, look: &mut L) -> bool {
+        RouteCell::show(self, rt, look)
     }
 }
 

@@ -7,13 +7,14 @@
 //! Types: the four ends of a route, which are `Ingress` (the poller offers datagrams), `ClockEnd` (the ticking thread
 //! offers ticks), `RouteCell` (workers serve the route) and `Drain` (the poller takes replies). A `Gate` may refuse a
 //! turn (`Ungated` never does), `Served` is the outcome of a turn that was asked for, `Visit` that of several, and
-//! `Account` has the counts of a route that has ended. `InboxFull` and `OutboxEmpty` are evidence of a refusal.
+//! `Account` has the counts of a route that has ended. A `Look` is shown a route under its claim. `InboxFull` and
+//! `OutboxEmpty` are evidence of a refusal.
 //!
 //! Calls: `open_route`; then, each from its own thread, `offer` on `Ingress` (for a datagram also `offer_datagram`) and
-//! on `ClockEnd`, `RouteCell::visit` or `RouteCell::serve` (any number of workers), and `Drain::take` with
-//! `Drain::reply` and `Drain::take_body`; last `settle`, which takes all four ends.
+//! on `ClockEnd`, `RouteCell::visit` or `RouteCell::serve` (any number of workers; `RouteCell::show` makes no turn), and
+//! `Drain::take` with `Drain::reply` and `Drain::take_body`; last `settle`, which takes all four ends.
 //!
-//! Files: the claim word is in `cells.rt`, one turn of a route in `running.rt`, the queues in `inbox.rt` and
+//! Files: the claim word is in `cells.rt`, one turn of a route in `running.rt`, what a look is given in `looks.rt`, the queues in `inbox.rt` and
 //! `outbox.rt`, what passes through them in `inbox_rule.rt` and `outbox_rule.rt` (`specs/Inbox.antt`,
 //! `specs/Outbox.antt`), and the evidence that one of them was full or empty in `evidence.rt`. That the replies don't
 //! depend on which worker serves is `Replays` in `specs/Runs.antt`.
@@ -25,6 +26,7 @@ mod evidence;
 mod gates;
 mod inbox;
 mod inbox_rule;
+mod looks;
 mod openings;
 mod outbox;
 mod outbox_rule;
@@ -36,6 +38,7 @@ pub use cells::{RouteCell, Serve};
 pub use evidence::{InboxFull, OutboxEmpty};
 pub use gates::{Gate, Served, Ungated, Visit};
 pub use inbox::{ClockEnd, Full, Ingress};
+pub use looks::Look;
 pub use openings::open_route;
 pub use outbox::Drain;
 pub use running::{BODY_ROOM, Running};

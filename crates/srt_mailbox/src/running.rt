@@ -9,12 +9,14 @@ ghost use Rattle.srt_mailbox.specs.Counts.{counted, Grew};
 ghost use Rattle.srt_mailbox.specs.Evidence.{refused};
 ghost use Rattle.srt_mailbox.specs.Runs.{run, waiting_at, Replays, TurnedAs};
 ghost use Rattle.srt_mailbox.specs.Cells.{Name, Bears};
+ghost use Rattle.srt_mailbox.specs.Looks.{WasShown};
 ghost use Rattle.srt_mailbox.specs.Visits.{asked_in, asked_last, turns_of, EndedAs, ServedAs};
 ghost use Rattle.srt_mailbox.specs.declared.gates.Served.TheVariants.{Held, Busy};
 
 use crate::evidence::Refusals;
 use crate::gates::{Gate, Served, Visit};
 use crate::inbox::Taker;
+use crate::looks::Look;
 use crate::outbox::Putter;
 use crate::outbox_rule::Parcel;
 use crate::spares::Boxes;
@@ -275,6 +277,13 @@ impl Running {
             moved,
             end: None,
         }
+    }
+
+    /// Shows the route, once, with the number of replies that wait. Changes nothing.
+    pub fn show<L: Look>(&self, look: &mut L)
+        ensures { WasShown self.now (L.looked look.old) (L.looked look.new) }
+    {
+        look.look(&self.route, self.waiting);
     }
 
     /// The replies put, followed by those that wait, are all that the route, running alone, replies to the items taken,

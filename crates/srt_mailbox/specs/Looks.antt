@@ -1,0 +1,29 @@
+-- What a look at a route saw.
+use Rattle.std.specs.Prelude.{◌≡◌, ℕ, Option, List, ◌∷◌, length, option_map}
+use Rattle.srt_route.specs.declared.state.Route.{Route as TheRoute}
+use Rattle.srt_route.specs.Stands.{stands}
+use Rattle.srt_mailbox.specs.Inbox.{applied}
+use Rattle.srt_mailbox.specs.Runs.{Run, Replays}
+use Rattle.srt_mailbox.specs.Cells.{Name, Bears}
+
+-- a route as it was shown, and how many replies waited at it
+pub record Seen : Type 0 where
+  pub route : TheRoute
+  pub waiting : ℕ
+
+abbrev pub seen : TheRoute → (waiting : ℕ) → Seen
+seen route waiting = record { route = route; waiting = waiting }
+
+-- one look more than before, at this
+abbrev pub SawMore : Seen → (old new : Option (List Seen)) → Type 0
+SawMore s old new = new ≡ option_map (λ earlier. s ∷ earlier) old
+
+-- the route of this run, which replays, was shown once, in the state to which the items that it took lead, with the number of replies that wait
+abbrev pub WasShown : Run → (old new : Option (List Seen)) → Type 0
+WasShown r old new =
+    (route : TheRoute) × Replays r × stands route r.terms r.index (applied r.inbox.taken)
+    × SawMore (seen route (length r.waiting)) old new
+
+-- a route of this name was shown once
+abbrev pub OneWasShown : Name → (old new : Option (List Seen)) → Type 0
+OneWasShown n old new = (r : Run) × Bears n r × WasShown r old new
