@@ -2,6 +2,7 @@
 //! once. The expected bytes were worked out from the rules by hand.
 
 mod boxes;
+mod looks;
 mod queues;
 mod visits;
 

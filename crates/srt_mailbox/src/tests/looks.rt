@@ -1,0 +1,121 @@
+//! Looks at a route: what they see, that none makes a turn, and that the route is claimed meanwhile and given back.
+
+use crate::gates::Served;
+use crate::looks::Look;
+use crate::tests::{
+    APPLIED, Fixed, IDLE, MOVED, PUBLISHER, assert_served, offer_times, peer, studio, tick,
+};
+use crate::{RouteCell, Serve};
+use srt_route::Route;
+use srt_seq::{Peer, Role};
+use std::process::Abort;
+use std::sync::Wait;
+use std::test::Fail;
+
+/// What the last look saw.
+#[derive(Drop)]
+struct Eye {
+    looks: u32,
+    clock: u64,
+    waiting: usize,
+    // the peer of the session in the first slot, and whether it publishes
+    session: Option<(Peer, bool)>,
+}
+
+impl Eye {
+    fn new() -> Eye {
+        Eye {
+            looks: 0,
+            clock: 0,
+            waiting: 0,
+            session: None,
+        }
+    }
+}
+
+impl Look for Eye {
+    ghost use Rattle.std.specs.Prelude.{None};
+
+    ghost looked = { λ _. None };
+
+    fn look(&mut self, route: &Route, waiting: usize) {
+        self.looks = self.looks.saturating_add(1);
+        self.clock = route.clock();
+        self.waiting = waiting;
+        self.session = match route.session(0) {
+            Some(view) => Some((view.peer, matches!(view.role, Role::Publish))),
+            None => None,
+        };
+    }
+}
+
+/// Shows the route, and asserts its clock in microseconds, the replies that wait, and the session of its first slot.
+fn assert_seen<C: Serve>(
+    rt: &(impl Wait + Abort),
+    cell: &C,
+    clock: u64,
+    waiting: usize,
+    session: Option<(Peer, bool)>,
+) {
+    let mut eye = Eye::new();
+    assert!(rt; cell.show(rt, &mut eye));
+    assert!(rt; eye.looks == 1 && eye.clock == clock && eye.waiting == waiting);
+    assert!(rt; eye.session == session);
+}
+
+/// The conclusion stands in the inbox, is applied, and its answer is moved: of these three turns a look makes none.
+#[test]
+fn a_look_sees_the_session_and_makes_no_turn(rt: HostRuntime) -> Result<(), Fail> {
+    let (mut ingress, mut clock, cell, _drain) = studio(rt.alloc())?;
+    offer_times(&rt, &mut ingress, PUBLISHER, 1)?;
+    let publisher = Some((peer(5000), true));
+    assert_seen(&rt, &cell, 0, 0, None);
+    assert_served(&rt, &cell, &[APPLIED]);
+    assert_seen(&rt, &cell, 1_000_000, 1, publisher);
+    assert_seen(&rt, &cell, 1_000_000, 1, publisher);
+    assert_served(&rt, &cell, &[MOVED, IDLE]);
+    assert_seen(&rt, &cell, 1_000_000, 0, publisher);
+    assert!(rt; tick(&rt, &mut clock, 1_000_001));
+    assert_seen(&rt, &cell, 1_000_000, 0, publisher);
+    assert_served(&rt, &cell, &[APPLIED, IDLE]);
+    assert_seen(&rt, &cell, 1_000_001, 0, publisher);
+    Ok(())
+}
+
+/// A look that serves and shows the route that it looks at.
+#[derive(Drop)]
+struct Inside<'a, R> {
+    rt: &'a R,
+    cell: &'a RouteCell,
+    served: Option<Served>,
+    shown: bool,
+    eye: Eye,
+}
+
+impl<R: Wait> Look for Inside<'_, R> {
+    ghost use Rattle.std.specs.Prelude.{None};
+
+    ghost looked = { λ _. None };
+
+    fn look(&mut self, _route: &Route, _waiting: usize) {
+        self.served = Some(self.cell.serve(self.rt, &mut Fixed::open()));
+        self.shown = self.cell.show(self.rt, &mut self.eye);
+    }
+}
+
+#[test]
+fn a_route_that_is_looked_at_is_busy(rt: HostRuntime) -> Result<(), Fail> {
+    let (mut ingress, _clock, cell, _drain) = studio(rt.alloc())?;
+    offer_times(&rt, &mut ingress, PUBLISHER, 1)?;
+    let mut inside = Inside {
+        rt: &rt,
+        cell: &cell,
+        served: None,
+        shown: true,
+        eye: Eye::new(),
+    };
+    assert!(rt; cell.show(&rt, &mut inside));
+    assert!(rt; inside.served == Some(Served::Busy) && !inside.shown && inside.eye.looks == 0);
+    assert_served(&rt, &cell, &[APPLIED, MOVED, IDLE]);
+    Ok(())
+}
