@@ -1,5 +1,5 @@
 -- The ends of a table's sessions are noted one slot after another.
-use Rattle.std.proofs.Common.{◌≡◌, ℕ, ◌+◌, ◌<◌, ◌≤◌, Option, None, Some, List, length, get_or, refl, sym, ap, subst, ◌∙◌, inl, inr, arith}
+use Rattle.std.proofs.Common.{◌≡◌, ℕ, ◌+◌, ◌<◌, ◌≤◌, Option, None, Some, List, [], ◌∷◌, ◌++◌, length, get_or, refl, sym, ap, subst, ◌∙◌, inl, inr, arith}
 use Rattle.std.proofs.lemmas.Bool.{cases_eq}
 use Rattle.std.proofs.lemmas.List.{get_or_default}
 use Rattle.srt_route.specs.declared.seat.Session.{Session as TheSession}
@@ -8,7 +8,27 @@ use Rattle.srt_route.specs.declared.table.Table.{Table}
 use Rattle.srt_route.specs.declared.ledger.EndCause.{EndCause}
 use Rattle.srt_route.specs.declared.ledger.EndedSession.{EndedSession}
 use Rattle.srt_route.specs.declared.ledger.Ledger.{Ledger}
-use Rattle.srt_route.specs.Ledgers.{CountsStay, Notes, NotesAt, NotesEach, Tells, entry_of}
+use Rattle.srt_route.specs.declared.totals.Totals.{Totals}
+use Rattle.srt_route.specs.declared.view.Traffic.{Traffic}
+use Rattle.srt_route.specs.Totals.{SumsGrow, with_all, with_traffic}
+use Rattle.srt_route.specs.Ledgers.{CountsStay, Notes, NotesAt, NotesEach, SumsTold, Tells, entry_of}
+
+-- sums that grow, and grow again
+both_added : (xs ys : List Traffic) (t : Totals) → with_all (ys ++ xs) t ≡ with_all ys (with_all xs t)
+both_added xs [] t = refl
+both_added xs (y ∷ ys) t = ap (with_traffic y) (both_added xs ys t)
+
+pub grow_both : (old mid new : Totals) → SumsGrow old mid → SumsGrow mid new → SumsGrow old new
+grow_both old mid new first second = (second.0 ++ first.0, second.1 ∙ (ap (with_all second.0) first.1 ∙ sym (both_added first.0 second.0 old)))
+
+pub same_grow : (old new : Totals) → new ≡ old → SumsGrow old new
+same_grow old new h = ([], h)
+
+pub sums_told : (cause : Option EndCause) (o : Option TheSession) (x : Option EndedSession) (old new : Totals) → SumsTold cause o x old new → SumsGrow old new
+sums_told None o x old new h = ([], h)
+sums_told (Some cause) None x old new h = ([], h)
+sums_told (Some cause) (Some t) None old new h = absurd h
+sums_told (Some cause) (Some t) (Some x) old new h = (x.view.traffic ∷ [], h)
 
 -- those of the slots below this one are
 pub record NotedUpTo (cause : Option TheSession → Option EndCause) (moment at : ℕ) (table : Table) (old new : Ledger) : Type 0 where
@@ -16,9 +36,10 @@ pub record NotedUpTo (cause : Option TheSession → Option EndCause) (moment at 
       → Tells (cause (get_or table.seats.items k d).session) moment (get_or table.seats.items k d).session (entry_of old k) (entry_of new k)
   pub ahead : (k : ℕ) → at ≤ k → entry_of new k ≡ entry_of old k
   pub counts : CountsStay old new
+  pub sums : SumsGrow old.totals new.totals
 
 pub none_noted : (cause : Option TheSession → Option EndCause) (moment : ℕ) (table : Table) (ledger : Ledger) → NotedUpTo cause moment 0 table ledger ledger
-none_noted cause moment table ledger = record { done = λ k d lt inside. absurd (omega (arith, lt)); ahead = λ k le. refl; counts = (refl, refl) }
+none_noted cause moment table ledger = record { done = λ k d lt inside. absurd (omega (arith, lt)); ahead = λ k le. refl; counts = (refl, refl); sums = ([], refl) }
 
 -- what is told doesn't depend on what was kept before, unless nothing is told
 pub tells_after : (cause : Option EndCause) (moment : ℕ) (o : Option TheSession) (first old new : Option EndedSession) → old ≡ first → Tells cause moment o old new → Tells cause moment o first new
@@ -30,6 +51,7 @@ one_noted cause moment at table old new later x h inside there notes =
       done = λ k d lt below. one k d lt below;
       ahead = λ k le. it.others k (λ same. omega (arith, le, same)) ∙ h.ahead k (omega (arith, le));
       counts = (it.counts.0 ∙ h.counts.0, it.counts.1 ∙ h.counts.1);
+      sums = grow_both old.totals new.totals later.totals h.sums (sums_told (cause x.session) x.session (entry_of later at) new.totals later.totals it.sums);
     }
   where
     it : NotesAt at (cause x.session) moment x.session new later
@@ -46,4 +68,4 @@ one_noted cause moment at table old new later x h inside there notes =
 
 pub all_noted : (cause : Option TheSession → Option EndCause) (moment at : ℕ) (table : Table) (old new : Ledger) → NotedUpTo cause moment at table old new → length table.seats.items ≡ at → NotesEach cause moment table old new
 all_noted cause moment at table old new h all =
-    record { told = λ k d below. h.done k d (omega (arith, all, below)) below; others = λ k le. h.ahead k (omega (arith, all, le)); counts = h.counts }
+    record { told = λ k d below. h.done k d (omega (arith, all, below)) below; others = λ k le. h.ahead k (omega (arith, all, le)); counts = h.counts; sums = h.sums }

@@ -14,7 +14,9 @@ use Rattle.srt_route.specs.declared.ledger.EndCause.TheVariants as causes
 use Rattle.srt_route.specs.declared.ledger.EndedSession.{EndedSession}
 use Rattle.srt_route.specs.declared.ledger.Ledger.{Ledger}
 use Rattle.srt_route.specs.declared.ledger.Refusals.{Refusals}
+use Rattle.srt_route.specs.declared.totals.Totals.{Totals}
 use Rattle.srt_route.specs.Tables.{session_passes, peer_idle}
+use Rattle.srt_route.specs.Totals.{SumsGrow, with_traffic}
 
 -- the session that ended last in a slot
 abbrev pub entry_of : Ledger → (at : ℕ) → Option EndedSession
@@ -68,11 +70,19 @@ Tells (Some cause) moment (Some t) old new = TellsEnd cause moment t new
 abbrev pub CountsStay : (old new : Ledger) → Type 0
 CountsStay old new = (new.opened ≡ old.opened) × (new.refusals ≡ old.refusals)
 
+-- what the session of a slot counted is added to the sums if its end is told, as it is told
+abbrev pub SumsTold : Option EndCause → Option TheSession → Option EndedSession → (old new : Totals) → Type 0
+SumsTold None o x old new = new ≡ old
+SumsTold (Some cause) None x old new = new ≡ old
+SumsTold (Some cause) (Some t) None old new = ⊥
+SumsTold (Some cause) (Some t) (Some x) old new = new ≡ with_traffic x.view.traffic old
+
 -- one slot's end is noted
 pub record NotesAt (at : ℕ) (cause : Option EndCause) (moment : ℕ) (o : Option TheSession) (old new : Ledger) : Type 0 where
   pub told : Tells cause moment o (entry_of old at) (entry_of new at)
   pub others : (k : ℕ) → k ≢ at → entry_of new k ≡ entry_of old k
   pub counts : CountsStay old new
+  pub sums : SumsTold cause o (entry_of new at) old.totals new.totals
 
 -- the end of the session that a table has in this slot
 abbrev pub Notes : (at : ℕ) → Option EndCause → (moment : ℕ) → Table → (old new : Ledger) → Type 0
@@ -84,6 +94,7 @@ pub record NotesEach (cause : Option TheSession → Option EndCause) (moment : �
       → Tells (cause (slice_index_or table.seats.items at d).session) moment (slice_index_or table.seats.items at d).session (entry_of old at) (entry_of new at)
   pub others : (at : ℕ) → length table.seats.items ≤ at → entry_of new at ≡ entry_of old at
   pub counts : CountsStay old new
+  pub sums : SumsGrow old.totals new.totals
 
 -- one session more, and one refusal more; each count stops at 2^64 - 1
 abbrev pub more : ℕ → ℕ

@@ -1,5 +1,5 @@
 -- Sums over sessions of what each counts.
-use Rattle.std.specs.Prelude.{◌≡◌, ℕ, zero, suc, ◌+◌, ◌-◌, ◌^◌, min, Option, None, Some, List}
+use Rattle.std.specs.Prelude.{◌≡◌, ℕ, zero, suc, ◌+◌, ◌-◌, ◌^◌, min, Option, None, Some, List, [], ◌∷◌}
 use Rattle.srt_seq.specs.Terms.{Terms}
 use Rattle.srt_pub.specs.declared.counts.Counts.{Counts as Received}
 use Rattle.srt_sub.specs.declared.counts.Counts.{Counts as Queued}
@@ -43,6 +43,14 @@ both_sent a b = record { fresh = both a.fresh b.fresh; again = both a.again b.ag
 abbrev pub with_traffic : Traffic → Totals → Totals
 with_traffic (of.Received x) t = record { received = both_received t.received x.counts; queued = t.queued; sent = t.sent }
 with_traffic (of.Sent x) t = record { received = t.received; queued = both_queued t.queued x.counts; sent = both_sent t.sent x.sendings }
+
+-- sums only grow: to those that were, what some sessions counted was added
+abbrev pub with_all : List Traffic → Totals → Totals
+with_all [] t = t
+with_all (x ∷ xs) t = with_traffic x (with_all xs t)
+
+abbrev pub SumsGrow : (old new : Totals) → Type 0
+SumsGrow old new = (added : List Traffic) × (new ≡ with_all added old)
 
 abbrev pub with_shown : Option SessionView → Totals → Totals
 with_shown None t = t

@@ -138,7 +138,7 @@ fn consider(
 )
     requires { c.initial < 2 ^ 31 }
     ensures taken { TakesFirst arrival c table.old table.new (written reply.new ∷ []) }
-    ensures ended { ledger.new.ended ≡ ledger.old.ended }
+    ensures ended { (ledger.new.ended ≡ ledger.old.ended) × (ledger.new.totals ≡ ledger.old.totals) }
     ensures tally { Tallies arrival.clock (λ e sessions. admitted_tally (admitted e sessions c)) table.old ledger.old ledger.new }
 {
     match admit(table, &c) {
@@ -164,7 +164,7 @@ pub fn conclude(
 ) -> bool
     requires { c.initial < 2 ^ 31 }
     ensures taken { TakesConclusion arrival c table.old table.new (written_of (given result reply.new)) }
-    ensures ended { ledger.new.ended ≡ ledger.old.ended }
+    ensures ended { (ledger.new.ended ≡ ledger.old.ended) × (ledger.new.totals ≡ ledger.old.totals) }
     ensures tally { Tallies arrival.clock (λ e sessions. conclusion_tally e arrival.peer sessions (Some c)) table.old ledger.old ledger.new }
 {
     if let Some(at) = slot_of(&table.seats, arrival.peer, c.caller) {

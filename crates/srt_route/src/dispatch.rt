@@ -13,6 +13,7 @@ ghost use Rattle.srt_route.specs.OneSession.{PublisherTook, PublisherEndsFor, Su
 ghost use Rattle.srt_packet.specs.Reading.{packet_in};
 ghost use Rattle.srt_route.specs.Ledgers.{CountsStay};
 ghost use Rattle.srt_route.specs.Ends.{Ends, arrived_end, destined_end, read_end, item_end};
+ghost use Rattle.srt_route.specs.Totals.{SumsGrow};
 ghost use Rattle.srt_route.specs.Tallies.{Tallies, item_tally, packet_tally, read_tally};
 ghost use Rattle.srt_route.specs.Calls.{AnswersItem, AnswersPacket, TakenBySession, TakesDatagram, TakesItem, TakesPacket};
 
@@ -95,6 +96,7 @@ fn to_session(
     ensures taken { TakenBySession arrival (packet_of packet.now) table.old table.new (written_of (given result reply.new)) }
     ensures ends { Ends arrival.clock (λ e index. arrived_end e index arrival.peer (packet_of packet.now)) table.old ledger.old ledger.new }
     ensures counts { CountsStay ledger.old ledger.new }
+    ensures sums { SumsGrow ledger.old.totals ledger.new.totals }
 {
     let at = slot_in(packet.dest);
     if at >= table.seats.len() {
@@ -133,6 +135,7 @@ fn to_destination(
     ensures answer { AnswersPacket arrival (packet_of packet.now) table.old (written_of (given result reply.new)) }
     ensures ends { Ends arrival.clock (λ e index. destined_end e index arrival.peer (packet_of packet.now)) table.old ledger.old ledger.new }
     ensures tally { Tallies arrival.clock (λ e sessions. packet_tally e arrival.peer (packet_of packet.now) sessions) table.old ledger.old ledger.new }
+    ensures sums { SumsGrow ledger.old.totals ledger.new.totals }
 {
     if packet.dest != 0 {
         return to_session(table, ledger, arrival, packet, reply);
@@ -161,6 +164,7 @@ fn take_datagram(
     ensures taken { TakesDatagram clock peer (head.now ++ body.now) table.old table.new (written_of (given result reply.new)) }
     ensures ends { Ends clock (λ e index. read_end e index peer (packet_in (head.now ++ body.now))) table.old ledger.old ledger.new }
     ensures tally { Tallies clock (λ e sessions. read_tally e peer (packet_in (head.now ++ body.now)) sessions) table.old ledger.old ledger.new }
+    ensures sums { SumsGrow ledger.old.totals ledger.new.totals }
 {
     match decode_parts(head, body) {
         Ok(packet) => {
@@ -189,6 +193,7 @@ pub fn dispatch(
     ensures said { AnswersItem clock (told item.now) table.old waiting.old waiting.new }
     ensures ends { Ends clock (λ e index. item_end e index (told item.now)) table.old ledger.old ledger.new }
     ensures tally { Tallies clock (λ e sessions. item_tally e (told item.now) sessions) table.old ledger.old ledger.new }
+    ensures sums { SumsGrow ledger.old.totals ledger.new.totals }
 {
     match item {
         Item::Tick { moment: _ } => {}

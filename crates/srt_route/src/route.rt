@@ -14,6 +14,7 @@ ghost use Rattle.srt_route.specs.Waits.{replies_of, places_of};
 ghost use Rattle.srt_route.specs.Reports.{AreSaid};
 ghost use Rattle.srt_route.specs.Ledgers.{ended_in};
 ghost use Rattle.srt_route.specs.Ends.{KeepsEnds};
+ghost use Rattle.srt_route.specs.Totals.{SumsGrow, totals_of_ended};
 ghost use Rattle.srt_route.specs.Tallies.{no_tally, tally_after, tally_in};
 ghost use Rattle.srt_route.specs.Stands.{IsRoute, stands, waiting, places};
 
@@ -111,6 +112,7 @@ impl Route {
             KeepsEnds e index (told item.now) (after e index items) (λ slot. ended_in slot self.old) (λ slot. ended_in slot self.new) }
         ensures tally { (e : Terms) (index : ℕ) (items : List TheItem) →
             stands self.old e index items → tally_in self.new ≡ tally_after e (told item.now) (after e index items) (tally_in self.old) }
+        ensures sums { SumsGrow (totals_of_ended self.old) (totals_of_ended self.new) }
     {
         // 1: the clock never goes back. After a Close nothing else goes on.
         self.clock = later(self.clock, moment(item));
@@ -178,6 +180,7 @@ impl Route {
         ensures none { result ≡ false → (waiting self.old ≡ []) × (self.new ≡ self.old) × (place.new ≡ place.old) }
         ensures kept { (slot : ℕ) → ended_in slot self.new ≡ ended_in slot self.old }
         ensures tally { tally_in self.new ≡ tally_in self.old }
+        ensures sums { totals_of_ended self.new ≡ totals_of_ended self.old }
         ensures stands { (e : Terms) (index : ℕ) (items : List TheItem) → stands self.old e index items → stands self.new e index items }
     {
         self.waiting.next(place)

@@ -9,6 +9,7 @@ use Rattle.srt_route.specs.Calls.{TakesItem, AnswersItem}
 use Rattle.srt_route.specs.Ends.{Ends, item_end, read_end}
 use Rattle.srt_route.specs.Tallies.{Tallies, item_tally, read_tally}
 use Rattle.srt_route.proofs.Saying.{same_said}
+use Rattle.srt_route.proofs.Noting.{same_grow}
 use Rattle.srt_route.proofs.Told.{closed_told, none_told}
 use Rattle.srt_route.proofs.Tallied.{tally_stays}
 use Rattle.srt_route.proofs.dispatch.dispatch.Goals as goal
@@ -64,3 +65,12 @@ returns-in-Datagram-clause-tally c =
     subst (λ (i : Item). Tallies c.args.clock (λ e sessions. item_tally e (told i) sessions) c.args.table.now c.args.ledger.now c.take_datagram-answered.new.ledger) (sym c.in-Datagram.is)
     (subst (λ (bytes : List ℕ). Tallies c.args.clock (λ e sessions. read_tally e c.in-Datagram.peer (packet_in (c.in-Datagram.head ++ bytes)) sessions) c.args.table.now c.args.ledger.now c.take_datagram-answered.new.ledger) same
     c.take_datagram-answered.ensures.tally)
+
+pub returns-in-Tick-clause-sums : goal.returns-in-Tick-clause-sums
+returns-in-Tick-clause-sums c = same_grow c.args.ledger.now.totals c.args.ledger.now.totals refl
+
+pub returns-in-Close-clause-sums : goal.returns-in-Close-clause-sums
+returns-in-Close-clause-sums c = c.note_closed.ensures.sums
+
+pub returns-in-Datagram-clause-sums : goal.returns-in-Datagram-clause-sums
+returns-in-Datagram-clause-sums c = c.take_datagram-answered.ensures.sums

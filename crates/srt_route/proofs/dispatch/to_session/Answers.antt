@@ -8,6 +8,7 @@ use Rattle.srt_seq.specs.Given.{given}
 use Rattle.srt_route.specs.Tables.{is_stored_for, session_passes, has_publisher, uses_second, stored_after, with_stored, written_of}
 use Rattle.srt_route.proofs.Stored.{for_none_beyond, for_none_stored, for_one, same_read}
 use Rattle.srt_route.proofs.Taking.{none_arrived, publisher_arrived, subscriber_arrived, stored_role}
+use Rattle.srt_route.proofs.Noting.{same_grow, sums_told}
 use Rattle.srt_route.proofs.Told.{none_for, publisher_told, subscriber_told}
 use Rattle.srt_route.proofs.dispatch.to_session.Goals as goal
 
@@ -91,3 +92,19 @@ returns-clause-ends c e index sessions h =
     let here = for_one e index c.args.arrival.clock c.args.table.now sessions c.args.arrival.peer packet.dest at seat h c.args.table.now.few c.slot_in-at.ensures (omega (arith, c.if-at-len.false, c.len.ensures)) c.index_mut-2.ensures.value (ap (λ (x : Seat). session_passes (is_stored_for c.args.arrival.peer packet.dest) x.session) (sym same) ∙ (sym c.is_for.ensures ∙ c.if-not-is_for.false)) in
     let role = stored_role e index sessions c.args.arrival.peer packet.dest at seat here.0 here.1 false here.2 (ap has_publisher (sym same_too) ∙ (sym c.has_publisher.ensures ∙ c.if-has_publisher.false)) in
     subscriber_told e index c.args.arrival.clock c.args.arrival.peer packet c.args.table.now sessions at seat here.0 here.1 c.shutdown_cause.result c.args.ledger.now c.note-2.new.self h c.index_mut-2.ensures.value here.2 role c.shutdown_cause.ensures c.note-2.ensures
+
+pub returns-then-at-len-clause-sums : goal.returns-then-at-len-clause-sums
+returns-then-at-len-clause-sums c = same_grow c.args.ledger.now.totals c.args.ledger.now.totals refl
+
+pub returns-then-not-is_for-clause-sums : goal.returns-then-not-is_for-clause-sums
+returns-then-not-is_for-clause-sums c = same_grow c.args.ledger.now.totals c.args.ledger.now.totals refl
+
+pub returns-then-has_publisher-clause-sums : goal.returns-then-has_publisher-clause-sums
+returns-then-has_publisher-clause-sums c =
+    let seat = c.index-2.result.now in
+    sums_told c.cause_of.result _ _ c.args.ledger.now.totals c.note.new.self.totals (c.note.ensures seat).sums
+
+pub returns-clause-sums : goal.returns-clause-sums
+returns-clause-sums c =
+    let seat = c.index-2.result.now in
+    sums_told c.shutdown_cause.result _ _ c.args.ledger.now.totals c.note-2.new.self.totals (c.note-2.ensures seat).sums

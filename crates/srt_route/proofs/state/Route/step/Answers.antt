@@ -4,6 +4,7 @@ use Rattle.srt_route.specs.Route.{after, clock_after}
 use Rattle.srt_route.specs.Ends.{end_at}
 use Rattle.srt_route.specs.Tallies.{tally_of}
 use Rattle.srt_route.proofs.Stepping.{stepped, stands_more, stays_closed, replies_more}
+use Rattle.srt_route.proofs.Noting.{grow_both, same_grow}
 use Rattle.srt_route.proofs.Told.{closed_none, none_told, step_told}
 use Rattle.srt_route.proofs.Tallied.{closed_tally, step_tally}
 use Rattle.srt_route.proofs.state.Route.step.Goals as goal
@@ -55,3 +56,9 @@ returns-clause-tally c e index items h =
     let early : clock < 2 ^ 62 = omega (arith, c.later-self.ensures, c.requires.timely, h.table_is.early) in
     let clock_is : clock ≡ clock_after item m = c.later-self.ensures ∙ ap (max c.args.self.now.clock) c.moment.ensures ∙ ap (λ (n : ℕ). max n (moment_of item)) h.clock_is in
     step_tally e index c.args.self.now.clock clock item c.args.self.now.table c.end_idle.new.table m c.args.self.now.ledger c.note_idle.new.self c.dispatch.new.ledger (h.closed_is ∙ c.if-self.false) clock_is h.table_is later early c.end_idle.ensures c.note_idle.ensures c.dispatch.ensures.tally
+
+pub returns-then-self-clause-sums : goal.returns-then-self-clause-sums
+returns-then-self-clause-sums c = same_grow c.args.self.now.ledger.totals c.args.self.now.ledger.totals refl
+
+pub returns-clause-sums : goal.returns-clause-sums
+returns-clause-sums c = grow_both c.args.self.now.ledger.totals c.note_idle.new.self.totals c.dispatch.new.ledger.totals c.note_idle.ensures.sums c.dispatch.ensures.sums
