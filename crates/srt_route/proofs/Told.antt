@@ -1,11 +1,10 @@
 -- What is kept of the sessions that end.
-use Rattle.std.proofs.Common.{◌≡◌, ◌≢◌, ℕ, ◌<◌, ◌≤◌, ◌^◌, Bool, true, false, not, ◌&&◌, cond, Option, None, Some, List, length, map, find, get_or, refl, sym, ap, subst, ◌∙◌, inl, inr, arith}
+use Rattle.std.proofs.Common.{◌≡◌, ◌≢◌, ℕ, ◌<◌, ◌≤◌, ◌^◌, Bool, true, false, cond, Option, None, Some, List, length, map, find, get_or, refl, sym, ap, subst, ◌∙◌, inl, inr, arith}
 use Rattle.std.proofs.lemmas.Bool.{cases_eq, cases_lt}
 use Rattle.srt_seq.specs.declared.shared.Peer.{Peer}
 use Rattle.srt_seq.specs.Terms.{Terms}
 use Rattle.srt_seq.specs.Items.{Item}
 use Rattle.srt_packet.specs.Grammar.{Packet}
-use Rattle.srt_pub.specs.Calls.{ended}
 use Rattle.srt_pub.specs.declared.ends.PubEnd.{PubEnd}
 use Rattle.srt_pub.specs.declared.session.Publisher.{Publisher}
 use Rattle.srt_sub.specs.declared.session.Subscriber.{Subscriber}
@@ -24,7 +23,7 @@ use Rattle.srt_route.specs.Buffers.{IsPast, IsSeated}
 use Rattle.srt_route.specs.OneSession.{PublisherEndsFor}
 use Rattle.srt_route.specs.Places.{place_of}
 use Rattle.srt_route.specs.Tables.{IsSeat, IsSession, IsStored, IsTable, buffers_of, uses_second}
-use Rattle.srt_route.specs.Ledgers.{IsEndOf, NotesAt, NotesEach, Tells, TellsEnd, cause_of, closed_cause, entry_of, idle_cause, shutdown_cause}
+use Rattle.srt_route.specs.Ledgers.{NotesAt, NotesEach, Tells, TellsEnd, cause_of, closed_cause, entry_of, idle_cause, shutdown_cause}
 use Rattle.srt_route.specs.Ends.{EndIs, Ends, EndsAre, EndsFor, EndsIn, KeepsEnds, arrived_end, end_at, event_end, idle_end, item_end, packet_end}
 use Rattle.srt_route.proofs.Aging.{ages}
 use Rattle.srt_route.proofs.Found.{changed, found_passes, open_parts, place_kept}

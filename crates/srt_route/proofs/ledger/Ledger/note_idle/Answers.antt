@@ -1,4 +1,4 @@
-use Rattle.std.proofs.Common.{◌≡◌, Option, length, sym, subst, arith}
+use Rattle.std.proofs.Common.{Option, subst, arith}
 use Rattle.srt_route.specs.declared.ledger.EndCause.{EndCause}
 use Rattle.srt_route.specs.Ledgers.{Notes, idle_cause}
 use Rattle.srt_route.proofs.Noting.{none_noted, one_noted, all_noted}

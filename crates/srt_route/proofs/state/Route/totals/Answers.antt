@@ -1,4 +1,4 @@
-use Rattle.std.proofs.Common.{◌≡◌, ℕ, suc, ◌+◌, length, refl, subst, arith}
+use Rattle.std.proofs.Common.{◌≡◌, ℕ, suc, ◌+◌, refl, subst, arith}
 use Rattle.srt_route.specs.Route.{after}
 use Rattle.srt_route.specs.Totals.{AddUp}
 use Rattle.srt_route.proofs.state.Route.totals.Goals as goal
