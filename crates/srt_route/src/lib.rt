@@ -6,16 +6,18 @@
 //! `srt_pub` and `srt_sub`.
 //!
 //! Types: `Route`; in it `Table`, the seats of its slots and the publishers' buffers, and `ReplyQueue`. A `Seat` has a
-//! session and its buffers. A `Reply` is a packet and its receiver. A `SessionView` shows an open session and its counts.
+//! session and its buffers. A `Reply` is a packet and its receiver. A `SessionView` shows an open session and its counts, an
+//! `EndedSession` one that ended. `Ledger` keeps what is over: the last end in each slot, and what is counted.
 //!
 //! Calls: `Route::open`; then `step` for each item, and `next_reply` until it returns false, before the next `step`.
-//! `session` looks at a slot at any time, and changes nothing (`view.rt`).
+//! `session` looks at a slot at any time, and changes nothing (`view.rt`); so do `ended`, `opened`, `refused` and `totals`.
 //!
 //! An event's six steps, as `step` in `route.rt` calls them: the clock; `idle.rt`, idle peers and what is too late;
 //! `dispatch.rt`, a packet for a session or a conclusion (`conclusion.rt` reads it, `admission.rt` has each refusal,
 //! `agreement.rt` what both sides agree on, `answer.rt` the answer) or a Close (`closing.rt`); `delivery.rt`; `transmit.rt`, the publishers'
-//! packets and then the subscribers'. Socket IDs are in `socket_ids.rt`, waiting replies in `reply_queue.rt`, the
-//! definition of all of it in `specs/Route.antt`.
+//! packets and then the subscribers'. Socket IDs are in `socket_ids.rt`, waiting replies in `reply_queue.rt`, what is
+//! kept of sessions that ended in `ledger.rt` and `totals.rt`, the definition of all of it in `specs/Route.antt`, and that of
+//! ends and counts in `specs/Ends.antt` and `specs/Tallies.antt`.
 #![tactic(auto)]
 
 mod admission;
