@@ -34,7 +34,7 @@ def verdict() -> Count:
 
 
 def wrong_bodies(wanted: list[Crate], outside_only: bool) -> Count:
-    """Tries the edits of these crates by copies: those of tests/edits alone, or those of must-fail/ that can be copied too."""
+    """Tries the edits of these crates beside one another: those of tests/edits alone, or those of must-fail/ that can be tried so too."""
     count = Count()
     for it in trying.try_all(wanted, outside_only=outside_only):
         trying.tell(it)
@@ -77,9 +77,9 @@ def of_crates(names: list[str]) -> Count:
         section(f"tests of {crate.name}")
         good = in_crate(crate, "test")
         count = count.and_also(Count(int(good), int(not good)))
-    section("edits that can't be tried by copies")
+    section("edits one by one")
     good = subprocess.run(["rt", "must-fail", *(it.name for it in wanted)], cwd=TOP).returncode == 0
-    section("edits by copies")
+    section("edits beside one another")
     return all_of([count, Count(int(good), int(not good)), wrong_bodies(wanted, outside_only=True)])
 
 
@@ -102,7 +102,7 @@ def whole() -> Count:
         for name in (it for it in PARTS if it not in OF_FILES):
             section(name)
             count = count.and_also(PARTS[name]())
-        section("wrong bodies, by copies")
+        section("wrong bodies, beside one another")
         count = count.and_also(wrong_bodies(list(crates().values()), outside_only=True))
     print_minutes(meter.stop(), began)
     return count

@@ -1,4 +1,4 @@
-"""Tries the wrong bodies of crates by copies: one run of the prover judges those of several functions at a time."""
+"""Tries the wrong bodies of crates beside one another, by copies or in their places: one run of the prover judges several."""
 from __future__ import annotations
 
 import glob
@@ -12,14 +12,16 @@ from concurrent.futures import ThreadPoolExecutor
 from typing import Any, Iterable, Iterator, NamedTuple
 
 import copying
+import placing
 from copying import Copy
+from placing import Placed
 from tree import SOURCES, TOP, Crate, read, sum_of, write, files_of
 
 CONTROLS = f"{TOP}/tests/edits/controls"
 # The most copies that one run of the prover judges, and the memory that such a run may take, in bytes.
 MOST = 24
 MEMORY = 2_500_000_000
-LINE = re.compile(r"(?m)^fn \S*?(\w+): (proved|not proved|no proof|could not tell)(.*)$")
+LINE = re.compile(r"(?m)^fn (\S+): (proved|not proved|no proof|could not tell)(.*)$")
 # A function that isn't proved because of what it calls says nothing of itself.
 OF_OTHERS = re.compile(r"it calls|it passes|a call of")
 # What a proof file says that names something that the edit took away.
@@ -28,16 +30,17 @@ REFUSED, PROVED, UNKNOWN = "refused", "proved", "unknown"
 
 
 class Batch(NamedTuple):
-    """The copies of one crate that one run of the prover judges."""
+    """The copies of one crate that one run of the prover judges, or the edits in their places."""
 
     crate: str
     copies: list[Copy]
+    placed: list[Placed] = []
 
 
 class Outcome(NamedTuple):
-    """What became of a copy, and whether it was refused only since a proof names what the edit took away."""
+    """What became of a copy, or of an edit in its place, and whether it was refused only since a proof names what the edit took away."""
 
-    copy: Copy
+    copy: Copy | Placed
     result: str
     by_name: bool
 
@@ -99,12 +102,30 @@ def keep_stamps(new: dict[str, str]) -> None:
     write(CONTROLS, head + "".join(f"{crate} {stamp}\n" for crate, stamp in sorted({**stamps(), **new}.items())))
 
 
+def trials_of(crate: Crate, edits: list[str]) -> tuple[list[Copy], list[Placed], dict[str, str]]:
+    """The copies that can be made of these edits of a crate, those of the others that can be judged in their places, and why the
+    rest can't be judged beside others, by the edits' paths."""
+    copies, alone = copying.copies_of(crate.folder, edits)
+    return copies, *placing.placed_of(crate.folder, alone)
+
+
 def batches_of(crate: str, copies: list[Copy]) -> list[Batch]:
     """The copies in parts of at most MOST, each part about as large, those of one function one after the other."""
     ordered = sorted(copies, key=lambda it: (it.of.path, it.of.top))
     count = -(-len(ordered) // MOST)
     bounds = [len(ordered) * at // count for at in range(count + 1)] if count else []
     return [Batch(crate, ordered[low:high]) for low, high in zip(bounds, bounds[1:])]
+
+
+def rounds_of(crate: str, placed: list[Placed]) -> list[Batch]:
+    """The edits in their places, in rounds of at most one for each method; then each law alone."""
+    rounds: list[list[Placed]] = []
+    for it in (it for it in placed if not it.is_law):
+        free = next((those for those in rounds if all(other.of != it.of for other in those)), None)
+        if free is None:
+            rounds.append(free := [])
+        free.append(it)
+    return [Batch(crate, [], those) for those in [*rounds, *([it] for it in placed if it.is_law)]]
 
 
 def checked(rtlib: Any, batch: Batch) -> str:
@@ -119,22 +140,32 @@ def checked(rtlib: Any, batch: Batch) -> str:
         copying.add_bodies(room, batch.copies)
         for it in batch.copies:
             copying.add_proofs(room, it)
-        only = [word for it in batch.copies for word in ("--only", it.name)]
+        placing.put(room, batch.placed)
+        only = [word for it in [*batch.copies, *batch.placed] for word in ("--only", it.name)]
         words = [*rtlib.guarded(), rtlib.RATTLE, "check", *crate.words(["--jobs", "1", *only], keeps=False)]
         ran = subprocess.run(words, cwd=room, stdin=subprocess.DEVNULL, stdout=subprocess.PIPE, stderr=subprocess.STDOUT, text=True, errors="replace")
     return ran.stdout
 
 
+def is_by_name(it: Copy | Placed, said: str) -> bool:
+    """Whether all that the prover says of a refused copy is that proofs name what the edit took away."""
+    errors = [line for line in said.split("\n") if ": error" in line]
+    if not isinstance(it, Placed):
+        errors = [line for line in errors if f"/{it.name}/" in line]
+    elif not it.is_law:
+        errors = [line for line in errors if f"/{it.proofs}/" in line]
+    return bool(errors) and all(NAMES.search(line) for line in errors)
+
+
 def outcomes_of(batch: Batch, said: str) -> list[Outcome]:
     """What became of each copy of a batch, by what the prover said."""
-    told = {name: (word, rest) for name, word, rest in LINE.findall(said)}
+    # A copy's last name is its own; a method's is one of several, so it is found by its path below the crate.
+    told = {key: (word, rest) for path, word, rest in LINE.findall(said) for key in (path.rpartition("::")[2], path.partition("::")[2])}
     found = []
-    for it in batch.copies:
+    for it in [*batch.copies, *batch.placed]:
         word, rest = told.get(it.name, ("", ""))
         is_refused = word in ("not proved", "no proof") and not OF_OTHERS.search(rest)
-        errors = [line for line in said.split("\n") if f"/{it.name}/" in line and ": error" in line]
-        by_name = is_refused and bool(errors) and all(NAMES.search(line) for line in errors)
-        found.append(Outcome(it, REFUSED if is_refused else PROVED if word == "proved" else UNKNOWN, by_name))
+        found.append(Outcome(it, REFUSED if is_refused else PROVED if word == "proved" else UNKNOWN, is_refused and is_by_name(it, said)))
     return found
 
 
@@ -151,16 +182,18 @@ def try_all(crates: Iterable[Crate], with_controls: bool | None = None, outside_
     were proved last. Gives each crate's result, in order, as soon as it is there."""
     rtlib, kept = toolchain(), stamps()
     rtlib.guarded()
+    prepared = []
+    for crate in crates:
+        copies, placed, alone = trials_of(crate, edits_of(crate.name, outside_only))
+        needs = with_controls if with_controls is not None else kept.get(crate.name) != stamp_of(crate)
+        batches = batches_of(crate.name, copies + (copying.controls_of(crate.folder, copies) if needs else []))
+        prepared.append((crate, alone, batches + rounds_of(crate.name, placed)))
     with ThreadPoolExecutor(lanes()) as pool:
-        begun = []
-        for crate in crates:
-            copies, alone = copying.copies_of(crate.folder, edits_of(crate.name, outside_only))
-            needs = with_controls if with_controls is not None else kept.get(crate.name) != stamp_of(crate)
-            batches = batches_of(crate.name, copies + (copying.controls_of(crate.folder, copies) if needs else []))
-            begun.append((crate, alone, [(it, pool.submit(checked, rtlib, it)) for it in batches]))
-        for crate, alone, tried in begun:
-            said = [it.result() for _, it in tried]
-            found = [outcome for (batch, _), text in zip(tried, said) for outcome in outcomes_of(batch, text)]
+        # The runs of the upper crates take longest, so they begin first.
+        begun = {crate: [(it, pool.submit(checked, rtlib, it)) for it in batches] for crate, _, batches in reversed(prepared)}
+        for crate, alone, _ in prepared:
+            said = [it.result() for _, it in begun[crate]]
+            found = [outcome for (batch, _), text in zip(begun[crate], said) for outcome in outcomes_of(batch, text)]
             yield Result(crate.name, found, alone, said)
 
 
@@ -171,6 +204,6 @@ def tell(result: Result) -> None:
     controls = sum(not it.copy.edit for it in result.outcomes)
     beside = f", beside {controls} unchanged copies that are proved" if controls else ""
     names = f"; only by a name that is gone: {', '.join(by_name)}" if by_name else ""
-    print(f"edits of {result.crate}: " + (f"wrong: {wrong}" if wrong else f"ok, {len(refused)} refused by copies{beside}{names}"), flush=True)
+    print(f"edits of {result.crate}: " + (f"wrong: {wrong}" if wrong else f"ok, {len(refused)} refused beside others{beside}{names}"), flush=True)
     if any(it.result == UNKNOWN for it in result.outcomes):
         print("\n".join(text[:3000] for text in result.said), flush=True)

@@ -28,6 +28,3 @@ pub use explaining::{Explained, explain};
 pub use explanation::{Explanation, Hint, RouteAt};
 pub use places::TextPlace;
 pub use warnings::{Warning, WarningText};
-
-#[cfg(test)]
-mod tests;
