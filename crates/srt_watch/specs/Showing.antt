@@ -32,8 +32,15 @@ latency_of latency_ms = if latency_ms == 0 then None else Some latency_ms
 
 abbrev pub look_of : SessionView → Option SessionEnd → SessionLook
 look_of view end = record {
-    id = view.id; opened_at = view.opened; role = view.role; active = view.is_active; peer = view.peer; latency_ms = latency_of view.latency_ms;
-    end = end; counts = counts_of view.traffic }
+  id = view.id;
+  opened_at = view.opened;
+  role = view.role;
+  active = view.is_active;
+  peer = view.peer;
+  latency_ms = latency_of view.latency_ms;
+  end = end;
+  counts = counts_of view.traffic;
+}
 
 abbrev pub end_of : (stops : Bool) → EndedSession → SessionEnd
 end_of stops session = record { reason = reason_of stops session.cause; moment = session.moment }

@@ -34,7 +34,10 @@ fn counts_of(traffic: &Traffic) -> SessionCounts
             packets: statistics.counts.received,
             bytes: statistics.counts.bytes,
             lost: statistics.counts.given_up,
-            resent: statistics.counts.came.saturating_sub(statistics.counts.received),
+            resent: statistics
+                .counts
+                .came
+                .saturating_sub(statistics.counts.received),
         },
         Traffic::Sent(statistics) => SessionCounts {
             packets: statistics.sendings.fresh,
@@ -83,12 +86,12 @@ fn end_of(stops: bool, session: &EndedSession) -> SessionEnd
 /// What a look has of a slot: the session that is open in it, or else the one that ended last in it.
 fn slot_of(
     stops: bool,
-    open: Option<SessionView>,
+    current: Option<SessionView>,
     ended: Option<EndedSession>,
 ) -> Option<SessionLook>
-    ensures { result ≡ slot_of stops open ended }
+    ensures { result ≡ slot_of stops current ended }
 {
-    match open {
+    match current {
         Some(view) => Some(look_of(&view, None)),
         None => match ended {
             Some(session) => Some(look_of(&session.view, Some(end_of(stops, &session)))),

@@ -121,7 +121,8 @@ impl<'a, M: Machine + Drop, W: Write + Drop> Watcher<'a, M, W> {
     fn tell_counts(&mut self, when: When, told: Told) {
         let faults = told.faults.saturating_sub(self.faults);
         if faults > 0 {
-            self.log.tell(when, LogEvent::SocketFaults { count: faults });
+            self.log
+                .tell(when, LogEvent::SocketFaults { count: faults });
             self.faults = told.faults;
         }
         let missed = told.missed.saturating_sub(self.missed);

@@ -6,9 +6,8 @@ use srt_operate::{kernel_drops, resident_memory, stop_asked};
 use srt_watch::Machine;
 use std::io::{self, Error, ErrorKind, Write};
 use std::rt::Files;
-use std::str;
-use std::thread;
 use std::time::{Clock, Duration, Instant, SystemTime};
+use std::{str, thread};
 
 /// The time between two questions of a watcher, in milliseconds.
 const REST: u64 = 20;

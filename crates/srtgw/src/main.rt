@@ -101,10 +101,7 @@ fn print_warnings(rt: &impl Eprint, path: &str, explained: &Explained) {
 }
 
 /// Reads a configuration's file with what is unwise in it. What is wrong is explained on standard error.
-fn explained_at(
-    rt: &(impl Eprint + Files + AllocGlobal),
-    path: &str,
-) -> Result<Explained, Fault> {
+fn explained_at(rt: &(impl Eprint + Files + AllocGlobal), path: &str) -> Result<Explained, Fault> {
     let bytes = match read_file(rt, path, CONFIG_MAX) {
         Ok(bytes) => bytes,
         Err(unread) => {
@@ -185,7 +182,10 @@ fn status_of(rt: &impl Print, ended: Result<(), Fault>) -> ExitCode
 }
 
 /// Prints what is wrong with the words, or the text that they ask for, and returns the status.
-fn tell_words<R: Print + Eprint + AllocGlobal>(rt: &R, error: clap::Error) -> Result<ExitCode, Fault> {
+fn tell_words<R: Print + Eprint + AllocGlobal>(
+    rt: &R,
+    error: clap::Error,
+) -> Result<ExitCode, Fault> {
     let status = error.exit_code() as u8;
     match error.print(rt) {
         // A text that was asked for is output. For wrong words the status suffices.

@@ -79,7 +79,12 @@ fn print_accounts(rt: &impl Print, config: &Config, accounts: &[Account]) -> io:
 /// Serves the routes of an explained configuration until SIGINT or SIGTERM is pending or its time is over, and tells a log
 /// on standard error what happens. Then every route is closed, and what is left is sent, for a second at most. Prints
 /// the report and an account of each route. `path` is that of the configuration.
-pub fn run_gateway<R>(rt: &R, path: &str, explained: &Explained, manner: Manner) -> Result<(), Fault>
+pub fn run_gateway<R>(
+    rt: &R,
+    path: &str,
+    explained: &Explained,
+    manner: Manner,
+) -> Result<(), Fault>
 where
     R: Print + Eprint + Files + AllocGlobal + Net + Clock + Threads + Wait + Sync,
 {

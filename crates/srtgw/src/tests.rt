@@ -36,7 +36,11 @@ fn each_fault_has_its_line(rt: HostRuntime) -> Result<(), Fail> {
     );
     assert_line(&rt, Fault::Replay(ReplayFault::OutOfMemory), "memory");
     assert_line(&rt, Fault::Replay(ReplayFault::Read), "file fault");
-    assert_line(&rt, Fault::Bind(BindFault::Socket(Some(98))), "socket fault");
+    assert_line(
+        &rt,
+        Fault::Bind(BindFault::Socket(Some(98))),
+        "socket fault",
+    );
     assert_line(&rt, Fault::Bind(BindFault::OutOfMemory), "memory");
     assert_line(&rt, Fault::Run(RunFault::Thread), "thread fault");
     assert_line(&rt, Fault::Run(RunFault::Busy), "busy");

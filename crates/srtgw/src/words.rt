@@ -1,7 +1,7 @@
 //! The command line.
 
-use clap::builder::ValueParser;
 use crate::running::Manner;
+use clap::builder::ValueParser;
 use clap::error::ErrorKind;
 use clap::{Arg, ArgAction, ArgMatches, Command, Error};
 use srt_operate::duration_in;
@@ -109,7 +109,9 @@ fn no_time<'a>(alloc: Global) -> Arg<'a> {
     Arg::new(alloc, "no-time")
         .long("no-time")
         .action(ArgAction::SetTrue)
-        .help("Leaves out the time at the beginning of each line of the log, for a journal that has its own")
+        .help(
+            "Leaves out the time at the beginning of each line of the log, for a journal that has its own",
+        )
 }
 
 /// The program's commands with their arguments and help. Takes memory; the only error is that it is refused.

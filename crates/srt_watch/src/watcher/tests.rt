@@ -1,5 +1,6 @@
 //! A watcher over a machine in memory, and routes that are given datagrams. The bytes of conclusions are worked out from
-//! the draft by hand; socket IDs are those of slots of the route with index 0.
+//! the draft by hand; a socket ID is 0x00100000 for the first slot of the route with index 0, and 0x100 more for each
+//! further session there.
 
 use crate::{Machine, Start, Watcher};
 use arrayvec::ArrayVec;
@@ -15,8 +16,13 @@ use std::test::Fail;
 const PUBLISHER: &str =
     "80000000000000000000000000000000000000050000000500000005000005dc00002000ffffffff00000001ecc958a6000000000000000000000000000000000001000300010500000000bf00780078000500063a3a212374733d726f696475703d6d2c696c627500006873";
 
-/// A SHUTDOWN for the first slot's session.
+/// A SHUTDOWN for the first slot's first session, and those for its second and third one.
 const SHUTDOWN: &str = "80050000000000000000000000100000";
+
+const LATER_SHUTDOWNS: [&str; 2] = [
+    "80050000000000000000000000100100",
+    "80050000000000000000000000100200",
+];
 
 /// The caller.
 const CALLER: Peer = Peer {
@@ -129,12 +135,16 @@ fn the_first_lines(rt: HostRuntime) -> Result<(), Fail> {
     let entries = vec![in rt.alloc(); entry(rt.alloc())?]?;
     let mut watcher = watcher(rt.alloc(), &entries, true, start(false, None))?;
     watcher.warn("warning: route 1 (studio): sessions = 2");
-    assert_lines(&rt, &mut watcher,
+    assert_lines(
+        &rt,
+        &mut watcher,
         "2026-11-26T15:04:05.123Z warning: route 1 (studio): sessions = 2\n",
     );
     watcher.machine.moment = 2_000;
     assert_eq!(rt; watcher.next(NOTHING), Asked::GoOn);
-    assert_lines(&rt, &mut watcher,
+    assert_lines(
+        &rt,
+        &mut watcher,
         "2026-11-26T15:04:05.125Z serving at 192.0.2.1:9000, routes 1, workers 2, memory 71524 KiB\n2026-11-26T15:04:05.125Z SIGINT or SIGTERM ends the gateway at once, without a report: bin/srtgw run blocks them\n",
     );
     assert_eq!(rt; watcher.next(NOTHING), Asked::GoOn);
@@ -205,14 +215,18 @@ fn a_session_opens_and_ends(rt: HostRuntime) -> Result<(), Fail> {
     watcher.see(0, &route);
     hear(rt.alloc(), &mut route, 1_000_000, PUBLISHER)?;
     watcher.see(0, &route);
-    assert_lines(&rt, &mut watcher,
+    assert_lines(
+        &rt,
+        &mut watcher,
         "studio: publisher 127.0.0.1:5000 opened, socket 0x00100000, latency 120 ms\n",
     );
     watcher.see(0, &route);
     assert_lines(&rt, &mut watcher, "");
     hear(rt.alloc(), &mut route, 3_500_000, SHUTDOWN)?;
     watcher.see(0, &route);
-    assert_lines(&rt, &mut watcher,
+    assert_lines(
+        &rt,
+        &mut watcher,
         "studio: publisher 127.0.0.1:5000 ended, socket 0x00100000, its peer sent a SHUTDOWN, after 2500 ms, 0 packets, 0 bytes, 0 lost, 0 resent\n",
     );
     hear(rt.alloc(), &mut route, 4_000_000, PUBLISHER)?;
@@ -220,8 +234,10 @@ fn a_session_opens_and_ends(rt: HostRuntime) -> Result<(), Fail> {
     watcher.log.out.clear();
     let _ = route.step(&Item::Close { moment: 5_000_000 });
     watcher.see(0, &route);
-    assert_lines(&rt, &mut watcher,
-        "studio: publisher 127.0.0.1:5000 ended, socket 0x00100000, its route was closed, after 1000 ms, 0 packets, 0 bytes, 0 lost, 0 resent\n",
+    assert_lines(
+        &rt,
+        &mut watcher,
+        "studio: publisher 127.0.0.1:5000 ended, socket 0x00100100, its route was closed, after 1000 ms, 0 packets, 0 bytes, 0 lost, 0 resent\n",
     );
     Ok(())
 }
@@ -238,7 +254,9 @@ fn a_stop_is_told_as_the_cause(rt: HostRuntime) -> Result<(), Fail> {
     watcher.log.out.clear();
     let _ = route.step(&Item::Close { moment: 1_500_000 });
     watcher.see(0, &route);
-    assert_lines(&rt, &mut watcher,
+    assert_lines(
+        &rt,
+        &mut watcher,
         "studio: publisher 127.0.0.1:5000 ended, socket 0x00100000, the gateway stops, after 500 ms, 0 packets, 0 bytes, 0 lost, 0 resent\n",
     );
     Ok(())
@@ -250,13 +268,17 @@ fn what_came_and_went_between_two_looks(rt: HostRuntime) -> Result<(), Fail> {
     let mut watcher = watcher(rt.alloc(), &entries, false, start(true, None))?;
     let mut route = Route::open(rt.alloc(), &entries[0], 0)?;
     watcher.see(0, &route);
-    for second in 1..4u64 {
-        hear(rt.alloc(), &mut route, second * 1_000_000, PUBLISHER)?;
-        hear(rt.alloc(), &mut route, second * 1_000_000 + 1_000, SHUTDOWN)?;
+    let mut moment = 1_000_000;
+    for shutdown in [SHUTDOWN, LATER_SHUTDOWNS[0], LATER_SHUTDOWNS[1]] {
+        hear(rt.alloc(), &mut route, moment, PUBLISHER)?;
+        hear(rt.alloc(), &mut route, moment + 1_000, shutdown)?;
+        moment += 1_000_000;
     }
     watcher.see(0, &route);
-    assert_lines(&rt, &mut watcher,
-        "studio: publisher 127.0.0.1:5000 opened, socket 0x00100000, latency 120 ms\nstudio: publisher 127.0.0.1:5000 ended, socket 0x00100000, its peer sent a SHUTDOWN, after 1 ms, 0 packets, 0 bytes, 0 lost, 0 resent\nstudio: 2 sessions opened and ended unseen, 0 conclusions refused\n",
+    assert_lines(
+        &rt,
+        &mut watcher,
+        "studio: publisher 127.0.0.1:5000 opened, socket 0x00100200, latency 120 ms\nstudio: publisher 127.0.0.1:5000 ended, socket 0x00100200, its peer sent a SHUTDOWN, after 1 ms, 0 packets, 0 bytes, 0 lost, 0 resent\nstudio: 2 sessions opened and ended unseen, 0 conclusions refused\n",
     );
     Ok(())
 }
@@ -278,7 +300,9 @@ fn refusals_are_told_with_what_was_asked_for(rt: HostRuntime) -> Result<(), Fail
     let mut watcher = watcher(rt.alloc(), &entries, false, start(true, None))?;
     watcher.refused(&refusal(None, b"studia")?);
     watcher.refused(&refusal(Some(0), b"")?);
-    assert_lines(&rt, &mut watcher,
+    assert_lines(
+        &rt,
+        &mut watcher,
         "127.0.0.1:5000 refused, 1002 PEER, asked for \"studia\"\n127.0.0.1:5000 refused, 1002 PEER, asked for \"studio\"\n",
     );
     Ok(())
@@ -295,7 +319,12 @@ fn a_flood_has_fifty_lines_a_second(rt: HostRuntime) -> Result<(), Fail> {
     for _ in 0..1_000 {
         watcher.refused(&flood);
     }
-    let lines = watcher.log.out.iter().filter(|byte| **byte == b'\n').count();
+    let lines = watcher
+        .log
+        .out
+        .iter()
+        .filter(|byte| **byte == b'\n')
+        .count();
     assert_eq!(rt; lines, 50);
     watcher.log.out.clear();
     watcher.machine.moment = 2_000_000;
@@ -323,6 +352,10 @@ fn counts_are_told_when_they_grow(rt: HostRuntime) -> Result<(), Fail> {
     assert_lines(&rt, &mut watcher, "datagrams dropped by the kernel 208\n");
     watcher.machine.drops = 210;
     watcher.end();
-    assert_lines(&rt, &mut watcher, "datagrams dropped by the kernel 2\nstopped\n");
+    assert_lines(
+        &rt,
+        &mut watcher,
+        "datagrams dropped by the kernel 2\nstopped\n",
+    );
     Ok(())
 }
