@@ -302,8 +302,8 @@ fn assert_totals(rt: &(impl AllocGlobal + Abort), route: &Route, counts: [u64; 4
         totals.sent.fresh,
     ];
     assert!(rt; told == counts);
-    assert_eq!(rt; totals.received.bytes, 2 * counts[0]);
-    assert_eq!(rt; totals.queued.bytes, 2 * counts[2]);
+    assert_eq!(rt; totals.received.bytes, counts[0].saturating_mul(2));
+    assert_eq!(rt; totals.queued.bytes, counts[2].saturating_mul(2));
 }
 
 #[test]
