@@ -1,6 +1,6 @@
 pub mod Within
 pub mod Moments
-pub mod Told
+pub mod Recorded
 pub mod Openings
 pub mod Later
 pub mod Settlings

@@ -5,7 +5,7 @@ use Rattle.std.proofs.Math.Seq.{take-append_seam}
 use Rattle.srt_mailbox.specs.Ends.{Producer, producer}
 use Rattle.srt_poller.specs.Devices.{joined}
 use Rattle.srt_serve.specs.Ticks.{tick, accepts, accepts_all, WasTicked, WereTicked}
-use Rattle.srt_serve.proofs.Told.{joined_nothing, joined_again}
+use Rattle.srt_serve.proofs.Recorded.{joined_nothing, joined_again}
 use Rattle.srt_serve.proofs.Within.{within_append}
 
 -- an inbox that accepts more, and more again

@@ -24,11 +24,11 @@ use Rattle.srt_poller.specs.declared.ends.Ends.{Ends}
 use Rattle.srt_poller.specs.declared.report.Report.{Report}
 use Rattle.srt_poller.specs.Devices.{Heard, Carried}
 use Rattle.srt_poller.specs.History.{Sorting, Event, Follow, at_first, state_after, IsOver, handed, of_route, kept_of, kept_after, accepted, drained}
-use Rattle.srt_poller.specs.Pumped.{HaveOrigins, Pumped, before, after}
+use Rattle.srt_poller.specs.Pumped.{HaveOrigins, PumpedUnder, before, after}
 use Rattle.srt_poller.specs.Rounds.{IsLater, AreLater}
 use Rattle.srt_serve.specs.Later.{first_names}
 use Rattle.srt_serve.specs.Opened.{IsOpened, AreOpened}
-use Rattle.srt_serve.specs.Ran.{RouteRan, Ran, told_by}
+use Rattle.srt_serve.specs.Ran.{RouteRan, RanUnder, told_by}
 use Rattle.srt_serve.specs.Settled.{AreJoined, AreSettled}
 use Rattle.srt_serve.specs.Ticks.{tick, WasTicked, WereTicked, Ticked}
 
@@ -157,10 +157,10 @@ few n h = grind (arith, nat_tests, both)
 pub few_routes : (entries : List Terms) → fault_of entries ≡ None → length entries ≤ 511
 few_routes entries sound = few (length entries) (both (is_between 1 511 (length entries)) (list_all in_limits entries) (limited (are_names entries) (are_in_limits entries) sound)).0
 
-pub all_ran : (class : Sorting) (schedules : List Schedule) (entries : List Terms) (rounds : ℕ) (names names' : List RouteName) (gave gave' : Heard) (to to' : Carried) (told_before told_after : Option (List ℕ)) (ends ends' : List Ends) (clocks clocks' : List Producer) (cells : List RouteCell) (report : Report) (accounts : List Account) →
-    fault_of entries ≡ None → names ≡ first_names schedules entries → AreOpened entries ends clocks cells → Pumped class schedules rounds (before names gave to ends) (after names' gave' to' ends' report) → Ticked itself untold told_before told_after clocks clocks' → AreSettled accounts ends' clocks' cells →
-    Ran class schedules entries rounds (told_by gave to told_before) (told_by gave' to' told_after) report accounts
-all_ran class schedules entries rounds names names' gave gave' to to' told_before told_after ends ends' clocks clocks' cells report accounts sound named opened pumped ticked settled =
+pub all_ran : (closes : Type 0) (class : Sorting) (schedules : List Schedule) (entries : List Terms) (rounds : ℕ) (names names' : List RouteName) (gave gave' : Heard) (to to' : Carried) (told_before told_after : Option (List ℕ)) (ends ends' : List Ends) (clocks clocks' : List Producer) (cells : List RouteCell) (report : Report) (accounts : List Account) →
+    fault_of entries ≡ None → names ≡ first_names schedules entries → AreOpened entries ends clocks cells → PumpedUnder (Unit {0}) closes class schedules rounds (before names gave to ends) (after names' gave' to' ends' report) → Ticked itself untold told_before told_after clocks clocks' → AreSettled accounts ends' clocks' cells →
+    RanUnder closes class schedules entries rounds (told_by gave to told_before) (told_by gave' to' told_after) report accounts
+all_ran closes class schedules entries rounds names names' gave gave' to to' told_before told_after ends ends' clocks clocks' cells report accounts sound named opened pumped ticked settled =
     let p = pumped.1 in (
       pumped.0,
       ticked.0,
@@ -190,4 +190,5 @@ all_ran class schedules entries rounds names names' gave gave' to to' told_befor
             p.origins
             (settled_at accounts ends' clocks' cells settled r a e c k (omega (arith, below, opened.as_many_cells)));
       },
+      p.some_close,
     )

@@ -4,3 +4,4 @@ pub mod Opened
 pub mod Polled
 pub mod Settled
 pub mod Ran
+pub mod Refusals

@@ -1,5 +1,5 @@
 -- What a run did.
-use Rattle.std.specs.Prelude.{◌≡◌, ℕ, ◌+◌, ◌*◌, ◌<◌, ◌≤◌, Option, None, List, ◌++◌, map, length, slice_index_or}
+use Rattle.std.specs.Prelude.{◌≡◌, ◌⊎◌, ℕ, ◌+◌, ◌*◌, ◌<◌, ◌≤◌, Option, None, List, ◌++◌, map, length, slice_index_or}
 use Rattle.srt_seq.specs.declared.shared.Schedule.{Schedule}
 use Rattle.srt_seq.specs.Items.{Datagram, told}
 use Rattle.srt_seq.specs.Terms.{Terms}
@@ -12,7 +12,7 @@ use Rattle.srt_mailbox.specs.Inbox.{polled_of, ticked_of, applied}
 use Rattle.srt_mailbox.specs.Counts.{counted}
 use Rattle.srt_poller.specs.declared.report.Report.{Report}
 use Rattle.srt_poller.specs.Devices.{Heard, Carried, joined}
-use Rattle.srt_poller.specs.History.{Sorting, Event, Follow, at_first, state_after, IsOver, kept_after, kept_of, given, calls, handed, datagrams, attempts, of_lobby, of_route, answered, accepted, drained, waits_in, reads_in, ready_in}
+use Rattle.srt_poller.specs.History.{Sorting, Event, Follow, at_first, state_after, IsOver, kept_after, kept_of, given, calls, handed, datagrams, attempts, of_lobby, of_route, answered, accepted, drained, closes_all_in, waits_in, reads_in, ready_in}
 use Rattle.srt_poller.specs.Reports.{total}
 use Rattle.srt_poller.specs.Tallies.{TalliesWith}
 use Rattle.srt_serve.specs.Later.{first_names}
@@ -69,5 +69,16 @@ pub record RanBy (class : Sorting) (schedules : List Schedule) (entries : List T
   pub as_many : length accounts ≡ length entries
   pub each : (r : ℕ) (terms : Terms) (a : Account) → r < length entries → RouteRan (slice_index_or entries r terms) r events moments (slice_index_or accounts r a)
 
+-- A run of this many rounds, of which some may have closed all
+abbrev pub RanUntil : Sorting → List Schedule → List Terms → (rounds : ℕ) → (old new : Told) → Report → List Account → Type 0
+RanUntil class schedules entries rounds old new report accounts = (events : List Event) × (moments : List ℕ) × RanBy class schedules entries rounds old new report accounts events moments
+
+-- the same, and a round closed all only if `closes` is known
+abbrev pub RanUnder : (closes : Type 0) → Sorting → List Schedule → List Terms → (rounds : ℕ) → (old new : Told) → Report → List Account → Type 0
+RanUnder closes class schedules entries rounds old new report accounts =
+    (events : List Event) × (moments : List ℕ) × RanBy class schedules entries rounds old new report accounts events moments × ((closes_all_in events ≡ 0) ⊎ closes)
+
+-- the same, and none closed all
 abbrev pub Ran : Sorting → List Schedule → List Terms → (rounds : ℕ) → (old new : Told) → Report → List Account → Type 0
-Ran class schedules entries rounds old new report accounts = (events : List Event) × (moments : List ℕ) × RanBy class schedules entries rounds old new report accounts events moments
+Ran class schedules entries rounds old new report accounts =
+    (events : List Event) × (moments : List ℕ) × RanBy class schedules entries rounds old new report accounts events moments × (closes_all_in events ≡ 0)

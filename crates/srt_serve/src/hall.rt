@@ -27,7 +27,7 @@ const DOZE_EACH: u64 = 10;
 // How long a worker that found nothing again sleeps at most, in microseconds.
 const SLEEP: u64 = 100_000;
 
-// How many sleeps of `SLEEP` `gather` makes at most. Each of at most 17 threads that arrives ends one early, so it
+// How many sleeps of `SLEEP` `gather` makes at most. Each of at most 18 threads that arrives ends one early, so it
 // waits for ten seconds or more.
 const PATIENCE: u32 = 120;
 
@@ -47,7 +47,7 @@ pub struct Hall {
     bell: Bell,
     // wakes the polling thread while it waits in `gather` for the others
     door: Bell,
-    // the number of workers, without the ticking thread
+    // the number of workers, without the ticking thread and the watching one
     workers: u64,
     // the number of workers in `rest`
     resting: AtomicU64,
@@ -55,8 +55,9 @@ pub struct Hall {
     dozing: AtomicBool,
     // the number of workers that are in reserve meanwhile
     reserve: AtomicU64,
-    // the number of threads that have arrived: the ticking thread and the workers
-    here: AtomicU64,
+    // the number of threads that have not arrived yet, of the ticking thread, the workers, and the watching thread if there
+    // is one
+    awaited: AtomicU64,
     // the run is over
     done: AtomicBool,
 }
@@ -76,26 +77,31 @@ impl Hall {
             resting: AtomicU64::new(0),
             dozing: AtomicBool::new(false),
             reserve: AtomicU64::new(0),
-            here: AtomicU64::new(0),
+            awaited: AtomicU64::new((workers as u64).saturating_add(1)),
             done: AtomicBool::new(false),
         })
     }
 
-    /// Counts the calling thread as running. Each worker and the ticking thread call it once, first.
+    /// A watching thread is awaited too.
+    pub fn await_watcher(&self) {
+        self.awaited.fetch_add(1, Ordering::SeqCst);
+    }
+
+    /// Counts the calling thread as running. Each worker, the ticking thread and the watching one call it once, first.
     pub fn arrive(&self) {
-        self.here.fetch_add(1, Ordering::SeqCst);
+        self.awaited.fetch_sub(1, Ordering::SeqCst);
         self.door.call_all();
     }
 
-    /// Waits until the ticking thread and all workers have arrived. False if one could not be started, or if they
-    /// haven't arrived after ten seconds or more.
+    /// Waits until the ticking thread, all workers and the watching thread, if there is one, have arrived. False if one
+    /// could not be started, or if they haven't arrived after ten seconds or more.
     pub fn gather<R: Wait>(&self, rt: &R) -> bool {
         for _ in 0..PATIENCE {
             let heard = self.door.heard();
             if self.is_done() {
                 return false;
             }
-            if self.here.load(Ordering::SeqCst) > self.workers {
+            if self.awaited.load(Ordering::SeqCst) == 0 {
                 return true;
             }
             self.door.rest(rt, heard, Duration::from_micros(SLEEP));
@@ -271,6 +277,11 @@ impl Hall {
             self.told.clear(route);
         }
         is_told
+    }
+
+    /// Whether the outbox of any route may have a reply. Clears no hint.
+    pub fn any_told(&self) -> bool {
+        self.told.any()
     }
 
     /// The first route from this one on whose outbox may have a reply; the number of routes if there is none.

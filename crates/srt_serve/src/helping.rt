@@ -2,10 +2,15 @@
 //! just read, if both are few. What it passes to a route and takes from it then stays in the caches of one processor, and
 //! no worker has to be woken.
 
+ghost use Rattle.std.specs.Prelude.{◌≡◌};
+
 use crate::hall::{Hall, MANY};
+use crate::post::Post;
+use crate::refusals::{Refusal, name_asked, refusal_in};
 use crate::working::{is_left, serve_route};
 use srt_mailbox::{Gate, Serve};
-use srt_poller::Signals;
+use srt_poller::{Asked, Signals};
+use srt_seq::Peer;
 use std::cell::Cell;
 use std::sync::Wait;
 
@@ -23,19 +28,54 @@ pub struct Helper<'a, R, C, G: Drop> {
     rt: &'a R,
     cells: &'a [C],
     hall: &'a Hall,
+    // none if the run isn't watched
+    post: Option<&'a Post>,
     // none if the workers alone serve routes, and while it is in use
     gate: Cell<Option<G>>,
 }
 
 impl<'a, R: Wait, C: Serve, G: Gate + Drop> Helper<'a, R, C, G> {
-    /// For the polling thread alone. Without a gate it serves no route.
-    pub fn new(rt: &'a R, cells: &'a [C], hall: &'a Hall, gate: Option<G>) -> Helper<'a, R, C, G> {
+    /// For the polling thread alone. Without a gate it serves no route, and without a post all rounds are made and none
+    /// closes all.
+    pub fn new(
+        rt: &'a R,
+        cells: &'a [C],
+        hall: &'a Hall,
+        post: Option<&'a Post>,
+        gate: Option<G>,
+    ) -> Helper<'a, R, C, G>
+        ensures { result.post ≡ post.entry }
+    {
         Helper {
             rt,
             cells,
             hall,
+            post,
             gate: Cell::new(gate),
         }
+    }
+
+    // Leaves a refusal for the watcher, if there is one and this handshake is a refusal. `conclusion` is what the lobby
+    // answered, and empty if a route did.
+    fn note(&self, route: Option<usize>, peer: Peer, handshake: &[u8], conclusion: &[u8]) {
+        let Some(post) = self.post else {
+            return;
+        };
+        let Some(code) = refusal_in(handshake) else {
+            return;
+        };
+        if post.misses() {
+            return;
+        }
+        post.leave(
+            self.rt,
+            Refusal {
+                route,
+                peer,
+                code,
+                name: name_asked(conclusion),
+            },
+        );
     }
 
     // Serves each route to which something was offered, and leaves to the workers what it doesn't get done.
@@ -72,10 +112,19 @@ impl<'a, R: Wait, C: Serve, G: Gate + Drop> Helper<'a, R, C, G> {
 }
 
 impl<R: Wait, C: Serve, G: Gate + Drop> Signals for Helper<'_, R, C, G> {
-    ghost stops = { λ s. ⊥ };
+    ghost use Rattle.std.specs.Prelude.{IsSome};
 
-    fn goes_on(&self) -> bool {
-        true
+    ghost goes = { λ s. Unit {0} };
+
+    ghost closes = { λ s. IsSome s.post };
+
+    ghost stops = { λ s. IsSome s.post };
+
+    fn asked(&self) -> Asked {
+        match self.post {
+            Some(post) => post.asked(),
+            None => Asked::GoOn,
+        }
     }
 
     fn offered(&self, route: usize) {
@@ -102,5 +151,19 @@ impl<R: Wait, C: Serve, G: Gate + Drop> Signals for Helper<'_, R, C, G> {
 
     fn next_from(&self, route: usize) -> usize {
         self.hall.next_told(route)
+    }
+
+    fn answered(&self, peer: Peer, datagram: &[u8], answer: &[u8]) {
+        self.note(None, peer, answer, datagram);
+    }
+
+    fn replied(&self, route: usize, peer: Peer, handshake: &[u8]) {
+        self.note(Some(route), peer, handshake, &[]);
+    }
+
+    fn failed(&self) {
+        if let Some(post) = self.post {
+            post.failed();
+        }
     }
 }

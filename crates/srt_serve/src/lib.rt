@@ -1,20 +1,23 @@
 //! The running gateway: it starts the threads, stops them, and settles the routes.
 //!
-//! One thread polls, one ticks, and workers serve the routes; the polling thread serves some of them too. The crate reads
+//! One thread polls, one ticks, and workers serve the routes; the polling thread serves some of them too. One more watches,
+//! in a run that is watched. The crate reads
 //! no configuration (`srt_gateway` does), binds no socket and reads no clock (the program hands in a source, a wire and
 //! a ticker), and takes no signals.
 //!
 //! Types: `Gates` has a gate for each thread that serves routes; a `Ticker` gives the moments at which routes are ticked;
-//! `Ran` is the outcome of a run, a report of the poller and an account of each route; `RunFault` says why there is none.
+//! a `Watch` is shown the routes, told each `Refusal`, and ends the run. `Ran` and `Watched` are the outcome of a run, a
+//! report of the poller and an account of each route; `RunFault` says why there is none.
 //!
-//! Calls: `run`, once. It returns when the given number of rounds is over and all its threads have ended. Each route has
-//! a `srt_seq::Schedule`: the rounds in which callers begin to find it and in which it closes.
+//! Calls: `run` or `run_until`, once. `run` returns when the given number of rounds is over and all its threads have ended,
+//! `run_until` also if its watcher asks to end. Each route has a `srt_seq::Schedule`: the rounds in which callers begin to
+//! find it and in which it closes.
 //!
 //! Files, in the order of a run: `running.rt` has the whole of it, and hides routes that open later; `opening.rt` opens
-//! all routes; `serving.rt` starts and joins the threads, which are `ticking.rt`, `working.rt` and
+//! all routes; `serving.rt` starts and joins the threads, which are `ticking.rt`, `working.rt`, `watching.rt` and
 //! `srt_poller::pump_under`, with what the polling thread does for routes in `helping.rt`; `settling.rt` settles the
-//! routes. How threads wake each other is `hall.rt`, with `bell.rt` and `marks.rt`; no contract depends on it.
-//! `specs/Ran.antt` says what a run did.
+//! routes. How threads wake each other is `hall.rt`, with `bell.rt` and `marks.rt`; what the polling thread and the
+//! watching one tell each other is `post.rt`, with `refusals.rt`. `specs/Ran.antt` says what a run did.
 #![tactic(auto)]
 
 mod bell;
@@ -22,14 +25,19 @@ mod hall;
 mod helping;
 mod marks;
 mod opening;
+mod post;
+mod refusals;
 mod running;
 mod serving;
 mod settling;
 mod ticking;
+mod watching;
 mod working;
 
-pub use running::{Gates, Ran, RunFault, run};
+pub use refusals::Refusal;
+pub use running::{Gates, Ran, RunFault, Watched, run, run_until};
 pub use ticking::Ticker;
+pub use watching::{Told, Watch};
 
 #[cfg(test)]
 mod tests;

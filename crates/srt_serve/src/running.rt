@@ -1,6 +1,6 @@
 //! A run of the gateway, from the opening of its routes to their accounts.
 
-ghost use Rattle.std.specs.Prelude.{◌≡◌, ◌⊎◌, ◌≤◌, None, Err, [], IfOk, map, length};
+ghost use Rattle.std.specs.Prelude.{◌≡◌, ◌⊎◌, ◌≤◌, ◌^◌, true, None, Err, [], IfOk, IsSome, map, length};
 ghost use Rattle.std.specs.Vec.{vec_len, vec_capacity};
 ghost use Rattle.srt_seq.specs.Terms.{terms_of};
 ghost use Rattle.srt_cookie.specs.Cookie.{secret_bytes};
@@ -10,13 +10,15 @@ ghost use Rattle.srt_lobby.specs.Opening.{fault_of};
 ghost use Rattle.srt_poller.specs.Devices.{heard, carried};
 ghost use Rattle.srt_serve.specs.Later.{later_hidden, first_names};
 ghost use Rattle.srt_serve.specs.Opened.{AreOpened};
-ghost use Rattle.srt_serve.specs.Ran.{told_by, Ran as TheRan};
+ghost use Rattle.srt_serve.specs.Ran.{told_by, RanUntil, RanUnder, Ran as TheRan};
 
 use crate::hall::Hall;
 use crate::opening::{Opened, open_routes};
+use crate::post::Post;
 use crate::serving::{Context, Crew, Front, serve_routes};
 use crate::settling::settle_routes;
 use crate::ticking::{Clocks, Ticker};
+use crate::watching::{Nobody, Watch, watch_last};
 use srt_cookie::Secret;
 use srt_lobby::Names;
 use srt_mailbox::{Account, Gate};
@@ -53,7 +55,7 @@ pub struct Gates<G: Drop> {
     pub workers: Vec<G>,
 }
 
-/// The outcome of a run.
+/// The outcome of a run that nobody watched.
 #[derive(Drop)]
 pub struct Ran<K: Drop> {
     /// The counts of the poller.
@@ -64,12 +66,29 @@ pub struct Ran<K: Drop> {
     pub ticker: K,
 }
 
+/// The outcome of a run that was watched.
+#[derive(Drop)]
+pub struct Watched<K: Drop, T: Drop> {
+    /// The counts of the poller.
+    pub report: Report,
+    /// The number of rounds that were made.
+    pub rounds: u64,
+    /// An account of each route, in the order of their indexes.
+    pub accounts: Vec<Account>,
+    /// The ticker that `run_until` was given, after its last moment.
+    pub ticker: K,
+    /// The watcher that it was given, after it saw each route once more.
+    pub watch: T,
+}
+
 // Everything that a run takes memory for.
 #[derive(Drop)]
 struct Stage {
     names: Names,
     routes: Opened,
     hall: Hall,
+    // none if the run isn't watched
+    post: Option<Post>,
     accounts: Vec<Account>,
 }
 
@@ -85,16 +104,42 @@ fn hide_later(names: &mut Names, schedules: &[Schedule])
     }
 }
 
+fn open_hall(
+    alloc: Global,
+    routes: usize,
+    workers: usize,
+    is_watched: bool,
+) -> Result<Hall, AllocError> {
+    let hall = Hall::open(alloc, routes, workers)?;
+    if is_watched {
+        hall.await_watcher();
+    }
+    Ok(hall)
+}
+
+fn open_post(alloc: Global, is_watched: bool) -> Result<Option<Post>, AllocError>
+    ensures { IfOk result (λ post. IsSome post → is_watched ≡ true) }
+{
+    if is_watched {
+        let post = Post::open(alloc)?;
+        Ok(Some(post))
+    } else {
+        Ok(None)
+    }
+}
+
 fn open_stage(
     alloc: Global,
     entries: &[Entry],
     schedules: &[Schedule],
     workers: usize,
+    is_watched: bool,
 ) -> Result<Stage, AllocError>
     requires { length schedules.now ≡ length entries.now }
     ensures names { IfOk result (λ s. names_of s.names ≡ first_names schedules.now (map terms_of entries.now)) }
     ensures routes { IfOk result (λ s. AreOpened (map terms_of entries.now)
         s.routes.ends.items s.routes.clocks.items s.routes.cells.items) }
+    ensures post { IfOk result (λ s. IsSome s.post → is_watched ≡ true) }
     ensures accounts { IfOk result (λ s. (s.accounts.items ≡ []) × (length entries.now ≤ vec_capacity s.accounts)) }
 {
     let Ok(mut names) = Names::open(alloc, entries) else {
@@ -104,8 +149,106 @@ fn open_stage(
     Ok(Stage {
         names,
         routes: open_routes(alloc, entries)?,
-        hall: Hall::open(alloc, entries.len(), workers)?,
+        hall: open_hall(alloc, entries.len(), workers, is_watched)?,
+        post: open_post(alloc, is_watched)?,
         accounts: Vec::with_capacity(alloc, entries.len())?,
+    })
+}
+
+// Runs the gateway as `run` and `run_until` do. If it isn't watched, the watcher is never asked and sees nothing.
+#[tactic(auto, unfolding(crate::specs::Polled::AreUntouched))]
+fn run_with<'a, R, S: Source, W: Wire, K, G, T>(
+    rt: &'a R,
+    alloc: Global,
+    secret: &'a Secret,
+    entries: &[Entry],
+    schedules: &'a [Schedule],
+    source: &mut S,
+    wire: &mut W,
+    ticker: K,
+    gates: Gates<G>,
+    watch: T,
+    is_watched: bool,
+    rounds: u64,
+) -> Result<Watched<K, T>, RunFault>
+where
+    R: Threads + Wait + Sync,
+    K: Ticker + Send + Drop,
+    G: Gate + Send + Drop,
+    T: Watch + Send + Drop,
+    requires entries { fault_of (map terms_of entries.now) ≡ None }
+    requires schedules { length schedules.now ≡ length entries.now }
+    requires workers { (1 ≤ vec_len gates.workers) × (vec_len gates.workers ≤ 16) }
+    requires few { rounds ≤ 2 ^ 48 }
+    ensures ran { IfOk result (λ r. RanUnder (is_watched ≡ true) (class_of (secret_bytes secret.now)) schedules.now (map terms_of entries.now) r.rounds
+        (told_by (heard (S.gave source.old) (S.calls source.old)) (carried (W.handed wire.old) (W.attempts wire.old)) (K.gave ticker))
+        (told_by (heard (S.gave source.new) (S.calls source.new)) (carried (W.handed wire.new) (W.attempts wire.new)) (K.gave r.ticker)) r.report r.accounts.items) }
+    ensures rounds { IfOk result (λ r. (r.rounds ≤ rounds) × ((r.rounds ≡ rounds) ⊎ (is_watched ≡ true))) }
+    ensures unread { (result ≡ Err RunFault.OutOfMemory) ⊎ (result ≡ Err RunFault.Thread) → (source.new ≡ source.old) × (wire.new ≡ wire.old) }
+{
+    let Gates { poller, workers } = gates;
+    let Ok(stage) = open_stage(alloc, entries, schedules, workers.len(), is_watched) else {
+        return Err(RunFault::OutOfMemory);
+    };
+    let Stage {
+        names,
+        routes,
+        hall,
+        post,
+        accounts,
+    } = stage;
+    let Opened {
+        ends,
+        clocks,
+        cells,
+    } = routes;
+    let told = post.as_ref();
+    let context = Context {
+        rt,
+        alloc,
+        secret,
+        schedules,
+        cells: cells.as_slice(),
+        hall: &hall,
+        post: told,
+        rounds,
+    };
+    let mut front = Front {
+        names,
+        ends,
+        gate: poller,
+    };
+    let mut crew = Crew {
+        clocks: Clocks {
+            ends: clocks,
+            ticker,
+        },
+        gates: workers,
+        watch,
+    };
+    let Some(pumping) = serve_routes(&context, source, wire, &mut front, &mut crew) else {
+        return Err(RunFault::Thread);
+    };
+    let Crew {
+        clocks,
+        gates: _,
+        mut watch,
+    } = crew;
+    let Clocks {
+        ends: clocks,
+        ticker,
+    } = clocks;
+    let Front { ends, .. } = front;
+    watch_last(rt, cells.as_slice(), told, &mut watch);
+    let Ok(accounts) = settle_routes(rt, ends, clocks, cells, accounts) else {
+        return Err(RunFault::Busy);
+    };
+    Ok(Watched {
+        report: pumping.report,
+        rounds: pumping.rounds,
+        accounts,
+        ticker,
+        watch,
     })
 }
 
@@ -119,7 +262,6 @@ fn open_stage(
 /// and opens and closes routes at the beginning of each round; the ticking thread offers a tick to all routes, hidden ones
 /// too, at each moment that the ticker gives; and the workers serve all of them. After the rounds all threads end, and
 /// each route is settled. A ticker that waits delays that end.
-#[tactic(auto, unfolding(crate::specs::Polled::AreUntouched))]
 pub fn run<R, S: Source, W: Wire, K, G>(
     rt: &R,
     alloc: Global,
@@ -144,58 +286,67 @@ where
         (told_by (heard (S.gave source.new) (S.calls source.new)) (carried (W.handed wire.new) (W.attempts wire.new)) (K.gave r.ticker)) r.report r.accounts.items) }
     ensures unread { (result ≡ Err RunFault.OutOfMemory) ⊎ (result ≡ Err RunFault.Thread) → (source.new ≡ source.old) × (wire.new ≡ wire.old) }
 {
-    let Gates { poller, workers } = gates;
-    let Ok(stage) = open_stage(alloc, entries, schedules, workers.len()) else {
-        return Err(RunFault::OutOfMemory);
-    };
-    let Stage {
-        names,
-        routes,
-        hall,
-        accounts,
-    } = stage;
-    let Opened {
-        ends,
-        clocks,
-        cells,
-    } = routes;
-    let context = Context {
-        rt,
-        alloc,
-        secret,
-        schedules,
-        cells: cells.as_slice(),
-        hall: &hall,
-        rounds,
-    };
-    let mut front = Front {
-        names,
-        ends,
-        gate: poller,
-    };
-    let mut crew = Crew {
-        clocks: Clocks {
-            ends: clocks,
-            ticker,
-        },
-        gates: workers,
-    };
-    let Some(report) = serve_routes(&context, source, wire, &mut front, &mut crew) else {
-        return Err(RunFault::Thread);
-    };
-    let Clocks {
-        ends: clocks,
-        ticker,
-    } = crew.clocks;
-    let Front { ends, .. } = front;
-    let Ok(accounts) = settle_routes(rt, ends, clocks, cells, accounts) else {
-        return Err(RunFault::Busy);
-    };
-    Ok(Ran {
-        report,
-        accounts,
-        ticker,
-    })
+    let rounds = u64::from(rounds);
+    match run_with(
+        rt, alloc, secret, entries, schedules, source, wire, ticker, gates, Nobody, false, rounds,
+    ) {
+        Ok(watched) => {
+            let Watched {
+                report,
+                rounds: _,
+                accounts,
+                ticker,
+                watch: _,
+            } = watched;
+            Ok(Ran {
+                report,
+                accounts,
+                ticker,
+            })
+        }
+        Err(fault) => Err(fault),
+    }
+}
+
+/// As `run`, until the watcher asks the poller to end, and for at most `rounds` rounds, 2^48 at most. Before each round
+/// the poller is asked what the watcher said last: in a round that closes all, no route opens, and Close is offered to
+/// each shown one.
+///
+/// A further thread watches. Over and over it lets the watcher rest (`Watch::next`), tells it what was refused, and shows
+/// it the routes if it looks. After all threads have ended and before the routes are settled, each route is shown once
+/// more, and the refusals that are left are told. The threads end whatever the watcher does; but one that rests for long
+/// delays that, as a ticker that waits does.
+pub fn run_until<R, S: Source, W: Wire, K, G, T>(
+    rt: &R,
+    alloc: Global,
+    secret: &Secret,
+    entries: &[Entry],
+    schedules: &[Schedule],
+    source: &mut S,
+    wire: &mut W,
+    ticker: K,
+    gates: Gates<G>,
+    watch: T,
+    rounds: u64,
+) -> Result<Watched<K, T>, RunFault>
+where
+    R: Threads + Wait + Sync,
+    K: Ticker + Send + Drop,
+    G: Gate + Send + Drop,
+    T: Watch + Send + Drop,
+    requires entries { fault_of (map terms_of entries.now) ≡ None }
+    requires schedules { length schedules.now ≡ length entries.now }
+    requires workers { (1 ≤ vec_len gates.workers) × (vec_len gates.workers ≤ 16) }
+    requires few { rounds ≤ 2 ^ 48 }
+    ensures ran { IfOk result (λ r. RanUntil (class_of (secret_bytes secret.now)) schedules.now (map terms_of entries.now) r.rounds
+        (told_by (heard (S.gave source.old) (S.calls source.old)) (carried (W.handed wire.old) (W.attempts wire.old)) (K.gave ticker))
+        (told_by (heard (S.gave source.new) (S.calls source.new)) (carried (W.handed wire.new) (W.attempts wire.new)) (K.gave r.ticker)) r.report r.accounts.items) }
+    ensures rounds { IfOk result (λ r. r.rounds ≤ rounds) }
+    ensures unread { (result ≡ Err RunFault.OutOfMemory) ⊎ (result ≡ Err RunFault.Thread) → (source.new ≡ source.old) × (wire.new ≡ wire.old) }
+{
+    run_with(
+        rt, alloc, secret, entries, schedules, source, wire, ticker, gates, watch, true, rounds,
+    )
 }
 
 #[cfg(test)]

@@ -1,24 +1,24 @@
 //! Starts the threads of a run, and joins them.
 
-ghost use Rattle.std.specs.Prelude.{◌≡◌, IfSome, IfNone, length};
+ghost use Rattle.std.specs.Prelude.{◌≡◌, ◌≤◌, ◌^◌, IfSome, IfNone, IsSome, length};
 ghost use Rattle.srt_cookie.specs.Cookie.{secret_bytes};
 ghost use Rattle.srt_lobby.specs.Lobby.{class_of};
 ghost use Rattle.srt_lobby.specs.Names.{names_of};
 ghost use Rattle.srt_poller.specs.Devices.{heard, carried};
-ghost use Rattle.srt_poller.specs.Pollers.{sorting};
-ghost use Rattle.srt_poller.specs.Pumped.{Pumped, before, after};
-ghost use Rattle.srt_poller.specs.Schedules.{AllDiffer};
+ghost use Rattle.srt_poller.specs.Pumped.{before, after};
 ghost use Rattle.srt_serve.specs.Polled.{AreReady, Polled, AreUntouched};
 ghost use Rattle.srt_serve.specs.Ticks.{Ticked};
 
 use crate::hall::Hall;
 use crate::helping::Helper;
+use crate::post::Post;
 use crate::ticking::{Clocks, TickEnd, Ticker, tick};
+use crate::watching::{Watch, watch_routes};
 use crate::working::work;
 use srt_cookie::Secret;
 use srt_lobby::Names;
 use srt_mailbox::{Gate, Serve};
-use srt_poller::{Ends, Report, Source, Wire, pump_under};
+use srt_poller::{Ends, Pumping, Source, Wire, pump_under};
 use srt_seq::Schedule;
 use std::alloc::Global;
 use std::sync::Wait;
@@ -40,8 +40,10 @@ pub struct Context<'a, R, C> {
     pub cells: &'a [C],
     /// The hints, and whether the run is over.
     pub hall: &'a Hall,
-    /// The number of the poller's rounds.
-    pub rounds: u32,
+    /// What the polling thread and the watching one tell each other; none if the run isn't watched.
+    pub post: Option<&'a Post>,
+    /// The most rounds of the poller; their number if the run isn't watched.
+    pub rounds: u64,
 }
 
 /// What the polling thread has for itself: the routes as callers find them.
@@ -57,24 +59,29 @@ pub struct Front<G: Drop> {
 
 /// What the threads besides the polling one have for themselves.
 #[derive(Drop)]
-pub struct Crew<K: Ticker + Drop, E: TickEnd + Drop, G: Drop> {
+pub struct Crew<K: Ticker + Drop, E: TickEnd + Drop, G: Drop, T: Drop> {
     /// The ticking thread's: the clock's ends of all routes, and the ticker.
     pub clocks: Clocks<K, E>,
     /// A gate for each worker. `serve_routes` takes them out.
     pub gates: Vec<G>,
+    /// The watching thread's, if the run is watched.
+    pub watch: T,
 }
 
-// Starts a worker for each gate, and waits until all have ended. If one can't be started, the run ends.
-fn start_workers<R, G, C>(context: &Context<R, C>, gates: &mut Vec<G>)
+// Starts a worker for each gate, watches if the run is watched, and waits until all have ended. If a worker can't be
+// started, the run ends.
+fn start_workers<R, G, C, T>(context: &Context<R, C>, gates: &mut Vec<G>, watch: &mut T)
 where
     R: Threads + Wait + Sync,
     G: Gate + Send + Drop,
     C: Serve + Sync,
+    T: Watch,
 {
     let Context {
         rt,
         cells,
         hall,
+        post,
         ..
     } = *context;
     let gates = mem::replace(gates, Vec::new(context.alloc));
@@ -90,49 +97,26 @@ where
             }
             first = first.wrapping_add(1);
         }
+        if let Some(post) = post {
+            watch_routes(rt, cells, hall, post, watch);
+        }
     });
 }
 
-// Polls for all rounds: a helper never ends them early.
-fn pump_all<R: Wait, S: Source, W: Wire, C: Serve, G: Gate + Drop>(
-    rt: &R,
-    alloc: Global,
-    secret: &Secret,
-    names: &mut Names,
-    schedules: &[Schedule],
-    source: &mut S,
-    wire: &mut W,
-    ends: &mut [Ends],
-    rounds: u32,
-    helper: &Helper<R, C, G>,
-) -> Report
-    requires ends { length ends.old ≡ length (names_of names.old) }
-    requires schedules { length schedules.now ≡ length (names_of names.old) }
-    requires differ { AllDiffer (names_of names.old) }
-    ensures { Pumped (sorting secret.now) schedules.now rounds
-        (before (names_of names.old) (heard (S.gave source.old) (S.calls source.old)) (carried (W.handed wire.old) (W.attempts wire.old)) ends.old)
-        (after (names_of names.new) (heard (S.gave source.new) (S.calls source.new)) (carried (W.handed wire.new) (W.attempts wire.new)) ends.new result) }
-{
-    let pumping = pump_under(
-        rt, alloc, secret, names, schedules, source, wire, ends, rounds, helper,
-    );
-    pumping.report
-}
-
-// Waits until all threads have arrived, polls for `rounds` rounds, and ends the run. `None` if they don't arrive; then
-// nothing was read.
+// Waits until all threads have arrived, polls, and ends the run. `None` if they don't arrive; then nothing was read.
 #[tactic(auto, unfolding(crate::specs::Polled::AreReady, crate::specs::Polled::Polled, crate::specs::Polled::AreUntouched))]
 fn poll<R: Wait, S: Source, W: Wire, C: Serve, G: Gate + Drop>(
     context: &Context<R, C>,
     source: &mut S,
     wire: &mut W,
     front: &mut Front<G>,
-) -> Option<Report>
-    requires { AreReady context.now.schedules.now (names_of front.old.names) front.old.ends.items }
-    ensures pumped { IfSome result (λ report.
-        Polled (class_of (secret_bytes context.now.secret.now)) context.now.schedules.now context.now.rounds
+) -> Option<Pumping>
+    requires ready { AreReady context.now.schedules.now (names_of front.old.names) front.old.ends.items }
+    requires few { context.now.rounds ≤ 2 ^ 48 }
+    ensures pumped { IfSome result (λ pumping.
+        Polled (IsSome context.now.post) (class_of (secret_bytes context.now.secret.now)) context.now.schedules.now context.now.rounds pumping.rounds
         (before (names_of front.old.names) (heard (S.gave source.old) (S.calls source.old)) (carried (W.handed wire.old) (W.attempts wire.old)) front.old.ends.items)
-        (after (names_of front.new.names) (heard (S.gave source.new) (S.calls source.new)) (carried (W.handed wire.new) (W.attempts wire.new)) front.new.ends.items report)) }
+        (after (names_of front.new.names) (heard (S.gave source.new) (S.calls source.new)) (carried (W.handed wire.new) (W.attempts wire.new)) front.new.ends.items pumping.report)) }
     ensures unread { IfNone result (AreUntouched source.old source.new wire.old wire.new) }
 {
     let Context {
@@ -142,20 +126,21 @@ fn poll<R: Wait, S: Source, W: Wire, C: Serve, G: Gate + Drop>(
         schedules,
         cells,
         hall,
+        post,
         rounds,
     } = *context;
     if !hall.gather(rt) {
         hall.finish();
         return None;
     }
-    let helper = Helper::new(rt, cells, hall, front.gate.take());
+    let helper = Helper::new(rt, cells, hall, post, front.gate.take());
     let names = &mut front.names;
     let ends = &mut front.ends;
-    let report = pump_all(
+    let pumping = pump_under(
         rt, alloc, secret, names, schedules, source, wire, ends, rounds, &helper,
     );
     hall.finish();
-    Some(report)
+    Some(pumping)
 }
 
 // Ticks in a new thread, and polls in this one. Returns when both have ended.
@@ -165,62 +150,67 @@ fn tick_and_poll<R, S: Source, W: Wire, K, E, C, G>(
     wire: &mut W,
     front: &mut Front<G>,
     clocks: &mut Clocks<K, E>,
-) -> Option<Report>
+) -> Option<Pumping>
 where
     R: Threads + Wait + Sync,
     K: Ticker + Send + Drop,
     E: TickEnd + Send + Drop,
     C: Serve + Sync,
     G: Gate + Send + Drop,
-    requires { AreReady context.now.schedules.now (names_of front.old.names) front.old.ends.items }
-    ensures pumped { IfSome result (λ report.
-        Polled (class_of (secret_bytes context.now.secret.now)) context.now.schedules.now context.now.rounds
+    requires ready { AreReady context.now.schedules.now (names_of front.old.names) front.old.ends.items }
+    requires few { context.now.rounds ≤ 2 ^ 48 }
+    ensures pumped { IfSome result (λ pumping.
+        Polled (IsSome context.now.post) (class_of (secret_bytes context.now.secret.now)) context.now.schedules.now context.now.rounds pumping.rounds
         (before (names_of front.old.names) (heard (S.gave source.old) (S.calls source.old)) (carried (W.handed wire.old) (W.attempts wire.old)) front.old.ends.items)
-        (after (names_of front.new.names) (heard (S.gave source.new) (S.calls source.new)) (carried (W.handed wire.new) (W.attempts wire.new)) front.new.ends.items report)) }
+        (after (names_of front.new.names) (heard (S.gave source.new) (S.calls source.new)) (carried (W.handed wire.new) (W.attempts wire.new)) front.new.ends.items pumping.report)) }
     ensures ticked { Ticked E.inbox E.tried (K.gave clocks.old.ticker) (K.gave clocks.new.ticker)
         clocks.old.ends.items clocks.new.ends.items }
     ensures unread { IfNone result (AreUntouched source.old source.new wire.old wire.new) }
 {
-    let (_, report) = join_mut(
+    let (_, pumping) = join_mut(
         context.rt,
         &mut || tick(context.rt, clocks, context.hall),
         &mut || poll(context, source, wire, front),
     );
-    report
+    pumping
 }
 
-/// Starts the workers and the ticking thread, and then polls. All threads have ended when it returns. `None` if one
-/// could not be started, or wasn't running after ten seconds; then nothing was read.
-pub fn serve_routes<R, S: Source, W: Wire, K, E, G, C>(
+/// Starts the workers and the ticking thread, watches in one more if the run is watched, and then polls. All threads have
+/// ended when it returns. `None` if one could not be started, or wasn't running after ten seconds; then nothing was read.
+pub fn serve_routes<R, S: Source, W: Wire, K, E, G, C, T>(
     context: &Context<R, C>,
     source: &mut S,
     wire: &mut W,
     front: &mut Front<G>,
-    crew: &mut Crew<K, E, G>,
-) -> Option<Report>
+    crew: &mut Crew<K, E, G, T>,
+) -> Option<Pumping>
 where
     R: Threads + Wait + Sync,
     K: Ticker + Send + Drop,
     E: TickEnd + Send + Drop,
     G: Gate + Send + Drop,
     C: Serve + Sync,
-    requires { AreReady context.now.schedules.now (names_of front.old.names) front.old.ends.items }
-    ensures pumped { IfSome result (λ report.
-        Polled (class_of (secret_bytes context.now.secret.now)) context.now.schedules.now context.now.rounds
+    T: Watch + Send + Drop,
+    requires ready { AreReady context.now.schedules.now (names_of front.old.names) front.old.ends.items }
+    requires few { context.now.rounds ≤ 2 ^ 48 }
+    ensures pumped { IfSome result (λ pumping.
+        Polled (IsSome context.now.post) (class_of (secret_bytes context.now.secret.now)) context.now.schedules.now context.now.rounds pumping.rounds
         (before (names_of front.old.names) (heard (S.gave source.old) (S.calls source.old)) (carried (W.handed wire.old) (W.attempts wire.old)) front.old.ends.items)
-        (after (names_of front.new.names) (heard (S.gave source.new) (S.calls source.new)) (carried (W.handed wire.new) (W.attempts wire.new)) front.new.ends.items report)) }
+        (after (names_of front.new.names) (heard (S.gave source.new) (S.calls source.new)) (carried (W.handed wire.new) (W.attempts wire.new)) front.new.ends.items pumping.report)) }
     ensures ticked { Ticked E.inbox E.tried (K.gave crew.old.clocks.ticker) (K.gave crew.new.clocks.ticker)
         crew.old.clocks.ends.items crew.new.clocks.ends.items }
     ensures unread { IfNone result (AreUntouched source.old source.new wire.old wire.new) }
 {
     let gates = &mut crew.gates;
     let clocks = &mut crew.clocks;
-    let (_, report) = join_mut(
+    let watch = &mut crew.watch;
+    let (_, pumping) = join_mut(
         context.rt,
-        &mut || start_workers(context, gates),
+        &mut || start_workers(context, gates, watch),
         &mut ||
-            requires { AreReady context.now.schedules.now (names_of front.now.names) front.now.ends.items }
+            requires ready { AreReady context.now.schedules.now (names_of front.now.names) front.now.ends.items }
+            requires few { context.now.rounds ≤ 2 ^ 48 }
         { tick_and_poll(context, source, wire, front, clocks) },
     );
-    report
+    pumping
 }

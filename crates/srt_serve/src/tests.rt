@@ -22,6 +22,8 @@ use std::test::Fail;
 use std::thread;
 use std::thread::Threads;
 
+mod posts;
+mod watched;
 mod workers;
 
 /// A CONCLUSION from port 5000 with caller ID 1 that asks to publish on the route `studio`.
@@ -254,6 +256,8 @@ struct Listener {
     refusals: u64,
     /// The number of times that it took `answer`.
     answers: u64,
+    /// The number of times that it took `shutdown`.
+    shutdowns: u64,
     /// It took `shutdown`, after at least `ANSWERS` answers.
     is_closed: bool,
 }
@@ -267,6 +271,7 @@ impl Listener {
             shutdown: hex::decode(alloc, SHUTDOWN)?,
             refusals: 0,
             answers: 0,
+            shutdowns: 0,
             is_closed: false,
         })
     }
@@ -291,6 +296,7 @@ impl Wire for Listener {
             self.answers = self.answers.saturating_add(1);
         }
         if bytes == self.shutdown.as_slice() {
+            self.shutdowns = self.shutdowns.saturating_add(1);
             self.is_closed = self.answers >= ANSWERS;
         }
         Sent::Taken

@@ -8,10 +8,11 @@ use crate::opening::Opened;
 use crate::running::{Stage, open_stage};
 use crate::serving::{Context, Crew, Front, serve_routes};
 use crate::ticking::{Clocks, Ticker};
+use crate::watching::Nobody;
 use srt_cookie::Secret;
 use srt_lobby::Names;
 use srt_mailbox::Ungated;
-use srt_poller::{Polled, Read, Report, Sent, Source, Wire};
+use srt_poller::{Polled, Pumping, Read, Sent, Source, Wire};
 use srt_seq::{Entry, Mode, Peer, Schedule};
 use std::sync::Wait;
 use std::test::Fail;
@@ -85,20 +86,21 @@ fn serve_once_over<R>(
     schedules: &[Schedule],
     source: &mut Device,
     wire: &mut Device,
-) -> Result<Option<Report>, Fail>
+) -> Result<Option<Pumping>, Fail>
 where
     R: AllocGlobal + Threads + Wait + Sync,
     requires entries { fault_of (map terms_of entries.now) ≡ None }
     requires schedules { length schedules.now ≡ length entries.now }
 {
     let alloc = rt.alloc();
-    let Ok(stage) = open_stage(alloc, entries, schedules, 1) else {
+    let Ok(stage) = open_stage(alloc, entries, schedules, 1, false) else {
         return Err(Fail::from("memory"));
     };
     let Stage {
         names,
         routes,
         hall,
+        post: _,
         accounts: _,
     } = stage;
     let Opened {
@@ -114,6 +116,7 @@ where
         schedules,
         cells: cells.as_slice(),
         hall: &hall,
+        post: None,
         rounds: 5,
     };
     let mut front: Front<Ungated> = Front {
@@ -127,6 +130,7 @@ where
             ticker: Device { calls: 0 },
         },
         gates,
+        watch: Nobody,
     };
     hall.finish();
     Ok(serve_routes(&context, source, wire, &mut front, &mut crew))

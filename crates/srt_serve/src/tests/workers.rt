@@ -3,7 +3,7 @@
 use crate::hall::Hall;
 use crate::helping::Helper;
 use crate::working::work;
-use srt_mailbox::{Gate, Serve, Served, Ungated, Visit};
+use srt_mailbox::{Gate, Look, Serve, Served, Ungated, Visit};
 use srt_poller::Signals;
 use srt_seq::Turned;
 use std::alloc::{AllocError, Global};
@@ -66,6 +66,10 @@ impl Serve for Desk {
 
     fn serve<R: Wait, G: Gate>(&self, _rt: &R, _gate: &mut G) -> Served {
         Served::Turned(Turned::Idle)
+    }
+
+    fn show<R: Wait, L: Look>(&self, _rt: &R, _look: &mut L) -> bool {
+        false
     }
 }
 
@@ -145,7 +149,7 @@ fn a_worker_serves_after_hundreds_of_thousands_of_rings(rt: HostRuntime) -> Resu
 fn the_polling_thread_asks_for_workers(rt: HostRuntime) -> Result<(), Fail> {
     let desks = desks(rt.alloc(), &[Load::Turns(1); 12])?;
     let hall = Hall::open(rt.alloc(), 12, 1)?;
-    let ungated: Helper<'_, HostRuntime, Desk, Ungated> = Helper::new(&rt, &desks, &hall, None);
+    let ungated: Helper<'_, HostRuntime, Desk, Ungated> = Helper::new(&rt, &desks, &hall, None, None);
     ungated.offered(7);
     ungated.read_ended(1);
     assert_eq!(rt;
@@ -156,7 +160,7 @@ fn the_polling_thread_asks_for_workers(rt: HostRuntime) -> Result<(), Fail> {
         ),
         (7, 12, 12)
     );
-    let helper = Helper::new(&rt, &desks, &hall, Some(Ungated));
+    let helper = Helper::new(&rt, &desks, &hall, None, Some(Ungated));
     helper.offered(3);
     helper.read_ended(64);
     assert_eq!(rt; (hall.next_that_asks(0), hall.next_that_asks(4)), (3, 7));
@@ -186,7 +190,7 @@ fn the_polling_thread_leaves_what_it_does_not_get_done(rt: HostRuntime) -> Resul
     ];
     let desks = desks(rt.alloc(), &loads)?;
     let hall = Hall::open(rt.alloc(), 4, 1)?;
-    let helper = Helper::new(&rt, &desks, &hall, Some(Ungated));
+    let helper = Helper::new(&rt, &desks, &hall, None, Some(Ungated));
     helper.offered(0);
     helper.read_ended(1);
     assert_eq!(rt; (hall.next_that_asks(0), hall.next_offered(0)), (4, 4));

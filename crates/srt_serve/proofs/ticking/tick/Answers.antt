@@ -1,7 +1,7 @@
 use Rattle.std.proofs.Common.{◌∷◌, [], ◌++◌, ap, ◌∙◌}
 use Rattle.srt_poller.specs.Devices.{joined}
 use Rattle.srt_serve.proofs.Moments.{were_not, were_again, put_back}
-use Rattle.srt_serve.proofs.Told.{joined_nothing, joined_again}
+use Rattle.srt_serve.proofs.Recorded.{joined_nothing, joined_again}
 use Rattle.srt_serve.proofs.ticking.tick.Goals as goal
 
 pub loop-init : goal.loop-init

@@ -1,0 +1,96 @@
+//! What the threads of a run that is watched tell each other: what the watcher asks of the poller, and the faults and the
+//! refusals that the polling thread tells. Nothing here is touched for a packet of an open session.
+
+use crate::refusals::Refusal;
+use crossbeam_queue::ArrayQueue;
+use srt_poller::Asked;
+use std::alloc::{AllocError, Global};
+use std::sync::Wait;
+use std::sync::atomic::{AtomicBool, AtomicU64, Ordering};
+
+// The most refusals that wait for the watcher. It is told many times a second.
+const PLACES: usize = 64;
+
+/// Between the polling thread and the watching one.
+#[derive(Drop)]
+pub struct Post {
+    // the poller is asked to close all
+    closes: AtomicBool,
+    // the poller is asked to end
+    ends: AtomicBool,
+    // the number of socket faults
+    faults: AtomicU64,
+    refusals: ArrayQueue<Refusal>,
+    // the number of refusals for which there was no place
+    missed: AtomicU64,
+}
+
+impl Post {
+    /// The poller is asked to go on, and nothing was told. Takes memory for 64 refusals; an error means that it was
+    /// refused.
+    pub fn open(alloc: Global) -> Result<Post, AllocError> {
+        Ok(Post {
+            closes: AtomicBool::new(false),
+            ends: AtomicBool::new(false),
+            faults: AtomicU64::new(0),
+            refusals: ArrayQueue::new(alloc, PLACES)?,
+            missed: AtomicU64::new(0),
+        })
+    }
+
+    /// Asks this of the poller from now on. Once it was asked to end, nothing else is asked of it.
+    pub fn ask(&self, asked: Asked) {
+        match asked {
+            Asked::GoOn => self.closes.store(false, Ordering::SeqCst),
+            Asked::CloseAll => self.closes.store(true, Ordering::SeqCst),
+            Asked::End => self.ends.store(true, Ordering::SeqCst),
+        }
+    }
+
+    /// What is asked of the poller.
+    pub fn asked(&self) -> Asked {
+        if self.ends.load(Ordering::SeqCst) {
+            Asked::End
+        } else if self.closes.load(Ordering::SeqCst) {
+            Asked::CloseAll
+        } else {
+            Asked::GoOn
+        }
+    }
+
+    /// Counts a fault of the socket.
+    pub fn failed(&self) {
+        self.faults.fetch_add(1, Ordering::SeqCst);
+    }
+
+    /// The number of faults so far.
+    pub fn faults(&self) -> u64 {
+        self.faults.load(Ordering::SeqCst)
+    }
+
+    /// Whether a refusal would find no place. Counts it as missed then.
+    pub fn misses(&self) -> bool {
+        let is_full = self.refusals.is_full();
+        if is_full {
+            self.missed.fetch_add(1, Ordering::SeqCst);
+        }
+        is_full
+    }
+
+    /// Leaves a refusal for the watcher, or counts it as missed if 64 wait.
+    pub fn leave<R: Wait>(&self, rt: &R, refusal: Refusal) {
+        if self.refusals.push(rt, refusal).is_err() {
+            self.missed.fetch_add(1, Ordering::SeqCst);
+        }
+    }
+
+    /// The number of refusals so far for which there was no place.
+    pub fn missed(&self) -> u64 {
+        self.missed.load(Ordering::SeqCst)
+    }
+
+    /// The refusal that has waited longest.
+    pub fn take<R: Wait>(&self, rt: &R) -> Option<Refusal> {
+        self.refusals.pop(rt)
+    }
+}

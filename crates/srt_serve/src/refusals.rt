@@ -1,0 +1,117 @@
+//! Refused conclusions: what a watcher is told of one.
+
+ghost use Rattle.std.specs.Prelude.{◌≡◌, ◌≤◌, ◌+◌, Ok, ◌++◌, length, take};
+ghost use Rattle.srt_packet.specs.View.{packet_of};
+ghost use Rattle.srt_hs.specs.View.{handshake_of};
+ghost use Rattle.srt_hs.specs.Reading.{handshake_in};
+ghost use Rattle.srt_streamid.specs.Reading.{ask_in};
+ghost use Rattle.srt_serve.specs.Refusals.{code_of, refusal_in, name_by_ask, name_by_stream_id, name_by_handshake, name_by_packet, name_asked};
+
+use arrayvec::ArrayVec;
+use srt_hs::{HsRef, stream_id};
+use srt_packet::{Kind, PacketRef, decode};
+use srt_seq::limits::MAX_NAME;
+use srt_seq::{Peer, read_word};
+
+/// A conclusion that was refused.
+#[derive(Drop)]
+pub struct Refusal {
+    /// The index of the route that refused it; `None` if the lobby did.
+    pub route: Option<usize>,
+    /// The caller.
+    pub peer: Peer,
+    /// Why it was refused: the handshake type of the answer, 1000 or more (section 4.3, table 7).
+    pub code: u32,
+    /// If the lobby refused it, the name that its Stream ID asked for, cut to 64 bytes. Empty if the Stream ID asks for
+    /// none, and if a route refused it. Any bytes of UTF-8 may stand here.
+    pub name: ArrayVec<u8, MAX_NAME>,
+}
+
+/// The code of a refusal, from a handshake type: one from 1000 on. The draft's other types are 0, 1 and such as are
+/// negative, read as numbers with a sign (section 3.2.1).
+fn code_of(kind: u32) -> Option<u32>
+    ensures { result ≡ code_of kind }
+{
+    if 1000 <= kind && kind < 1 << 31 {
+        Some(kind)
+    } else {
+        None
+    }
+}
+
+/// The code of the refusal that this handshake packet is; `None` if it is none. Its handshake type is the sixth word
+/// behind the header (section 3.2.1).
+pub fn refusal_in(packet: &[u8]) -> Option<u32>
+    ensures { result ≡ refusal_in packet.now }
+{
+    if 40 <= packet.len() {
+        code_of(read_word(packet, 36))
+    } else {
+        None
+    }
+}
+
+fn append(name: &mut ArrayVec<u8, MAX_NAME>, bytes: &[u8])
+    requires { length name.old.items + length bytes.now ≤ 64 }
+    ensures { name.new.items ≡ name.old.items ++ bytes.now }
+{
+    let _ = name.try_extend_from_slice(bytes);
+}
+
+/// The first 64 bytes of a text.
+fn front_of(text: &[u8]) -> ArrayVec<u8, MAX_NAME>
+    ensures { result.items ≡ take 64 text.now }
+{
+    let mut name = ArrayVec::new();
+    let len = text.len().min(MAX_NAME);
+    append(&mut name, &text[..len]);
+    name
+}
+
+fn name_in(bytes: &[u8]) -> ArrayVec<u8, MAX_NAME>
+    ensures { result.items ≡ name_by_ask bytes.now (ask_in bytes.now) }
+{
+    match srt_streamid::read(bytes) {
+        Ok(ask) => front_of(&bytes[ask.start..ask.start + ask.len]),
+        Err(_) => ArrayVec::new(),
+    }
+}
+
+fn name_in_handshake(hs: &HsRef<'_>) -> ArrayVec<u8, MAX_NAME>
+    ensures { result.items ≡ name_by_stream_id (handshake_of hs.now).blocks.stream_id }
+{
+    let mut text = [0; 512];
+    match stream_id(hs, &mut text) {
+        Some(len) => name_in(&text[..len]),
+        None => ArrayVec::new(),
+    }
+}
+
+fn name_in_info(info: &[u8]) -> ArrayVec<u8, MAX_NAME>
+    ensures { result.items ≡ name_by_handshake (handshake_in info.now) }
+{
+    match srt_hs::read(info) {
+        Ok(hs) => name_in_handshake(&hs),
+        Err(_) => ArrayVec::new(),
+    }
+}
+
+fn name_in_packet(packet: PacketRef<'_>) -> ArrayVec<u8, MAX_NAME>
+    ensures { result.items ≡ name_by_packet (Ok (packet_of packet.entry)) }
+{
+    match packet.kind {
+        Kind::Handshake { info } => name_in_info(info),
+        _ => ArrayVec::new(),
+    }
+}
+
+/// The name that the Stream ID of a conclusion asks for, cut to 64 bytes. Empty if the datagram is none, or if its Stream
+/// ID asks for no name.
+pub fn name_asked(datagram: &[u8]) -> ArrayVec<u8, MAX_NAME>
+    ensures { result.items ≡ name_asked datagram.now }
+{
+    match decode(datagram) {
+        Ok(packet) => name_in_packet(packet),
+        Err(_) => ArrayVec::new(),
+    }
+}
