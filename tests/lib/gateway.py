@@ -30,8 +30,8 @@ def route(name, mode, latency_ms, buffer, sessions, inbox, outbox, **rounds):
     return "\n".join(["[[route]]", f'name = "{name}"', f'mode = "{mode}"', *lines, ""])
 
 
-def configuration(routes, port, workers=2):
-    return f'secret = "{SECRET}"\nbind = "127.0.0.1:{port}"\nworkers = {workers}\n' + "".join(routes)
+def configuration(routes, port, workers=2, secret=SECRET):
+    return f'secret = "{secret}"\nbind = "127.0.0.1:{port}"\nworkers = {workers}\n' + "".join(routes)
 
 
 def room_for(threads):

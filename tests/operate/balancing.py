@@ -14,9 +14,8 @@ import time
 from caller import Publisher, Refused, Silent, Subscriber, indexes, payload, stream
 from cases import case
 from expecting import Wrong, expect, expect_run, publish
-from gateway import live
 from machine import free_port
-from running import STOP_SECONDS, Run, Skipped, expect_polite
+from running import STOP_SECONDS, Run, Skipped, expect_polite, live
 from tree import TOP, read
 
 NGINX = "nginx"
@@ -71,7 +70,7 @@ class Balancer:
 
 
 def gateways_up(*ports):
-    found = [Run([live("studio", sessions=17, outbox=1126)], "--no-time", port=it) for it in (ports or (None, None))]
+    found = [Run([live("studio", sessions=17)], "--no-time", port=it) for it in (ports or (None, None))]
     for it in found:
         it.is_up()
     return found
@@ -200,7 +199,7 @@ def gateway_comes_back():
             encoder, player = Publisher(balancer.address, publish("studio"), endless(over), 4_000, source=here), Subscriber(balancer.address, "studio", source=here)
             started(encoder, player)
             expect(player.wait(10, 200), "the stream doesn't go on at the other gateway")
-            back = Run([live("studio", sessions=17, outbox=1126)], "--no-time", port=gateways[0].address[1])
+            back = Run([live("studio", sessions=17)], "--no-time", port=gateways[0].address[1])
             gateways.append(back)
             back.is_up()
             time.sleep(FAIL_SECONDS + 2)

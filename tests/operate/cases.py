@@ -1,4 +1,6 @@
 """The list of cases. Each raises Wrong if it fails, and Skipped if it can't be played here."""
+from __future__ import annotations
+
 from typing import Callable, NamedTuple, Sequence
 
 
@@ -6,11 +8,11 @@ class Case(NamedTuple):
     """A case: its name, the programs that it needs, and what plays it."""
 
     name: str
-    needs: "Sequence[str]"
-    play: "Callable[[], None]"
+    needs: Sequence[str]
+    play: Callable[[], None]
 
 
-CASES: "list[Case]" = []
+CASES: list[Case] = []
 
 
 def case(name, needs=()):

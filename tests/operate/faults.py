@@ -11,10 +11,10 @@ from concurrent.futures import ThreadPoolExecutor
 import command_lines
 from cases import case
 from expecting import expect
-from gateway import configuration, live, room_for
+from gateway import room_for
 from machine import free_port
 from rows import rows_of
-from running import Run, Skipped
+from running import Run, Skipped, configuration, live
 from tree import PROGRAM
 
 ROWS = ("explained_faults", "explained_routes", "explained_texts", "explained_steps")
@@ -121,7 +121,7 @@ def expect_refused(line, word, **options):
 
 @case("memory that is refused")
 def memory_refused():
-    routes = [live(f"r{index}", buffer=8192, sessions=17, outbox=1126) for index in range(20)]
+    routes = [live(f"r{index}", buffer=8192, sessions=17) for index in range(20)]
     expect_refused("memory", "memory", routes=routes, limit=lambda: resource.setrlimit(resource.RLIMIT_AS, (400 << 20, 400 << 20)))
 
 

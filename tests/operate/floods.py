@@ -8,8 +8,7 @@ import packets
 from caller import Caller, Publisher, Subscriber, stream
 from cases import case
 from expecting import expect, expect_run, publish
-from gateway import files, live
-from running import TIME, Run, expect_polite, seconds_of
+from running import TIME, Run, expect_polite, files, live, seconds_of
 
 LINES = 50  # In one second, besides those that say how many were left out.
 LEFT_OUT = r"lines left out (\d+)"
@@ -107,8 +106,8 @@ def unread_log():
         expect(flood.refused == 2_000, f"{flood.refused} refusals came back")
         expect(run.runs(), "it ended")
         run.read()
-        run.line("steady: publisher .* ended, .*", 5)
         expect_polite(run.stop(), ["steady"])
+        expect(run.texts()[-1] == "stopped", f"the log ends with {run.texts()[-3:]}")
 
 
 @case("a log that can't be written stops nothing")

@@ -1,4 +1,6 @@
 """`srtgw run` as a process of its own: its start, its log and its end."""
+from __future__ import annotations
+
 import atexit
 import calendar
 import fcntl
@@ -13,18 +15,34 @@ import threading
 import time
 from typing import NamedTuple
 
+import gateway
 from expecting import Wrong, expect
-from gateway import configuration, report
+from gateway import report
 from machine import free_port
 from tree import PROGRAM, TOP
 
 TIME = r"\d{4}-\d\d-\d\dT\d\d:\d\d:\d\d\.\d{3}Z"
 ACCOUNT = re.compile(r"route (\S+) taken (\d+) left (\d+) waiting (\d+) queued (\d+) drained (\d+)")
 OUTCOMES = ("answered", "accepted", "full", "dropped", "memory")
+SECRET = bytes(range(100, 132)).hex()
 STOP_SECONDS = 1.5
 PAGE = 4096
 # The second line of a gateway that wasn't started by the launcher.
 UNBLOCKED = "SIGINT or SIGTERM ends the gateway at once, without a report: bin/srtgw run blocks them"
+
+
+def live(name, sessions=5, **others):
+    """The configuration's table of a live route, without anything unwise."""
+    return gateway.live(name, sessions=sessions, **{"outbox": 4 + 66 * sessions, **others})
+
+
+def files(name, sessions=5, **others):
+    """The same of a route in buffer mode."""
+    return gateway.files(name, sessions=sessions, **{"outbox": 4 + 66 * sessions, **others})
+
+
+def configuration(routes, port, workers=2):
+    return gateway.configuration(routes, port, workers, SECRET)
 
 
 class Skipped(Exception):
@@ -54,8 +72,8 @@ class End(NamedTuple):
     was asked to stop, or waited for."""
 
     status: int
-    report: "dict[str, int] | None"
-    accounts: "list[Account]"
+    report: dict[str, int] | None
+    accounts: list[Account]
     output: str
     seconds: float
 

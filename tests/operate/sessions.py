@@ -9,11 +9,10 @@ import packets
 from caller import Caller, Publisher, Subscriber, stream
 from cases import case
 from expecting import Wrong, expect, expect_refusal, expect_run, publish, request
-from gateway import files, live
 from lines import ended_line, opened_line, refused_line, took_over_line
 from machine import free_port
 from proxy import Proxy
-from running import Run, Skipped, expect_polite
+from running import Run, Skipped, expect_polite, files, live
 from tree import TOP
 
 LOOK = 1.5  # Two looks at the routes, and some time for a busy machine.
@@ -101,7 +100,7 @@ def ends_by_silence():
 
 @case("a session whose window is lost, and one whose route closes")
 def ends_otherwise():
-    with Run([live("studio", buffer=64), live("guest", close_round=1_500)], "--no-time") as run:
+    with Run([live("studio", buffer=190), live("guest", close_round=1_500)], "--no-time") as run:
         run.is_up()
         guest, one = Subscriber(run.address, "guest"), Publisher(run.address, publish("studio"), [])
         opens(run, "guest", "subscriber", guest, 120)

@@ -6,12 +6,11 @@ import time
 
 from cases import case
 from expecting import expect
-from gateway import live
-from running import TIME, UNBLOCKED, Run, can_block, expect_polite, launcher, seconds_of
+from running import TIME, UNBLOCKED, Run, can_block, expect_polite, launcher, live, seconds_of
 from tree import PROGRAM, TOP
 
 WRONG_DURATIONS = ["0s", "5x", "366d", "", "s", "7", "-1s", "1.5h", "0d", "8761h", "31536001s", "2 s", "1h30m", "99999999999999999999s"]
-SMALL = dict(buffer=64, sessions=2, inbox=16, outbox=136)
+SMALL = dict(buffer=190, sessions=2, inbox=16)
 
 
 def expect_started(run, routes, workers):
