@@ -120,16 +120,17 @@ def seconds_of(time_text):
 class Run:
     """A gateway that runs until it is stopped. `words` come after the configuration; `launched` says whether bin/srtgw starts
     it, `text` is a configuration in place of that of the routes, `limit` is called by the process before it runs the program. If
-    not `reads`, nobody reads its log, and the pipe has room for a page, until `read` is called."""
+    not `reads`, nobody reads its log, and the pipe has room for a page, until `read` is called. `command` are other words that
+    start it, and `launched` says whether they block signals."""
 
-    def __init__(self, routes=(), *words, launched=True, port=None, workers=2, text=None, limit=lambda: None, reads=True):
+    def __init__(self, routes=(), *words, launched=True, port=None, workers=2, text=None, limit=lambda: None, reads=True, command=None):
         self.address, self.launched = ("127.0.0.1", free_port() if port is None else port), launched
         self.room = tempfile.mkdtemp(prefix="srtgw-run-")
         self.file = f"{self.room}/gateway.toml"
         with open(self.file, "w") as it:
             it.write(configuration(routes, self.address[1], workers) if text is None else text)
         self.lines, self.output, self.began = [], "", time.time()
-        command = [launcher() if launched else PROGRAM, "run", "gateway.toml", *words]
+        command = command or [launcher() if launched else PROGRAM, "run", "gateway.toml", *words]
         pipes = dict(stdin=subprocess.DEVNULL, stdout=subprocess.PIPE, stderr=subprocess.PIPE, text=True, errors="replace")
         self.process = subprocess.Popen(command, cwd=self.room, preexec_fn=lambda: (usual_signals(), limit()), env={**os.environ, "MALLOC_ARENA_MAX": "1"}, **pipes)
         self.readers = []

@@ -1,13 +1,17 @@
 """How a run starts: its first lines, with and without times and the launcher; and how long `--for` lets it run."""
+import os
 import re
+import shlex
 import signal
 import subprocess
+import tempfile
+import textwrap
 import time
 
 from cases import case
 from expecting import expect
-from running import TIME, UNBLOCKED, Run, can_block, expect_polite, launcher, live, seconds_of
-from tree import PROGRAM, TOP
+from running import TIME, UNBLOCKED, Run, Skipped, can_block, expect_polite, launcher, live, seconds_of
+from tree import PROGRAM, TOP, read
 
 WRONG_DURATIONS = ["0s", "5x", "366d", "", "s", "7", "-1s", "1.5h", "0d", "8761h", "31536001s", "2 s", "1h30m", "99999999999999999999s"]
 SMALL = dict(buffer=190, sessions=2, inbox=16)
@@ -74,6 +78,39 @@ def other_commands():
         launched, plain = (subprocess.run([it, *words], capture_output=True, text=True) for it in (launcher(), PROGRAM))
         ends = [(it.returncode, it.stdout, it.stderr) for it in (launched, plain)]
         expect(ends[0] == ends[1], f"{words}: {ends}")
+
+
+def unit():
+    """The systemd unit of docs/OPERATING.md."""
+    found = re.search(r"(?m)^    \[Unit\]\n(?:(?:    .*)?\n)*?    WantedBy=.*\n", read(f"{TOP}/docs/OPERATING.md"))
+    expect(found, "docs/OPERATING.md has no unit")
+    return textwrap.dedent(found[0])
+
+
+@case("the unit's command starts it, and SIGTERM stops it politely")
+def starts_as_unit():
+    line = re.search(r"(?m)^ExecStart=(.*)$", unit())[1]
+    expect("/opt/srtgw/srtgw" in line and "/etc/srtgw/gateway.toml" in line, f"it is {line}")
+    command = shlex.split(line.replace("/opt/srtgw/srtgw", PROGRAM).replace("/etc/srtgw/gateway.toml", "gateway.toml"))
+    if not can_block() or not os.access(command[0], os.X_OK):
+        raise Skipped("`env` can't block signals, or stands elsewhere")
+    with Run([live("studio", **SMALL)], command=command) as run:
+        expect_started(run, 1, 2)
+        expect(len(run.lines) == 1, f"it says more: {run.texts()}")
+        expect_polite(run.stop(), ["studio"])
+
+
+@case("the unit leaves the gateway few rights", needs=["systemd-analyze"])
+def unit_is_safe():
+    """The exposure by systemd's own measure is below 3 of 10."""
+    with tempfile.TemporaryDirectory(prefix="srtgw-unit-") as room:
+        with open(f"{room}/srtgw.service", "w") as it:
+            it.write(unit())
+        words = ["systemd-analyze", "security", "--offline=true", "--threshold=29", f"{room}/srtgw.service"]
+        it = subprocess.run(words, capture_output=True, text=True, env={**os.environ, "SYSTEMD_PAGER": "", "LC_ALL": "C.UTF-8"})
+    if "unrecognized option" in it.stderr:
+        raise Skipped("this systemd-analyze looks at no unit by itself")
+    expect(it.returncode == 0, f"{it.stdout.strip().splitlines()[-1:]} {it.stderr}")
 
 
 @case("a run of two seconds stops by itself")
