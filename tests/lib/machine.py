@@ -49,6 +49,13 @@ def free_port() -> int:
         return probe.getsockname()[1]
 
 
+def drops_of(port: int) -> int:
+    """How many datagrams the kernel dropped at the UDP socket of this port, as /proc/net/udp has it."""
+    with open("/proc/net/udp") as file:
+        rows = [it.split() for it in file.readlines()[1:]]
+    return sum(int(it[-1]) for it in rows if int(it[1].split(":")[1], 16) == port)
+
+
 def seconds_of_process(pid: int) -> float:
     """The processor time of all threads of a process that still run, in seconds."""
     total = 0

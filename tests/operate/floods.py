@@ -1,6 +1,8 @@
 """Floods of refusals: the log stays short, its counts add up, and a stream of another route loses nothing."""
 import os
 import re
+import signal
+import socket
 import threading
 import time
 
@@ -8,7 +10,8 @@ import packets
 from caller import Caller, Publisher, Subscriber, stream
 from cases import case
 from expecting import expect, expect_run, publish
-from running import TIME, Run, expect_polite, files, live, seconds_of
+from machine import drops_of
+from running import TIME, Run, Skipped, expect_polite, files, live, seconds_of
 
 LINES = 50  # In one second, besides those that say how many were left out.
 LEFT_OUT = r"lines left out (\d+)"
@@ -19,12 +22,12 @@ EVENTS = 7
 
 
 class Flood(threading.Thread):
-    """Makes the same conclusion again and again from one socket, `count` times at `rate` a second, and counts the refusals
-    that come back."""
+    """Makes the same conclusion again and again from one socket, `count` times at `rate` a second, so many at once (`burst`),
+    and counts the refusals that come back."""
 
-    def __init__(self, address, stream_id, count, rate):
+    def __init__(self, address, stream_id, count, rate, burst=1):
         super().__init__(daemon=True)
-        self.caller, self.count, self.rate, self.refused = Caller(address, stream_id), count, rate, 0
+        self.caller, self.count, self.rate, self.burst, self.refused = Caller(address, stream_id), count, rate, burst, 0
         self.caller.induce()
 
     def run(self):
@@ -32,7 +35,7 @@ class Flood(threading.Thread):
         body = packets.handshake(5, it.extension, it.initial, it.mtu, it.window, packets.CONCLUSION, it.socket_id, it.cookie, it.blocks)
         began, sent = time.monotonic(), 0
         while sent < self.count:
-            due = min(self.count, int((time.monotonic() - began) * self.rate))
+            due = min(self.count, int((time.monotonic() - began) * self.rate / self.burst) * self.burst)
             for _ in range(due - sent):
                 it.send(packets.control(packets.HANDSHAKE, 0, it.stamp(), 0, body))
             sent = max(sent, due)
@@ -57,7 +60,9 @@ def beside_a_stream(run, flood, count=2_400):
         one.start()
     flood.start()
     flood.join()
-    expect(publisher.wait_delivered(20) and subscriber.wait(10, count), "the stream beside the flood stops")
+    flows = publisher.wait_delivered(20) and subscriber.wait(10, count)
+    lost = drops_of(run.address[1])
+    expect(flows, f"the stream beside the flood stops: {len(subscriber.got)} of {count} payloads came, and the kernel dropped {lost} datagrams")
     expect_run(subscriber.got, 0, count, "the subscriber beside the flood")
     expect(publisher.dropped == subscriber.dropped == 0, "packets beside the flood were dropped")
     for one in (publisher, subscriber):
@@ -72,24 +77,24 @@ def expect_few(run, seconds):
     expect(len(times) <= LINES * (seconds + 2), f"{len(times)} lines came in {seconds:.1f} s")
 
 
-def play_flood(routes, stream_id, line, counted):
-    """Plays a flood of 20,000 conclusions that all are refused. `counted` sums those that the log counts in other lines."""
-    count = 20_000
+def play_flood(routes, stream_id, line, counted, count=20_000, rate=5_000, burst=1):
+    """Plays a flood of conclusions that all are refused. `counted` sums those that the log counts in other lines."""
     with Run([live("steady"), *routes]) as run:
         run.is_up()
         began = time.monotonic()
-        flood = Flood(run.address, stream_id, count, 5_000)
+        flood = Flood(run.address, stream_id, count, rate, burst)
         beside_a_stream(run, flood)
         time.sleep(1.5)
-        spent = time.monotonic() - began
+        spent, dropped = time.monotonic() - began, drops_of(run.address[1])
         end = run.stop()
+        expect(not dropped, f"the gateway is too slow: the kernel dropped {dropped} datagrams")
         expect_polite(end, ["steady", *(re.search('"(.*)"', it)[1] for it in routes)])
         expect_few(run, spent)
         texts = run.texts()
         expect(end.report["full"] == end.report["memory"] == 0, f"{end.report}")
         expect(flood.refused == count, f"{flood.refused} refusals came back")
         told = [it for it in texts if re.fullmatch(line.format(flood.caller.here[1]), it)]
-        expect(LINES / 2 <= len(told) <= LINES * (spent + 2), f"{len(told)} refusals are told")
+        expect(LINES / 2 <= len(told) <= LINES * (spent + 2), f"{len(told)} refusals are told in {spent:.1f} s")
         left_out = sum(int(found[1]) for found in (re.fullmatch(LEFT_OUT, it) for it in texts) if found)
         others = [it for it in texts if re.fullmatch(OTHERS, it)]
         found, wanted = len(told) + left_out + counted(texts) + len(others), count + EVENTS
@@ -120,6 +125,30 @@ def unwritten_log():
         expect(not run.lines and end.report["answered"] >= 203, f"{end.report}, {run.texts()}")
 
 
+@case("what the kernel drops in a flood of refusals is told")
+def drops_in_a_flood():
+    with Run([live("steady")], "--no-time") as run:
+        run.is_up()
+        flood = Flood(run.address, "nowhere", 2_500, 500)
+        flood.start()
+        time.sleep(1)
+        run.process.send_signal(signal.SIGSTOP)
+        try:
+            with socket.socket(socket.AF_INET, socket.SOCK_DGRAM) as junk:
+                for _ in range(12_000):
+                    junk.sendto(bytes(1316), run.address)
+        finally:
+            run.process.send_signal(signal.SIGCONT)
+        flood.join()
+        time.sleep(1.5)
+        dropped = drops_of(run.address[1])
+        expect_polite(run.stop(), ["steady"])
+        if not dropped:
+            raise Skipped("the kernel drops nothing")
+        told = sum(int(found[1]) for found in (re.fullmatch(r"datagrams dropped by the kernel (\d+)", it) for it in run.texts()) if found)
+        expect(told == dropped, f"{told} of {dropped} are told")
+
+
 def unseen_of(route):
     """A function that sums the refusals of a route which the log counts without a line of their own."""
     def counted(texts):
@@ -133,6 +162,12 @@ def lobby_flood():
     line = r'127\.0\.0\.1:{} refused, 1002 PEER, asked for "nowhere"'
     end = play_flood([], "nowhere", line, lambda texts: 0)
     expect(end.report["answered"] == 20_003, f"{end.report}")
+
+
+@case("6,000 conclusions in bursts of 200, more than wait for the log at once")
+def bursts():
+    line = r'127\.0\.0\.1:{} refused, 1002 PEER, asked for "nowhere"'
+    play_flood([], "nowhere", line, lambda texts: 0, 6_000, 2_000, 200)
 
 
 @case("20,000 conclusions that a route refuses")

@@ -10,7 +10,7 @@ from caller import Caller, Publisher, Subscriber, stream
 from cases import case
 from expecting import Wrong, expect, expect_refusal, expect_run, publish, request
 from lines import ended_line, opened_line, refused_line, took_over_line
-from machine import free_port
+from machine import drops_of, free_port
 from proxy import Proxy
 from running import Run, Skipped, expect_polite, files, live
 from tree import TOP
@@ -242,13 +242,6 @@ def warns():
 
 
 # What the system does.
-
-
-def drops_of(port):
-    """How many datagrams the kernel dropped at the UDP socket of this port, as /proc/net/udp has it."""
-    with open("/proc/net/udp") as file:
-        rows = [it.split() for it in file.readlines()[1:]]
-    return sum(int(it[-1]) for it in rows if int(it[1].split(":")[1], 16) == port)
 
 
 @case("datagrams that the kernel dropped are counted")
