@@ -24,7 +24,7 @@ pub struct SessionCounts {
     pub bytes: u64,
     /// Packets that were lost: those that a publisher's session dropped as missing, or a subscriber's as too late.
     pub lost: u64,
-    /// Packets that were sent again.
+    /// Packets that were sent again; of a publisher's session those that came beside the ones that are counted.
     pub resent: u64,
 }
 

@@ -3,6 +3,7 @@
 use srt_log::{LineLimit, LogEvent, write_line};
 use srt_operate::utc_text;
 use std::io::Write;
+use std::mem;
 
 /// When something happened.
 #[derive(Clone, Copy, Debug)]
@@ -13,12 +14,19 @@ pub(crate) struct When {
     pub time: u64,
 }
 
+/// The microseconds of a second.
+const SECOND: u64 = 1_000_000;
+
 /// A log, and how many lines its present second has.
 #[derive(Drop)]
 pub(crate) struct Log<W: Drop> {
     pub(crate) out: W,
     is_timed: bool,
     limit: LineLimit,
+    // what nobody told the log, and wasn't told as left out yet
+    missed: u64,
+    // the second in which that was told last
+    second: u64,
 }
 
 impl<W: Write + Drop> Log<W> {
@@ -28,7 +36,24 @@ impl<W: Write + Drop> Log<W> {
             out,
             is_timed,
             limit: LineLimit::new(),
+            missed: 0,
+            second: 0,
         }
+    }
+
+    /// Counts events that nobody told the log as lines that were left out.
+    pub fn miss(&mut self, count: u64) {
+        self.missed = self.missed.saturating_add(count);
+    }
+
+    // The number of missed events to be told by this moment: once a second.
+    fn missed_by(&mut self, moment: u64) -> u64 {
+        let second = moment / SECOND;
+        if second <= self.second {
+            return 0;
+        }
+        self.second = second;
+        mem::replace(&mut self.missed, 0)
     }
 
     // Writes a line, whatever the limit says. Nobody is told if it can't be written: the gateway goes on without a log.
@@ -57,7 +82,8 @@ impl<W: Write + Drop> Log<W> {
         }
     }
 
-    /// Writes the line of an event that happens once in a run, whether its second has room or not.
+    /// Writes the line of an event whether its second has room or not: one that comes once in a run, or twice a second at
+    /// most.
     pub fn tell_always(&mut self, when: When, event: LogEvent<'_>) {
         self.pass(when);
         self.write(when, event);
@@ -66,13 +92,14 @@ impl<W: Write + Drop> Log<W> {
     /// Tells how many lines the second before left out, if that is over and they weren't told yet.
     pub fn pass(&mut self, when: When) {
         let count = self.limit.look(when.moment);
-        self.tell_left_out(when, count);
+        let missed = self.missed_by(when.moment);
+        self.tell_left_out(when, count.saturating_add(missed));
     }
 
     /// Tells how many lines the present second has left out so far, at the end of the log.
     pub fn end(&mut self, when: When) {
         self.pass(when);
-        let count = self.limit.left_out();
-        self.tell_left_out(when, count);
+        let missed = mem::replace(&mut self.missed, 0);
+        self.tell_left_out(when, self.limit.left_out().saturating_add(missed));
     }
 }

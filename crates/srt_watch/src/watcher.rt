@@ -10,10 +10,14 @@ use srt_route::Route;
 use srt_seq::Entry;
 use srt_serve::{Refusal, Told, Watch};
 use std::alloc::{AllocError, Global};
+use std::fmt::{Display, InlineText};
 use std::io::Write;
 
 /// The time between two looks at the routes, in microseconds.
 const LOOK: u64 = 500_000;
+
+/// The greatest length of a warning, in bytes.
+const WARNING_MAX: usize = 512;
 
 /// What the first line of a log says, and when the gateway stops by itself.
 #[derive(Clone, Copy, Debug)]
@@ -47,10 +51,13 @@ pub struct Watcher<'a, M: Drop, W: Drop> {
     ends_at: Option<u64>,
     // the moment at which a stop was asked for
     asked_at: Option<u64>,
-    // what of faults, dropped datagrams and refusals was told already
+    // the faults of the socket so far, and what of them, of dropped datagrams and of missed refusals was told already
     faults: u64,
+    faults_told: u64,
     drops: u64,
     missed: u64,
+    // what is unwise in the configuration, until it was told
+    warnings: Vec<InlineText<WARNING_MAX>>,
 }
 
 impl<'a, M: Machine + Drop, W: Write + Drop> Watcher<'a, M, W> {
@@ -75,8 +82,10 @@ impl<'a, M: Machine + Drop, W: Write + Drop> Watcher<'a, M, W> {
             ends_at: None,
             asked_at: None,
             faults: 0,
+            faults_told: 0,
             drops: 0,
             missed: 0,
+            warnings: Vec::new(alloc),
         })
     }
 
@@ -87,11 +96,19 @@ impl<'a, M: Machine + Drop, W: Write + Drop> Watcher<'a, M, W> {
         }
     }
 
-    /// Writes a line for something unwise in the configuration.
-    pub fn warn(&mut self, warning: &str) {
-        let when = self.when();
-        let warning = warning.as_bytes();
-        self.log.tell_always(when, LogEvent::Warned { warning });
+    /// Notes something unwise in the configuration, in 512 bytes at most, to be told behind the first line. Takes memory;
+    /// the only error is that it is refused.
+    pub fn warn<D: Display + Drop>(&mut self, warning: D) -> Result<(), AllocError> {
+        self.warnings.push(InlineText::of(warning))
+    }
+
+    // Writes the lines of what is unwise, once.
+    fn tell_warnings(&mut self, when: When) {
+        for warning in self.warnings.iter() {
+            let warning = warning.as_str().as_bytes();
+            self.log.tell_always(when, LogEvent::Warned { warning });
+        }
+        self.warnings.clear();
     }
 
     // Writes the first line, once all threads run and all memory is taken.
@@ -112,32 +129,30 @@ impl<'a, M: Machine + Drop, W: Write + Drop> Watcher<'a, M, W> {
         if !start.is_blocked {
             self.log.tell_always(when, LogEvent::Unblocked);
         }
+        self.tell_warnings(when);
         if let Some(lasts) = start.lasts {
             self.ends_at = Some(when.moment.saturating_add(lasts));
         }
     }
 
-    // Tells how many faults of the socket came since the last such line, and how many refusals nobody was told.
-    fn tell_counts(&mut self, when: When, told: Told) {
-        let faults = told.faults.saturating_sub(self.faults);
-        if faults > 0 {
-            self.log
-                .tell(when, LogEvent::SocketFaults { count: faults });
-            self.faults = told.faults;
-        }
-        let missed = told.missed.saturating_sub(self.missed);
-        if missed > 0 {
-            self.log.tell(when, LogEvent::LeftOut { count: missed });
-            self.missed = told.missed;
-        }
+    // Takes in what is told: faults of the socket, for the next look, and refusals that nobody was told.
+    fn take_in(&mut self, told: Told) {
+        self.log.miss(told.missed.saturating_sub(self.missed));
+        self.missed = told.missed;
+        self.faults = told.faults;
     }
 
-    // Tells how many datagrams the kernel dropped since the last such line.
-    fn tell_drops(&mut self, when: When) {
+    // Tells how many faults of the socket came since the last such line, and how many datagrams the kernel dropped.
+    fn tell_counts(&mut self, when: When) {
+        let count = self.faults.saturating_sub(self.faults_told);
+        if count > 0 {
+            self.log.tell_always(when, LogEvent::SocketFaults { count });
+            self.faults_told = self.faults;
+        }
         let drops = self.machine.drops();
         let count = drops.saturating_sub(self.drops);
         if count > 0 {
-            self.log.tell(when, LogEvent::KernelDrops { count });
+            self.log.tell_always(when, LogEvent::KernelDrops { count });
             self.drops = drops;
         }
     }
@@ -167,7 +182,11 @@ impl<'a, M: Machine + Drop, W: Write + Drop> Watcher<'a, M, W> {
     /// Writes the last line, after the gateway's end.
     pub fn end(&mut self) {
         let when = self.when();
-        self.tell_drops(when);
+        if self.asked_at.is_none() {
+            let by = StopCause::Rounds;
+            self.log.tell_always(when, LogEvent::StopAsked { by });
+        }
+        self.tell_counts(when);
         self.log.end(when);
         self.log.tell_always(when, LogEvent::Stopped);
     }
@@ -178,8 +197,8 @@ impl<M: Machine + Drop, W: Write + Drop> Watch for Watcher<'_, M, W> {
         self.machine.rest();
         let when = self.when();
         self.begin(when);
+        self.take_in(told);
         self.log.pass(when);
-        self.tell_counts(when, told);
         self.look_for_stop(when);
         match stop_step(self.asked_at, when.moment, told.is_quiet) {
             StopStep::GoOn => Asked::GoOn,
@@ -194,7 +213,7 @@ impl<M: Machine + Drop, W: Write + Drop> Watch for Watcher<'_, M, W> {
             return false;
         }
         self.next_look = when.moment.saturating_add(LOOK);
-        self.tell_drops(when);
+        self.tell_counts(when);
         true
     }
 

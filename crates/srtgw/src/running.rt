@@ -11,7 +11,6 @@ use srt_operate::signals_are_blocked;
 use srt_poller::BindFault;
 use srt_serve::{RunFault, Watched, run_until};
 use srt_watch::{Start, Watcher};
-use std::fmt::InlineText;
 use std::io;
 use std::net::{Ipv4Addr, Net};
 use std::rt::{Clock, Files};
@@ -118,7 +117,9 @@ where
         return Err(Fault::Memory);
     };
     for warning in explained.warnings.iter() {
-        watcher.warn(InlineText::<512>::of(&explained.text_of(*warning)).as_str());
+        if watcher.warn(explained.text_of(*warning)).is_err() {
+            return Err(Fault::Memory);
+        }
     }
     let ran = run_until(
         rt,

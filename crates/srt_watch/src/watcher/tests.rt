@@ -134,18 +134,14 @@ fn hear(alloc: Global, route: &mut Route, moment: u64, text: &str) -> Result<(),
 fn the_first_lines(rt: HostRuntime) -> Result<(), Fail> {
     let entries = vec![in rt.alloc(); entry(rt.alloc())?]?;
     let mut watcher = watcher(rt.alloc(), &entries, true, start(false, None))?;
-    watcher.warn("warning: route 1 (studio): sessions = 2");
-    assert_lines(
-        &rt,
-        &mut watcher,
-        "2026-11-26T15:04:05.123Z warning: route 1 (studio): sessions = 2\n",
-    );
+    watcher.warn("warning: route 1 (studio): sessions = 2")?;
+    assert_lines(&rt, &mut watcher, "");
     watcher.machine.moment = 2_000;
     assert_eq!(rt; watcher.next(NOTHING), Asked::GoOn);
     assert_lines(
         &rt,
         &mut watcher,
-        "2026-11-26T15:04:05.125Z serving at 192.0.2.1:9000, routes 1, workers 2, memory 71524 KiB\n2026-11-26T15:04:05.125Z SIGINT or SIGTERM ends the gateway at once, without a report: bin/srtgw run blocks them\n",
+        "2026-11-26T15:04:05.125Z serving at 192.0.2.1:9000, routes 1, workers 2, memory 71524 KiB\n2026-11-26T15:04:05.125Z SIGINT or SIGTERM ends the gateway at once, without a report: bin/srtgw run blocks them\n2026-11-26T15:04:05.125Z warning: route 1 (studio): sessions = 2\n",
     );
     assert_eq!(rt; watcher.next(NOTHING), Asked::GoOn);
     assert_lines(&rt, &mut watcher, "");
@@ -338,6 +334,7 @@ fn counts_are_told_when_they_grow(rt: HostRuntime) -> Result<(), Fail> {
     let entries = vec![in rt.alloc(); entry(rt.alloc())?]?;
     let mut watcher = watcher(rt.alloc(), &entries, false, start(true, None))?;
     assert_eq!(rt; watcher.next(NOTHING), Asked::GoOn);
+    assert!(rt; watcher.looks());
     watcher.log.out.clear();
     let told = Told {
         is_quiet: false,
@@ -345,17 +342,56 @@ fn counts_are_told_when_they_grow(rt: HostRuntime) -> Result<(), Fail> {
         missed: 7,
     };
     assert_eq!(rt; watcher.next(told), Asked::GoOn);
-    assert_eq!(rt; watcher.next(told), Asked::GoOn);
-    assert_lines(&rt, &mut watcher, "socket faults 3\nlines left out 7\n");
+    assert_lines(&rt, &mut watcher, "");
+    watcher.machine.moment = 500_000;
     watcher.machine.drops = 208;
     assert!(rt; watcher.looks());
-    assert_lines(&rt, &mut watcher, "datagrams dropped by the kernel 208\n");
+    assert_lines(
+        &rt,
+        &mut watcher,
+        "socket faults 3\ndatagrams dropped by the kernel 208\n",
+    );
+    watcher.machine.moment = 1_000_000;
+    assert!(rt; watcher.looks());
+    assert_eq!(rt; watcher.next(told), Asked::GoOn);
+    assert_lines(&rt, &mut watcher, "lines left out 7\n");
     watcher.machine.drops = 210;
     watcher.end();
     assert_lines(
         &rt,
         &mut watcher,
-        "datagrams dropped by the kernel 2\nstopped\n",
+        "stopping, all rounds were made\ndatagrams dropped by the kernel 2\nstopped\n",
     );
+    Ok(())
+}
+
+#[test]
+fn a_flood_hides_no_count(rt: HostRuntime) -> Result<(), Fail> {
+    let entries = vec![in rt.alloc(); entry(rt.alloc())?]?;
+    let mut watcher = watcher(rt.alloc(), &entries, false, start(true, None))?;
+    assert_eq!(rt; watcher.next(NOTHING), Asked::GoOn);
+    watcher.machine.moment = 1_000_000;
+    assert_eq!(rt; watcher.next(NOTHING), Asked::GoOn);
+    let flood = refusal(None, b"x")?;
+    for _ in 0..60 {
+        watcher.refused(&flood);
+    }
+    watcher.log.out.clear();
+    watcher.machine.drops = 8_395;
+    let told = Told {
+        is_quiet: false,
+        faults: 2,
+        missed: 300,
+    };
+    assert_eq!(rt; watcher.next(told), Asked::GoOn);
+    assert!(rt; watcher.looks());
+    assert_lines(
+        &rt,
+        &mut watcher,
+        "socket faults 2\ndatagrams dropped by the kernel 8395\n",
+    );
+    watcher.machine.moment = 2_000_000;
+    assert_eq!(rt; watcher.next(told), Asked::GoOn);
+    assert_lines(&rt, &mut watcher, "lines left out 310\n");
     Ok(())
 }
