@@ -27,6 +27,7 @@ OUTCOMES = ("answered", "accepted", "full", "dropped", "memory")
 SECRET = bytes(range(100, 132)).hex()
 STOP_SECONDS = 1.5
 PAGE = 4096
+SET_PIPE_SIZE = 1031  # F_SETPIPE_SZ of Linux, which Python has since 3.10.
 # The second line of a gateway that wasn't started by the launcher.
 UNBLOCKED = "SIGINT or SIGTERM ends the gateway at once, without a report: bin/srtgw run blocks them"
 
@@ -137,7 +138,7 @@ class Run:
         if reads:
             self.read()
         else:
-            fcntl.fcntl(self.process.stderr, fcntl.F_SETPIPE_SZ, PAGE)
+            fcntl.fcntl(self.process.stderr, SET_PIPE_SIZE, PAGE)
 
     def read(self):
         """Begins to read what it says."""
