@@ -99,7 +99,10 @@ impl<'a, M: Machine + Drop, W: Write + Drop> Watcher<'a, M, W> {
     /// Notes something unwise in the configuration, in 512 bytes at most, to be told behind the first line. Takes memory;
     /// the only error is that it is refused.
     pub fn warn<D: Display + Drop>(&mut self, warning: D) -> Result<(), AllocError> {
-        self.warnings.push(InlineText::of(warning))
+        match self.warnings.push(InlineText::of(warning)) {
+            Ok(()) => Ok(()),
+            Err(_) => Err(AllocError),
+        }
     }
 
     // Writes the lines of what is unwise, once.
