@@ -1,5 +1,5 @@
 -- From the opening of all routes to their accounts.
-use Rattle.std.proofs.Common.{◌≡◌, ◌⊎◌, ◌≤◌, ℕ, Option, None, List, ◌++◌, length, take, drop, sym, ◌∙◌, inl, inr}
+use Rattle.std.proofs.Common.{◌≡◌, ◌⊎◌, ◌≤◌, ℕ, Option, None, List, ◌++◌, length, take, drop, sym, subst, ◌∙◌, true, false, inl, inr}
 use Rattle.std.proofs.Math.Seq.{take-append_seam}
 use Rattle.srt_seq.specs.declared.shared.Schedule.{Schedule}
 use Rattle.srt_seq.specs.Terms.{Terms}
@@ -12,11 +12,11 @@ use Rattle.srt_poller.specs.declared.ends.Ends.{Ends}
 use Rattle.srt_poller.specs.declared.report.Report.{Report}
 use Rattle.srt_poller.specs.Devices.{Heard, Carried}
 use Rattle.srt_poller.specs.History.{Sorting}
-use Rattle.srt_poller.specs.Pumped.{PumpedUnder, before, after}
+use Rattle.srt_poller.specs.Pumped.{Before, After, PumpedUnder, before, after}
 use Rattle.srt_serve.specs.Later.{first_names}
 use Rattle.srt_serve.specs.Opened.{AreOpened}
 use Rattle.srt_serve.specs.Polled.{Polled}
-use Rattle.srt_serve.specs.Ran.{RanUnder, Told, told_by}
+use Rattle.srt_serve.specs.Ran.{Ran, RanUnder, Told, told_by}
 use Rattle.srt_serve.specs.Settled.{AreJoined, AreSettled}
 use Rattle.srt_serve.specs.Ticks.{Ticked}
 use Rattle.srt_serve.proofs.Routes.{itself, untold, all_joined, all_ran}
@@ -56,4 +56,31 @@ ran_for class schedules entries rounds old new report accounts known ran =
     (ran.0, ran.1, ran.2, elim ran.3 [
       | inl none ↦ inl none
       | inr some ↦ inr (known some)
+    ])
+
+-- so does what is known of the rounds that were made
+pub rounds_for : {closes closes' : Type 0} (class : Sorting) (schedules : List Schedule) (rounds made : ℕ) (before : Before) (after : After) →
+    (closes → closes') → Polled closes class schedules rounds made before after → (made ≤ rounds) × ((made ≡ rounds) ⊎ closes')
+unfolding Polled
+rounds_for class schedules rounds made before after known polled =
+    (polled.1, elim polled.2 [
+      | inl all ↦ inl all
+      | inr some ↦ inr (known some)
+    ])
+
+never : {A : Type 0} → false ≡ true → A
+never h = absurd (let bad : false ≡ true = h in cc)
+
+-- nobody watched: all rounds were made, and none closed all
+pub all_made : (class : Sorting) (schedules : List Schedule) (entries : List Terms) (rounds made : ℕ) (old new : Told) (report : Report) (accounts : List Account) →
+    (made ≤ rounds) × ((made ≡ rounds) ⊎ (false ≡ true)) → RanUnder (false ≡ true) class schedules entries made old new report accounts → Ran class schedules entries rounds old new report accounts
+all_made class schedules entries rounds made old new report accounts whole ran =
+    let same : made ≡ rounds = elim whole.1 [
+      | inl all ↦ all
+      | inr bad ↦ never bad
+    ] in
+    subst (λ (n : ℕ). Ran class schedules entries n old new report accounts) same
+    (ran.0, ran.1, ran.2, elim ran.3 [
+      | inl none ↦ none
+      | inr bad ↦ never bad
     ])

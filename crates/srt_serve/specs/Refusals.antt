@@ -20,9 +20,13 @@ code_of type = if nat_le 1000 type && nat_lt type (2 ^ 31) then Some type else N
 abbrev pub refusal_in : (packet : List ℕ) → Option ℕ
 refusal_in packet = if nat_le 40 (length packet) then code_of (word_at packet 36) else None
 
--- the first 64 bytes of the name that a Stream ID asks for
+-- a text, cut to 64 bytes
+abbrev pub cut : (text : List ℕ) → List ℕ
+cut text = if nat_le (length text) 64 then text else take 64 text
+
+-- the name that a Stream ID asks for, cut to 64 bytes
 abbrev pub name_by_ask : (bytes : List ℕ) → Result Ask AskFault → List ℕ
-name_by_ask bytes (Ok ask) = take 64 (name_of bytes ask)
+name_by_ask bytes (Ok ask) = cut (name_of bytes ask)
 name_by_ask bytes (Err fault) = []
 
 abbrev pub name_by_stream_id : Option (List ℕ) → List ℕ
@@ -41,6 +45,6 @@ abbrev pub name_by_packet : Result Packet PacketFault → List ℕ
 name_by_packet (Ok packet) = name_by_body packet.body
 name_by_packet (Err fault) = []
 
--- the first 64 bytes of the name that the Stream ID of a conclusion asks for; none where there is no such name
+-- the name that the Stream ID of a conclusion asks for, cut to 64 bytes; none where there is no such name
 abbrev pub name_asked : (datagram : List ℕ) → List ℕ
 name_asked datagram = name_by_packet (packet_in datagram)

@@ -1,11 +1,11 @@
 //! Refused conclusions: what a watcher is told of one.
 
-ghost use Rattle.std.specs.Prelude.{◌≡◌, ◌≤◌, ◌+◌, Ok, ◌++◌, length, take};
+ghost use Rattle.std.specs.Prelude.{◌≡◌, ◌≤◌, Ok, length};
 ghost use Rattle.srt_packet.specs.View.{packet_of};
 ghost use Rattle.srt_hs.specs.View.{handshake_of};
 ghost use Rattle.srt_hs.specs.Reading.{handshake_in};
 ghost use Rattle.srt_streamid.specs.Reading.{ask_in};
-ghost use Rattle.srt_serve.specs.Refusals.{code_of, refusal_in, name_by_ask, name_by_stream_id, name_by_handshake, name_by_packet, name_asked};
+ghost use Rattle.srt_serve.specs.Refusals.{code_of, cut, refusal_in, name_by_ask, name_by_stream_id, name_by_handshake, name_by_packet, name_asked};
 
 use arrayvec::ArrayVec;
 use srt_hs::{HsRef, stream_id};
@@ -51,28 +51,32 @@ pub fn refusal_in(packet: &[u8]) -> Option<u32>
     }
 }
 
-fn append(name: &mut ArrayVec<u8, MAX_NAME>, bytes: &[u8])
-    requires { length name.old.items + length bytes.now ≤ 64 }
-    ensures { name.new.items ≡ name.old.items ++ bytes.now }
-{
-    let _ = name.try_extend_from_slice(bytes);
-}
-
-/// The first 64 bytes of a text.
-fn front_of(text: &[u8]) -> ArrayVec<u8, MAX_NAME>
-    ensures { result.items ≡ take 64 text.now }
+/// A copy of a text of at most 64 bytes.
+fn copy_of(text: &[u8]) -> ArrayVec<u8, MAX_NAME>
+    requires { length text.now ≤ 64 }
+    ensures { result.items ≡ text.now }
 {
     let mut name = ArrayVec::new();
-    let len = text.len().min(MAX_NAME);
-    append(&mut name, &text[..len]);
+    let _ = name.try_extend_from_slice(text);
     name
+}
+
+/// A copy of a text, cut to 64 bytes.
+fn cut(text: &[u8]) -> ArrayVec<u8, MAX_NAME>
+    ensures { result.items ≡ cut text.now }
+{
+    if text.len() <= MAX_NAME {
+        copy_of(text)
+    } else {
+        copy_of(&text[..MAX_NAME])
+    }
 }
 
 fn name_in(bytes: &[u8]) -> ArrayVec<u8, MAX_NAME>
     ensures { result.items ≡ name_by_ask bytes.now (ask_in bytes.now) }
 {
     match srt_streamid::read(bytes) {
-        Ok(ask) => front_of(&bytes[ask.start..ask.start + ask.len]),
+        Ok(ask) => cut(&bytes[ask.start..ask.start + ask.len]),
         Err(_) => ArrayVec::new(),
     }
 }

@@ -286,9 +286,8 @@ where
         (told_by (heard (S.gave source.new) (S.calls source.new)) (carried (W.handed wire.new) (W.attempts wire.new)) (K.gave r.ticker)) r.report r.accounts.items) }
     ensures unread { (result ≡ Err RunFault.OutOfMemory) ⊎ (result ≡ Err RunFault.Thread) → (source.new ≡ source.old) × (wire.new ≡ wire.old) }
 {
-    let rounds = u64::from(rounds);
     match run_with(
-        rt, alloc, secret, entries, schedules, source, wire, ticker, gates, Nobody, false, rounds,
+        rt, alloc, secret, entries, schedules, source, wire, ticker, gates, Nobody, false, rounds as u64,
     ) {
         Ok(watched) => {
             let Watched {

@@ -68,20 +68,17 @@ pub struct Crew<K: Ticker + Drop, E: TickEnd + Drop, G: Drop, T: Drop> {
     pub watch: T,
 }
 
-// Starts a worker for each gate, watches if the run is watched, and waits until all have ended. If a worker can't be
-// started, the run ends.
-fn start_workers<R, G, C, T>(context: &Context<R, C>, gates: &mut Vec<G>, watch: &mut T)
+// Starts a worker for each gate, and waits until all have ended. If one can't be started, the run ends.
+fn start_workers<R, G, C>(context: &Context<R, C>, gates: &mut Vec<G>)
 where
     R: Threads + Wait + Sync,
     G: Gate + Send + Drop,
     C: Serve + Sync,
-    T: Watch,
 {
     let Context {
         rt,
         cells,
         hall,
-        post,
         ..
     } = *context;
     let gates = mem::replace(gates, Vec::new(context.alloc));
@@ -97,10 +94,33 @@ where
             }
             first = first.wrapping_add(1);
         }
-        if let Some(post) = post {
-            watch_routes(rt, cells, hall, post, watch);
-        }
     });
+}
+
+// Watches until the run is over, if the run is watched.
+fn watch_over<R: Wait, C: Serve, T: Watch>(context: &Context<R, C>, watch: &mut T) {
+    if let Some(post) = context.post {
+        watch_routes(context.rt, context.cells, context.hall, post, watch);
+    }
+}
+
+// Starts the workers, and watches in a thread more if the run is watched. Returns when all have ended.
+fn start_all<R, G, C, T>(context: &Context<R, C>, gates: &mut Vec<G>, watch: &mut T)
+where
+    R: Threads + Wait + Sync,
+    G: Gate + Send + Drop,
+    C: Serve + Sync,
+    T: Watch + Send,
+{
+    if context.post.is_none() {
+        start_workers(context, gates);
+        return;
+    }
+    let _ = join_mut(
+        context.rt,
+        &mut || watch_over(context, watch),
+        &mut || start_workers(context, gates),
+    );
 }
 
 // Waits until all threads have arrived, polls, and ends the run. `None` if they don't arrive; then nothing was read.
@@ -206,7 +226,7 @@ where
     let watch = &mut crew.watch;
     let (_, pumping) = join_mut(
         context.rt,
-        &mut || start_workers(context, gates, watch),
+        &mut || start_all(context, gates, watch),
         &mut ||
             requires ready { AreReady context.now.schedules.now (names_of front.now.names) front.now.ends.items }
             requires few { context.now.rounds ≤ 2 ^ 48 }
