@@ -52,21 +52,27 @@ run_ran closes class schedules entries rounds made names names' gave gave' to to
 -- what makes it known may be said in other words
 pub ran_for : {closes closes' : Type 0} (class : Sorting) (schedules : List Schedule) (entries : List Terms) (rounds : ℕ) (old new : Told) (report : Report) (accounts : List Account) →
     (closes → closes') → RanUnder closes class schedules entries rounds old new report accounts → RanUnder closes' class schedules entries rounds old new report accounts
-ran_for class schedules entries rounds old new report accounts known ran =
-    (ran.0, ran.1, ran.2, elim ran.3 [
-      | inl none ↦ inl none
-      | inr some ↦ inr (known some)
-    ])
+ran_for class schedules entries rounds old new report accounts known ran = (
+  ran.0,
+  ran.1,
+  ran.2,
+  elim ran.3 [
+    | inl none ↦ inl none
+    | inr some ↦ inr (known some)
+  ],
+)
 
 -- so does what is known of the rounds that were made
 pub rounds_for : {closes closes' : Type 0} (class : Sorting) (schedules : List Schedule) (rounds made : ℕ) (before : Before) (after : After) →
     (closes → closes') → Polled closes class schedules rounds made before after → (made ≤ rounds) × ((made ≡ rounds) ⊎ closes')
 unfolding Polled
-rounds_for class schedules rounds made before after known polled =
-    (polled.1, elim polled.2 [
-      | inl all ↦ inl all
-      | inr some ↦ inr (known some)
-    ])
+rounds_for class schedules rounds made before after known polled = (
+  polled.1,
+  elim polled.2 [
+    | inl all ↦ inl all
+    | inr some ↦ inr (known some)
+  ],
+)
 
 never : {A : Type 0} → false ≡ true → A
 never h = absurd (let bad : false ≡ true = h in cc)
@@ -79,8 +85,12 @@ all_made class schedules entries rounds made old new report accounts whole ran =
       | inl all ↦ all
       | inr bad ↦ never bad
     ] in
-    subst (λ (n : ℕ). Ran class schedules entries n old new report accounts) same
-    (ran.0, ran.1, ran.2, elim ran.3 [
-      | inl none ↦ none
-      | inr bad ↦ never bad
-    ])
+    subst (λ (n : ℕ). Ran class schedules entries n old new report accounts) same (
+      ran.0,
+      ran.1,
+      ran.2,
+      elim ran.3 [
+        | inl none ↦ none
+        | inr bad ↦ never bad
+      ],
+    )

@@ -287,7 +287,18 @@ where
     ensures unread { (result ≡ Err RunFault.OutOfMemory) ⊎ (result ≡ Err RunFault.Thread) → (source.new ≡ source.old) × (wire.new ≡ wire.old) }
 {
     match run_with(
-        rt, alloc, secret, entries, schedules, source, wire, ticker, gates, Nobody, false, rounds as u64,
+        rt,
+        alloc,
+        secret,
+        entries,
+        schedules,
+        source,
+        wire,
+        ticker,
+        gates,
+        Nobody,
+        false,
+        rounds as u64,
     ) {
         Ok(watched) => {
             let Watched {

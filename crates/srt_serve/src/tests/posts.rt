@@ -37,8 +37,13 @@ fn refusals_that_find_no_place_are_counted(rt: HostRuntime) -> Result<(), Fail> 
     let cells: Vec<RouteCell> = Vec::new(alloc);
     let hall = Hall::open(alloc, 0, 1)?;
     let post = Post::open(alloc)?;
-    let helper: Helper<'_, HostRuntime, RouteCell, Ungated> =
-        Helper::new(&rt, &cells, &hall, Some(&post), None);
+    let helper: Helper<'_, HostRuntime, RouteCell, Ungated> = Helper::new(
+        &rt,
+        &cells,
+        &hall,
+        Some(&post),
+        None,
+    );
     let conclusion = hex::decode(alloc, STUDIA)?;
     let refusal = hex::decode(alloc, REFUSAL)?;
     helper.answered(peer(), &conclusion, &hex::decode(alloc, INDUCTION)?);

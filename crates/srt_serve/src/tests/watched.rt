@@ -3,7 +3,9 @@
 
 ghost use Rattle.std.specs.Prelude.{◌≤◌, ◌^◌};
 
-use crate::tests::{ALWAYS, Again, LIMIT, Member, Routes, SECRET, STUDIA, STUDIO, Scene, peer, scene_of};
+use crate::tests::{
+    ALWAYS, Again, LIMIT, Member, Routes, SECRET, STUDIA, STUDIO, Scene, peer, scene_of,
+};
 use crate::watching::{Told, Watch};
 use crate::{Gates, Refusal, RunFault, Watched, run_until};
 use srt_cookie::Secret;
@@ -12,7 +14,7 @@ use srt_mailbox::Ungated;
 use srt_poller::Asked;
 use srt_route::{Route, SessionView};
 use srt_seq::{Peer, Role};
-use std::alloc::Global;
+use std::alloc::{AllocError, Global};
 use std::sync::Wait;
 use std::test::Fail;
 use std::thread;
@@ -101,7 +103,7 @@ impl Guard {
         }
     }
 
-    fn note(&mut self, refusal: &Refusal) -> Result<(), Fail> {
+    fn note(&mut self, refusal: &Refusal) -> Result<(), AllocError> {
         let name = Vec::from_slice(self.alloc, refusal.name.as_slice())?;
         self.notes.push(Note {
             route: refusal.route,
@@ -263,7 +265,7 @@ fn refusals_are_told(rt: HostRuntime) -> Result<(), Fail> {
         return Err(Fail::from("two refusals"));
     };
     assert!(rt; lobby.route.is_none() && lobby.peer == peer() && lobby.code == 1002);
-    assert!(rt; lobby.name.as_slice() == b"studia");
+    assert!(rt; lobby.name.as_slice() == b"studia".as_slice());
     assert!(rt; route.route == Some(0) && route.peer == peer() && route.code == 1003);
     assert!(rt; route.name.is_empty());
     Ok(())

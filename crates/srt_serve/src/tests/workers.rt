@@ -149,7 +149,9 @@ fn a_worker_serves_after_hundreds_of_thousands_of_rings(rt: HostRuntime) -> Resu
 fn the_polling_thread_asks_for_workers(rt: HostRuntime) -> Result<(), Fail> {
     let desks = desks(rt.alloc(), &[Load::Turns(1); 12])?;
     let hall = Hall::open(rt.alloc(), 12, 1)?;
-    let ungated: Helper<'_, HostRuntime, Desk, Ungated> = Helper::new(&rt, &desks, &hall, None, None);
+    let ungated: Helper<'_, HostRuntime, Desk, Ungated> = Helper::new(
+        &rt, &desks, &hall, None, None,
+    );
     ungated.offered(7);
     ungated.read_ended(1);
     assert_eq!(rt;
