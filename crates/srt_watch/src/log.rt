@@ -100,6 +100,7 @@ impl<W: Write + Drop> Log<W> {
     pub fn end(&mut self, when: When) {
         self.pass(when);
         let missed = mem::replace(&mut self.missed, 0);
-        self.tell_left_out(when, self.limit.left_out().saturating_add(missed));
+        let left_out = self.limit.left_out();
+        self.tell_left_out(when, left_out.saturating_add(missed));
     }
 }

@@ -119,14 +119,16 @@ impl<'a, M: Machine + Drop, W: Write + Drop> Watcher<'a, M, W> {
         let Some(start) = self.start.take() else {
             return;
         };
+        let ip = start.ip;
+        let memory = self.machine.memory();
         self.log.tell_always(
             when,
             LogEvent::Started {
-                ip: start.ip,
+                ip,
                 port: start.port,
                 routes: self.entries.len() as u32,
                 workers: start.workers,
-                memory: self.machine.memory(),
+                memory,
             },
         );
         if !start.is_blocked {

@@ -1,5 +1,7 @@
 //! Rounds in which no outbox has a hint. The expected outcomes were worked out from the rules by hand.
 
+ghost use Rattle.std.specs.Prelude.{◌≤◌, ◌^◌};
+
 use super::{
     ALWAYS, CONCLUSION, Routes, Serving, assert_replies, comes, conclude, open_routes,
     pumped_under, with_places, with_replies,
@@ -51,7 +53,9 @@ fn sent<S: Source>(
     source: &mut S,
     wire: &mut WireScript,
     rounds: u64,
-) -> Result<u64, Fail> {
+) -> Result<u64, Fail>
+    requires { rounds ≤ 2 ^ 48 }
+{
     let pumping = pumped_under(rt, [ALWAYS; 2], ends, source, wire, rounds, &Silent)?;
     Ok(pumping.report.sent)
 }
@@ -83,7 +87,9 @@ fn an_outbox_whose_reply_was_put_off_is_looked_at_later(rt: HostRuntime) -> Resu
 
 /// The number of datagrams that this many rounds send, if a conclusion comes in the first one and its reply is in the
 /// outbox from the second one on.
-fn sent_late(rt: &(impl AllocGlobal + Wait), rounds: u64) -> Result<u64, Fail> {
+fn sent_late(rt: &(impl AllocGlobal + Wait), rounds: u64) -> Result<u64, Fail>
+    requires { rounds ≤ 2 ^ 48 }
+{
     let alloc = rt.alloc();
     let Routes {
         mut ends,

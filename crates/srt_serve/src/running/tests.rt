@@ -80,10 +80,10 @@ impl Ticker for Device {
 
 /// Begins a run of five rounds with one worker, once it is over: so it is if a thread couldn't be started. Returns what
 /// the poller reports.
-fn serve_once_over<R>(
-    rt: &R,
+fn serve_once_over<'a, R>(
+    rt: &'a R,
     entries: &[Entry],
-    schedules: &[Schedule],
+    schedules: &'a [Schedule],
     source: &mut Device,
     wire: &mut Device,
 ) -> Result<Option<Pumping>, Fail>

@@ -10,6 +10,9 @@ use std::process::Abort;
 use std::sync::Wait;
 use std::test::Fail;
 
+/// The header of a handshake without anything behind it.
+const HEADER: &str = "80000000000000000000000000001388";
+
 /// The answer to an INDUCTION: its handshake type, the sixth word behind the header, is 1.
 const INDUCTION: &str =
     "80000000000000000000000000000001000000050000000000000005000005dc0000200000000001000000010000000000000000000000000000000000000000";
@@ -48,7 +51,7 @@ fn refusals_that_find_no_place_are_counted(rt: HostRuntime) -> Result<(), Fail> 
     let refusal = hex::decode(alloc, REFUSAL)?;
     helper.answered(peer(), &conclusion, &hex::decode(alloc, INDUCTION)?);
     helper.replied(7, peer(), &hex::decode(alloc, ANSWER)?);
-    helper.replied(7, peer(), &refusal[..16]);
+    helper.replied(7, peer(), &hex::decode(alloc, HEADER)?);
     assert!(rt; post.take(&rt).is_none() && post.missed() == 0);
     helper.replied(7, peer(), &refusal);
     for _ in 0..69u32 {

@@ -2,10 +2,13 @@
 //! the draft by hand; a socket ID is 0x00100000 for the first slot of the route with index 0, and 0x100 more for each
 //! further session there.
 
+ghost use Rattle.std.specs.Prelude.{◌≡◌};
+ghost use Rattle.srt_seq.specs.Items.{told, moment_of};
+
 use crate::{Machine, Start, Watcher};
 use arrayvec::ArrayVec;
 use srt_poller::Asked;
-use srt_route::Route;
+use srt_route::{Reply, Route};
 use srt_seq::{Entry, Item, Mode, Peer};
 use srt_serve::{Refusal, Told, Watch};
 use std::alloc::Global;
@@ -54,7 +57,7 @@ impl Machine for Set {
 
     /// 2026-11-26T15:04:05.123Z and the moment.
     fn time(&self) -> u64 {
-        1_795_705_445_123_000 + self.moment
+        self.moment.saturating_add(1_795_705_445_123_000)
     }
 
     fn stop_asked(&self) -> bool {
@@ -115,9 +118,29 @@ fn assert_lines(rt: &impl Abort, watcher: &mut Watching<'_>, lines: &str) {
     watcher.log.out.clear();
 }
 
+/// Applies an item, and takes the replies.
+fn apply(alloc: Global, route: &mut Route, item: &Item, moment: u64) -> Result<(), Fail>
+    requires { moment_of (told item.now) ≡ moment }
+{
+    if route.waits() || moment > 10_000_000 {
+        return Err(Fail::from("an early moment, and no reply that waits"));
+    }
+    let _ = route.step(item);
+    let mut place = Box::new(alloc, Reply::blank())?;
+    for _ in 0..200u32 {
+        if !route.next_reply(&mut place) {
+            return Ok(());
+        }
+    }
+    Err(Fail::from("fewer than 200 replies"))
+}
+
 /// A datagram comes to the route.
 fn hear(alloc: Global, route: &mut Route, moment: u64, text: &str) -> Result<(), Fail> {
     let bytes = hex::decode(alloc, text)?;
+    if bytes.len() < 16 {
+        return Err(Fail::from("a header"));
+    }
     let mut head = [0u8; 16];
     head.copy_from_slice(&bytes[..16]);
     let item = Item::Datagram {
@@ -126,8 +149,12 @@ fn hear(alloc: Global, route: &mut Route, moment: u64, text: &str) -> Result<(),
         head,
         body: Vec::from_slice(alloc, &bytes[16..])?,
     };
-    let _ = route.step(&item);
-    Ok(())
+    apply(alloc, route, &item, moment)
+}
+
+/// The route is closed.
+fn close(alloc: Global, route: &mut Route, moment: u64) -> Result<(), Fail> {
+    apply(alloc, route, &Item::Close { moment }, moment)
 }
 
 #[test]
@@ -228,7 +255,7 @@ fn a_session_opens_and_ends(rt: HostRuntime) -> Result<(), Fail> {
     hear(rt.alloc(), &mut route, 4_000_000, PUBLISHER)?;
     watcher.see(0, &route);
     watcher.log.out.clear();
-    let _ = route.step(&Item::Close { moment: 5_000_000 });
+    close(rt.alloc(), &mut route, 5_000_000)?;
     watcher.see(0, &route);
     assert_lines(
         &rt,
@@ -248,7 +275,7 @@ fn a_stop_is_told_as_the_cause(rt: HostRuntime) -> Result<(), Fail> {
     watcher.machine.stops = true;
     assert_eq!(rt; watcher.next(NOTHING), Asked::CloseAll);
     watcher.log.out.clear();
-    let _ = route.step(&Item::Close { moment: 1_500_000 });
+    close(rt.alloc(), &mut route, 1_500_000)?;
     watcher.see(0, &route);
     assert_lines(
         &rt,
@@ -264,12 +291,12 @@ fn what_came_and_went_between_two_looks(rt: HostRuntime) -> Result<(), Fail> {
     let mut watcher = watcher(rt.alloc(), &entries, false, start(true, None))?;
     let mut route = Route::open(rt.alloc(), &entries[0], 0)?;
     watcher.see(0, &route);
-    let mut moment = 1_000_000;
-    for shutdown in [SHUTDOWN, LATER_SHUTDOWNS[0], LATER_SHUTDOWNS[1]] {
-        hear(rt.alloc(), &mut route, moment, PUBLISHER)?;
-        hear(rt.alloc(), &mut route, moment + 1_000, shutdown)?;
-        moment += 1_000_000;
-    }
+    hear(rt.alloc(), &mut route, 1_000_000, PUBLISHER)?;
+    hear(rt.alloc(), &mut route, 1_001_000, SHUTDOWN)?;
+    hear(rt.alloc(), &mut route, 2_000_000, PUBLISHER)?;
+    hear(rt.alloc(), &mut route, 2_001_000, LATER_SHUTDOWNS[0])?;
+    hear(rt.alloc(), &mut route, 3_000_000, PUBLISHER)?;
+    hear(rt.alloc(), &mut route, 3_001_000, LATER_SHUTDOWNS[1])?;
     watcher.see(0, &route);
     assert_lines(
         &rt,
