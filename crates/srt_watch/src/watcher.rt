@@ -126,7 +126,7 @@ impl<'a, M: Machine + Drop, W: Write + Drop> Watcher<'a, M, W> {
             LogEvent::Started {
                 ip,
                 port: start.port,
-                routes: self.entries.len() as u32,
+                routes: u32::try_from(self.entries.len()).unwrap_or(u32::MAX),
                 workers: start.workers,
                 memory,
             },
