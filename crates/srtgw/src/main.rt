@@ -128,12 +128,12 @@ fn explain_file(rt: &(impl Print + Eprint + Files + AllocGlobal), path: &str) ->
 }
 
 /// `srtgw run CONFIG`: serves callers until the gateway is told to stop, with a log on standard error.
-fn run_file<R>(rt: &R, path: &str, manner: Manner) -> Result<(), Fault>
+fn run_file<R>(rt: &R, machine: &HostRuntime, path: &str, manner: Manner) -> Result<(), Fault>
 where
     R: Print + Eprint + Files + AllocGlobal + Net + Clock + Threads + Wait + Sync,
 {
     let explained = explained_at(rt, path)?;
-    run_gateway(rt, path, &explained, manner)
+    run_gateway(rt, machine, path, &explained, manner)
 }
 
 /// `srtgw serve CONFIG --rounds N`: serves callers for N rounds, and then prints the report.
@@ -149,7 +149,7 @@ where
     }
 }
 
-fn run<R>(rt: &R, task: Task<'_>) -> Result<(), Fault>
+fn run<R>(rt: &R, machine: &HostRuntime, task: Task<'_>) -> Result<(), Fault>
 where
     R: Print + Eprint + Files + AllocGlobal + Net + Clock + Threads + Wait + Sync,
 {
@@ -162,7 +162,7 @@ where
         }
         Task::Replay { config, tape } => replay_file(rt, config, tape),
         Task::Serve { config, rounds } => serve_file(rt, config, rounds),
-        Task::Run { config, manner } => run_file(rt, config, manner),
+        Task::Run { config, manner } => run_file(rt, machine, config, manner),
     }
 }
 
@@ -195,7 +195,7 @@ fn tell_words<R: Print + Eprint + AllocGlobal>(
 }
 
 /// Runs the task of these words. Wrong words give status 2 and a text on standard error.
-fn obey<R>(rt: &R, words: &[String]) -> Result<ExitCode, Fault>
+fn obey<R>(rt: &R, machine: &HostRuntime, words: &[String]) -> Result<ExitCode, Fault>
 where
     R: Print + Eprint + Files + AllocGlobal + Net + Clock + Threads + Wait + Sync,
 {
@@ -204,7 +204,7 @@ where
     };
     match command.try_get_matches_from(words) {
         Ok(matches) => match given_in(&matches) {
-            Some(Given::Task(task)) => Ok(status_of(rt, run(rt, task))),
+            Some(Given::Task(task)) => Ok(status_of(rt, run(rt, machine, task))),
             Some(Given::WrongDuration) => match wrong_duration(rt.alloc()) {
                 Ok(error) => tell_words(rt, error),
                 Err(_) => Err(Fault::Memory),
@@ -229,12 +229,12 @@ fn words_given(rt: &(impl Env + AllocGlobal)) -> Result<Option<Vec<String>>, Fau
 }
 
 /// Runs the task of the command line. Words that aren't UTF-8 give status 2, as a wrong command line does.
-fn obey_words<R>(rt: &R) -> Result<ExitCode, Fault>
+fn obey_words<R>(rt: &R, machine: &HostRuntime) -> Result<ExitCode, Fault>
 where
     R: Env + Print + Eprint + Files + AllocGlobal + Net + Clock + Threads + Wait + Sync,
 {
     match words_given(rt)? {
-        Some(words) => obey(rt, words.as_slice()),
+        Some(words) => obey(rt, machine, words.as_slice()),
         None => {
             let _ = rt.eprintln("error: a word of the command line is not UTF-8");
             Ok(ExitCode::from(2))
@@ -243,7 +243,7 @@ where
 }
 
 fn main(rt: HostRuntime) -> ExitCode {
-    match obey_words(&rt) {
+    match obey_words(&rt, &rt) {
         Ok(status) => status,
         Err(fault) => status_of(&rt, Err(fault)),
     }

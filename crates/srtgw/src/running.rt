@@ -77,9 +77,11 @@ fn print_accounts(rt: &impl Print, config: &Config, accounts: &[Account]) -> io:
 
 /// Serves the routes of an explained configuration until SIGINT or SIGTERM is pending or its time is over, and tells a log
 /// on standard error what happens. Then every route is closed, and what is left is sent, for a second at most. Prints
-/// the report and an account of each route. `path` is that of the configuration.
+/// the report and an account of each route. `path` is that of the configuration. The watcher, which has a thread of its
+/// own, asks `machine`.
 pub fn run_gateway<R>(
     rt: &R,
+    machine: &HostRuntime,
     path: &str,
     explained: &Explained,
     manner: Manner,
@@ -104,12 +106,12 @@ where
         is_blocked: signals_are_blocked(rt),
         lasts: manner.lasts,
     };
-    let host = Host::new(rt, start, config.bind);
+    let host = Host::new(machine, start, config.bind);
     let entries = config.entries.as_slice();
     let Ok(mut watcher) = Watcher::open(
         rt.alloc(),
         host,
-        Errors::new(rt),
+        Errors::new(machine),
         manner.is_timed,
         entries,
         beginning,

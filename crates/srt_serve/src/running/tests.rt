@@ -100,7 +100,7 @@ where
         names,
         routes,
         hall,
-        post: _,
+        post,
         accounts: _,
     } = stage;
     let Opened {
@@ -116,7 +116,7 @@ where
         schedules,
         cells: cells.as_slice(),
         hall: &hall,
-        post: None,
+        post: post.as_ref(),
         rounds: 5,
     };
     let mut front: Front<Ungated> = Front {
