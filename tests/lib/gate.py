@@ -9,7 +9,7 @@ from concurrent.futures import ThreadPoolExecutor
 
 import trying
 from machine import Meter
-from parts import OF_FILES, PARTS, QUICK, Count, all_of, counted
+from parts import BY_HAND, OF_FILES, PARTS, QUICK, Count, all_of, counted
 from tree import PROGRAM, TOP, Crate, above, crates, files_of, read
 
 TEST = re.compile(r"(?m)^\s*#\[test\]")
@@ -99,7 +99,7 @@ def whole() -> Count:
     section("proofs")
     count = count.and_also(verdict())
     if not count.failed:
-        for name in (it for it in PARTS if it not in OF_FILES):
+        for name in (it for it in PARTS if it not in (*OF_FILES, *BY_HAND)):
             section(name)
             count = count.and_also(PARTS[name]())
         section("wrong bodies, beside one another")

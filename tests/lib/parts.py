@@ -75,7 +75,7 @@ def examples() -> Count:
     return all_of([told("example", it, command_lines.play_example(it)) for it in command_lines.names_of_examples()])
 
 
-# By their words on the command line, in the order in which the gate runs them.
+# By their words on the command line, in the order in which the gate runs them, but for those that it leaves out.
 PARTS: dict[str, Callable[[], Count]] = {
     "docs": lambda: subjects("docs"),
     "edits": lambda: subjects("edits"),
@@ -87,6 +87,7 @@ PARTS: dict[str, Callable[[], Count]] = {
     "operate": operate,
     "refusals": lambda: subjects("refusals"),
 }
-# Those that read files alone, and those that play for a short while against the built program.
+# Those that read files alone, those that the gate leaves out, and those that play for a short while against the built program.
 OF_FILES = ("docs", "edits")
+BY_HAND = ("operate",)
 QUICK = ("docs", "edits", "explain", "cases", "examples")
