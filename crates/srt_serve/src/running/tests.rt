@@ -118,6 +118,7 @@ fn without_all_threads_nothing_is_read(rt: HostRuntime) -> Result<(), Fail> {
     } = routes;
     let gates = vec![in alloc; Ungated]?;
     let secret = Secret::new([7; 32]);
+    let post = post.as_ref();
     let context = Context {
         rt: &rt,
         alloc,
@@ -125,7 +126,7 @@ fn without_all_threads_nothing_is_read(rt: HostRuntime) -> Result<(), Fail> {
         schedules: &schedules,
         cells: cells.as_slice(),
         hall: &hall,
-        post: post.as_ref(),
+        post,
         rounds: 5,
     };
     let mut front: Front<Ungated> = Front {
