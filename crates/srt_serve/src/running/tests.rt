@@ -1,6 +1,8 @@
 //! A run that is over before it begins.
 
-ghost use Rattle.std.specs.Prelude.{None};
+ghost use Rattle.std.specs.Prelude.{◌≡◌, None, map, length};
+ghost use Rattle.srt_seq.specs.Terms.{terms_of};
+ghost use Rattle.srt_lobby.specs.Opening.{fault_of};
 
 use crate::opening::Opened;
 use crate::running::{Stage, open_stage};
@@ -10,9 +12,11 @@ use crate::watching::Nobody;
 use srt_cookie::Secret;
 use srt_lobby::Names;
 use srt_mailbox::Ungated;
-use srt_poller::{Polled, Read, Sent, Source, Wire};
+use srt_poller::{Polled, Pumping, Read, Sent, Source, Wire};
 use srt_seq::{Entry, Mode, Peer, Schedule};
+use std::sync::Wait;
 use std::test::Fail;
+use std::thread::Threads;
 
 /// A source, a wire and a ticker that count their calls.
 #[derive(Drop)]
@@ -74,10 +78,67 @@ impl Ticker for Device {
     }
 }
 
-/// A run of five rounds with one worker begins once it is over: so it is if a thread couldn't be started.
+/// Begins a run of five rounds with one worker, once it is over: so it is if a thread couldn't be started. Returns what
+/// the poller reports.
+fn serve_once_over<R>(
+    rt: &R,
+    entries: &[Entry],
+    schedules: &[Schedule],
+    source: &mut Device,
+    wire: &mut Device,
+) -> Result<Option<Pumping>, Fail>
+where
+    R: AllocGlobal + Threads + Wait + Sync,
+    requires entries { fault_of (map terms_of entries.now) ≡ None }
+    requires schedules { length schedules.now ≡ length entries.now }
+{
+    let alloc = rt.alloc();
+    let Ok(stage) = open_stage(alloc, entries, schedules, 1, false) else {
+        return Err(Fail::from("memory"));
+    };
+    let Stage {
+        names,
+        routes,
+        hall,
+        post,
+        accounts: _,
+    } = stage;
+    let Opened {
+        ends,
+        clocks,
+        cells,
+    } = routes;
+    let gates = vec![in alloc; Ungated]?;
+    let told = post.as_ref();
+    let context = Context {
+        rt,
+        alloc,
+        secret: &Secret::new([7; 32]),
+        schedules,
+        cells: cells.as_slice(),
+        hall: &hall,
+        post: told,
+        rounds: 5,
+    };
+    let mut front: Front<Ungated> = Front {
+        names,
+        ends,
+        gate: None,
+    };
+    let mut crew = Crew {
+        clocks: Clocks {
+            ends: clocks,
+            ticker: Device { calls: 0 },
+        },
+        gates,
+        watch: Nobody,
+    };
+    hall.finish();
+    Ok(serve_routes(&context, source, wire, &mut front, &mut crew))
+}
+
 #[test]
 fn without_all_threads_nothing_is_read(rt: HostRuntime) -> Result<(), Fail> {
-    let alloc = rt.alloc();
     let entries = vec![in rt.alloc();
         Entry {
             name: String::from_str(rt.alloc(), "studio")?,
@@ -101,49 +162,7 @@ fn without_all_threads_nothing_is_read(rt: HostRuntime) -> Result<(), Fail> {
     }
     let mut source = Device { calls: 0 };
     let mut wire = Device { calls: 0 };
-    let Ok(stage) = open_stage(alloc, &entries, &schedules, 1, false) else {
-        return Err(Fail::from("memory"));
-    };
-    let Stage {
-        names,
-        routes,
-        hall,
-        post,
-        accounts: _,
-    } = stage;
-    let Opened {
-        ends,
-        clocks,
-        cells,
-    } = routes;
-    let gates = vec![in alloc; Ungated]?;
-    let secret = Secret::new([7; 32]);
-    let post = post.as_ref();
-    let context = Context {
-        rt: &rt,
-        alloc,
-        secret: &secret,
-        schedules: &schedules,
-        cells: cells.as_slice(),
-        hall: &hall,
-        post,
-        rounds: 5,
-    };
-    let mut front: Front<Ungated> = Front {
-        names,
-        ends,
-        gate: None,
-    };
-    let mut crew = Crew {
-        clocks: Clocks {
-            ends: clocks,
-            ticker: Device { calls: 0 },
-        },
-        gates,
-        watch: Nobody,
-    };
-    hall.finish();
-    let report = serve_routes(&context, &mut source, &mut wire, &mut front, &mut crew);
+    let report = serve_once_over(&rt, &entries, &schedules, &mut source, &mut wire)?;
     assert!(rt; report.is_none() && source.calls == 0 && wire.calls == 0);
     Ok(())
 }
