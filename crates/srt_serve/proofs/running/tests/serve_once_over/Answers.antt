@@ -9,6 +9,6 @@ use Rattle.srt_serve.proofs.running.tests.serve_once_over.Goals as goal
 pub serve_routes-requires-sync-C : goal.serve_routes-requires-sync-C
 serve_routes-requires-sync-C g c κs within = search (sendable, cell_sync)
 
-pub serve_routes-requires-after_bounds : goal.serve_routes-requires-after_bounds
-serve_routes-requires-after_bounds g c κs within =
+pub serve_routes-requires-clause-ready : goal.serve_routes-requires-clause-ready
+serve_routes-requires-clause-ready g c κs within =
     are_ready c.args.schedules.now _ _ _ _ _ c.requires.entries (c.requires.schedules ∙ sym (length-map c.args.entries.now terms_of)) c.in-Ok.ensures.names c.in-Ok.ensures.routes
