@@ -18,7 +18,7 @@ def built(room, name, program, needs, answers=None, modules=()):
     os.makedirs(f"{room}/crates/{name}/src")
     shutil.copyfile(program, f"{room}/crates/{name}/src/main.rt")
     for path in modules:
-        module = os.path.splitext(os.path.basename(path))[0]
+        module = os.path.basename(path).split(".")[0]
         shutil.copyfile(path, f"{room}/crates/{name}/src/{module}.rt")
     for function, path in (answers or {}).items():
         os.makedirs(f"{room}/crates/{name}/proofs/{function}")

@@ -1,6 +1,5 @@
 """The cases. Each is a function of the gateway's address, and has the routes that it names to itself. It raises Wrong if it
 fails."""
-import itertools
 import random
 import socket
 import struct
@@ -9,7 +8,7 @@ import time
 
 import tools
 import packets
-from caller import Caller, Publisher, Silent, Subscriber, delays_of, indexes, now, payload, stream
+from caller import Caller, Publisher, Silent, Subscriber, delays_of, endless, indexes, now, payload, start_all, stream
 from expecting import Wrong, accepted, expect, expect_delays, expect_refusal, expect_run, publish, refusal, request
 from gateway import Gateway, files, live, report
 from proxy import Proxy
@@ -82,8 +81,10 @@ def subscriber_first(address):
     subscriber = Subscriber(address, request("first"))
     subscriber.call()
     subscriber.start()
-    time.sleep(1.2)
-    expect(subscriber.kept_alive >= 1, "no KEEPALIVE came within a second")
+    until = time.monotonic() + 3
+    while time.monotonic() < until and not subscriber.kept_alive:
+        time.sleep(0.01)
+    expect(subscriber.kept_alive >= 1, "no KEEPALIVE is received within a second or so")
     publisher = Publisher(address, publish("first"), stream(200), 5_000)
     publisher.call()
     publisher.start()
@@ -114,23 +115,29 @@ def publisher_comes_back(address):
 def backup_takes_over(address):
     """The subscriber gets the main encoder's payloads, 0 to 99, and then those that the backup sends from its end on."""
     subscriber = Subscriber(address, request("backup"))
+    over = threading.Event()
     main = Publisher(address, publish("backup"), stream(100), 5_000)
-    backup = Publisher(address, publish("backup"), stream(400, 1000), 5_000)
+    backup = Publisher(address, publish("backup"), endless(over, 1000), 5_000)
     for one in (subscriber, main, backup):
         one.call()
     expect_refusal(1002, Publisher(address, publish("backup"), stream(1), 5_000), "a third publisher")
     for one in (subscriber, main, backup):
         one.start()
-    expect(main.wait_delivered(5), "the main encoder's window didn't become free")
-    main.close()
+    try:
+        expect(main.wait_delivered(5), "the main encoder's window didn't become free")
+        main.close()
+        subscriber.wait(10, 200)
+    finally:
+        over.set()
     expect(backup.wait_delivered(10), "the backup's window didn't become free")
+    end = 1000 + backup.next - backup.initial
     backup.close()
     time.sleep(0.2)
     subscriber.close()
     found = indexes(subscriber.got)
     expect(found[:100] == list(range(100)), f"of the main encoder's payloads {len([index for index in found if index < 1000])} came")
     rest = found[100:]
-    expect(len(rest) >= 100 and rest == list(range(1400 - len(rest), 1400)), f"of the backup's payloads came {len(rest)}, {rest[:1]} to {rest[-1:]}")
+    expect(len(rest) >= 100 and rest == list(range(end - len(rest), end)), f"of the backup's payloads came {len(rest)}, {rest[:1]} to {rest[-1:]}")
     expect_delays(subscriber.got, 120)
 
 
@@ -138,9 +145,7 @@ def backup_takes_over(address):
 def tail(address):
     subscriber = Subscriber(address, request("tail"))
     publisher = Publisher(address, publish("tail"), stream(100), 5_000)
-    for one in (subscriber, publisher):
-        one.call()
-        one.start()
+    start_all(subscriber, publisher)
     expect(publisher.wait_all(5), "packets weren't acknowledged")
     publisher.close()
     time.sleep(1.2)
@@ -151,9 +156,7 @@ def tail(address):
 @case("a session nobody hears of for five seconds ends", live("idle"))
 def idle_session(address):
     silent = [Publisher(address, publish("idle"), stream(10), 5_000) for _ in range(2)]
-    for one in silent:
-        one.call()
-        one.start()
+    start_all(*silent)
     for one in silent:
         one.wait_all(2)
         one.stop()
@@ -184,9 +187,7 @@ def delays(address):
 def longer_delay(address):
     publisher = Publisher(address, publish("slow"), stream(150), 5_000, sender_ms=400)
     subscriber = Subscriber(address, "slow", receiver_ms=300)
-    for one in (publisher, subscriber):
-        one.call()
-        one.start()
+    start_all(publisher, subscriber)
     expect(publisher.delays() == (400, 120) and subscriber.delays() == (120, 300), "the delays are answered otherwise")
     subscriber.wait(5, 150)
     subscriber.close()
@@ -278,9 +279,7 @@ def over_a_line(address, name, least_ms, counts, **chances):
     there, back = Proxy(address, 1), Proxy(address, 2)
     publisher = Publisher(there.address, publish(name), stream(before + during + 150), 4_000)
     subscriber = Subscriber(back.address, request(name), receiver_ms=500)
-    for one in (publisher, subscriber):
-        one.call()
-        one.start()
+    start_all(publisher, subscriber)
     subscriber.wait(10, before)
     for line in (there, back):
         for chance, value in chances.items():
@@ -326,9 +325,7 @@ def garbage(address):
     thrower = socket.socket(socket.AF_INET, socket.SOCK_DGRAM)
     publisher = Publisher(address, publish("calm"), stream(300), 5_000)
     subscriber = Subscriber(address, request("calm"))
-    for one in (publisher, subscriber):
-        one.call()
-        one.start()
+    start_all(publisher, subscriber)
     theirs = 0x00100000 | publisher.peer_id & 0x000FFFFF
     while publisher.is_alive() and not publisher.exhausted:
         for _ in range(8):
@@ -353,9 +350,7 @@ def hand_over(address, name, contents, towards=None, seconds=20):
     """Sends a file through a route in buffer mode. It must come out byte for byte."""
     publisher = Publisher(towards or address, publish(name), pieces(contents), 0, mode="buffer", congestion=b"file")
     subscriber = Subscriber(towards or address, request(name), mode="buffer", congestion=b"file")
-    for one in (subscriber, publisher):
-        one.call()
-        one.start()
+    start_all(subscriber, publisher)
     expect(publisher.wait_delivered(seconds), f"after {seconds} s the file is not delivered: {len(subscriber.got)} pieces came")
     publisher.close()
     subscriber.wait(5, len(pieces(contents)))
@@ -402,9 +397,7 @@ def ends_in_time(_):
     gateway = Gateway([live("short")], rounds)
     expect(gateway.is_up(), "it doesn't come up")
     publisher, subscriber = Publisher(gateway.address, publish("short"), stream(60), 2_000), Subscriber(gateway.address, "short")
-    for one in (subscriber, publisher):
-        one.call()
-        one.start()
+    start_all(subscriber, publisher)
     ended = gateway.ended(rounds * 0.010 + 10)
     for one in (subscriber, publisher):
         one.stop()
@@ -475,15 +468,12 @@ def opens_and_closes(_):
     seconds, and closes some eight seconds later. The neighbour's stream goes on until all of that has happened."""
     gateway = Gateway([live("steady"), live("guest", open_round=4_000, close_round=12_000)])
     over = threading.Event()
-    endless = itertools.takewhile(lambda _: not over.is_set(), map(payload, itertools.count()))
-    publisher, subscriber = Publisher(gateway.address, publish("steady"), endless, 5_000), Subscriber(gateway.address, "steady")
+    publisher, subscriber = Publisher(gateway.address, publish("steady"), endless(over), 5_000), Subscriber(gateway.address, "steady")
     guest, taker = Publisher(gateway.address, publish("guest"), stream(1_000_000), 5_000), Subscriber(gateway.address, "guest")
     try:
         expect(gateway.is_up(), "it doesn't come up")
         expect_refusal(1002, taker, "a call before the route opened")
-        for one in (publisher, subscriber):
-            one.call()
-            one.start()
+        start_all(publisher, subscriber)
         expect(accepted(taker), "the route doesn't open")
         guest.call()
         for one in (taker, guest):
@@ -632,9 +622,7 @@ REASONS = [
 @case("srt-live-transmit reports each refusal", live("slt.codes", sessions=3), needs=[tools.SRT])
 def transmit_refusals(address):
     held = [*(Publisher(address, publish("slt.codes"), []) for _ in range(2)), Subscriber(address, "slt.codes")]
-    for one in held:
-        one.call()
-        one.start()
+    start_all(*held)
     for options, reason in REASONS:
         with tools.transmit(tools.srt(address, **options), "file://con") as tool:
             expect(tool.wait_errors(f"REJECT reported from HS processing: {reason}", 5), f"{options} isn't refused with {reason!r}: {tool.errors()[-300:]!r}")

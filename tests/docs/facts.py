@@ -166,7 +166,7 @@ def limit_facts(index: Index) -> List[Fact]:
     window = (limit(index, "MIN_WINDOW"), limit(index, "MAX_WINDOW"))
     latency = (limit(index, "MIN_LATENCY_MS"), limit(index, "MAX_LATENCY_MS"))
     queue = (limit(index, "MIN_QUEUE"), limit(index, "MAX_QUEUE"))
-    workers = value_in(index, "crates/srt_gateway/src/config/reading.rt", r"Key::Workers, 1, (\d+)")
+    workers = value_in(index, "crates/srt_gateway/src/config.rt", r"const MAX_WORKERS: \w+ = (\d+);")
     idle = limit(index, "PEER_IDLE_TIMEOUT_US") / 1_000_000
     to = rf"{NUMBER} to {NUMBER}"
     return [
@@ -175,6 +175,21 @@ def limit_facts(index: Index) -> List[Fact]:
         Fact("the most sessions of a route", (limit(index, "MAX_SESSIONS"),), (rf"1 to {NUMBER} sessions",)),
         Fact("the size of a window", window, (rf"{to} packets(?! a second|/s)",)),
         Fact("the latency", latency, (rf"latency of {to} ms\b", rf"milliseconds, {to}\b")),
+        Fact(
+            "the milliseconds until a take-over",
+            (limit(index, "MIN_TAKEOVER_MS"), limit(index, "MAX_TAKEOVER_MS")),
+            (rf"{to}: the time without a data packet", rf"takes over, {to} ms\b", rf"takes over: {to}\.", rf"{to} ms are allowed"),
+        ),
+        Fact(
+            "the percent that is sent again",
+            (limit(index, "MIN_RESEND_PERCENT"), limit(index, "MAX_RESEND_PERCENT")),
+            (rf"{to}: how many packets", rf"sent again, in percent, {to}\b", rf"new ones(?:, and 64 more)?: {to}\."),
+        ),
+        Fact(
+            "the slots that are kept for publishers",
+            (0, limit(index, "MAX_RESERVED")),
+            (rf"{to}, and below `sessions`", rf"for publishers, {to}\b", rf"lock an encoder out: {to}, below"),
+        ),
         Fact("the bytes of a payload", (1, payload), (rf"[Pp]ayloads of {to} bytes", rf"`PayloadRef` of {to} bytes")),
         Fact("the bytes of a datagram", (16, limit(index, "MAX_DATAGRAM")), (rf"datagram(?:s of| has) {to} bytes",)),
         Fact("the places of a queue", queue, (rf"{to} each\b", rf"wait to be \w+, {to}\.")),

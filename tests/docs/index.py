@@ -18,9 +18,10 @@ GHOST = re.compile(r"\bghost(?: fn)? (\w+)\s*[:=({]")
 MEMBER = re.compile(r"^\s*(?:pub(?:\(\w+\))? )?(\w+)(?::|,|\(| \{|$)")
 OWNER = re.compile(r"^(?:pub )?(?:unsafe )?(?:impl|trait)\b(.*)")
 MARKED = r"(?:(?:abbrev|unfoldable|opaque|pub|where|inline) )*(?:record |data |module )?"
-DEFINITION = re.compile(rf"^{MARKED}([^\s(){{}}:]+)(?: .*)? :(?: |$)")
+# A definition may stand in a module with parameters, a step to the right.
+DEFINITION = re.compile(rf"^(?:  (?=abbrev |unfoldable |opaque ))?{MARKED}([^\s(){{}}:]+)(?: .*)? :(?: |$)")
 RECORD = re.compile(r"^(?:pub )?(record|data) (\S+)")
-USE = re.compile(r"^(?:pub )?use Rattle\.(srt\w*)\.specs\.(\w+)", re.MULTILINE)
+USE = re.compile(r"^(?:pub )?use Rattle\.(srt\w*)\.specs\.((?:inside\.)?\w+)", re.MULTILINE)
 INNER = re.compile(r"^\s+(?:pub )?([^\s(){}:]+)(?: \{.*\})? :(?: |$)")
 
 
@@ -165,7 +166,8 @@ def read_code(index: Index, path: str) -> None:
 def read_definitions(index: Index, path: str) -> None:
     """Reads a file of specs/: its definitions, and the constructors and fields of its records and data types."""
     crate, owner, text = crate_of(path), "", index.text(path)
-    index.uses[path] = {f"crates/{below}/specs/{file}.antt" for below, file in USE.findall(text)} & index.files
+    used = {f"crates/{below}/specs/{file.replace('.', '/')}.antt" for below, file in USE.findall(text)}
+    index.uses[path] = used & index.files
     for line in text.splitlines():
         if line.startswith("--"):
             continue

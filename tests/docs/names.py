@@ -198,12 +198,16 @@ def wrong_definitions(resolver: Resolver, piece: Piece, crate: str) -> List[str]
     return wrong
 
 
+def named_files(resolver: Resolver, document: Document) -> Set[str]:
+    """The files of definitions that rows name."""
+    crates = sections(document, set(resolver.index.crates))
+    rows = [(crates[at], it) for at, it in enumerate(document.pieces) if is_table(it, "definition", "file")]
+    return {f"crates/{crate}/{file}" for crate, row in rows for file in ticked(row.cells[-1])}
+
+
 def unreached(resolver: Resolver, document: Document) -> Tuple[int, List[str]]:
     """The files of definitions that rows name, and those that they use, directly or by others, and that no row names."""
-    index = resolver.index
-    crates = sections(document, set(index.crates))
-    rows = [(crates[at], it) for at, it in enumerate(document.pieces) if is_table(it, "definition", "file")]
-    named = {f"crates/{crate}/{file}" for crate, row in rows for file in ticked(row.cells[-1])}
+    index, named = resolver.index, named_files(resolver, document)
     found, todo = set(named), list(named)
     while todo:
         more = index.uses.get(todo.pop(), set()) - found
@@ -320,15 +324,15 @@ def wrong_place(resolver: Resolver, piece: Piece) -> List[str]:
 
 
 def wrong_edits(resolver: Resolver, piece: Piece) -> List[str]:
-    """A row of wrong bodies: the edits before *also* stand in must-fail/ of one of the row's crates, and the others somewhere."""
+    """A row of wrong bodies: the edits before *also* are of one of the row's crates, and the others stand somewhere."""
     if not is_table(piece, "wrong body", "edit"):
         return []
     crates, edits = ticked(piece.cells[1]), resolver.index.edits
     wrong = [f"no edit {it}" for it in ticked(piece.cells[2]) if it not in edits and it not in resolver.index.crates]
     for name in ticked(piece.cells[2].partition("also")[0]):
-        places = {f"crates/{it}/must-fail/{name}.edit" for it in crates}
+        places = {f"{folder}/{name}.edit" for it in crates for folder in (f"crates/{it}/must-fail", f"tests/edits/{it}")}
         if name in edits and not edits[name] & places:
-            wrong.append(f"{name} isn't in must-fail/ of {' or '.join(crates)}")
+            wrong.append(f"{name} isn't an edit of {' or '.join(crates)}")
     return wrong
 
 

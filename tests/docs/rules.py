@@ -111,6 +111,25 @@ def wrong_causes(index: Index) -> Tuple[int, List[str]]:
     return len(CAUSES), wrong
 
 
+# ---- long lines ----
+
+MAX_LINE = 160
+
+
+def wrong_lines(index: Index) -> Tuple[int, List[str]]:
+    """Lines of code, definitions and proofs over 160 characters. Texts in quotes aren't counted."""
+    crates: Set[str] = set()
+    wrong: List[str] = []
+    for path in sorted(index.files):
+        found = re.match(r"crates/(\w+)/(?:src|specs|proofs)/.*\.(?:rt|antt)$", path)
+        if found:
+            crates.add(found.group(1))
+            for number, line in enumerate(index.text(path).splitlines(), 1):
+                if len(line) > MAX_LINE and len(STRING.sub('""', line)) > MAX_LINE:
+                    wrong.append(f"{path}:{number}: {len(line)} characters")
+    return len(crates), wrong
+
+
 # ---- counts and sections ----
 
 COUNTED = rf"\b(?i:{NUMBER})(?:(?: of (?:the|its|their))?(?: [a-z-]+){{0,2}}) (?:edits|crates|tests|cases|lemmas)\b"

@@ -6,6 +6,7 @@ from typing import Callable, Dict, List, Set, Tuple
 import commands
 import facts
 import names
+import promises
 import rules
 from index import Index
 from texts import Document, parsed, ticked
@@ -46,6 +47,12 @@ def checked_definitions(resolver: names.Resolver, documents: List[Document]) -> 
             count, wrong = names.unreached(resolver, document)
             return f"{count} files of definitions", wrong
     return "", ["there is no docs/MODEL.md"]
+
+
+def checked_places(resolver: names.Resolver, documents: List[Document]) -> Answer:
+    """What is promised stands in specs/, and what only proofs need in specs/inside/."""
+    models = [it for it in documents if it.name() == "MODEL.md"]
+    return counted(promises.wrong_places(resolver.index, names.named_files(resolver, models[0])), "files that only proofs need")
 
 
 def checked_commands(resolver: names.Resolver, documents: List[Document]) -> Answer:
@@ -99,6 +106,7 @@ def of_tree(index: Index, outside: Dict[str, str]) -> Dict[str, Callable[[], Ans
     resolver = names.Resolver(index, outside)
     found: Dict[str, Callable[[], Answer]] = {subject_of(it): partial(checked_names, resolver, it) for it in documents}
     found["definitions"] = partial(checked_definitions, resolver, documents)
+    found["places"] = partial(checked_places, resolver, documents)
     found["commands"] = partial(checked_commands, resolver, documents)
     found["words"] = partial(checked_words, resolver)
     found["crates"] = partial(checked_crates, index)
@@ -107,5 +115,6 @@ def of_tree(index: Index, outside: Dict[str, str]) -> Dict[str, Callable[[], Ans
     found["causes"] = lambda: counted(rules.wrong_causes(index), "codes")
     found["versions"] = lambda: ("the newest is the program's", rules.wrong_versions(index))
     found["sections"] = lambda: counted(rules.wrong_sections(index), "sections")
+    found["lines"] = lambda: counted(rules.wrong_lines(index), "crates without a line over 160 characters")
     found["counts"] = lambda: (rules.counts(index), rules.wrong_counts(index))
     return found

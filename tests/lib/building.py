@@ -48,10 +48,14 @@ def lend_libraries(crate: Crate, under: Iterable[Crate], room: str) -> None:
             shutil.copytree(f"{crate.folder}/out/{part}", f"{room}/crates/{crate.name}/out/{part}", copy_function=linked)
 
 
+def is_program(crate: Crate) -> bool:
+    return os.path.isfile(f"{crate.folder}/src/main.rt")
+
+
 def take_back(crate: Crate, room: str) -> None:
     """Moves what was built in the room to the crate's own folder."""
     os.makedirs(f"{crate.folder}/out", exist_ok=True)
-    for part in ("incremental", "rlib", PROGRAM):
+    for part in ("incremental", "rlib", crate.name):
         made = f"{room}/crates/{crate.name}/out/{part}"
         if os.path.exists(made):
             to = f"{crate.folder}/out/{part}"
@@ -66,10 +70,10 @@ def build(crate: Crate, jobs: int) -> str:
     with tempfile.TemporaryDirectory(prefix="srtgw-build-", dir=rooms()) as room:
         make_room(room, [crate.name])
         lend_libraries(crate, under, room)
-        words = ["rt", "run", "--jobs", str(jobs), "--", "--help"] if crate.name == PROGRAM else ["rt", "lib", "--jobs", str(jobs)]
+        words = ["rt", "run", "--jobs", str(jobs), "--", "--help"] if is_program(crate) else ["rt", "lib", "--jobs", str(jobs)]
         here = f"{room}/crates/{crate.name}"
         ran = subprocess.run(words, cwd=here, stdin=subprocess.DEVNULL, stdout=subprocess.PIPE, stderr=subprocess.STDOUT, text=True, errors="replace")
-        made = f"{here}/out/{PROGRAM}" if crate.name == PROGRAM else f"{here}/out/rlib"
+        made = f"{here}/out/{crate.name if is_program(crate) else 'rlib'}"
         if ran.returncode or not os.path.exists(made):
             raise NotBuilt(f"{crate.name} could not be built; the end of the log:\n{ran.stdout[-2000:]}")
         take_back(crate, room)
@@ -83,6 +87,13 @@ def rooms() -> str | None:
         return None
     os.makedirs(f"{git}/rooms", exist_ok=True)
     return f"{git}/rooms"
+
+
+def clear_rooms() -> None:
+    """Removes the rooms that a build left which was killed: the toolchain would take their crates for the repository's."""
+    folder = rooms()
+    for it in os.listdir(folder) if folder else []:
+        shutil.rmtree(f"{folder}/{it}", ignore_errors=True)
 
 
 def jobs_for(idle: int, ready: int) -> int:
@@ -107,6 +118,7 @@ def chains(wanted: list[Crate]) -> dict[str, int]:
 
 def build_all(wanted: list[Crate], log: TextIO, tell: Callable[[str], None]) -> None:
     """Builds these crates, each after those that it uses, as many at a time as there are processors."""
+    clear_rooms()
     lanes = len(os.sched_getaffinity(0))
     names = {it.name for it in wanted}
     chain = chains(wanted)

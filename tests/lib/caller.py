@@ -4,6 +4,7 @@ Each caller is a thread with one UDP socket. It counts the datagrams that it sen
 packets from its initial number on without a limit, and writes the numbers modulo 2^31. Sections named in comments are the
 draft's."""
 import collections
+import itertools
 import random
 import select
 import socket
@@ -51,16 +52,10 @@ class Caller(threading.Thread):
         self.mode, self.mtu, self.window, self.version = mode, mtu, window, version
         self.socket_id = random.getrandbits(30) + 1
         self.initial = random.getrandbits(30) if initial is None else initial
-        stream = b"" if stream_id is None else stream_id if isinstance(stream_id, bytes) else stream_id.encode()
         self.extension = (1 if asks else 0) | (0 if stream_id is None else 4)
-        self.blocks = b""
-        if asks:
-            self.blocks += packets.hsreq(packets.FLAGS[mode] if flags is None else flags, receiver_ms, sender_ms)
-        if stream_id is not None:
-            self.blocks += packets.block(packets.STREAM_ID, packets.text_words(stream))
-        if congestion is not None:
-            self.blocks += packets.block(packets.CONGESTION, packets.text_words(congestion))
-        self.blocks += more
+        request = packets.hsreq(packets.FLAGS[mode] if flags is None else flags, receiver_ms, sender_ms) if asks else b""
+        stream = stream_id.encode() if isinstance(stream_id, str) else stream_id
+        self.blocks = packets.extensions(request, stream, congestion) + more
         self.answer, self.cookie, self.peer_id = None, 0, 0
         self.rtt, self.variance = 100_000, 50_000
         self.heard = self.sent = self.kept_alive = self.given = self.taken = 0
@@ -114,16 +109,19 @@ class Caller(threading.Thread):
 
     def induce(self, seconds=5):
         """Makes the induction, which gives the cookie."""
-        body = packets.handshake(4, 2, self.initial, self.mtu, self.window, packets.INDUCTION, self.socket_id, 0)
+        body = packets.induction(self.initial, self.mtu, self.window, self.socket_id)
         answer = self.asked(body, packets.INDUCTION, now() + int(seconds * SECOND))
         self.cookie = answer.cookie
         return answer
 
+    def conclusion(self):
+        """The body of the conclusion, with the cookie of the last induction."""
+        return packets.handshake(self.version, self.extension, self.initial, self.mtu, self.window, packets.CONCLUSION,
+                                 self.socket_id, self.cookie, self.blocks)
+
     def conclude(self, seconds=5):
         """Makes the conclusion, which opens the session."""
-        body = packets.handshake(self.version, self.extension, self.initial, self.mtu, self.window, packets.CONCLUSION,
-                              self.socket_id, self.cookie, self.blocks)
-        self.answer = self.asked(body, packets.CONCLUSION, now() + int(seconds * SECOND))
+        self.answer = self.asked(self.conclusion(), packets.CONCLUSION, now() + int(seconds * SECOND))
         self.peer_id, self.heard = self.answer.socket_id, now()
         return self.answer
 
@@ -387,6 +385,13 @@ class Subscriber(Caller):
         return len(self.got) >= count
 
 
+def start_all(*callers):
+    """Opens the session of each caller, one after the other, and starts it."""
+    for one in callers:
+        one.call()
+        one.start()
+
+
 # Payloads that have their number and the moment when they were sent.
 
 def payload(index, size=1316):
@@ -396,6 +401,11 @@ def payload(index, size=1316):
 def stream(count, first=0, size=1316):
     """`count` payloads with the numbers from `first` on. Each is made when it is taken."""
     return (payload(index, size) for index in range(first, first + count))
+
+
+def endless(over, first=0):
+    """Payloads with the numbers from `first` on, until the event `over` is set. Each is made when it is taken."""
+    return itertools.takewhile(lambda _: not over.is_set(), map(payload, itertools.count(first)))
 
 
 def indexes(got):

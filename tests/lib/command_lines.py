@@ -13,6 +13,7 @@ from tree import PROGRAM, TOP
 
 CASES = f"{TOP}/tests/cli"
 EXAMPLES = f"{TOP}/examples"
+CONFIG = "config.toml"
 OWN_FILES = {"args", "stdout", "status", "stderr", "sizes", "repeats", "memory", "full", "rows", "steps"}
 SECONDS = 60
 EXPLAIN = "--explain"
@@ -45,8 +46,16 @@ def limited(kilobytes: int) -> Callable[[], None] | None:
     return lambda: resource.setrlimit(resource.RLIMIT_AS, (1024 * kilobytes, 1024 * kilobytes))
 
 
+def path_of(folder: str, name: str) -> str:
+    """The path of a case's file: that of tests/cli, if it is a configuration that the case hasn't of its own."""
+    own = f"{folder}/{name}"
+    return f"{CASES}/{CONFIG}" if name == CONFIG and not os.path.isfile(own) else own
+
+
 def lay_out(folder: str, room: str) -> bytes:
-    """Puts the case's files into the room, and returns the lines that `repeats` puts before the wanted output."""
+    """Puts the case's files and its configuration into the room, and returns the lines that `repeats` puts before the wanted
+    output."""
+    shutil.copyfile(path_of(folder, CONFIG), f"{room}/{CONFIG}")
     for name in os.listdir(folder):
         if name not in OWN_FILES:
             shutil.copyfile(f"{folder}/{name}", f"{room}/{name}")

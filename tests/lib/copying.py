@@ -73,7 +73,20 @@ def what_hinders(folder: str, edit: str) -> str:
         if texts[it.path].count(it.old) != 1:
             return f"its text {it.old!r} doesn't stand exactly once in {it.path}"
         texts[it.path] = texts[it.path].replace(it.old, it.new)
+    unknown = [name for it in changes_of(edit) for name in names_of_none(folder, it)]
+    if unknown:
+        return f"the crate has no {unknown[0]}"
     return "" if texts else "it has no old text"
+
+
+def names_of_none(folder: str, change: Change) -> list[str]:
+    """The functions and constants that the new text of a change of code names and that stand nowhere in the crate's sources."""
+    if not change.path.endswith(".rt"):
+        return []
+    plain = re.sub(r'"[^"]*"', "", change.new)
+    names = re.findall(r"(?<![\w.:])([a-z_]\w*)\s*\(", plain) + re.findall(r"\b[A-Z][A-Z_0-9]{3,}\b", plain)
+    sources = "\n".join(read(it) for it in glob.glob(f"{folder}/src/**/*.rt", recursive=True))
+    return [it for it in names if not re.search(rf"\b{it}\b", sources)]
 
 
 def owner_of(lines: list[str], first: int) -> str:

@@ -9,7 +9,7 @@ from concurrent.futures import ThreadPoolExecutor
 
 import trying
 from machine import Meter
-from parts import BY_HAND, OF_FILES, PARTS, QUICK, Count, all_of, counted
+from parts import OF_FILES, PARTS, QUICK, Count, all_of, counted, note_failed
 from tree import PROGRAM, TOP, Crate, above, crates, files_of, read
 
 TEST = re.compile(r"(?m)^\s*#\[test\]")
@@ -38,6 +38,8 @@ def wrong_bodies(wanted: list[Crate], outside_only: bool) -> Count:
     count = Count()
     for it in trying.try_all(wanted, outside_only=outside_only):
         trying.tell(it)
+        for wrong in it.wrong():
+            note_failed(f"edits of {it.crate}: {wrong}")
         count = count.and_also(Count(len(it.edits(trying.REFUSED)), len(it.wrong())))
     return count
 
@@ -99,7 +101,7 @@ def whole() -> Count:
     section("proofs")
     count = count.and_also(verdict())
     if not count.failed:
-        for name in (it for it in PARTS if it not in (*OF_FILES, *BY_HAND)):
+        for name in (it for it in PARTS if it not in OF_FILES):
             section(name)
             count = count.and_also(PARTS[name]())
         section("wrong bodies, beside one another")

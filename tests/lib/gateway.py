@@ -1,4 +1,5 @@
 """`srtgw serve` as a process of its own, on a free port of this machine."""
+import json
 import os
 import resource
 import subprocess
@@ -14,9 +15,9 @@ NAMES = ["read", "answered", "accepted", "full", "dropped", "memory", "sent", "l
 SECRET = bytes(range(32)).hex()
 
 
-def live(name, latency_ms=120, buffer=1024, sessions=5, inbox=256, outbox=256, **rounds):
-    """The configuration's table of a live route. `rounds` may have `open_round` and `close_round`."""
-    return route(name, "live", latency_ms, buffer, sessions, inbox, outbox, **rounds)
+def live(name, latency_ms=120, buffer=1024, sessions=5, inbox=256, outbox=256, **optional):
+    """The configuration's table of a live route. `optional` may have its other keys: numbers, texts or lists of texts."""
+    return route(name, "live", latency_ms, buffer, sessions, inbox, outbox, **optional)
 
 
 def files(name, buffer=1024, sessions=5, inbox=256, outbox=256):
@@ -24,14 +25,16 @@ def files(name, buffer=1024, sessions=5, inbox=256, outbox=256):
     return route(name, "buffer", 120, buffer, sessions, inbox, outbox)
 
 
-def route(name, mode, latency_ms, buffer, sessions, inbox, outbox, **rounds):
-    numbers = {"latency_ms": latency_ms, "buffer": buffer, "sessions": sessions, "inbox": inbox, "outbox": outbox, **rounds}
-    lines = [f"{key} = {value}" for key, value in numbers.items()]
+def route(name, mode, latency_ms, buffer, sessions, inbox, outbox, **optional):
+    values = {"latency_ms": latency_ms, "buffer": buffer, "sessions": sessions, "inbox": inbox, "outbox": outbox, **optional}
+    lines = [f"{key} = {json.dumps(value)}" for key, value in values.items()]
     return "\n".join(["[[route]]", f'name = "{name}"', f'mode = "{mode}"', *lines, ""])
 
 
-def configuration(routes, port, workers=2, secret=SECRET):
-    return f'secret = "{secret}"\nbind = "127.0.0.1:{port}"\nworkers = {workers}\n' + "".join(routes)
+def configuration(routes, port, workers=2, secret=SECRET, status=""):
+    """The text of a configuration. `status` is the address of the status page, if there is one."""
+    page = f'status = "{status}"\n' if status else ""
+    return f'secret = "{secret}"\nbind = "127.0.0.1:{port}"\nworkers = {workers}\n{page}' + "".join(routes)
 
 
 def room_for(threads):

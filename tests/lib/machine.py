@@ -42,18 +42,28 @@ class Shares:
         return busy / max(1, whole), steal / max(1, whole)
 
 
-def free_port() -> int:
-    """A UDP port of this machine that nobody has now."""
-    with socket.socket(socket.AF_INET, socket.SOCK_DGRAM) as probe:
+def free_port(kind: socket.SocketKind = socket.SOCK_DGRAM) -> int:
+    """A port of this machine that nobody has now, of UDP or of another kind of socket."""
+    with socket.socket(socket.AF_INET, kind) as probe:
         probe.bind(("127.0.0.1", 0))
         return probe.getsockname()[1]
 
 
-def drops_of(port: int) -> int:
-    """How many datagrams the kernel dropped at the UDP socket of this port, as /proc/net/udp has it."""
+def rows_of(port: int) -> list[list[str]]:
+    """The rows of the UDP sockets of this port in /proc/net/udp, each split at its blanks."""
     with open("/proc/net/udp") as file:
         rows = [it.split() for it in file.readlines()[1:]]
-    return sum(int(it[-1]) for it in rows if int(it[1].split(":")[1], 16) == port)
+    return [it for it in rows if int(it[1].split(":")[1], 16) == port]
+
+
+def drops_of(port: int) -> int:
+    """How many datagrams the kernel dropped at the UDP socket of this port."""
+    return sum(int(it[-1]) for it in rows_of(port))
+
+
+def queued_at(port: int) -> int:
+    """The bytes of the kernel's memory that datagrams take which wait at the UDP socket of this port."""
+    return sum(int(it[4].split(":")[1], 16) for it in rows_of(port))
 
 
 def seconds_of_process(pid: int) -> float:

@@ -13,6 +13,7 @@ SRT_VERSION = 0x00010501
 NUMBERS = 1 << 31
 MESSAGES = (1 << 26) - 1
 WORDS = 1 << 32
+AGAIN = 0x04000000  # The flag R of a data packet's second word.
 LOOPBACK = bytes([1, 0, 0, 127]) + bytes(12)
 
 Data = namedtuple("Data", "number word stamp destination payload")
@@ -22,7 +23,7 @@ Handshake = namedtuple("Handshake", "version encryption extension initial mtu wi
 
 def data(number: int, message: int, stamp: int, destination: int, payload: bytes, again: bool = False, flags: int = 0xC0000000) -> bytes:
     """A data packet with a whole message (PP 11, unless `flags` say otherwise), unencrypted, with the flag R if it is retransmitted."""
-    word = flags | (0x04000000 if again else 0) | message
+    word = flags | (AGAIN if again else 0) | message
     return struct.pack("!4I", number, word, stamp, destination) + payload
 
 
@@ -71,6 +72,17 @@ def handshake(
     """The body of a handshake; `peer` is the address that it carries (section 3.2.1)."""
     fields = (version, 0, extension, initial, mtu, window, kind, socket_id, cookie)
     return struct.pack("!IHH6I", *fields) + peer + blocks
+
+
+def induction(initial: int, mtu: int, window: int, socket_id: int, peer: bytes = LOOPBACK) -> bytes:
+    """The body of a caller's induction (section 4.3.1.1)."""
+    return handshake(4, 2, initial, mtu, window, INDUCTION, socket_id, 0, peer=peer)
+
+
+def extensions(request: bytes = b"", stream: bytes | None = None, congestion: bytes | None = None) -> bytes:
+    """The extension blocks of a conclusion: its HSREQ, which is a block itself, a Stream ID and a congestion text."""
+    texts = ((STREAM_ID, stream), (CONGESTION, congestion))
+    return request + b"".join(block(kind, text_words(text)) for kind, text in texts if text is not None)
 
 
 def read_handshake(body: bytes) -> Handshake | None:

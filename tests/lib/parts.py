@@ -7,7 +7,8 @@ import subprocess
 from typing import Callable, NamedTuple
 
 import command_lines
-from tree import TOP
+import layout
+from tree import TOP, crates
 
 
 class Count(NamedTuple):
@@ -20,9 +21,22 @@ class Count(NamedTuple):
         return Count(self.passed + other.passed, self.failed + other.failed)
 
 
+# What failed so far, a line each: `bin/test` prints them again at its end.
+FAILED: list[str] = []
+LONGEST = 400
+MOST_SUSPECTS = 40
+
+
+def note_failed(line: str) -> None:
+    FAILED.append(line.strip()[:LONGEST])
+
+
 def told(kind: str, name: str, wrong: list[str]) -> Count:
     """Prints the line of a subject, and counts it."""
-    print(f"{kind} {name}: {'; '.join(wrong) or 'ok'}", flush=True)
+    line = f"{kind} {name}: {'; '.join(wrong) or 'ok'}"
+    print(line, flush=True)
+    if wrong:
+        note_failed(line)
     return Count(int(not wrong), int(bool(wrong)))
 
 
@@ -39,20 +53,34 @@ def subjects(name: str, *words: str) -> Count:
             print(line, end="", flush=True)
             found = re.match(rf"{name} (?:of )?[\w.]+: (ok|wrong)", line)
             passed += bool(found) and found[1] == "ok"
-            failed += bool(found) and found[1] == "wrong"
+            if found and found[1] == "wrong":
+                failed += 1
+                note_failed(line)
+    if it.returncode and not failed:
+        note_failed(f"tests/{name}/run ended with {it.returncode}")
     return Count(passed, failed or int(it.returncode != 0))
+
+
+# A line of `rt ci` or of a case that says of something that it failed.
+SAYS_FAILED = re.compile(r"FAILED|not as it should be|: error|^case [^:]+: (?!ok\b|skipped|.*; again, )")
 
 
 def counted(words: list[str], last_line: str) -> Count:
     """Runs a program, prints what it says, and returns what its last line counts: one failure if that has another form."""
     last = ""
+    suspects: list[str] = []
     with subprocess.Popen(words, cwd=TOP, stdout=subprocess.PIPE, stderr=subprocess.STDOUT, text=True, errors="replace") as it:
         assert it.stdout
         for line in it.stdout:
             print(line, end="", flush=True)
             last = line.strip() or last
+            if SAYS_FAILED.search(line):
+                suspects.append(line)
     found = re.fullmatch(last_line, last)
     passed, failed = map(int, found.groups()) if found else (0, 1)
+    if failed or it.returncode:
+        for line in suspects[:MOST_SUSPECTS] or [f"{' '.join(words)} ended with {it.returncode}: {last}"]:
+            note_failed(line)
     return Count(passed, failed or int(it.returncode != 0))
 
 
@@ -71,23 +99,29 @@ def cases(word: str = "") -> Count:
     return all_of([told("case", it, command_lines.play(it)) for it in command_lines.names_of_cases(word)])
 
 
+def layouts() -> Count:
+    """Whether each crate stands as `rt fmt` writes it."""
+    return all_of([told("layout of", it.name, layout.wrong_files(it)) for it in crates().values()])
+
+
 def examples() -> Count:
     return all_of([told("example", it, command_lines.play_example(it)) for it in command_lines.names_of_examples()])
 
 
-# By their words on the command line, in the order in which the gate runs them, but for those that it leaves out.
+# By their words on the command line, in the order in which the gate runs them.
 PARTS: dict[str, Callable[[], Count]] = {
+    "layout": layouts,
     "docs": lambda: subjects("docs"),
     "edits": lambda: subjects("edits"),
     "explain": lambda: subjects("explain"),
     "cases": cases,
+    "model": lambda: subjects("model"),
     "examples": examples,
     "hostile": lambda: subjects("hostile"),
     "callers": callers,
     "operate": operate,
     "refusals": lambda: subjects("refusals"),
 }
-# Those that read files alone, those that the gate leaves out, and those that play for a short while against the built program.
-OF_FILES = ("docs", "edits")
-BY_HAND = ("operate",)
-QUICK = ("docs", "edits", "explain", "cases", "examples")
+# Those that read files alone, and those that play for a short while against the built program.
+OF_FILES = ("layout", "docs", "edits")
+QUICK = ("layout", "docs", "edits", "explain", "cases", "examples")

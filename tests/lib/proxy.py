@@ -6,17 +6,25 @@ import socket
 import threading
 import time
 
+import packets
+from machine import drops_of
+
+FAR_LOSS = 0.05
+FAR_DELAY = 0.01  # One way, in seconds.
+
 
 class Proxy(threading.Thread):
     """Forwards datagrams in both directions. `loss`, `double` and `late` are probabilities from 0 to 1, and may be set while
-    it runs. A late datagram is held for at most `hold` seconds, so that others overtake it. `there` counts the datagrams that
-    went to the gateway, `back_here` those that came from it."""
+    it runs. Each datagram takes `delay` seconds; a late one is held for at most `hold` seconds more, so that others overtake it. What
+    `spares` says yes to isn't lost. `there` counts the datagrams that went to the gateway, `back_here` those that came from it. `seen` is
+    called with each of these: whether it goes there, and its bytes."""
 
-    def __init__(self, target, seed, loss=0.0, double=0.0, late=0.0, hold=0.02):
+    def __init__(self, target, seed, loss=0.0, double=0.0, late=0.0, hold=0.02, seen=lambda goes_there, datagram: None, delay=0.0, spares=lambda datagram: False):
         super().__init__(daemon=True)
-        self.target, self.chance = target, random.Random(seed)
+        self.target, self.chance, self.seen, self.delay, self.spares = target, random.Random(seed), seen, delay, spares
         self.loss, self.double, self.late, self.hold = loss, double, late, hold
         self.front = socket.socket(socket.AF_INET, socket.SOCK_DGRAM)
+        self.front.setsockopt(socket.SOL_SOCKET, socket.SO_RCVBUF, 1 << 22)
         self.front.bind(("127.0.0.1", 0))
         self.address = self.front.getsockname()
         self.backs, self.peers, self.held, self.count = {}, {}, [], 0
@@ -34,6 +42,8 @@ class Proxy(threading.Thread):
         return self.backs[peer]
 
     def hand(self, out, peer, datagram):
+        if peer is None:
+            self.seen(True, datagram)
         try:
             out.sendto(datagram, peer) if peer else out.send(datagram)
             self.there += peer is None
@@ -41,18 +51,20 @@ class Proxy(threading.Thread):
             pass
 
     def take(self, out, peer, datagram):
-        if self.chance.random() < self.loss:
+        if self.chance.random() < self.loss and not self.spares(datagram):
             self.lost += 1
             return
         copies = 1
         if self.chance.random() < self.double:
             self.doubled, copies = self.doubled + 1, 2
         for _ in range(copies):
-            self.passed += 1
+            self.passed, time_taken = self.passed + 1, self.delay
             if self.chance.random() < self.late:
-                self.delayed, self.count = self.delayed + 1, self.count + 1
-                moment = time.monotonic() + self.hold * self.chance.random()
-                heapq.heappush(self.held, (moment, self.count, out, peer, datagram))
+                self.delayed += 1
+                time_taken += self.hold * self.chance.random()
+            if time_taken:
+                self.count += 1
+                heapq.heappush(self.held, (time.monotonic() + time_taken, self.count, out, peer, datagram))
             else:
                 self.hand(out, peer, datagram)
 
@@ -71,12 +83,28 @@ class Proxy(threading.Thread):
                     else:
                         datagram = ready.recv(2048)
                         self.back_here += 1
+                        self.seen(False, datagram)
                         self.take(self.front, self.peers[ready], datagram)
                 except OSError:
                     pass
+
+    def drops(self):
+        """How many of the gateway's datagrams the kernel dropped at this line."""
+        return sum(drops_of(it.getsockname()[1]) for it in self.peers)
 
     def stop(self):
         self.stops.set()
         self.join(5)
         for one in [self.front, *self.peers]:
             one.close()
+
+
+def opens_or_ends(datagram):
+    """Whether a datagram is a handshake, or a SHUTDOWN, which nobody sends twice."""
+    packet = packets.read(datagram)
+    return isinstance(packet, packets.Control) and packet.kind in (packets.HANDSHAKE, packets.SHUTDOWN)
+
+
+def far_line(target, seed):
+    """A line that loses 5 % both ways and takes 20 ms for a round trip. Sessions open and end on it without loss."""
+    return Proxy(target, seed, loss=FAR_LOSS, delay=FAR_DELAY, spares=opens_or_ends)

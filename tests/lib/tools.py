@@ -140,3 +140,8 @@ def srt(address, **options):
     """The gateway's address in the form that srt-live-transmit and ffmpeg take."""
     host, port = address
     return f"srt://{host}:{port}?" + "&".join(f"{key}={value}" for key, value in options.items())
+
+
+def srt_from(source, address, **options):
+    """The same for an srt-live-transmit that calls from this address of the machine. Without its mode it would be no caller."""
+    return srt(address, mode="caller", adapter=source, **options)

@@ -47,12 +47,12 @@ class Outcome(NamedTuple):
 
 
 class Result(NamedTuple):
-    """What a crate's edits came to."""
+    """What a crate's edits came to, and what the prover said of each batch that left something unknown."""
 
     crate: str
     outcomes: list[Outcome]
     alone: dict[str, str]
-    said: list[str]
+    unclear: list[str]
 
     def edits(self, result: str) -> list[str]:
         return [it.copy.edit for it in self.outcomes if it.copy.edit and it.result == result]
@@ -170,6 +170,19 @@ def outcomes_of(batch: Batch, said: str) -> list[Outcome]:
     return found
 
 
+def judged_in_parts(rtlib: Any, batch: Batch) -> list[tuple[list[Outcome], str]]:
+    """The outcomes of a batch, with what the prover said. A batch of which nothing is known, as where one edit doesn't compile,
+    is tried again in halves, so that such an edit hides no other one."""
+    said = checked(rtlib, batch)
+    outcomes = outcomes_of(batch, said)
+    every = [*batch.copies, *batch.placed]
+    if len(every) < 2 or any(it.result != UNKNOWN for it in outcomes):
+        return [(outcomes, said)]
+    halves = every[: len(every) // 2], every[len(every) // 2 :]
+    parts = [Batch(batch.crate, [it for it in half if it in batch.copies], [it for it in half if it in batch.placed]) for half in halves]
+    return [it for part in parts for it in judged_in_parts(rtlib, part)]
+
+
 def lanes() -> int:
     """How many runs of the prover have a processor and memory each."""
     with open("/proc/meminfo") as file:
@@ -191,20 +204,21 @@ def try_all(crates: Iterable[Crate], with_controls: bool | None = None, outside_
         prepared.append((crate, alone, batches + rounds_of(crate.name, placed)))
     with ThreadPoolExecutor(lanes()) as pool:
         # The runs of the upper crates take longest, so they begin first.
-        begun = {crate: [(it, pool.submit(checked, rtlib, it)) for it in batches] for crate, _, batches in reversed(prepared)}
+        begun = {crate: [(it, pool.submit(judged_in_parts, rtlib, it)) for it in batches] for crate, _, batches in reversed(prepared)}
         for crate, alone, _ in prepared:
-            said = [it.result() for _, it in begun[crate]]
-            found = [outcome for (batch, _), text in zip(begun[crate], said) for outcome in outcomes_of(batch, text)]
-            yield Result(crate.name, found, alone, said)
+            judged = [part for _, ran in begun[crate] for part in ran.result()]
+            found = [it for outcomes, _ in judged for it in outcomes]
+            unclear = [text for outcomes, text in judged if any(it.result == UNKNOWN for it in outcomes)]
+            yield Result(crate.name, found, alone, unclear)
 
 
 def tell(result: Result) -> None:
-    """Prints a crate's line, and what the prover said first if nothing is known of some copy."""
+    """Prints a crate's line, and what the prover said last if nothing is known of some copy."""
     wrong, refused = result.wrong(), result.edits(REFUSED)
     by_name = [it.copy.edit for it in result.outcomes if it.by_name]
     controls = sum(not it.copy.edit for it in result.outcomes)
     beside = f", beside {controls} unchanged copies that are proved" if controls else ""
     names = f"; only by a name that is gone: {', '.join(by_name)}" if by_name else ""
     print(f"edits of {result.crate}: " + (f"wrong: {wrong}" if wrong else f"ok, {len(refused)} refused beside others{beside}{names}"), flush=True)
-    if any(it.result == UNKNOWN for it in result.outcomes):
-        print("\n".join(text[:3000] for text in result.said), flush=True)
+    for text in result.unclear:
+        print(text[-3000:], flush=True)

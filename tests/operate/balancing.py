@@ -1,36 +1,25 @@
 """The balancer's recipe of docs/OPERATING.md: nginx's stream module over UDP, hashed by source address, in front of two
 gateways."""
-import itertools
 import os
 import re
 import shutil
 import signal
 import subprocess
 import tempfile
-import textwrap
 import threading
 import time
 
-from caller import Publisher, Refused, Silent, Subscriber, indexes, payload, stream
+from caller import Publisher, Refused, Silent, Subscriber, endless, indexes, stream
 from cases import case
+from documents import block_of
 from expecting import Wrong, expect, expect_run, publish
 from machine import free_port
 from running import STOP_SECONDS, Run, Skipped, expect_polite, live
-from tree import TOP, read
 
 NGINX = "nginx"
 MODULE = "/usr/lib/nginx/modules/ngx_stream_module.so"
-RECIPE = f"{TOP}/docs/OPERATING.md"
 FAIL_SECONDS = 10  # The `fail_timeout` of a server that didn't answer, nginx's usual one.
 OPENED = r"studio: (?:publisher|subscriber) \S+ opened(?: as standby)?, socket .*"
-
-
-def recipe():
-    """The `stream` block of the document."""
-    found = re.search(r"(?m)^    stream \{\n(?:(?:     .*)?\n)*?    \}\n", read(RECIPE))
-    if not found:
-        raise Wrong("docs/OPERATING.md has no block `stream`")
-    return textwrap.dedent(found[0])
 
 
 class Balancer:
@@ -39,7 +28,7 @@ class Balancer:
     def __init__(self, gateways):
         self.address = ("127.0.0.1", free_port())
         self.room = tempfile.mkdtemp(prefix="srtgw-nginx-")
-        text = recipe()
+        text = block_of("stream {")
         for name, gateway in zip(("192.0.2.11:9000", "192.0.2.12:9000"), gateways):
             expect(name in text, f"the recipe lacks {name}")
             text = text.replace(name, f"127.0.0.1:{gateway.address[1]}")
@@ -106,10 +95,6 @@ def address_for(balancer, gateways, which):
         if opened_at(gateways)[which] > before[which]:
             return f"127.0.0.{last}"
     raise Wrong(f"of 58 addresses none reached gateway {which}")
-
-
-def endless(over, first=0):
-    return itertools.takewhile(lambda _: not over.is_set(), map(payload, itertools.count(first)))
 
 
 def started(*callers):

@@ -26,7 +26,7 @@ def configurations(name):
     """The rows of a case of tests/cli, each with the configuration that it makes."""
     folder = f"{command_lines.CASES}/{name}"
     kind = "steps" if os.path.isfile(f"{folder}/steps") else "rows"
-    text = command_lines.bytes_of(f"{folder}/{command_lines.words_of(folder)[-1]}").decode()
+    text = command_lines.bytes_of(command_lines.path_of(folder, command_lines.words_of(folder)[-1])).decode()
     for row in rows_of(command_lines.lines_of(f"{folder}/{kind}")):
         changed = row.changed(text)
         text = changed if kind == "steps" else text
@@ -66,7 +66,8 @@ def wrong_of_warnings(row, text):
 
 @case("unwise configurations, with the warnings of `check --explain`")
 def unwise_configurations():
-    rows = [(row, text) for row, text in configurations(WARNINGS) if row.status == 0]
+    # A status page at an address of another machine is a fault of the run.
+    rows = [(row, text) for row, text in configurations(WARNINGS) if row.status == 0 and "\nstatus = " not in text]
     expect(len(rows) >= 10, f"there are {len(rows)} rows only")
     with ThreadPoolExecutor(4) as pool:
         wrong = [it for it in pool.map(lambda it: wrong_of_warnings(*it), rows) if it]
@@ -87,7 +88,7 @@ def wrong_files():
 
 
 def expect_not_bound(text, address, number):
-    """Expects that a run ends since its address can't be bound, with the system's words for this error."""
+    """Expects that a run ends since an address, which it tells so, can't be bound, with the system's words for this error."""
     wanted = (1, "socket fault\n", [f"srtgw: {address}: {os.strerror(number)} (os error {number})"])
     found = ended(text)
     expect(found == wanted, f"it ended with {found}")
@@ -107,6 +108,21 @@ def other_machine():
     port = free_port()
     text = configuration([live("studio")], port).replace("127.0.0.1", "192.0.2.1")
     expect_not_bound(text, f"192.0.2.1:{port}", errno.EADDRNOTAVAIL)
+
+
+@case("a port of the status page that is taken")
+def page_port_taken():
+    with socket.socket(socket.AF_INET, socket.SOCK_STREAM) as taker:
+        taker.bind(("127.0.0.1", 0))
+        taker.listen()
+        address = f"127.0.0.1:{taker.getsockname()[1]}"
+        expect_not_bound(configuration([live("studio")], free_port(), status=address), f"status page at {address}", errno.EADDRINUSE)
+
+
+@case("a status page at an address of another machine")
+def page_of_other_machine():
+    address = "192.0.2.1:9001"
+    expect_not_bound(configuration([live("studio")], free_port(), status=address), f"status page at {address}", errno.EADDRNOTAVAIL)
 
 
 def expect_refused(line, word, **options):

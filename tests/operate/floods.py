@@ -1,17 +1,15 @@
 """Floods of refusals: the log stays short, its counts add up, and a stream of another route loses nothing."""
 import os
 import re
-import signal
-import socket
 import threading
 import time
 
 import packets
-from caller import Caller, Publisher, Subscriber, stream
+from caller import Caller, Publisher, Subscriber, start_all, stream
 from cases import case
 from expecting import expect, expect_run, publish
 from machine import drops_of
-from running import TIME, Run, Skipped, expect_polite, files, live, seconds_of
+from running import TIME, Run, Skipped, expect_polite, files, flooded, live, seconds_of
 
 LINES = 50  # In one second, besides those that say how many were left out.
 LEFT_OUT = r"lines left out (\d+)"
@@ -23,7 +21,7 @@ EVENTS = 7
 
 class Flood(threading.Thread):
     """Makes the same conclusion again and again from one socket, `count` times at `rate` a second, so many at once (`burst`),
-    and counts the refusals that come back."""
+    and counts the refusals that it receives: it is as slow as Python, so that some may be lost at its own socket."""
 
     def __init__(self, address, stream_id, count, rate, burst=1):
         super().__init__(daemon=True)
@@ -32,7 +30,7 @@ class Flood(threading.Thread):
 
     def run(self):
         it = self.caller
-        body = packets.handshake(5, it.extension, it.initial, it.mtu, it.window, packets.CONCLUSION, it.socket_id, it.cookie, it.blocks)
+        body = it.conclusion()
         began, sent = time.monotonic(), 0
         while sent < self.count:
             due = min(self.count, int((time.monotonic() - began) * self.rate / self.burst) * self.burst)
@@ -40,9 +38,13 @@ class Flood(threading.Thread):
                 it.send(packets.control(packets.HANDSHAKE, 0, it.stamp(), 0, body))
             sent = max(sent, due)
             self.take(0.001)
-        until = time.monotonic() + 1
+        until = time.monotonic() + 5
         while self.refused < self.count and time.monotonic() < until:
             self.take(0.01)
+
+    def expect_refused(self):
+        """Expects a refusal of each conclusion, but for one in a hundred."""
+        expect(0.99 * self.count <= self.refused <= self.count, f"{self.refused} refusals of {self.count} were received")
 
     def take(self, seconds):
         packet = self.caller.receive(seconds)
@@ -53,11 +55,9 @@ class Flood(threading.Thread):
 
 
 def beside_a_stream(run, flood, count=2_400):
-    """Plays a stream of 400 packets a second on the route `steady` while the flood comes."""
+    """Plays a stream of 400 packets a second on the route `steady` while the flood comes. Returns how many inductions were made."""
     publisher, subscriber = Publisher(run.address, publish("steady"), stream(count), 2_500), Subscriber(run.address, "steady")
-    for one in (subscriber, publisher):
-        one.call()
-        one.start()
+    start_all(subscriber, publisher)
     flood.start()
     flood.join()
     flows = publisher.wait_delivered(20) and subscriber.wait(10, count)
@@ -67,6 +67,11 @@ def beside_a_stream(run, flood, count=2_400):
     expect(publisher.dropped == subscriber.dropped == 0, "packets beside the flood were dropped")
     for one in (publisher, subscriber):
         one.close()
+    return inductions(publisher, subscriber, flood.caller)
+
+
+def inductions(*callers):
+    return sum(it.handshakes[packets.INDUCTION] for it in callers)
 
 
 def expect_few(run, seconds):
@@ -79,12 +84,13 @@ def expect_few(run, seconds):
 
 
 def play_flood(routes, stream_id, line, counted, count=20_000, rate=5_000, burst=1):
-    """Plays a flood of conclusions that all are refused. `counted` sums those that the log counts in other lines."""
+    """Plays a flood of conclusions that all are refused. `counted` sums those that the log counts in other lines. Returns how many
+    datagrams the lobby answered that weren't inductions."""
     with Run([live("steady", latency_ms=500, inbox=1024), *routes]) as run:
         run.is_up()
         began = time.monotonic()
         flood = Flood(run.address, stream_id, count, rate, burst)
-        beside_a_stream(run, flood)
+        asked = beside_a_stream(run, flood)
         time.sleep(1.5)
         spent, dropped = time.monotonic() - began, drops_of(run.address[1])
         end = run.stop()
@@ -93,14 +99,14 @@ def play_flood(routes, stream_id, line, counted, count=20_000, rate=5_000, burst
         expect_few(run, spent)
         texts = run.texts()
         expect(end.report["full"] == end.report["memory"] == 0, f"{end.report}")
-        expect(flood.refused == count, f"{flood.refused} refusals came back")
+        flood.expect_refused()
         told = [it for it in texts if re.fullmatch(line.format(flood.caller.here[1]), it)]
         expect(LINES / 2 <= len(told) <= LINES * (spent + 2), f"{len(told)} refusals are told in {spent:.1f} s")
         left_out = sum(int(found[1]) for found in (re.fullmatch(LEFT_OUT, it) for it in texts) if found)
         others = [it for it in texts if re.fullmatch(OTHERS, it)]
         found, wanted = len(told) + left_out + counted(texts) + len(others), count + EVENTS
         expect(found == wanted, f"{len(told)} refusals are told and {left_out} lines left out of {wanted}; beside them {others}")
-        return end
+        return end.report["answered"] - asked
 
 
 @case("a log that nobody reads holds up no packet, and the stop comes when it is read")
@@ -109,7 +115,7 @@ def unread_log():
         Caller(run.address).induce(10)
         flood = Flood(run.address, "nowhere", 2_000, 500)
         beside_a_stream(run, flood)
-        expect(flood.refused == 2_000, f"{flood.refused} refusals came back")
+        flood.expect_refused()
         expect(run.runs(), "it ended")
         run.read()
         expect_polite(run.stop(), ["steady"])
@@ -133,13 +139,7 @@ def drops_in_a_flood():
         flood = Flood(run.address, "nowhere", 2_500, 500)
         flood.start()
         time.sleep(1)
-        run.process.send_signal(signal.SIGSTOP)
-        try:
-            with socket.socket(socket.AF_INET, socket.SOCK_DGRAM) as junk:
-                for _ in range(12_000):
-                    junk.sendto(bytes(1316), run.address)
-        finally:
-            run.process.send_signal(signal.SIGCONT)
+        flooded(run)
         flood.join()
         time.sleep(1.5)
         dropped = drops_of(run.address[1])
@@ -160,14 +160,14 @@ def unseen_of(route):
 
 @case("20,000 conclusions that the lobby refuses")
 def lobby_flood():
-    line = r'127\.0\.0\.1:{} refused, 1002 PEER, asked for "nowhere"'
-    end = play_flood([], "nowhere", line, lambda texts: 0)
-    expect(end.report["answered"] == 20_003, f"{end.report}")
+    line = r'127\.0\.0\.1:{} refused, 1002 PEER, asked for "nowhere", unknown name'
+    refused = play_flood([], "nowhere", line, lambda texts: 0)
+    expect(refused == 20_000, f"the lobby refused {refused}")
 
 
 @case("6,000 conclusions in bursts of 200, more than wait for the log at once")
 def bursts():
-    line = r'127\.0\.0\.1:{} refused, 1002 PEER, asked for "nowhere"'
+    line = r'127\.0\.0\.1:{} refused, 1002 PEER, asked for "nowhere", unknown name'
     play_flood([], "nowhere", line, lambda texts: 0, 6_000, 2_000, 200)
 
 
@@ -175,5 +175,5 @@ def bursts():
 def route_flood():
     """The flooded route is in buffer mode, and its callers want live mode."""
     line = r'127\.0\.0\.1:{} refused, 1012 MESSAGEAPI, asked for "files"'
-    end = play_flood([files("files", inbox=4096, outbox=4096)], "files", line, unseen_of("files"))
-    expect(end.report["answered"] == 3, f"{end.report}")
+    refused = play_flood([files("files", inbox=4096, outbox=4096)], "files", line, unseen_of("files"))
+    expect(refused == 0, f"the lobby refused {refused}")

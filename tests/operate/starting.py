@@ -5,13 +5,13 @@ import shlex
 import signal
 import subprocess
 import tempfile
-import textwrap
 import time
 
 from cases import case
+from documents import block_of
 from expecting import expect
 from running import TIME, UNBLOCKED, Run, Skipped, can_block, expect_polite, launcher, live, seconds_of
-from tree import PROGRAM, TOP, read
+from tree import PROGRAM, TOP
 
 WRONG_DURATIONS = ["0s", "5x", "366d", "", "s", "7", "-1s", "1.5h", "0d", "8761h", "31536001s", "2 s", "1h30m", "99999999999999999999s"]
 SMALL = dict(buffer=190, sessions=2, inbox=16)
@@ -80,16 +80,9 @@ def other_commands():
         expect(ends[0] == ends[1], f"{words}: {ends}")
 
 
-def unit():
-    """The systemd unit of docs/OPERATING.md."""
-    found = re.search(r"(?m)^    \[Unit\]\n(?:(?:    .*)?\n)*?    WantedBy=.*\n", read(f"{TOP}/docs/OPERATING.md"))
-    expect(found, "docs/OPERATING.md has no unit")
-    return textwrap.dedent(found[0])
-
-
 @case("the unit's command starts it, and SIGTERM stops it politely")
 def starts_as_unit():
-    line = re.search(r"(?m)^ExecStart=(.*)$", unit())[1]
+    line = re.search(r"(?m)^ExecStart=(.*)$", block_of("[Unit]"))[1]
     expect("/opt/srtgw/srtgw" in line and "/etc/srtgw/gateway.toml" in line, f"it is {line}")
     command = shlex.split(line.replace("/opt/srtgw/srtgw", PROGRAM).replace("/etc/srtgw/gateway.toml", "gateway.toml"))
     if not can_block() or not os.access(command[0], os.X_OK):
@@ -105,7 +98,7 @@ def unit_is_safe():
     """The exposure by systemd's own measure is below 3 of 10."""
     with tempfile.TemporaryDirectory(prefix="srtgw-unit-") as room:
         with open(f"{room}/srtgw.service", "w") as it:
-            it.write(unit())
+            it.write(block_of("[Unit]"))
         words = ["systemd-analyze", "security", "--offline=true", "--threshold=29", f"{room}/srtgw.service"]
         it = subprocess.run(words, capture_output=True, text=True, env={**os.environ, "SYSTEMD_PAGER": "", "LC_ALL": "C.UTF-8"})
     if "unrecognized option" in it.stderr:
@@ -116,10 +109,12 @@ def unit_is_safe():
 @case("a run of two seconds stops by itself")
 def runs_for_a_time():
     for words in (["--for", "2s", "--no-time"], ["--no-time", "--for", "2s"]):
+        began = time.monotonic()
         with Run([live("studio", **SMALL)], *words) as run:
             run.is_up()
-            end = run.end(6)
-            expect(1.8 <= end.seconds <= 3, f"it took {end.seconds:.2f} s")
+            end = run.end(10)
+            spent = time.monotonic() - began
+            expect(spent >= 2 and 1 <= end.seconds <= 4, f"it took {end.seconds:.2f} s, and {spent:.2f} s with its start")
             expect_polite(end, ["studio"])
             expect(run.texts()[-2:] == ["stopping, the time of --for is over", "stopped"], f"the log ends with {run.texts()[-3:]}")
 

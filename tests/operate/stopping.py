@@ -1,15 +1,15 @@
 """The polite stop: callers that send and receive get their SHUTDOWN, and the report is what they counted."""
-import itertools
 import signal
 import threading
 import time
 
 import packets
 import tools
-from caller import Caller, Publisher, Silent, Subscriber, now, payload, stream
+from caller import Caller, Publisher, Silent, Subscriber, endless, now, start_all, stream
 from cases import case
 from expecting import expect, expect_run, publish, request
 from lines import ended_line
+from machine import drops_of
 from proxy import Proxy
 from running import SECRET, STOP_SECONDS, Run, expect_polite, files, live
 
@@ -29,9 +29,14 @@ def is_shutdown(packet):
     return isinstance(packet, packets.Control) and packet.kind == packets.SHUTDOWN
 
 
+def arrived_at(caller):
+    """How many datagrams arrived at a caller: those that it received, and those that the kernel dropped at its socket."""
+    return caller.taken + drops_of(caller.here[1])
+
+
 def sums_of(callers):
-    """How many datagrams these callers sent, how many they received, and how many inductions they made."""
-    return (sum(it.given for it in callers), sum(it.taken for it in callers), sum(it.handshakes[packets.INDUCTION] for it in callers))
+    """How many datagrams these callers sent, how many arrived at them, and how many inductions they made."""
+    return (sum(it.given for it in callers), sum(map(arrived_at, callers)), sum(it.handshakes[packets.INDUCTION] for it in callers))
 
 
 def expect_gone(run, route, role, caller):
@@ -42,13 +47,10 @@ def expect_gone(run, route, role, caller):
 def on_the_air(run):
     """Callers of two routes that all send: two publishers and two subscribers at one, one of each at the other."""
     over = threading.Event()
-    endless = lambda: itertools.takewhile(lambda _: not over.is_set(), map(payload, itertools.count()))
-    made = [Subscriber(run.address, request("studio")), Subscriber(run.address, "studio"), Publisher(run.address, publish("studio"), endless(), 2_000),
-            Publisher(run.address, publish("studio"), endless(), 5_000), Subscriber(run.address, "other"),
-            Publisher(run.address, publish("other"), endless(), 3_000)]
-    for one in made:
-        one.call()
-        one.start()
+    made = [Subscriber(run.address, request("studio")), Subscriber(run.address, "studio"), Publisher(run.address, publish("studio"), endless(over), 2_000),
+            Publisher(run.address, publish("studio"), endless(over), 5_000), Subscriber(run.address, "other"),
+            Publisher(run.address, publish("other"), endless(over), 3_000)]
+    start_all(*made)
     return made, over
 
 
@@ -60,7 +62,7 @@ def play_stop(which):
         expect(all(len(it.got) >= 100 for it in callers if isinstance(it, Subscriber)), "streams don't flow")
         least, began = sums_of(callers)[0], time.monotonic()
         end = run.stop(which)
-        late = [it for it in callers if not it.shut.wait(1)]
+        late = [it for it in callers if not it.shut.wait(5)]
         over.set()
         expect(not late, f"{len(late)} of {len(callers)} callers got no SHUTDOWN")
         expect(end.seconds <= STOP_SECONDS, f"it took {end.seconds:.2f} s")
@@ -70,7 +72,7 @@ def play_stop(which):
         expect_polite(end, ["studio", "other"])
         given, taken, inductions = sums_of(callers)
         expect(least <= end.report["read"] <= given, f"callers had sent {least} before the signal, and sent {given}: {end.report}")
-        expect(end.report["sent"] == taken, f"callers received {taken}: {end.report}")
+        expect(end.report["sent"] == taken, f"at callers {taken} arrived: {end.report}")
         expect(end.report["answered"] == inductions, f"callers made {inductions} inductions: {end.report}")
         expect(all(end.report[it] == 0 for it in ("full", "memory", "lost", "faults")), f"{end.report}")
         expect(end.report["dropped"] <= given - least, f"datagrams that came before the stop were dropped: {end.report}")
@@ -79,7 +81,7 @@ def play_stop(which):
             expect(size == 1316 * count and lost == 0, f"{route}, {role}: {count} packets, {size} bytes, {lost} lost")
         asked, _ = run.line("stopping, by a signal", 0)
         expect(asked < run.find(".* ended, .*")[0] and run.texts()[-1] == "stopped", f"the log ends with {run.texts()[-9:]}")
-        expect(time.monotonic() - began < 10, "the callers went on")
+        expect(time.monotonic() - began < 20, "the callers went on")
 
 
 @case("SIGTERM under load: each caller gets a SHUTDOWN, and the report is what they counted")
@@ -101,9 +103,7 @@ def stops_exactly():
         source = Publisher(run.address, publish("files"), stream(count), 1_000, mode="buffer", congestion=b"file")
         sink = Subscriber(run.address, "files", mode="buffer", congestion=b"file")
         callers = [subscriber, publisher, sink, source]
-        for one in callers:
-            one.call()
-            one.start()
+        start_all(*callers)
         for one in (publisher, source):
             expect(one.wait_delivered(10), "a publisher's window didn't become free")
         for one in (subscriber, sink):
@@ -122,8 +122,8 @@ def stops_exactly():
         wanted = {"read": given, "answered": inductions, "accepted": given - inductions, "full": 0, "dropped": 0, "memory": 0, "sent": taken, "lost": 0, "faults": 0}
         expect(end.report == wanted, f"the report is {end.report}, and callers counted {wanted}")
         for one, account in zip((callers[:2], callers[2:]), end.accounts):
-            drained = sum(it.taken - it.handshakes[packets.INDUCTION] for it in one)
-            expect(account.drained == drained, f"{account.name} gave {account.drained} replies, and callers received {drained}")
+            drained = sum(arrived_at(it) - it.handshakes[packets.INDUCTION] for it in one)
+            expect(account.drained == drained, f"{account.name} gave {account.drained} replies, and at callers {drained} arrived")
         for route, role, one in (("studio", "subscriber", subscriber), ("studio", "publisher", publisher), ("files", "subscriber", sink), ("files", "publisher", source)):
             _, *counts = expect_gone(run, route, role, one)
             expect(counts[:3] == [count, 1316 * count, 0], f"{route}, {role}: {counts}")
@@ -135,7 +135,7 @@ def stops_exactly():
 def stops_idle():
     with Run([live(f"r{index}", buffer=190, sessions=2, inbox=16) for index in range(40)], "--no-time") as run:
         run.is_up()
-        time.sleep(0.5)
+        time.sleep(1)
         end = run.stop()
         expect(end.seconds <= STOP_SECONDS, f"it took {end.seconds:.2f} s")
         expect_polite(end, [f"r{index}" for index in range(40)])
@@ -161,11 +161,8 @@ def stops_without_answers():
 def on_the_air_at(run, name):
     """A publisher and a subscriber of a route, and the event that ends the stream."""
     over = threading.Event()
-    endless = itertools.takewhile(lambda _: not over.is_set(), map(payload, itertools.count()))
-    made = [Subscriber(run.address, name), Publisher(run.address, publish(name), endless, 2_000)]
-    for one in made:
-        one.call()
-        one.start()
+    made = [Subscriber(run.address, name), Publisher(run.address, publish(name), endless(over), 2_000)]
+    start_all(*made)
     return made, over
 
 
@@ -179,7 +176,7 @@ def stops_by_two():
         end = run.stop(signal.SIGTERM)
         over.set()
         for one in callers:
-            expect(one.shut.wait(1), "a caller got no SHUTDOWN")
+            expect(one.shut.wait(5), "a caller got no SHUTDOWN")
             one.stop()
         expect_polite(end, ["studio"])
         expect(run.texts().count("stopping, by a signal") == 1, f"{run.texts()}")
@@ -209,9 +206,9 @@ def play_tools(run, ran, lines, is_flowing, names):
     expect(end.seconds <= STOP_SECONDS, f"it took {end.seconds:.2f} s")
     time.sleep(0.2)
     expect_polite(end, names)
-    most, taken = sum(it.there for it in lines), sum(it.back_here for it in lines)
+    most, taken = sum(it.there for it in lines), sum(it.back_here + it.drops() for it in lines)
     expect(least <= end.report["read"] <= most, f"callers had sent {least} before the signal, and sent {most}: {end.report}")
-    expect(end.report["sent"] == taken, f"callers received {taken}: {end.report}")
+    expect(end.report["sent"] == taken, f"at callers {taken} arrived: {end.report}")
 
 
 @case("a stop under load with srt-live-transmit", needs=[tools.SRT])
@@ -221,7 +218,7 @@ def stops_transmit():
         lines = [Proxy(run.address, 1), Proxy(run.address, 2)]
         inlet, outlet = tools.Inlet(), tools.Outlet()
         over = threading.Event()
-        feeder = threading.Thread(target=lambda: inlet.feed(itertools.takewhile(lambda _: not over.is_set(), map(payload, itertools.count())), 0.004), daemon=True)
+        feeder = threading.Thread(target=lambda: inlet.feed(endless(over), 0.004), daemon=True)
         ran = [tools.transmit(tools.srt(lines[0].address, streamid="slt"), outlet.address),
                tools.transmit(inlet.address, tools.srt(lines[1].address, streamid=publish("slt")))]
         feeder.start()

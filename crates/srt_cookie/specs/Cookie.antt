@@ -1,4 +1,4 @@
--- The cookie of a peer in a minute (section 4.3.1.1). The formula is this profile's.
+-- The cookie of a peer in a minute (section 4.3.1.1). The formula is our choice.
 use Rattle.std.specs.Prelude.{◌≡◌, ℕ, ◌+◌, ◌-◌, ◌/◌, ◌⊎◌, List, ◌++◌, take, Bool, ◌==◌, nat_lt, ◌||◌, ◌&&◌, if◌then◌else◌}
 use Rattle.std.specs.Int.{w16, w32, w64, from_be_bytes, to_be_bytes}
 use Rattle.sha2.specs.Sha256.{sha256}

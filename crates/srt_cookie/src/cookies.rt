@@ -1,4 +1,4 @@
-//! Cookies (draft-sharabayko-srt-01, section 4.3.1.1; the formula is this profile's).
+//! Cookies (draft-sharabayko-srt-01, section 4.3.1.1; the formula is our choice).
 
 ghost use Rattle.std.specs.Prelude.{◌≡◌, ◌<◌, ◌↔◌, IsTrue};
 ghost use Rattle.srt_cookie.specs.Cookie.{cookie_of, minute_of, IsRight, is_right, secret_bytes};

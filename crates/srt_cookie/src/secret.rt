@@ -1,11 +1,12 @@
 //! The secret that makes cookies hard to guess.
 
 ghost use Rattle.std.specs.Prelude.{◌≡◌};
+ghost use Rattle.std.specs.Str.{bytes_eq};
 ghost use Rattle.srt_cookie.specs.Cookie.{secret_bytes, secret_of_run};
 
 use sha2::{Digest, Sha256};
 
-/// 32 bytes that only the gateway knows. They can't be read back, printed or compared.
+/// 32 bytes that only the gateway knows. They can't be read back or printed.
 #[derive(Clone, Copy)]
 pub struct Secret {
     pub(crate) bytes: [u8; 32],
@@ -18,8 +19,16 @@ impl Secret {
     {
         Secret { bytes }
     }
-    /// The secret of a run that starts at this time, in microseconds since 1970: SHA-256 of this secret and of the start
-    /// in network byte order. So no cookie of one run is right in the next.
+
+    /// Whether both have the same bytes. The time that it takes depends on them, so callers of the gateway must not see it.
+    pub fn is_same(&self, other: &Secret) -> bool
+        ensures { result ≡ bytes_eq (secret_bytes self.now) (secret_bytes other.now) }
+    {
+        self.bytes[..] == other.bytes[..]
+    }
+
+    /// The secret of a run that starts at this time, in microseconds since 1970: SHA-256 of this secret and of the
+    /// start in network byte order. So no cookie of one run is right in the next.
     pub fn of_run(&self, start: u64) -> Secret
         ensures { secret_bytes result ≡ secret_of_run (secret_bytes self.now) start }
     {

@@ -1,5 +1,5 @@
 -- Warnings that may be given, one after the other.
-use Rattle.std.proofs.Common.{◌≡◌, Bool, List, [], ◌∷◌, ◌++◌, refl, ap, ◌∙◌}
+use Rattle.std.proofs.Common.{◌≡◌, Bool, List, [], ◌∷◌, ◌++◌, append_assoc, refl, ap, ◌∙◌}
 use Rattle.srt_explain.specs.declared.warnings.Warning.{Warning}
 use Rattle.srt_explain.specs.Warnings.{given}
 
@@ -12,18 +12,27 @@ given_is : (some some' : Bool) (it it' : Warning) → some ≡ some' → it ≡ 
 given_is some some' it it' e f = ap (λ b. given b it) e ∙ ap (given some') f
 
 -- three warnings after others
-pub three_given : (l0 l1 l2 l3 : List Warning) (b b' d d' f f' : Bool) (u u' v v' w : Warning) →
+pub three_given : (l0 l1 l2 l3 : List Warning) (b b' d d' f f' : Bool) (u u' v v' w w' : Warning) →
     l1 ≡ l0 ++ given b u → l2 ≡ l1 ++ given d v → l3 ≡ l2 ++ given f w →
-    b ≡ b' → u ≡ u' → d ≡ d' → v ≡ v' → f ≡ f' →
-    l3 ≡ l0 ++ ((given b' u' ++ given d' v') ++ given f' w)
-three_given l0 l1 l2 l3 b b' d d' f f' u u' v v' w e1 e2 e3 p q r s t =
+    b ≡ b' → u ≡ u' → d ≡ d' → v ≡ v' → f ≡ f' → w ≡ w' →
+    l3 ≡ l0 ++ ((given b' u' ++ given d' v') ++ given f' w')
+three_given l0 l1 l2 l3 b b' d d' f f' u u' v v' w w' e1 e2 e3 p q r s t y =
     let at1 : l1 ≡ l0 ++ given b' u' = e1 ∙ ap (λ x. l0 ++ x) (given_is b b' u u' p q) in
     let at2 : l2 ≡ (l0 ++ given b' u') ++ given d' v' = e2 ∙ ap (λ x. x ++ given d v) at1 ∙ ap (λ x. (l0 ++ given b' u') ++ x) (given_is d d' v v' r s) in
-    e3 ∙ ap (λ x. x ++ given f w) at2 ∙ ap (λ x. ((l0 ++ given b' u') ++ given d' v') ++ x) (given_is f f' w w t refl) ∙
-    three l0 (given b' u') (given d' v') (given f' w)
+    e3 ∙ ap (λ x. x ++ given f w) at2 ∙ ap (λ x. ((l0 ++ given b' u') ++ given d' v') ++ x) (given_is f f' w w' t y) ∙
+    three l0 (given b' u') (given d' v') (given f' w')
 
 -- one warning from an empty list on, and others
-pub one_given : (l0 l1 l2 rest : List Warning) (b b' : Bool) (w : Warning) → l0 ≡ [] → l1 ≡ l0 ++ given b w → l2 ≡ l1 ++ rest → b ≡ b' → l2 ≡ given b' w ++ rest
-one_given l0 l1 l2 rest b b' w e0 e1 e2 p =
+pub one_given : (l0 l1 l2 l3 status routes : List Warning) (b b' : Bool) (w : Warning) →
+    l0 ≡ [] → l1 ≡ l0 ++ given b w → l2 ≡ l1 ++ status → l3 ≡ l2 ++ routes → b ≡ b' → l3 ≡ given b' w ++ status ++ routes
+one_given l0 l1 l2 l3 status routes b b' w e0 e1 e2 e3 p =
     let at1 : l1 ≡ given b' w = e1 ∙ ap (λ x. x ++ given b w) e0 ∙ ap (λ v. given v w) p in
-    e2 ∙ ap (λ x. x ++ rest) at1
+    e3 ∙ ap (λ x. x ++ routes) (e2 ∙ ap (λ x. x ++ status) at1)
+
+-- two lists of warnings after others
+pub two_more : (l0 l1 l2 a b : List Warning) → l1 ≡ l0 ++ a → l2 ≡ l1 ++ b → l2 ≡ l0 ++ (a ++ b)
+two_more l0 l1 l2 a b p q = q ∙ ap (λ x. x ++ b) p ∙ append_assoc l0 a b
+
+-- three lists of warnings after others
+pub three_more : (l0 l1 l2 l3 a b d : List Warning) → l1 ≡ l0 ++ a → l2 ≡ l1 ++ b → l3 ≡ l2 ++ d → l3 ≡ l0 ++ ((a ++ b) ++ d)
+three_more l0 l1 l2 l3 a b d p q r = two_more l0 l2 l3 (a ++ b) d (two_more l0 l1 l2 a b p q) r

@@ -1,4 +1,4 @@
--- What an explanation of a configuration has to do with its reading (this profile).
+-- What an explanation of a configuration has to do with its reading (our choice).
 use Rattle.std.specs.Prelude.{◌≡◌, map, Option, Some, Result, Ok, Err}
 use Rattle.toml.specs.Data.{Members}
 use Rattle.srt_seq.specs.Terms.{terms_of}
@@ -13,7 +13,8 @@ abbrev pub plain : Result Explained Explanation → Result Config ConfigFault
 plain (Ok explained) = Ok explained.config
 plain (Err explanation) = Err explanation.fault
 
--- the warnings are those of the table that the text is, and of the routes that were read from it
+-- the warnings are those of the table that the text is, and of the status page and the routes that were read from it
 abbrev pub HasWarnings : Option Members → Explained → Type 0
 HasWarnings document explained =
-    (table : Members) × (document ≡ Some table) × (explained.warnings.items ≡ warnings_of table (map terms_of explained.config.entries.items))
+    (table : Members) × (document ≡ Some table) ×
+    (explained.warnings.items ≡ warnings_of table explained.config.status (map terms_of explained.config.entries.items))

@@ -1,12 +1,18 @@
--- What is unwise in a right configuration (this profile).
-use Rattle.std.specs.Prelude.{ℕ, suc, ◌+◌, ◌*◌, ◌/◌, ◌==◌, nat_lt, Bool, true, false, codes, List, [], ◌∷◌, ◌++◌, Option, None, Some, if◌then◌else◌}
+-- What is unwise in a right configuration (our choice).
+use Rattle.std.specs.Prelude.{ℕ, suc, ◌+◌, ◌*◌, ◌/◌, ◌==◌, nat_lt, nat_le, Bool, true, false, not, codes, List, [], ◌∷◌, ◌++◌, slice_index, Option}
+use Rattle.std.specs.Prelude.{None, Some, is_some, ◌&&◌, if◌then◌else◌}
 use Rattle.std.specs.Str.{bytes_eq}
 use Rattle.toml.specs.Data.{Data, Members, get_member, as_str}
+use Rattle.srt_seq.specs.declared.shared.Role.TheVariants.{Publish, Request}
+use Rattle.srt_seq.specs.Access.{RoleTerms, AccessTerms}
 use Rattle.srt_seq.specs.Terms.{Terms}
 use Rattle.srt_seq.specs.declared.shared.Mode.{Mode}
 use Rattle.srt_seq.specs.declared.shared.Mode.TheVariants as mode
+use Rattle.srt_gateway.specs.declared.config.address.BindAddress.{BindAddress}
 use Rattle.srt_explain.specs.declared.warnings.Warning.{Warning}
-use Rattle.srt_explain.specs.declared.warnings.Warning.TheVariants.{ExampleSecret, SmallOutbox, SmallWindow, OneSession}
+use Rattle.srt_explain.specs.declared.warnings.Warning.TheVariants.{ExampleSecret, ExposedStatus, SmallOutbox, SmallWindow, OneSession, OpenKey}
+use Rattle.srt_explain.specs.declared.warnings.Warning.TheVariants.{UnusedTakeover, UnusedAddressLimit, OneUnreserved}
+use Rattle.srt_gateway.specs.Keys.{given_or_0}
 
 -- the most replies of one event of a route
 abbrev pub replies_of : Terms → ℕ
@@ -44,11 +50,55 @@ outbox_warning route t = SmallOutbox route t.outbox (replies_of t)
 abbrev pub window_warning : (route : ℕ) → Terms → Warning
 window_warning route t = SmallWindow route t.buffer (packets_of t) (millis_of t)
 
--- the warnings about the route of this number
-abbrev pub route_warnings : (route : ℕ) → Terms → List Warning
-route_warnings route t =
+-- the warnings about the numbers of the route of this number
+abbrev pub number_warnings : (route : ℕ) → Terms → List Warning
+number_warnings route t =
     (given (is_small_outbox t) (outbox_warning route t) ++ given (is_small_window t) (window_warning route t)) ++
     given (has_one_session t) (OneSession route)
+
+-- a role has a key and no list: whoever reads the key on its way may use it from anywhere
+abbrev pub has_open_key : RoleTerms → Bool
+has_open_key role = is_some role.key && not (is_some role.from)
+
+-- the warnings about the keys of the roles
+abbrev pub key_warnings : (route : ℕ) → AccessTerms → List Warning
+key_warnings route access = given (has_open_key access.publish) (OpenKey route Publish) ++ given (has_open_key access.request) (OpenKey route Request)
+
+abbrev pub if_buffer : Mode → Bool → Bool
+if_buffer mode.Live holds = false
+if_buffer mode.Buffer holds = holds
+
+-- a time of a take-over has no effect in buffer mode
+abbrev pub has_unused_takeover : Terms → Bool
+has_unused_takeover t = if_buffer t.mode (is_some t.rules.takeover_ms)
+
+-- a limit of sessions that is no less than those of the route has no effect
+abbrev pub allows_all : (sessions : ℕ) → (limit : Option ℕ) → Bool
+allows_all sessions (Some limit) = nat_le sessions limit
+allows_all sessions None = false
+
+abbrev pub has_unused_limit : Terms → Bool
+has_unused_limit t = allows_all t.sessions t.rules.sessions_per_address
+
+abbrev pub limit_warning : (route : ℕ) → Terms → Warning
+limit_warning route t = UnusedAddressLimit route (given_or_0 t.rules.sessions_per_address) t.sessions
+
+-- slots are kept for publishers, and all but one
+abbrev pub has_one_unreserved : Terms → Bool
+has_one_unreserved t = nat_lt 0 t.rules.reserved && t.rules.reserved + 1 == t.sessions
+
+abbrev pub unreserved_warning : (route : ℕ) → Terms → Warning
+unreserved_warning route t = OneUnreserved route t.rules.reserved t.sessions
+
+-- the warnings about the rules of the route of this number
+abbrev pub rule_warnings : (route : ℕ) → Terms → List Warning
+rule_warnings route t =
+    (given (has_unused_takeover t) (UnusedTakeover route) ++ given (has_unused_limit t) (limit_warning route t)) ++
+    given (has_one_unreserved t) (unreserved_warning route t)
+
+-- all warnings about the route of this number
+abbrev pub route_warnings : (route : ℕ) → Terms → List Warning
+route_warnings route t = (number_warnings route t ++ key_warnings route t.access) ++ rule_warnings route t
 
 -- and about these routes, the first of which has this number
 abbrev pub routes_warnings : (route : ℕ) → List Terms → List Warning
@@ -67,6 +117,15 @@ text_in None = None
 abbrev pub has_example_secret : Members → Bool
 has_example_secret table = is_example (text_in (get_member (codes "secret") table))
 
--- all warnings about a configuration that was read from this table, and has these routes
-abbrev pub warnings_of : Members → List Terms → List Warning
-warnings_of table routes = given (has_example_secret table) ExampleSecret ++ routes_warnings 1 routes
+-- an address of 127.0.0.0/8
+abbrev pub is_loopback : BindAddress → Bool
+is_loopback address = slice_index address.ip 0 == 127
+
+-- the warnings about the address of the status page
+abbrev pub status_warnings : Option BindAddress → List Warning
+status_warnings (Some address) = given (not (is_loopback address)) (ExposedStatus address)
+status_warnings None = []
+
+-- all warnings about a configuration that was read from this table, and has this status page and these routes
+abbrev pub warnings_of : Members → (status : Option BindAddress) → List Terms → List Warning
+warnings_of table status routes = given (has_example_secret table) ExampleSecret ++ status_warnings status ++ routes_warnings 1 routes

@@ -1,4 +1,4 @@
-//! Reads a configuration, and explains what came of it.
+//! Reads a configuration, and explains the result.
 
 ghost use Rattle.std.specs.Prelude.{◌≡◌, IfOk, IsUtf8, Err, Some};
 ghost use Rattle.toml.specs.Parse.{parse_document};
@@ -10,10 +10,10 @@ ghost use Rattle.srt_explain.specs.Explaining.{plain, HasWarnings};
 use crate::explanation::{Explanation, Hint, RouteAt, bare};
 use crate::finding::{first_with, has_unknown, route_at, same_names};
 use crate::hints::{
-    of_address, of_kind, of_name, of_range, of_secret, of_text, of_unknown_above,
+    of_address, of_kind, of_name, of_networks, of_range, of_secret, of_text, of_unknown_above,
     of_unknown_in_route,
 };
-use crate::values::{routes_of, text_at, value_at};
+use crate::values::{is_key_of_role, routes_of, text_at, value_at};
 use crate::warnings::{Warning, WarningText, warnings_of};
 use srt_gateway::{Config, ConfigFault, Key, TOP_KEYS, read_table};
 use std::alloc::Global;
@@ -36,10 +36,14 @@ impl Explained {
         ensures { result.warning ≡ warning }
     {
         let route = match warning {
-            Warning::ExampleSecret => 0,
+            Warning::ExampleSecret | Warning::ExposedStatus { .. } => 0,
             Warning::SmallOutbox { route, .. }
             | Warning::SmallWindow { route, .. }
-            | Warning::OneSession { route } => route,
+            | Warning::OneSession { route }
+            | Warning::OpenKey { route, .. }
+            | Warning::UnusedTakeover { route }
+            | Warning::UnusedAddressLimit { route, .. }
+            | Warning::OneUnreserved { route, .. } => route,
         };
         let name = match self.config.entries.get(route.saturating_sub(1)) {
             Some(entry) => entry.name.as_str(),
@@ -49,8 +53,11 @@ impl Explained {
     }
 }
 
-/// The value at a key, as TOML writes it.
+/// The value at a key, as TOML writes it; empty for the key of a role.
 fn shown(table: &Table, key: Key) -> InlineText<96> {
+    if is_key_of_role(key) {
+        return InlineText::new();
+    }
     match value_at(table, key) {
         Some(value) => InlineText::of(value),
         None => InlineText::new(),
@@ -93,9 +100,9 @@ fn known_above(table: &Table, fault: &ConfigFault) -> Option<Known> {
         ConfigFault::BadSecret => {
             known.hint = of_secret(text_at(table, Key::Secret).unwrap_or(""));
         }
-        ConfigFault::BadAddress => {
-            known.value = shown(table, Key::Bind);
-            known.hint = of_address(text_at(table, Key::Bind).unwrap_or(""));
+        ConfigFault::BadAddress(key) if is_above(*key) => {
+            known.value = shown(table, *key);
+            known.hint = of_address(text_at(table, *key).unwrap_or(""));
         }
         _ => return None,
     }
@@ -137,6 +144,10 @@ fn known_in_route(table: &Table, fault: &ConfigFault) -> Known {
             known.value = shown(route, *key);
             known.hint = of_range(route, *key);
         }
+        ConfigFault::BadAddress(key) => {
+            known.value = shown(route, *key);
+            known.hint = of_networks(route, *key);
+        }
         ConfigFault::BadName => {
             known.value = shown(route, Key::Name);
             known.hint = of_name(text_at(route, Key::Name).unwrap_or(""));
@@ -171,7 +182,7 @@ fn explain_table(alloc: Global, table: &Table) -> Result<Explained, Explanation>
         Ok(config) => config,
         Err(fault) => return Err(explained_fault(table, fault)),
     };
-    match warnings_of(alloc, table, config.entries.as_slice()) {
+    match warnings_of(alloc, table, &config) {
         Ok(warnings) => Ok(Explained { config, warnings }),
         Err(_) => Err(bare(ConfigFault::OutOfMemory)),
     }
@@ -207,9 +218,9 @@ fn explain_text(alloc: Global, text: &str) -> Result<Explained, Explanation>
     }
 }
 
-/// Reads a configuration from the bytes of its file, and explains what came of it: what is unwise, if it is right, or
+/// Reads a configuration from the bytes of its file, and explains the result: what is unwise, if it is right, or
 /// else its first fault. Without the explanation that is what `srt_gateway::read_config` gives for the text, and its
-/// fault `Toml` for bytes that aren't UTF-8. Takes memory as that call does, and for the list of warnings; if it is
+/// fault `Toml` for bytes that aren't UTF-8. Allocates as that call does, and the list of warnings; if memory is
 /// refused, the result can be the fault `OutOfMemory` instead of any other.
 pub fn explain(alloc: Global, bytes: &[u8]) -> Result<Explained, Explanation>
     ensures gives { IsUtf8 bytes.now → Gives settings_of (plain result) (config_in (parse_document bytes.now)) }

@@ -40,10 +40,12 @@ pub enum Hint {
     NoTable(usize),
     /// There are this many routes.
     Routes(usize),
-    /// The mode may be meant that has this text.
-    Mode(&'static str),
+    /// This one of the key's two texts may be meant.
+    Choice(&'static str),
     /// The route opens in this round.
     Opens(i64),
+    /// The route has this number of sessions, so that it can't keep as many slots for publishers as another one could.
+    Sessions(usize),
     /// The name is empty.
     EmptyName,
     /// The name has this many bytes.
@@ -62,6 +64,23 @@ pub enum Hint {
     PortAlone,
     /// The address is one of IPv6.
     Ipv6,
+    /// The list has this many values.
+    Members(usize),
+    /// The value of this number, counted from 1, in the list isn't a text.
+    NoText(usize),
+    /// The value of this number, counted from 1, in the list isn't a network.
+    NoNetwork(usize),
+    /// The same, and it is an address of this network with the network's length.
+    AddressInNetwork {
+        /// The number of the value, counted from 1.
+        number: usize,
+        /// The address that is written.
+        address: [u8; 4],
+        /// The network's first address.
+        first: [u8; 4],
+        /// The number of first bits that the network's addresses have in common.
+        prefix: u32,
+    },
 }
 
 /// A fault of a configuration, with what a person needs to mend it. Its text, without a line's end, is one line.
@@ -72,7 +91,7 @@ pub struct Explanation {
     /// The route that has it; None if it isn't a route's.
     pub route: Option<RouteAt>,
     /// The value that is wrong, as TOML writes it, or its beginning, and at the fault `Toml` what the reader of TOML
-    /// says. Empty if there is none, and for the secret, which is to be printed nowhere.
+    /// says. Empty if there is none, and for the secret and the keys of roles, which are to be printed nowhere.
     pub value: InlineText<96>,
     /// What may help.
     pub hint: Hint,

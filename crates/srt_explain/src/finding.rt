@@ -1,7 +1,7 @@
 //! Which route has a fault.
 
 use crate::explanation::RouteAt;
-use crate::values::{is_of_another_kind, is_out_of_range, text_at, value_at};
+use crate::values::{has_no_network, is_of_another_kind, is_out_of_range, text_at, value_at};
 use srt_gateway::{ConfigFault, Key, ROUTE_KEYS};
 use srt_seq::is_name;
 use std::fmt::InlineText;
@@ -34,10 +34,10 @@ fn has_fault(route: &Table, fault: &ConfigFault) -> bool {
         ConfigFault::WrongKind(key) => is_of_another_kind(route, *key),
         ConfigFault::OutOfRange(key) => is_out_of_range(route, *key),
         ConfigFault::BadName => is_misnamed(route),
+        ConfigFault::BadAddress(key) => has_no_network(route, *key),
         ConfigFault::Toml
         | ConfigFault::RepeatedName
         | ConfigFault::BadSecret
-        | ConfigFault::BadAddress
         | ConfigFault::OutOfMemory => false,
     }
 }

@@ -3,9 +3,12 @@
 use crate::explanation::Hint;
 use crate::places::{line_at, place_after};
 use crate::resemblance::resembled;
-use crate::values::{Kind, kind_of, opening_of, routes_of, text_at, value_at};
-use srt_gateway::{Key, ROUTE_KEYS, TOP_KEYS};
-use srt_seq::limits::MAX_NAME;
+use crate::values::{
+    ValueKind, choice_of, first_no_network, first_no_text, kind_of, members_at, opening_of,
+    routes_of, sessions_of, text_at, value_at,
+};
+use srt_gateway::{Key, ROUTE_KEYS, TOP_KEYS, read_network};
+use srt_seq::limits::{MAX_NAME, MAX_RESERVED};
 use toml::{Table, Value};
 
 /// Of a text that isn't TOML, from this place on.
@@ -83,12 +86,12 @@ pub(crate) fn of_kind(table: &Table, key: Key) -> Hint {
         return Hint::Nothing;
     };
     match kind_of(key) {
-        Kind::Text => Hint::Nothing,
-        Kind::Number(_, _) => match value.as_str() {
+        ValueKind::Text => Hint::Nothing,
+        ValueKind::Number(_, _) => match value.as_str() {
             Some(text) if is_number(text) => Hint::Quoted,
             _ => Hint::Nothing,
         },
-        Kind::Tables => {
+        ValueKind::Tables => {
             if value.is_table() {
                 return Hint::OneTable;
             }
@@ -97,6 +100,80 @@ pub(crate) fn of_kind(table: &Table, key: Key) -> Hint {
                 None => Hint::Nothing,
             }
         }
+        ValueKind::Networks => match first_no_text(members_at(table, key)) {
+            Some(at) => Hint::NoText(at.saturating_add(1)),
+            None => Hint::Nothing,
+        },
+    }
+}
+
+/// The number of first bits that a network's text has after its slash: 0 to 32, without leading zeros.
+fn prefix_in(text: &str) -> Option<u32> {
+    let prefix = match text.as_bytes() {
+        [one @ b'0'..=b'9'] => u32::from(*one - b'0'),
+        [ten @ b'1'..=b'9', one @ b'0'..=b'9'] => {
+            u32::from(*ten - b'0') * 10 + u32::from(*one - b'0')
+        }
+        _ => return None,
+    };
+    if prefix <= 32 { Some(prefix) } else { None }
+}
+
+/// The only address of a network of one address.
+fn only_address(text: &str) -> Option<u32> {
+    match read_network(text.as_bytes()) {
+        Some(network) if !text.contains("/") => Some(network.first),
+        _ => None,
+    }
+}
+
+/// Of the text of this number, counted from 1, in a list, which isn't a network.
+fn of_network(number: usize, text: &str) -> Hint {
+    let Some((address, prefix)) = text.split_once("/") else {
+        return Hint::NoNetwork(number);
+    };
+    let (Some(address), Some(prefix)) = (only_address(address), prefix_in(prefix)) else {
+        return Hint::NoNetwork(number);
+    };
+    let mask = u32::MAX
+        .checked_shl(32u32.saturating_sub(prefix))
+        .unwrap_or(0);
+    Hint::AddressInNetwork {
+        number,
+        address: address.to_be_bytes(),
+        first: (address & mask).to_be_bytes(),
+        prefix,
+    }
+}
+
+/// Of a list with a text that isn't a network.
+pub(crate) fn of_networks(table: &Table, key: Key) -> Hint {
+    let members = members_at(table, key);
+    let Some(at) = first_no_network(members) else {
+        return Hint::Nothing;
+    };
+    let number = at.saturating_add(1);
+    match members.get(at) {
+        Some(value) => of_network(number, value.as_str().unwrap_or("")),
+        None => Hint::NoNetwork(number),
+    }
+}
+
+/// Of a text that is none of the two that its key allows.
+fn of_choice(key: Key, text: &str) -> Hint {
+    match choice_of(key) {
+        Some((one, _)) if text.trim_ascii().eq_ignore_ascii_case(one) => Hint::Choice(one),
+        Some((_, other)) if text.trim_ascii().eq_ignore_ascii_case(other) => Hint::Choice(other),
+        Some((_, other)) if key == Key::Mode && text == "file" => Hint::Choice(other),
+        _ => Hint::Nothing,
+    }
+}
+
+/// Of a number of slots for publishers that is too great.
+fn of_reserved(route: &Table) -> Hint {
+    match usize::try_from(sessions_of(route)) {
+        Ok(sessions) if sessions <= MAX_RESERVED => Hint::Sessions(sessions),
+        _ => Hint::Nothing,
     }
 }
 
@@ -104,13 +181,10 @@ pub(crate) fn of_kind(table: &Table, key: Key) -> Hint {
 pub(crate) fn of_range(table: &Table, key: Key) -> Hint {
     match key {
         Key::Route => Hint::Routes(routes_of(table).len()),
-        Key::Mode => match text_at(table, Key::Mode) {
-            Some(text) if text.trim_ascii().eq_ignore_ascii_case("live") => Hint::Mode("live"),
-            Some(text) if text.trim_ascii().eq_ignore_ascii_case("buffer") => Hint::Mode("buffer"),
-            Some("file") => Hint::Mode("buffer"),
-            _ => Hint::Nothing,
-        },
+        Key::Mode | Key::Callers => of_choice(key, text_at(table, key).unwrap_or("")),
         Key::CloseRound => Hint::Opens(opening_of(table)),
+        Key::Reserved => of_reserved(table),
+        Key::PublishFrom | Key::RequestFrom => Hint::Members(members_at(table, key).len()),
         _ => Hint::Nothing,
     }
 }

@@ -47,7 +47,8 @@ fn difference(one: &[u8], other: &[u8]) -> usize {
 }
 
 /// How unlike a key a text is: None if it doesn't resemble it at all. It does if it differs in a third of the key's bytes
-/// at most and in two at most, or if four of their first bytes agree, or three that are the whole text.
+/// at most and in two at most, or if it is the key's beginning, with three bytes or more, or if four of their first bytes
+/// agree.
 fn unlikeness(key: Key, text: &[u8]) -> Option<usize> {
     let name = key.name().as_bytes();
     let differs = difference(name, text);
@@ -55,7 +56,10 @@ fn unlikeness(key: Key, text: &[u8]) -> Option<usize> {
     if differs <= 2 && differs <= name.len() / 3 {
         return Some(differs);
     }
-    if front >= 4 || front == 3 && text.len() == 3 {
+    if front >= 3 && front == text.len() {
+        return Some(3);
+    }
+    if front >= 4 {
         return Some(name.len().saturating_add(differs));
     }
     None

@@ -1,9 +1,13 @@
 //! The words of explanations and warnings.
 
 use crate::explanation::{Explanation, Hint, RouteAt};
-use crate::values::{Kind, LAST_ROUND, ROUTES, kind_of};
+use crate::values::{ValueKind, choice_of, kind_of};
 use crate::warnings::{Warning, WarningText};
-use srt_gateway::{ConfigFault, Key, ROUTE_KEYS, TOP_KEYS};
+use srt_gateway::{
+    BindAddress, ConfigFault, Key, MAX_KEY, MAX_NETWORKS, MAX_ROUND, ROUTE_KEYS, TOP_KEYS,
+};
+use srt_seq::Role;
+use srt_seq::limits::MAX_ROUTES;
 use std::fmt;
 
 /// A key as it is written, in quotes if it isn't one of letters, digits, `-` and `_` alone.
@@ -36,15 +40,32 @@ impl fmt::Display for Allowed {
             Key::Bind => {
                 f.write_str("an IPv4 address and a UDP port in quotes, as \"0.0.0.0:9000\"")
             }
+            Key::Status => {
+                f.write_str("an IPv4 address and a TCP port in quotes, as \"127.0.0.1:9001\"")
+            }
             Key::Name => f.write_str("1 to 64 letters, digits, -, _, . and / in quotes"),
-            Key::Mode => f.write_str("\"live\" and \"buffer\""),
+            Key::Mode | Key::Callers => match choice_of(self.0) {
+                Some((one, other)) => write!(f, "{one:?} and {other:?}"),
+                None => Ok(()),
+            },
             Key::Route => {
-                let most = ROUTES;
-                write!(f, "1 to {most} routes, each begun by a line [[route]]")
+                write!(
+                    f,
+                    "1 to {MAX_ROUTES} routes, each begun by a line [[route]]"
+                )
+            }
+            Key::PublishFrom | Key::RequestFrom => {
+                write!(
+                    f,
+                    "1 to {MAX_NETWORKS} IPv4 addresses or networks in quotes, as [\"192.0.2.7\", \"198.51.100.0/24\"]"
+                )
+            }
+            Key::PublishKey | Key::RequestKey => {
+                write!(f, "1 to {MAX_KEY} letters, digits, -, _, . and ~ in quotes")
             }
             key => match kind_of(key) {
-                Kind::Number(low, high) => write!(f, "{low} to {high}"),
-                Kind::Text | Kind::Tables => Ok(()),
+                ValueKind::Number(low, high) => write!(f, "{low} to {high}"),
+                ValueKind::Text | ValueKind::Tables | ValueKind::Networks => Ok(()),
             },
         }
     }
@@ -161,10 +182,19 @@ fn write_wrong_kind<W: fmt::Write>(
 ) -> fmt::Result {
     let (name, allowed) = (key.name(), Allowed(key));
     match kind_of(key) {
-        Kind::Tables => write_routes_of_another_kind(f, value, hint),
-        Kind::Text if value.is_empty() => { write!(f, "{name}: not a text; allowed are {allowed}") }
-        Kind::Text => write!(f, "{name} = {value}: not a text; allowed are {allowed}"),
-        Kind::Number(_, _) => {
+        ValueKind::Tables => write_routes_of_another_kind(f, value, hint),
+        ValueKind::Networks => match hint {
+            Hint::NoText(number) => write!(
+                f,
+                "{name} = {value}: value {number} of the list isn't a text; allowed are {allowed}"
+            ),
+            _ => write!(f, "{name} = {value}: not a list; allowed are {allowed}"),
+        },
+        ValueKind::Text if value.is_empty() => {
+            write!(f, "{name}: not a text; allowed are {allowed}")
+        }
+        ValueKind::Text => write!(f, "{name} = {value}: not a text; allowed are {allowed}"),
+        ValueKind::Number(_, _) => {
             let more = match hint {
                 Hint::Quoted => "; take the quotes away",
                 _ => "",
@@ -180,10 +210,10 @@ fn write_wrong_kind<W: fmt::Write>(
 fn write_closing<W: fmt::Write>(f: &mut fmt::Formatter<W>, value: &str, opens: i64) -> fmt::Result {
     let first = opens.saturating_add(1);
     match usize::try_from(first) {
-        Ok(first) if first <= LAST_ROUND => {
+        Ok(first) if first <= MAX_ROUND => {
             write!(
                 f,
-                "close_round = {value}: allowed are {first} to {LAST_ROUND}, after open_round"
+                "close_round = {value}: allowed are {first} to {MAX_ROUND}, after open_round"
             )
         }
         _ => write!(
@@ -191,6 +221,20 @@ fn write_closing<W: fmt::Write>(f: &mut fmt::Formatter<W>, value: &str, opens: i
             "close_round = {value}: no round is left after open_round = {opens}"
         ),
     }
+}
+
+/// Of slots that are kept for publishers in a route of few sessions.
+fn write_reserved<W: fmt::Write>(
+    f: &mut fmt::Formatter<W>,
+    value: &str,
+    sessions: usize,
+) -> fmt::Result {
+    let most = sessions.saturating_sub(1);
+    match most {
+        0 => write!(f, "reserved = {value}: allowed is 0")?,
+        _ => write!(f, "reserved = {value}: allowed are 0 to {most}")?,
+    }
+    write!(f, ", fewer than sessions = {sessions}")
 }
 
 fn write_out_of_range<W: fmt::Write>(
@@ -203,12 +247,15 @@ fn write_out_of_range<W: fmt::Write>(
     match hint {
         Hint::Routes(count) => write!(f, "route: there are {count}; allowed are {allowed}"),
         Hint::Opens(opens) => write_closing(f, value, opens),
-        Hint::Mode(meant) => {
+        Hint::Sessions(sessions) => write_reserved(f, value, sessions),
+        Hint::Choice(meant) => {
             write!(
                 f,
                 "{name} = {value}: allowed are {allowed}; did you mean {meant:?}?"
             )
         }
+        Hint::Members(count) => write!(f, "{name}: it has {count} values; allowed are {allowed}"),
+        _ if value.is_empty() => write!(f, "{name}: allowed are {allowed}"),
         _ => write!(f, "{name} = {value}: allowed are {allowed}"),
     }
 }
@@ -250,19 +297,77 @@ fn write_bad_secret<W: fmt::Write>(f: &mut fmt::Formatter<W>, hint: Hint) -> fmt
     f.write_str("; openssl rand -hex 32 makes one")
 }
 
-fn write_bad_address<W: fmt::Write>(
+/// What may be put before a port that stands alone.
+fn address_before_port(key: Key) -> &'static str {
+    match key {
+        Key::Status => "127.0.0.1 for this machine alone",
+        _ => "0.0.0.0 for all of this machine",
+    }
+}
+
+/// Octets with dots between them.
+#[derive(Clone, Copy)]
+struct Octets([u8; 4]);
+
+impl fmt::Display for Octets {
+    fn fmt<W: fmt::Write>(&self, f: &mut fmt::Formatter<W>) -> fmt::Result {
+        let [a, b, c, d] = self.0;
+        write!(f, "{a}.{b}.{c}.{d}")
+    }
+}
+
+fn write_bad_network<W: fmt::Write>(
     f: &mut fmt::Formatter<W>,
+    key: Key,
     value: &str,
     hint: Hint,
 ) -> fmt::Result {
-    let allowed = Allowed(Key::Bind);
-    let more = match hint {
-        Hint::NoPort => "; the port is missing",
-        Hint::PortAlone => "; the address is missing, 0.0.0.0 for all of this machine",
-        Hint::Ipv6 => "; IPv6 isn't served",
-        _ => "",
-    };
-    write!(f, "bind = {value}: allowed is {allowed}{more}")
+    let (name, allowed) = (key.name(), Allowed(key));
+    match hint {
+        Hint::AddressInNetwork {
+            number,
+            address,
+            first,
+            prefix,
+        } => {
+            let (address, first) = (Octets(address), Octets(first));
+            write!(
+                f,
+                "{name} = {value}: value {number} of the list is an address with a network's length; "
+            )?;
+            write!(
+                f,
+                "the network is \"{first}/{prefix}\", the address alone \"{address}\""
+            )
+        }
+        Hint::NoNetwork(number) => write!(
+            f,
+            "{name} = {value}: value {number} of the list isn't a network; allowed are {allowed}"
+        ),
+        _ => write!(f, "{name} = {value}: allowed are {allowed}"),
+    }
+}
+
+fn write_bad_address<W: fmt::Write>(
+    f: &mut fmt::Formatter<W>,
+    key: Key,
+    value: &str,
+    hint: Hint,
+) -> fmt::Result {
+    let (name, allowed) = (key.name(), Allowed(key));
+    if let ValueKind::Networks = kind_of(key) {
+        return write_bad_network(f, key, value, hint);
+    }
+    write!(f, "{name} = {value}: allowed is {allowed}")?;
+    match hint {
+        Hint::NoPort => f.write_str("; the port is missing"),
+        Hint::PortAlone => {
+            let address = address_before_port(key);
+            write!(f, "; the address is missing, {address}")
+        }
+        Hint::Ipv6 => f.write_str("; IPv6 isn't served"),
+        _ => Ok(()),
+    }
 }
 
 impl fmt::Display for Explanation {
@@ -282,10 +387,39 @@ impl fmt::Display for Explanation {
             ConfigFault::BadName => write_bad_name(f, value, hint),
             ConfigFault::RepeatedName => write_repeated_name(f, value, hint),
             ConfigFault::BadSecret => write_bad_secret(f, hint),
-            ConfigFault::BadAddress => write_bad_address(f, value, hint),
+            ConfigFault::BadAddress(key) => write_bad_address(f, *key, value, hint),
             ConfigFault::OutOfMemory => f.write_str("memory was refused"),
         }
     }
+}
+
+fn write_exposed_status<W: fmt::Write>(
+    f: &mut fmt::Formatter<W>,
+    address: BindAddress,
+) -> fmt::Result {
+    let (ip, port) = (Octets(address.ip), address.port);
+    write!(
+        f,
+        "status = \"{ip}:{port}\": others can reach the status page, "
+    )?;
+    f.write_str("which tells who is connected and can't ask for a password; ")?;
+    write!(
+        f,
+        "write \"127.0.0.1:{port}\", with a proxy before it if others are to see it"
+    )
+}
+
+/// What a key without a list is worth.
+fn write_open_key<W: fmt::Write>(f: &mut fmt::Formatter<W>, role: Role) -> fmt::Result {
+    let (key, list) = match role {
+        Role::Publish => (Key::PublishKey.name(), Key::PublishFrom.name()),
+        Role::Request => (Key::RequestKey.name(), Key::RequestFrom.name()),
+    };
+    write!(
+        f,
+        "{key}: nothing is encrypted, so who reads it on its way can use it from anywhere; "
+    )?;
+    write!(f, "write {list} too, if the callers' addresses are known")
 }
 
 fn write_small_outbox<W: fmt::Write>(
@@ -320,6 +454,42 @@ fn write_small_window<W: fmt::Write>(
     f.write_str("and as many times more as the stream has Mbit/s")
 }
 
+fn write_one_session<W: fmt::Write>(f: &mut fmt::Formatter<W>) -> fmt::Result {
+    f.write_str("sessions = 1: an encoder takes it, and nobody can receive; ")?;
+    f.write_str("write 2 or more, 3 with a backup encoder")
+}
+
+fn write_unused_takeover<W: fmt::Write>(f: &mut fmt::Formatter<W>) -> fmt::Result {
+    f.write_str(
+        "takeover_ms: it has no effect in buffer mode, where the publisher that stands by ",
+    )?;
+    f.write_str("waits for the end of the active one; leave it out")
+}
+
+fn write_unused_limit<W: fmt::Write>(
+    f: &mut fmt::Formatter<W>,
+    limit: u32,
+    sessions: u32,
+) -> fmt::Result {
+    write!(
+        f,
+        "sessions_per_address = {limit}: it has no effect with sessions = {sessions}, "
+    )?;
+    f.write_str("since one address may take all of them; write less, or leave it out")
+}
+
+fn write_one_unreserved<W: fmt::Write>(
+    f: &mut fmt::Formatter<W>,
+    reserved: u32,
+    sessions: u32,
+) -> fmt::Result {
+    write!(
+        f,
+        "reserved = {reserved}: of sessions = {sessions} one alone is left for subscribers; "
+    )?;
+    f.write_str("raise sessions, if more than one is to receive")
+}
+
 impl fmt::Display for WarningText<'_> {
     fn fmt<W: fmt::Write>(&self, f: &mut fmt::Formatter<W>) -> fmt::Result {
         let name = self.name;
@@ -329,6 +499,7 @@ impl fmt::Display for WarningText<'_> {
                 f.write_str("secret: it is that of examples/gateway.toml, which everybody can ")?;
                 f.write_str("read; put the output of openssl rand -hex 32 in its place")
             }
+            Warning::ExposedStatus { address } => write_exposed_status(f, address),
             Warning::SmallOutbox {
                 route,
                 outbox,
@@ -347,11 +518,32 @@ impl fmt::Display for WarningText<'_> {
                 write_small_window(f, buffer, packets, millis)
             }
             Warning::OneSession { route } => {
-                write!(
-                    f,
-                    "route {route} ({name}): sessions = 1: an encoder takes it, "
-                )?;
-                f.write_str("and nobody can receive; write 2 or more, 3 with a backup encoder")
+                write!(f, "route {route} ({name}): ")?;
+                write_one_session(f)
+            }
+            Warning::OpenKey { route, role } => {
+                write!(f, "route {route} ({name}): ")?;
+                write_open_key(f, role)
+            }
+            Warning::UnusedTakeover { route } => {
+                write!(f, "route {route} ({name}): ")?;
+                write_unused_takeover(f)
+            }
+            Warning::UnusedAddressLimit {
+                route,
+                limit,
+                sessions,
+            } => {
+                write!(f, "route {route} ({name}): ")?;
+                write_unused_limit(f, limit, sessions)
+            }
+            Warning::OneUnreserved {
+                route,
+                reserved,
+                sessions,
+            } => {
+                write!(f, "route {route} ({name}): ")?;
+                write_one_unreserved(f, reserved, sessions)
             }
         }
     }

@@ -2,12 +2,17 @@
 
 ghost use Rattle.std.specs.Prelude.{◌≡◌, ◌++◌, ◌^◌, ◌<◌, map, IfOk, OnOk};
 ghost use Rattle.toml.specs.View.{table_view};
+ghost use Rattle.srt_seq.specs.Access.{access_of, role_access_of};
 ghost use Rattle.srt_seq.specs.Terms.{terms_of};
-ghost use Rattle.srt_explain.specs.Warnings.{replies_of, packets_of, millis_of, is_small_outbox, is_small_window, has_one_session, outbox_warning, window_warning, given, has_example_secret, route_warnings, routes_warnings, warnings_of};
+ghost use Rattle.srt_explain.specs.Warnings.{replies_of, packets_of, millis_of, is_small_outbox, is_small_window, has_one_session};
+ghost use Rattle.srt_explain.specs.Warnings.{outbox_warning, window_warning, given, has_example_secret, is_loopback, status_warnings};
+ghost use Rattle.srt_explain.specs.Warnings.{number_warnings, has_open_key, key_warnings, has_unused_takeover, has_unused_limit};
+ghost use Rattle.srt_explain.specs.Warnings.{limit_warning, has_one_unreserved, unreserved_warning, rule_warnings, route_warnings, routes_warnings};
+ghost use Rattle.srt_explain.specs.Warnings.{warnings_of};
 
 use crate::values::text_at;
-use srt_gateway::Key;
-use srt_seq::{Entry, Mode};
+use srt_gateway::{BindAddress, Config, Key};
+use srt_seq::{Access, Entry, Mode, Role, RoleAccess};
 use std::alloc::{AllocError, Global};
 use toml::Table;
 
@@ -16,6 +21,11 @@ use toml::Table;
 pub enum Warning {
     /// The secret is the one of examples/gateway.toml.
     ExampleSecret,
+    /// The status page is at an address of other machines than this one too: none of 127.0.0.0/8.
+    ExposedStatus {
+        /// The address.
+        address: BindAddress,
+    },
     /// A route's outbox holds fewer replies than one event can give.
     SmallOutbox {
         /// The route.
@@ -41,6 +51,36 @@ pub enum Warning {
     OneSession {
         /// The route.
         route: usize,
+    },
+    /// A role of a route has a key and no list of networks: who reads the key on its way may use it from anywhere.
+    OpenKey {
+        /// The route.
+        route: usize,
+        /// The role.
+        role: Role,
+    },
+    /// A route in buffer mode has a time after which the publisher that stands by takes over: it has no effect there.
+    UnusedTakeover {
+        /// The route.
+        route: usize,
+    },
+    /// A route allows an IP address as many sessions as it has, or more, so that the limit has no effect.
+    UnusedAddressLimit {
+        /// The route.
+        route: usize,
+        /// The sessions of an address.
+        limit: u32,
+        /// The route's sessions.
+        sessions: u32,
+    },
+    /// A route keeps all of its slots but one for publishers.
+    OneUnreserved {
+        /// The route.
+        route: usize,
+        /// The slots that are kept for publishers.
+        reserved: u32,
+        /// The route's sessions.
+        sessions: u32,
     },
 }
 
@@ -141,13 +181,109 @@ fn push_if(list: &mut Vec<Warning>, some: bool, warning: Warning) -> Result<(), 
     Ok(())
 }
 
-/// Adds what is unwise in the route of this number.
-fn push_route(list: &mut Vec<Warning>, route: usize, entry: &Entry) -> Result<(), AllocError>
-    ensures { OnOk result (list.new.items ≡ list.old.items ++ route_warnings route (terms_of entry.now)) }
+/// Adds what is unwise in the numbers of the route of this number.
+fn push_numbers(list: &mut Vec<Warning>, route: usize, entry: &Entry) -> Result<(), AllocError>
+    ensures { OnOk result (list.new.items ≡ list.old.items ++ number_warnings route (terms_of entry.now)) }
 {
     push_if(list, is_small_outbox(entry), outbox_warning(route, entry))?;
     push_if(list, is_small_window(entry), window_warning(route, entry))?;
     push_if(list, has_one_session(entry), Warning::OneSession { route })?;
+    Ok(())
+}
+
+/// Whether a role has a key and no list.
+fn has_open_key(access: &RoleAccess) -> bool
+    ensures { result ≡ has_open_key (role_access_of access.now) }
+{
+    access.key.is_some() && access.from.is_none()
+}
+
+/// Adds what is unwise in the keys of the roles of the route of this number.
+fn push_keys(list: &mut Vec<Warning>, route: usize, access: &Access) -> Result<(), AllocError>
+    ensures { OnOk result (list.new.items ≡ list.old.items ++ key_warnings route (access_of access.now)) }
+{
+    let publish = Warning::OpenKey {
+        route,
+        role: Role::Publish,
+    };
+    push_if(list, has_open_key(&access.publish), publish)?;
+    let request = Warning::OpenKey {
+        route,
+        role: Role::Request,
+    };
+    push_if(list, has_open_key(&access.request), request)?;
+    Ok(())
+}
+
+/// Whether a route in buffer mode has a time of a take-over.
+fn has_unused_takeover(entry: &Entry) -> bool
+    ensures { result ≡ has_unused_takeover (terms_of entry.now) }
+{
+    match entry.mode {
+        Mode::Live => false,
+        Mode::Buffer => entry.rules.takeover_ms.is_some(),
+    }
+}
+
+/// Whether one address may take all sessions of a route, though there is a limit.
+fn has_unused_limit(entry: &Entry) -> bool
+    ensures { result ≡ has_unused_limit (terms_of entry.now) }
+{
+    match entry.rules.sessions_per_address {
+        Some(limit) => entry.sessions <= limit,
+        None => false,
+    }
+}
+
+fn limit_warning(route: usize, entry: &Entry) -> Warning
+    ensures { result ≡ limit_warning route (terms_of entry.now) }
+{
+    Warning::UnusedAddressLimit {
+        route,
+        limit: entry.rules.sessions_per_address.unwrap_or(0),
+        sessions: entry.sessions,
+    }
+}
+
+/// Whether a route keeps slots for publishers, and all but one.
+fn has_one_unreserved(entry: &Entry) -> bool
+    ensures { result ≡ has_one_unreserved (terms_of entry.now) }
+{
+    0 < entry.rules.reserved && u64::from(entry.rules.reserved) + 1 == u64::from(entry.sessions)
+}
+
+fn unreserved_warning(route: usize, entry: &Entry) -> Warning
+    ensures { result ≡ unreserved_warning route (terms_of entry.now) }
+{
+    Warning::OneUnreserved {
+        route,
+        reserved: entry.rules.reserved,
+        sessions: entry.sessions,
+    }
+}
+
+/// Adds what is unwise in the rules of the route of this number.
+fn push_rules(list: &mut Vec<Warning>, route: usize, entry: &Entry) -> Result<(), AllocError>
+    ensures { OnOk result (list.new.items ≡ list.old.items ++ rule_warnings route (terms_of entry.now)) }
+{
+    let takeover = Warning::UnusedTakeover { route };
+    push_if(list, has_unused_takeover(entry), takeover)?;
+    push_if(list, has_unused_limit(entry), limit_warning(route, entry))?;
+    push_if(
+        list,
+        has_one_unreserved(entry),
+        unreserved_warning(route, entry),
+    )?;
+    Ok(())
+}
+
+/// Adds what is unwise in the route of this number.
+fn push_route(list: &mut Vec<Warning>, route: usize, entry: &Entry) -> Result<(), AllocError>
+    ensures { OnOk result (list.new.items ≡ list.old.items ++ route_warnings route (terms_of entry.now)) }
+{
+    push_numbers(list, route, entry)?;
+    push_keys(list, route, &entry.access)?;
+    push_rules(list, route, entry)?;
     Ok(())
 }
 
@@ -165,17 +301,39 @@ fn push_routes(list: &mut Vec<Warning>, entries: &[Entry]) -> Result<(), AllocEr
     Ok(())
 }
 
-/// What is unwise in a configuration that was read from this table, and has these routes: first what the table above the
-/// routes has, then route after route. Takes memory for the list.
+/// Whether an address is one of this machine alone: one of 127.0.0.0/8.
+fn is_loopback(address: BindAddress) -> bool
+    ensures { result ≡ is_loopback address }
+{
+    address.ip[0] == 127
+}
+
+/// Adds what is unwise in the address of the status page.
+fn push_status(list: &mut Vec<Warning>, status: Option<BindAddress>) -> Result<(), AllocError>
+    ensures { OnOk result (list.new.items ≡ list.old.items ++ status_warnings status) }
+{
+    match status {
+        Some(address) => push_if(
+            list,
+            !is_loopback(address),
+            Warning::ExposedStatus { address },
+        ),
+        None => Ok(()),
+    }
+}
+
+/// What is unwise in a configuration that was read from this table: first what stands above the routes, then route after
+/// route. Allocates the list.
 pub(crate) fn warnings_of(
     alloc: Global,
     table: &Table,
-    entries: &[Entry],
+    config: &Config,
 ) -> Result<Vec<Warning>, AllocError>
-    ensures { IfOk result (λ list. list.items ≡ warnings_of (table_view table.now) (map terms_of entries.now)) }
+    ensures { IfOk result (λ list. list.items ≡ warnings_of (table_view table.now) config.now.status (map terms_of config.now.entries.items)) }
 {
     let mut list = Vec::new(alloc);
     push_if(&mut list, is_example_secret(table), Warning::ExampleSecret)?;
-    push_routes(&mut list, entries)?;
+    push_status(&mut list, config.status)?;
+    push_routes(&mut list, config.entries.as_slice())?;
     Ok(list)
 }

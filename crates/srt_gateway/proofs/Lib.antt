@@ -14,3 +14,6 @@ pub mod Parted
 pub mod TableKeys
 pub mod RouteItems
 pub mod Sound
+pub mod Sameness
+pub mod SameFile
+pub mod Compared

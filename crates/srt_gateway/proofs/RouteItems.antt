@@ -3,6 +3,7 @@ use Rattle.std.proofs.Common.{◌≡◌, suc, ◌<◌, length, List, [], ◌∷�
 use Rattle.toml.specs.Data.{item}
 use Rattle.toml.specs.View.{view, items_view}
 use Rattle.toml.specs.declared.value.Value.{Value}
+use Rattle.srt_gateway.specs.Access.{member_count}
 use Rattle.srt_gateway.specs.Routes.{count}
 
 -- the first item and the others
@@ -13,3 +14,7 @@ items_step (v ∷ vs) d h = refl
 pub counted : (vs : List Value) → length vs ≡ count (items_view vs)
 counted [] = refl
 counted (v ∷ vs) = ap suc (counted vs)
+
+pub members_counted : (vs : List Value) → length vs ≡ member_count (items_view vs)
+members_counted [] = refl
+members_counted (v ∷ vs) = ap suc (members_counted vs)

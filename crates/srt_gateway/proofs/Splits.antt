@@ -1,29 +1,22 @@
 -- A text split at its first space.
-use Rattle.std.proofs.Common.{◌≡◌, ℕ, zero, suc, ◌+◌, ◌-◌, ◌<◌, Bool, true, false, cond, eqb, List, [], ◌∷◌, length, take, drop, slice_index, refl, sym, ap, ◌∙◌, arith}
-use Rattle.std.proofs.lemmas.Bool.{false_from_ne_true}
-use Rattle.std.proofs.lemmas.List.{take_rest}
-use Rattle.memchr.specs.Find.{Nowhere, Passes, is_byte}
+use Rattle.std.proofs.Common.{◌≡◌, ℕ, Bool, true, false, cond, eqb, List, [], ◌∷◌, None, Some, Option, option_map, refl, ap}
+use Rattle.srt_gateway.specs.Address.{parted, with_front}
 use Rattle.srt_gateway.specs.Tape.{fields_of, onto}
 
-later : (b : ℕ) (bs : List ℕ) (k : ℕ) → Nowhere (Passes (is_byte 32) (b ∷ bs)) 0 (suc k) → Nowhere (Passes (is_byte 32) bs) 0 k
-later b bs k h j low high p = h (suc j) (omega arith) (omega arith) p
+-- the fields of a text that is parted so at its first space
+abbrev pub fields_by : List ℕ → Option (List ℕ × List ℕ) → List (List ℕ)
+fields_by text None = text ∷ []
+fields_by text (Some parts) = parts.0 ∷ fields_of parts.1
 
-other : (b : ℕ) (bs : List ℕ) (k : ℕ) → Nowhere (Passes (is_byte 32) (b ∷ bs)) 0 (suc k) → eqb b 32 ≡ false
-other b bs k h = false_from_ne_true (eqb b 32) (λ p. h 0 (omega arith) (omega arith) p)
-
-split_at : (text : List ℕ) (k : ℕ) → k < length text → Nowhere (Passes (is_byte 32) text) 0 k → eqb (slice_index text k) 32 ≡ true → fields_of text ≡ take k text ∷ fields_of (drop (suc k) text)
-split_at [] k within none is = absurd (omega arith)
-split_at (b ∷ bs) zero within none is = rw is refl
-split_at (b ∷ bs) (suc k) within none is = rw (other b bs k none) (ap (onto b) (split_at bs k (omega arith) (later b bs k none) is))
-
-pub split_found : (text : List ℕ) (k : ℕ) → k < length text → Nowhere (Passes (is_byte 32) text) 0 k → eqb (slice_index text k) 32 ≡ true → fields_of text ≡ take k text ∷ fields_of (take (length text - (k + 1)) (drop (k + 1) text))
-split_found text k within none is =
-    let e : k + 1 ≡ suc k = omega arith in
-    split_at text k within none is ∙ ap (λ (xs : List ℕ). take k text ∷ fields_of xs) (ap (λ (n : ℕ). drop n text) (sym e) ∙ sym (take_rest text (k + 1)))
-
-pub split_none : (text : List ℕ) → Nowhere (Passes (is_byte 32) text) 0 (length text) → fields_of text ≡ text ∷ []
-split_none [] none = refl
-split_none (b ∷ bs) none = rw (other b bs (length bs) none) (ap (onto b) (split_none bs (later b bs (length bs) none)))
+pub fields_parted : (text : List ℕ) → fields_of text ≡ fields_by text (parted 32 text)
+fields_parted [] = refl
+fields_parted (b ∷ bs) = by (eqb b 32) (parted 32 bs) (fields_parted bs)
+  where
+    by : (is : Bool) (o : Option (List ℕ × List ℕ)) → fields_of bs ≡ fields_by bs o
+        → cond is ([] ∷ fields_of bs) (onto b (fields_of bs)) ≡ fields_by (b ∷ bs) (cond is (Some ([], bs)) (option_map (with_front b) o))
+    by true o h = refl
+    by false None h = ap (onto b) h
+    by false (Some parts) h = ap (onto b) h
 
 onto_some : (b : ℕ) (pieces : List (List ℕ)) → onto b pieces ≡ [] → ⊥
 onto_some b [] e = cc

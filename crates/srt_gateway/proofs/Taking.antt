@@ -1,5 +1,6 @@
 -- The bytes that one look at a reader takes.
-use Rattle.std.proofs.Common.{◌≡◌, ℕ, ◌+◌, ◌<◌, ◌≤◌, true, eqb, List, [], ◌∷◌, ◌++◌, length, take, drop, slice_index, Option, Some, None, refl, sym, ap, ◌∙◌, arith, append_assoc, eq-eqb, eqb-true, length-take-le}
+use Rattle.std.proofs.Common.{◌≡◌, ℕ, ◌+◌, ◌<◌, ◌≤◌, true, eqb, List, [], ◌∷◌, ◌++◌, length, take, drop, slice_index, Option, Some, None}
+use Rattle.std.proofs.Common.{refl, sym, ap, ◌∙◌, arith, append_assoc, eq-eqb, eqb-true, length-take-le}
 use Rattle.std.proofs.lemmas.List.{take_more, take-append-drop, get_or-take, get_or_default}
 use Rattle.std.specs.Option.{IfSome}
 use Rattle.std.specs.Io.{StartsWith}
@@ -25,8 +26,11 @@ begin ys xs e = cc
 pub begins : (old : Option (List ℕ)) (shown : List ℕ) (k : ℕ) → IfSome old (λ xs. StartsWith xs shown) → BeginsWith old (take k shown)
 begins None shown k h xs e = absurd cc
 begins (Some ys) shown k h xs e =
-    let rest = drop (length shown) ys in
-    (drop k shown ++ rest, sym (begin ys xs e) ∙ starts_with_rest ys shown h ∙ ap (λ (l : List ℕ). l ++ rest) (sym (take-append-drop k shown)) ∙ append_assoc (take k shown) (drop k shown) rest)
+    let rest = drop (length shown) ys in (
+      drop k shown ++ rest,
+      sym (begin ys xs e) ∙ starts_with_rest ys shown h ∙ ap (λ (l : List ℕ). l ++ rest) (sym (take-append-drop k shown))
+          ∙ append_assoc (take k shown) (drop k shown) rest,
+    )
 
 pub begins_whole : (old : Option (List ℕ)) (shown : List ℕ) → IfSome old (λ xs. StartsWith xs shown) → BeginsWith old shown
 begins_whole None shown h xs e = absurd cc

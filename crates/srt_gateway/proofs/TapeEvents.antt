@@ -1,13 +1,16 @@
 -- The events of a tape are those for which there is memory.
-use Rattle.std.proofs.Common.{◌≡◌, ℕ, ◌+◌, ◌^◌, nat_le, Bool, true, false, List, [], ◌∷◌, length, Option, None, Some, option_and_then, refl, subst, if◌then◌else◌}
+use Rattle.std.proofs.Common.{◌≡◌, ℕ, ◌+◌, ◌^◌, nat_le, Bool, true, false, List, [], ◌∷◌, length, Option, None, Some, option_and_then, refl}
+use Rattle.std.proofs.Common.{subst, if◌then◌else◌}
 use Rattle.srt_seq.specs.declared.shared.Mode.{Mode}
 use Rattle.srt_seq.specs.Terms.{Terms}
 use Rattle.srt_hub.specs.World.{Event, Arrives, Ticks, Turns, Sends, Opens, Closes, Sorting, Meaning}
 use Rattle.srt_hub.specs.Hubs.{routes_at}
 use Rattle.srt_gateway.specs.Routes.{Numbers, terms_with}
-use Rattle.srt_gateway.specs.Tape.{line_max, fields_of, number_in, address_in, bytes_in}
-use Rattle.srt_gateway.specs.Events.{arrival_of as line_arrival, tick_of, turn_of, send_of, closing_of, moment_in, text_in, mode_in, numbers_in, arrival_in, tick_in, turn_in, send_in, opening_in, closing_in, is_letter, event_in, event_of}
-use Rattle.srt_gateway.specs.Replay.{lines_max, event_at, events_on, events_from}
+use Rattle.srt_gateway.specs.Tape.{max_line, fields_of, number_in, address_in, bytes_in}
+use Rattle.srt_gateway.specs.Events.{arrival_of as line_arrival, tick_of, turn_of, send_of, closing_of, moment_in, text_in, mode_in}
+use Rattle.srt_gateway.specs.Events.{numbers_in, arrival_in, tick_in, turn_in, send_in, opening_in, closing_in, is_letter, event_in}
+use Rattle.srt_gateway.specs.Events.{event_of}
+use Rattle.srt_gateway.specs.Replay.{max_lines, event_at, events_on, events_from}
 
 -- no arrival and no opening of a tape is refused
 abbrev pub Unrefused : Event → Type 0
@@ -35,7 +38,8 @@ either true o p h k = h
 either false o p h k = k
 
 arrival_unrefused : (moment : Option ℕ) (ip : Option (List ℕ)) (port : Option ℕ) (bytes : Option (List ℕ)) → OnlyUnrefused (line_arrival moment ip port bytes)
-arrival_unrefused (Some moment) (Some ip) (Some port) (Some bytes) = one_event (Arrives (record { peer = record { ip = ip; port = port }; bytes = bytes }) moment false) refl
+arrival_unrefused (Some moment) (Some ip) (Some port) (Some bytes) =
+    one_event (Arrives (record { peer = record { ip = ip; port = port }; bytes = bytes }) moment false) refl
 arrival_unrefused (Some moment) (Some ip) (Some port) None = no_event
 arrival_unrefused (Some moment) (Some ip) None bytes = no_event
 arrival_unrefused (Some moment) None port bytes = no_event
@@ -78,7 +82,9 @@ sends_unrefused routes [] = no_event
 sends_unrefused routes (a ∷ []) = send_unrefused (number_in routes a)
 sends_unrefused routes (a ∷ b ∷ fields) = no_event
 
-opens_unrefused : (name : Option (List ℕ)) (mode : Option Mode) (numbers : Option Numbers) → OnlyUnrefused (option_and_then (λ n. option_and_then (λ m. option_and_then (λ k. Some (Opens (terms_with n m k) false)) numbers) mode) name)
+opens_unrefused : (name : Option (List ℕ)) (mode : Option Mode) (numbers : Option Numbers)
+    → OnlyUnrefused
+    (option_and_then (λ n. option_and_then (λ m. option_and_then (λ k. Some (Opens (terms_with n m k) false)) numbers) mode) name)
 opens_unrefused (Some n) (Some m) (Some k) = one_event (Opens (terms_with n m k) false) refl
 opens_unrefused (Some n) (Some m) None = no_event
 opens_unrefused (Some n) None numbers = no_event
@@ -115,17 +121,19 @@ fields_unrefused routes (letter ∷ fields) =
 line_unrefused : (routes number : ℕ) (line : List ℕ) → OnlyUnrefused (event_at routes number line)
 unfolding event_at event_of
 line_unrefused routes number line =
-    either (nat_le number lines_max) _ _ (either (nat_le (length line) line_max) _ _ (fields_unrefused routes (fields_of line)) no_event) no_event
+    either (nat_le number max_lines) _ _ (either (nat_le (length line) max_line) _ _ (fields_unrefused routes (fields_of line)) no_event) no_event
 
 abbrev pub AllUnrefused : List Event → Type 0
 AllUnrefused [] = Unit {0}
 AllUnrefused (event ∷ events) = Unrefused event × AllUnrefused events
 
-and_on : (o : Option Event) (events : Event → List Event) → OnlyUnrefused o → ((event : Event) → AllUnrefused (events event)) → AllUnrefused (events_on o events)
+and_on : (o : Option Event) (events : Event → List Event)
+    → OnlyUnrefused o → ((event : Event) → AllUnrefused (events event)) → AllUnrefused (events_on o events)
 and_on None events h k = tt
 and_on (Some e) events h k = (h e refl, k e)
 
-pub lines_unrefused : (class : Sorting) (reply : Meaning) (entries : List Terms) (past : List Event) (number : ℕ) (lines : List (List ℕ)) → AllUnrefused (events_from class reply entries past number lines)
+pub lines_unrefused : (class : Sorting) (reply : Meaning) (entries : List Terms) (past : List Event) (number : ℕ) (lines : List (List ℕ))
+    → AllUnrefused (events_from class reply entries past number lines)
 lines_unrefused class reply entries past number [] = tt
 lines_unrefused class reply entries past number (line ∷ lines) =
     let routes = routes_at class reply entries past in

@@ -14,7 +14,8 @@ none ys e = cc
 pub wrote_more : (old now new : Option (List ℕ)) (bs cs : List ℕ) → Wrote old now bs → Appends now new cs → Wrote old new (bs ++ cs)
 wrote_more old None new bs cs h a ws e = absurd (none (ws ++ bs) (h ws e))
 wrote_more old (Some zs) None bs cs h a ws e = absurd a
-wrote_more old (Some zs) (Some ys) bs cs h a ws e = ap (λ (xs : List ℕ). Some xs) (a ∙ ap (λ (xs : List ℕ). xs ++ cs) (own zs (ws ++ bs) (h ws e)) ∙ append_assoc ws bs cs)
+wrote_more old (Some zs) (Some ys) bs cs h a ws e =
+    ap (λ (xs : List ℕ). Some xs) (a ∙ ap (λ (xs : List ℕ). xs ++ cs) (own zs (ws ++ bs) (h ws e)) ∙ append_assoc ws bs cs)
 
 -- nothing was
 pub wrote_same : (old now new : Option (List ℕ)) (bs : List ℕ) → Wrote old now bs → Keeps now new → Wrote old new bs

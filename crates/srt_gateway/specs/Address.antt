@@ -1,4 +1,4 @@
--- The address to bind: four octets and a port in decimal digits, without leading zeros (this profile).
+-- An address: four octets and a port in decimal digits, without leading zeros (our choice).
 use Rattle.std.specs.Prelude.{ℕ, ◌^◌, ◌==◌, List, [], ◌∷◌, Option, None, Some, option_and_then, option_map, if◌then◌else◌}
 use Rattle.srt_gateway.specs.Tape.{number_in}
 

@@ -1,6 +1,6 @@
 -- The parts of an address, as plain values.
 use Rattle.std.specs.Prelude.{ℕ, List}
-use Rattle.srt_gateway.specs.declared.config.address.Parts.{Parts}
+use Rattle.srt_gateway.specs.declared.splitting.Parts.{Parts}
 use Rattle.srt_gateway.specs.declared.config.address.Octet.{Octet}
 use Rattle.srt_gateway.specs.declared.config.address.BindAddress.{BindAddress}
 use Rattle.srt_gateway.specs.Address.{Address}

@@ -15,7 +15,7 @@ use Rattle.srt_gateway.specs.declared.lines.Taken.{Taken}
 use Rattle.srt_gateway.specs.declared.lines.Taken.TheVariants as taken
 use Rattle.srt_gateway.specs.declared.replaying.ReplayFault.{ReplayFault}
 use Rattle.srt_gateway.specs.declared.replaying.ReplayFault.TheVariants.{Tape, OutOfMemory, Read, Write}
-use Rattle.srt_gateway.specs.Replay.{lines_max}
+use Rattle.srt_gateway.specs.Replay.{max_lines}
 
 abbrev pub left_in : ReadBudget → ℕ
 left_in budget = budget.left
@@ -64,14 +64,14 @@ LineRead left brought (Ok taken.End) = brought ≡ End
 LineRead left brought (Err fault) = WasUnread left brought
 
 abbrev pub TurnRead : (number left : ℕ) → Brought → Result Bool ReplayFault → Type 0
-TurnRead number left brought (Ok true) = number ≤ lines_max
+TurnRead number left brought (Ok true) = number ≤ max_lines
 TurnRead number left brought (Ok false) = brought ≡ End
 TurnRead number left brought (Err (Tape line)) = brought ≢ Failure
 TurnRead number left brought (Err OutOfMemory) = brought ≢ Failure
 TurnRead number left brought (Err Read) = WasUnread left brought
 TurnRead number left brought (Err Write) = brought ≢ Failure
 
--- a replay that is done came to the reader's end; one that ended with `Read` had a reader that failed or had no read
+-- a replay that is done reached the reader's end; one that ended with `Read` had a reader that failed or had no read
 -- left; one that ended with `Write` may have found that in the flush after a failed read
 abbrev pub ReplayRead : (left : ℕ) → Brought → Result (Unit {0}) ReplayFault → Type 0
 ReplayRead left brought (Ok u) = brought ≡ End

@@ -1,11 +1,11 @@
--- The events of a tape's lines, for a gateway with this number of routes (this profile).
+-- The events of a tape's lines, for a gateway with this number of routes (our choice).
 use Rattle.std.specs.Prelude.{ℕ, ◌^◌, List, [], ◌∷◌, length, nat_le, Option, None, Some, option_and_then, codes, if◌then◌else◌, ◌==◌, Bool, false}
 use Rattle.std.specs.Str.{bytes_eq, is_utf8}
 use Rattle.srt_seq.specs.declared.shared.Mode.{Mode}
 use Rattle.srt_seq.specs.declared.shared.Mode.TheVariants.{Live, Buffer}
 use Rattle.srt_hub.specs.World.{Event, Arrives, Ticks, Turns, Sends, Opens, Closes}
 use Rattle.srt_gateway.specs.Routes.{Numbers, terms_with}
-use Rattle.srt_gateway.specs.Tape.{fields_of, line_max, number_in, address_in, bytes_in}
+use Rattle.srt_gateway.specs.Tape.{fields_of, max_line, number_in, address_in, bytes_in}
 
 -- an arrival, if each of its fields has its form
 abbrev pub arrival_of : (moment : Option ℕ) (address : Option (List ℕ)) (port : Option ℕ) (bytes : Option (List ℕ)) → Option Event
@@ -104,4 +104,4 @@ event_in routes (letter ∷ fields) =
 
 -- the event of a line; in it there is memory for every arrival and every opening
 unfoldable pub event_of : (routes : ℕ) → List ℕ → Option Event
-event_of routes line = if nat_le (length line) line_max then event_in routes (fields_of line) else None
+event_of routes line = if nat_le (length line) max_line then event_in routes (fields_of line) else None

@@ -14,7 +14,7 @@ pub data Fault : Type 0 where
   BadName : Fault
   RepeatedName : Fault
   BadSecret : Fault
-  BadAddress : Fault
+  BadAddress : (key : Key) → Fault
   OutOfMemory : Fault
 
 abbrev pub told : ConfigFault → Fault
@@ -26,7 +26,7 @@ told (code.OutOfRange key) = OutOfRange key
 told code.BadName = BadName
 told code.RepeatedName = RepeatedName
 told code.BadSecret = BadSecret
-told code.BadAddress = BadAddress
+told (code.BadAddress key) = BadAddress key
 told code.OutOfMemory = OutOfMemory
 
 infixl 10 ◌>>=◌

@@ -1,5 +1,6 @@
--- The faults of a configuration, key by key: stated without the functions that read it (this profile).
-use Rattle.std.specs.Prelude.{◌≡◌, ℕ, ◌+◌, ℤ, pos, negsuc, ◌⊎◌, ◌↔◌, true, false, codes, List, [], ◌∷◌, ◌++◌, Option, Some, None, option_and_then, Ok, Err}
+-- The faults of a configuration, key by key: stated without the functions that read it (our choice).
+use Rattle.std.specs.Prelude.{◌≡◌, ℕ, ◌+◌, ℤ, pos, negsuc, ◌⊎◌, ◌↔◌, Bool, true, false, ◌&&◌, is_some, codes, List, [], ◌∷◌, ◌++◌, Option}
+use Rattle.std.specs.Prelude.{Some, None, option_and_then, Ok, Err}
 use Rattle.std.specs.Str.{bytes_eq}
 use Rattle.toml.specs.Data.{Data, Members, Items, no_items, item, get_member, as_str, as_integer, as_array, as_table}
 use Rattle.hex.specs.Hex.{decode_sized}
@@ -7,7 +8,12 @@ use Rattle.srt_seq.specs.Entries.{is_between, is_name}
 use Rattle.srt_seq.specs.Terms.{Terms}
 use Rattle.srt_lobby.specs.Opening.{is_taken}
 use Rattle.srt_gateway.specs.declared.config.faults.Key.{Key}
-use Rattle.srt_gateway.specs.declared.config.faults.Key.TheVariants.{Secret, Bind, Workers, Route, Name, Mode, LatencyMs, Buffer, Sessions, Inbox, Outbox, OpenRound, CloseRound}
+use Rattle.srt_gateway.specs.declared.config.faults.Key.TheVariants.{Secret, Bind, Workers, Status, Route, Name, Mode, LatencyMs, Buffer}
+use Rattle.srt_gateway.specs.declared.config.faults.Key.TheVariants.{Sessions, Inbox, Outbox, OpenRound, CloseRound, Callers}
+use Rattle.srt_gateway.specs.declared.config.faults.Key.TheVariants.{PublishFrom, RequestFrom, PublishKey, RequestKey, Reserved}
+use Rattle.srt_gateway.specs.declared.config.faults.Key.TheVariants.{SessionsPerAddress, TakeoverMs, ResendPercent}
+use Rattle.srt_gateway.specs.Access.{network_in, are_texts, member_count, is_key_text}
+use Rattle.srt_gateway.specs.Rules.{most_reserved}
 use Rattle.srt_gateway.specs.Faults.{key_name}
 use Rattle.srt_gateway.specs.FirstFault.{Fault, UnknownKey, Missing, WrongKind, OutOfRange, BadName, RepeatedName, BadSecret, BadAddress}
 use Rattle.srt_gateway.specs.Address.{address_in}
@@ -49,8 +55,8 @@ abbrev pub NoSecret : List ℕ → Faulty
 NoSecret text fault = (fault ≡ BadSecret) × ((bytes : List ℕ) → decode_sized text 32 ≡ Ok bytes → ⊥)
 
 -- not an address and port
-abbrev pub NoAddress : List ℕ → Faulty
-NoAddress text fault = (fault ≡ BadAddress) × (address_in text ≡ None)
+abbrev pub NoAddress : Key → List ℕ → Faulty
+NoAddress key text fault = (fault ≡ BadAddress key) × (address_in text ≡ None)
 
 -- a number below or above its limits
 abbrev pub Outside : Key → (low high : ℕ) → ℤ → Faulty
@@ -73,12 +79,13 @@ InNumbers table =
     AtKey Inbox as_integer (Outside Inbox 16 4096) table ⊳
     AtKey Outbox as_integer (Outside Outbox 16 4096) table
 
--- the round in which a route opens, 0 if its key is missing
+-- a number at a key, 0 if the key is missing
 abbrev pub number_or_0 : Option ℤ → ℕ
 number_or_0 None = 0
 number_or_0 (Some (pos n)) = n
 number_or_0 (Some (negsuc n)) = 0
 
+-- the round in which a route opens, 0 if its key is missing
 abbrev pub opening_in : Members → ℕ
 opening_in table = number_or_0 (option_and_then as_integer (get_member (key_name OpenRound) table))
 
@@ -88,6 +95,50 @@ InSchedule table =
     AtOptional OpenRound as_integer (Outside OpenRound 0 1_000_000_000) table ⊳
     AtOptional CloseRound as_integer (Outside CloseRound (opening_in table + 1) 1_000_000_000) table
 
+-- every item is a text that is a network
+abbrev pub is_network : Option (List ℕ) → Bool
+is_network (Some text) = is_some (network_in text)
+is_network None = false
+
+abbrev pub are_networks : Items → Bool
+are_networks no_items = true
+are_networks (item value rest) = is_network (as_str value) && are_networks rest
+
+-- too few or too many items; or some that aren't texts; or texts that aren't networks
+abbrev pub NoNetworks : Key → Items → Faulty
+NoNetworks key items fault =
+    ((fault ≡ OutOfRange key) × (is_between 1 16 (member_count items) ≡ false)) ⊎
+    ((fault ≡ WrongKind key) × (is_between 1 16 (member_count items) ≡ true) × (are_texts items ≡ false)) ⊎
+    ((fault ≡ BadAddress key) × (is_between 1 16 (member_count items) ≡ true) × (are_texts items ≡ true) × (are_networks items ≡ false))
+
+-- a text that is no key of a role
+abbrev pub NoKeyText : Key → List ℕ → Faulty
+NoKeyText key text fault = (fault ≡ OutOfRange key) × (is_key_text text ≡ false)
+
+-- the keys with who may call a route
+abbrev pub InAccess : Members → Faulty
+InAccess table =
+    AtOptional PublishFrom as_array (NoNetworks PublishFrom) table ⊳
+    AtOptional RequestFrom as_array (NoNetworks RequestFrom) table ⊳
+    AtOptional PublishKey as_str (NoKeyText PublishKey) table ⊳
+    AtOptional RequestKey as_str (NoKeyText RequestKey) table
+
+-- neither `draft` nor `libsrt`
+abbrev pub NoCallers : List ℕ → Faulty
+NoCallers text fault = (fault ≡ OutOfRange Callers) × (bytes_eq text (codes "draft") ≡ false) × (bytes_eq text (codes "libsrt") ≡ false)
+
+-- the number of sessions of a route, 0 if its key is missing
+abbrev pub sessions_in : Members → ℕ
+sessions_in table = number_or_0 (option_and_then as_integer (get_member (key_name Sessions) table))
+
+-- the keys with the limits of what callers may take; fewer slots are kept for publishers than there are sessions
+abbrev pub InRules : Members → Faulty
+InRules table =
+    AtOptional Reserved as_integer (Outside Reserved 0 (most_reserved (sessions_in table))) table ⊳
+    AtOptional SessionsPerAddress as_integer (Outside SessionsPerAddress 1 17) table ⊳
+    AtOptional TakeoverMs as_integer (Outside TakeoverMs 100 5000) table ⊳
+    AtOptional ResendPercent as_integer (Outside ResendPercent 5 1000) table
+
 -- the keys of one route, in their order, after these routes
 abbrev pub InRoute : (before : List Terms) → Members → Faulty
 InRoute before table =
@@ -95,7 +146,10 @@ InRoute before table =
     AtKey Name as_str (NoName before) table ⊳
     AtKey Mode as_str NoMode table ⊳
     InNumbers table ⊳
-    InSchedule table
+    InSchedule table ⊳
+    AtOptional Callers as_str NoCallers table ⊳
+    InAccess table ⊳
+    InRules table
 
 -- the routes one after the other: the first table has this fault, or it is a route and the others have the fault
 abbrev pub InRoutes : (before : List Terms) → Items → Faulty
@@ -118,8 +172,9 @@ abbrev pub InTable : Members → Faulty
 InTable table =
     Unknown top_keys table ⊳
     AtKey Secret as_str NoSecret table ⊳
-    AtKey Bind as_str NoAddress table ⊳
+    AtKey Bind as_str (NoAddress Bind) table ⊳
     AtKey Workers as_integer (Outside Workers 1 16) table ⊳
+    AtOptional Status as_str (NoAddress Status) table ⊳
     AtKey Route as_array NoRoutesOrIn table
 
 -- the fault that is returned is that of the first key that has one

@@ -1,4 +1,4 @@
--- The keys of a table and their values (this profile).
+-- The keys of a table and their values (our choice).
 use Rattle.std.specs.Prelude.{ℕ, ℤ, pos, negsuc, Bool, List, Option, None, Some, Result, Ok, Err, if◌then◌else◌}
 use Rattle.std.specs.List.{list_any}
 use Rattle.std.specs.Str.{bytes_eq}
@@ -48,26 +48,40 @@ of_kind key None = Err (WrongKind key)
 unfoldable pub value_at : Key → Members → Result Data Fault
 value_at key table = present key (get_member (key_name key) table)
 
+-- the value at a key that may be missing, read by this function
+abbrev pub optional : {A : Type 0} → (read : Data → Result A Fault) → Option Data → Result (Option A) Fault
+optional read None = Ok None
+optional read (Some value) = read value >>= λ x. Ok (Some x)
+
+-- the text that the value of a key is
+unfoldable pub text_value : Key → Data → Result (List ℕ) Fault
+text_value key value = of_kind key (as_str value)
+
 -- the text at a key
 unfoldable pub text_at : Key → Members → Result (List ℕ) Fault
-text_at key table = value_at key table >>= λ value. of_kind key (as_str value)
+text_at key table = value_at key table >>= λ value. text_value key value
 
 -- a number within these limits
 abbrev pub within : Key → (low high : ℕ) → ℤ → Result ℕ Fault
 within key low high (pos n) = if is_between low high n then Ok n else Err (OutOfRange key)
 within key low high (negsuc n) = Err (OutOfRange key)
 
--- the number at a key, which has to be within these limits
+-- the number that the value of a key is, which has to be within these limits
+unfoldable pub number_value : Key → (low high : ℕ) → Data → Result ℕ Fault
+number_value key low high value = of_kind key (as_integer value) >>= λ n. within key low high n
+
+-- the number at a key
 unfoldable pub number_at : Key → (low high : ℕ) → Members → Result ℕ Fault
-number_at key low high table = value_at key table >>= λ value. of_kind key (as_integer value) >>= λ n. within key low high n
+number_at key low high table = value_at key table >>= λ value. number_value key low high value
 
--- the number at a key that may be missing, which has to be within these limits
-abbrev pub optional_in : Key → (low high : ℕ) → Option Data → Result (Option ℕ) Fault
-optional_in key low high None = Ok None
-optional_in key low high (Some value) = of_kind key (as_integer value) >>= λ n. within key low high n >>= λ k. Ok (Some k)
+-- the number at a key that may be missing
+unfoldable pub optional_number_at : Key → (low high : ℕ) → Members → Result (Option ℕ) Fault
+optional_number_at key low high table = optional (number_value key low high) (get_member (key_name key) table)
 
-unfoldable pub optional_at : Key → (low high : ℕ) → Members → Result (Option ℕ) Fault
-optional_at key low high table = optional_in key low high (get_member (key_name key) table)
+-- a number that is 0 if it isn't given
+abbrev pub given_or_0 : Option ℕ → ℕ
+given_or_0 None = 0
+given_or_0 (Some n) = n
 
 abbrev pub value_seen : Bor Value → Data
 value_seen value = view value.now

@@ -1,6 +1,6 @@
 -- Readers and writers whose bytes are known: what was taken from the readers, and written to the writers.
 use Rattle.std.specs.Prelude.{◌≡◌, ◌≢◌, ℕ, ◌+◌, List, [], ◌∷◌, ◌++◌, length, take, All, Option, Some, ◌<◌, ◌≤◌}
-use Rattle.srt_gateway.specs.Tape.{lines_of, line_max}
+use Rattle.srt_gateway.specs.Tape.{lines_of, max_line}
 use Rattle.srt_gateway.specs.declared.lines.Taken.{Taken}
 use Rattle.srt_gateway.specs.declared.lines.Taken.TheVariants as taken
 use Rattle.srt_gateway.specs.declared.reader.Piece.{Piece}
@@ -28,7 +28,7 @@ NoLine old = (xs : List ℕ) → old ≡ Some xs → lines_of xs ≡ []
 
 -- if the bytes are known, their first line is too long
 abbrev pub LongLine : Option (List ℕ) → Type 0
-LongLine old = (xs : List ℕ) → old ≡ Some xs → (line : List ℕ) × (lines : List (List ℕ)) × (lines_of xs ≡ line ∷ lines) × (line_max < length line)
+LongLine old = (xs : List ℕ) → old ≡ Some xs → (line : List ℕ) × (lines : List (List ℕ)) × (lines_of xs ≡ line ∷ lines) × (max_line < length line)
 
 -- if the writer's bytes are known, these were appended to them
 abbrev pub Wrote : (old new : Option (List ℕ)) → List ℕ → Type 0
@@ -40,13 +40,13 @@ NoLf bs = All (λ b. b ≢ 10) bs
 -- the result of one read: the buffer's bytes are those of the line so far, which came before, and those that were taken
 -- now
 abbrev pub TookPiece : (old new : Option (List ℕ)) (before buffer : List ℕ) → Piece → Type 0
-TookPiece old new before buffer (Part n) = (bs : List ℕ) × Took old new bs × (take n buffer ≡ before ++ bs) × NoLf bs × (n ≤ line_max)
-TookPiece old new before buffer (Line n) = (bs : List ℕ) × Took old new (bs ++ 10 ∷ []) × (take n buffer ≡ before ++ bs) × NoLf bs × (n ≤ line_max)
-TookPiece old new before buffer Long = (bs : List ℕ) × BeginsWith old bs × NoLf bs × (line_max < length before + length bs)
+TookPiece old new before buffer (Part n) = (bs : List ℕ) × Took old new bs × (take n buffer ≡ before ++ bs) × NoLf bs × (n ≤ max_line)
+TookPiece old new before buffer (Line n) = (bs : List ℕ) × Took old new (bs ++ 10 ∷ []) × (take n buffer ≡ before ++ bs) × NoLf bs × (n ≤ max_line)
+TookPiece old new before buffer Long = (bs : List ℕ) × BeginsWith old bs × NoLf bs × (max_line < length before + length bs)
 TookPiece old new before buffer End = AtEnd old × Took old new [] × (take (length before) buffer ≡ before)
 
 -- the result of taking one line: it is at the front of the buffer, or there is none
 abbrev pub TookOne : (old new : Option (List ℕ)) (buffer : List ℕ) → Taken → Type 0
-TookOne old new buffer (taken.Line n) = TookLine old new (take n buffer) × (n ≤ line_max)
+TookOne old new buffer (taken.Line n) = TookLine old new (take n buffer) × (n ≤ max_line)
 TookOne old new buffer taken.Long = LongLine old
 TookOne old new buffer taken.End = NoLine old

@@ -1,3 +1,4 @@
+pub mod inside
 pub mod Tape
 pub mod Events
 pub mod Texts
@@ -7,16 +8,16 @@ pub mod FirstFault
 pub mod Keys
 pub mod Address
 pub mod AddressParts
+pub mod Access
+pub mod Rules
 pub mod Routes
-pub mod RouteParts
 pub mod Config
-pub mod Pieces
-pub mod Parts
-pub mod Said
+pub mod SameKeys
+pub mod Changes
+pub mod ChangeLaws
 pub mod Known
 pub mod Counted
 pub mod Tries
-pub mod Step
 pub mod ReplayOver
 pub mod Sent
 pub mod KeyFaults

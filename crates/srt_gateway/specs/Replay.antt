@@ -1,4 +1,4 @@
--- The output of a replay (this profile).
+-- The output of a replay (our choice).
 use Rattle.std.specs.Prelude.{◌≡◌, ℕ, ◌+◌, nat_le, List, [], ◌∷◌, ◌++◌, take, drop, Option, None, Some, Result, Ok, Err, if◌then◌else◌}
 use Rattle.srt_seq.specs.Terms.{Terms}
 use Rattle.srt_lobby.specs.declared.classes.Class.TheVariants.{Route}
@@ -14,12 +14,12 @@ use Rattle.srt_gateway.specs.Texts.{event_text}
 use Rattle.srt_gateway.specs.Known.{Wrote}
 
 -- the greatest number of lines of a tape
-abbrev pub lines_max : ℕ
-lines_max = 1_000_000
+abbrev pub max_lines : ℕ
+max_lines = 1_000_000
 
 -- the event of the line of this number, counted from 1
 unfoldable pub event_at : (routes number : ℕ) → (line : List ℕ) → Option Event
-event_at routes number line = if nat_le number lines_max then event_of routes line else None
+event_at routes number line = if nat_le number max_lines then event_of routes line else None
 
 -- an event and those after it; none after a line that isn't an event
 abbrev pub events_on : Option Event → (others : Event → List Event) → List Event
@@ -43,7 +43,7 @@ fault_from class reply entries past number [] = None
 fault_from class reply entries past number (line ∷ lines) =
     fault_on number (event_at (routes_at class reply entries past) number line) (λ event. fault_from class reply entries (event ∷ past) (number + 1) lines)
 
--- past events, the newest first, with those that came since, the oldest first
+-- past events, the newest first, with later ones, which are given the oldest first
 abbrev pub with_past : (past came : List Event) → List Event
 with_past past [] = past
 with_past past (event ∷ came) = with_past (event ∷ past) came
@@ -74,7 +74,7 @@ front_text class reply entries tape lines = text_of class reply entries (take li
 abbrev pub fault_line : Sorting → Meaning → List Terms → (tape : List ℕ) → Option ℕ
 fault_line class reply entries tape = fault_from class reply entries [] 1 (lines_of tape)
 
--- an event that takes memory: with the names in force an arrival is for a route, or an opening has no fault
+-- an event for which memory is allocated: with the names in force an arrival is for a route, or an opening has no fault
 abbrev pub WantsCopy : Sorting → List RouteName → Event → Type 0
 WantsCopy class names (Arrives d moment refused) = (r : ℕ) × (class names d moment ≡ Route r)
 WantsCopy class names (Ticks r moment) = ⊥
@@ -96,15 +96,19 @@ pub record WantsMemory (class : Sorting) (reply : Meaning) (entries : List Terms
 -- the result of a replay, and what the writer then holds, if its bytes are known
 abbrev pub HasReplayed : Sorting → Meaning → List Terms → (tape : List ℕ) (before after : Option (List ℕ)) → Result (Unit {0}) ReplayFault → Type 0
 -- the whole text
-HasReplayed class reply entries tape before after (Ok u) = Wrote before after (tape_text class reply entries tape) × (fault_line class reply entries tape ≡ None)
+HasReplayed class reply entries tape before after (Ok u) =
+    Wrote before after (tape_text class reply entries tape) × (fault_line class reply entries tape ≡ None)
 -- the text of the lines before the first that isn't an event
-HasReplayed class reply entries tape before after (Err (Tape line)) = Wrote before after (tape_text class reply entries tape) × (fault_line class reply entries tape ≡ Some line)
--- the text of the lines before an event that takes memory
-HasReplayed class reply entries tape before after (Err OutOfMemory) = (lines : ℕ) × Wrote before after (front_text class reply entries tape lines) × WantsMemory class reply entries tape lines
+HasReplayed class reply entries tape before after (Err (Tape line)) =
+    Wrote before after (tape_text class reply entries tape) × (fault_line class reply entries tape ≡ Some line)
+-- the text of the lines before an event for which memory is allocated
+HasReplayed class reply entries tape before after (Err OutOfMemory) =
+    (lines : ℕ) × Wrote before after (front_text class reply entries tape lines) × WantsMemory class reply entries tape lines
 -- the text of some first lines
 HasReplayed class reply entries tape before after (Err Read) = (lines : ℕ) × Wrote before after (front_text class reply entries tape lines)
 -- a prefix of the text
-HasReplayed class reply entries tape before after (Err Write) = (text more : List ℕ) × Wrote before after text × (text ++ more ≡ tape_text class reply entries tape)
+HasReplayed class reply entries tape before after (Err Write) =
+    (text more : List ℕ) × Wrote before after text × (text ++ more ≡ tape_text class reply entries tape)
 
 -- the same of a reader, if its bytes are known
 abbrev pub Replays : Sorting → Meaning → List Terms → (reader writer after : Option (List ℕ)) → Result (Unit {0}) ReplayFault → Type 0

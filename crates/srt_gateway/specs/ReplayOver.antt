@@ -15,13 +15,17 @@ use Rattle.srt_gateway.specs.Tries.{sink}
 use Rattle.srt_gateway.specs.Replay.{Replays}
 
 -- over a gateway that was opened with whatever secret and entries, and then saw no event
-abbrev pub ReplaysOver : {X B W : Type 0} → (Stands : X → Past) → X → SortingFor → Meaning → (remaining : B → Option (List ℕ)) → CountedReader B → (contents : W → Option (List ℕ)) → (old new : CountedWriter W) → Result (Unit {0}) ReplayFault → Type 0
+abbrev pub ReplaysOver : {X B W : Type 0} → (Stands : X → Past) → X → SortingFor → Meaning → (remaining : B → Option (List ℕ))
+    → CountedReader B → (contents : W → Option (List ℕ)) → (old new : CountedWriter W) → Result (Unit {0}) ReplayFault
+    → Type 0
 ReplaysOver Stands hub class reply remaining reader contents old new result =
     (secret : List ℕ) (entries : List Terms) → Stands hub secret entries [] →
     Replays (class secret) reply entries (remaining (source reader)) (contents (sink old)) (contents (sink new)) result
 
 -- over the gateway of this configuration, with the real lobby and the real routes
-abbrev pub ReplaysOf : {B W : Type 0} → Config → (remaining : B → Option (List ℕ)) → CountedReader B → (contents : W → Option (List ℕ)) → (old new : CountedWriter W) → Result (Unit {0}) ReplayFault → Type 0
+abbrev pub ReplaysOf : {B W : Type 0} → Config → (remaining : B → Option (List ℕ)) → CountedReader B → (contents : W → Option (List ℕ))
+    → (old new : CountedWriter W) → Result (Unit {0}) ReplayFault
+    → Type 0
 ReplaysOf config remaining reader contents old new result =
     let entries = map terms_of config.entries.items in
     Replays (class_of (secret_bytes config.secret)) reply entries (remaining (source reader)) (contents (sink old)) (contents (sink new)) result

@@ -1,17 +1,24 @@
--- The routes in a configuration's tables (this profile).
-use Rattle.std.specs.Prelude.{ℕ, suc, ◌+◌, nat_lt, Bool, true, not, ◌&&◌, codes, List, [], ◌∷◌, ◌++◌, Option, None, Some, is_some, Result, Ok, Err, if◌then◌else◌}
+-- The routes in a configuration's tables (our choice).
+use Rattle.std.specs.Prelude.{ℕ, suc, ◌+◌, nat_lt, Bool, true, not, ◌&&◌, codes, List, [], ◌∷◌, ◌++◌, Option, None, Some, is_some, Result}
+use Rattle.std.specs.Prelude.{Ok, Err, if◌then◌else◌}
 use Rattle.std.specs.Str.{bytes_eq}
 use Rattle.toml.specs.Data.{Items, no_items, item, Members, as_array, as_table}
+use Rattle.srt_seq.specs.Access.{AccessTerms, anyone}
 use Rattle.srt_seq.specs.Terms.{Terms}
 use Rattle.srt_seq.specs.declared.shared.Mode.{Mode as TheMode}
+use Rattle.srt_seq.specs.declared.shared.Rules.{Rules}
 use Rattle.srt_seq.specs.declared.shared.Schedule.{Schedule}
 use Rattle.srt_seq.specs.declared.shared.Mode.TheVariants as mode
-use Rattle.srt_seq.specs.Entries.{is_between, is_name}
+use Rattle.srt_seq.specs.Entries.{is_between, is_name, draft_rules}
 use Rattle.srt_lobby.specs.Opening.{is_taken}
 use Rattle.srt_gateway.specs.declared.config.faults.Key.{Key}
-use Rattle.srt_gateway.specs.declared.config.faults.Key.TheVariants.{Route, Name, Mode, LatencyMs, Buffer, Sessions, Inbox, Outbox, OpenRound, CloseRound}
+use Rattle.srt_gateway.specs.declared.config.faults.Key.TheVariants.{Route, Name, Mode, LatencyMs, Buffer, Sessions, Inbox, Outbox}
+use Rattle.srt_gateway.specs.declared.config.faults.Key.TheVariants.{OpenRound, CloseRound, Callers, PublishFrom, RequestFrom, PublishKey}
+use Rattle.srt_gateway.specs.declared.config.faults.Key.TheVariants.{RequestKey, Reserved, SessionsPerAddress, TakeoverMs, ResendPercent}
+use Rattle.srt_gateway.specs.Access.{access_at}
+use Rattle.srt_gateway.specs.Rules.{callers_at, draft_if_none, rules_at}
 use Rattle.srt_gateway.specs.FirstFault.{Fault, WrongKind, OutOfRange, BadName, RepeatedName, ◌>>=◌}
-use Rattle.srt_gateway.specs.Keys.{known, value_at, text_at, number_at, optional_at, of_kind}
+use Rattle.srt_gateway.specs.Keys.{known, value_at, text_at, number_at, optional_number_at, given_or_0, of_kind}
 
 -- a name of the right form that no earlier route has
 unfoldable pub name_in : (before : List Terms) → List ℕ → Result (List ℕ) Fault
@@ -45,25 +52,42 @@ numbers_at table =
 
 -- the keys of a route
 abbrev pub route_keys : List Key
-route_keys = Name ∷ Mode ∷ LatencyMs ∷ Buffer ∷ Sessions ∷ Inbox ∷ Outbox ∷ OpenRound ∷ CloseRound ∷ []
+route_keys =
+    Name ∷ Mode ∷ LatencyMs ∷ Buffer ∷ Sessions ∷ Inbox ∷ Outbox ∷ OpenRound ∷ CloseRound ∷ Callers ∷ PublishFrom ∷ RequestFrom ∷
+    PublishKey ∷ RequestKey ∷ Reserved ∷ SessionsPerAddress ∷ TakeoverMs ∷ ResendPercent ∷ []
 
+-- a route that anyone may call, and that has the draft's rules
 abbrev pub terms_with : List ℕ → TheMode → Numbers → Terms
-terms_with name mode n = record { name = name; mode = mode; latency_ms = n.latency_ms; buffer = n.buffer; sessions = n.sessions; inbox = n.inbox; outbox = n.outbox }
+terms_with name mode n =
+    record {
+      name = name;
+      mode = mode;
+      latency_ms = n.latency_ms;
+      buffer = n.buffer;
+      sessions = n.sessions;
+      inbox = n.inbox;
+      outbox = n.outbox;
+      access = anyone;
+      rules = draft_rules;
+    }
 
--- a route opens at once if it has no `open_round`
-abbrev pub round_of : Option ℕ → ℕ
-round_of None = 0
-round_of (Some n) = n
+-- the same with these lists and keys
+abbrev pub with_access : AccessTerms → Terms → Terms
+with_access access e = record e { access = access }
+
+-- the same with these rules
+abbrev pub with_rules : Rules → Terms → Terms
+with_rules rules e = record e { rules = rules }
 
 abbrev pub schedule_of : (opens : ℕ) → (closes : Option ℕ) → Schedule
 schedule_of opens closes = record { open_round = opens; close_round = closes }
 
--- the rounds in which a route opens and closes; it closes in a later round than it opens
+-- the rounds in which a route opens and closes: it opens in round 0 if it has no `open_round`, and closes in a later round
 unfoldable pub schedule_at : Members → Result Schedule Fault
 schedule_at table =
-    optional_at OpenRound 0 1_000_000_000 table >>= λ opens.
-    optional_at CloseRound (round_of opens + 1) 1_000_000_000 table >>= λ closes.
-    Ok (schedule_of (round_of opens) closes)
+    optional_number_at OpenRound 0 1_000_000_000 table >>= λ opens.
+    optional_number_at CloseRound (given_or_0 opens + 1) 1_000_000_000 table >>= λ closes.
+    Ok (schedule_of (given_or_0 opens) closes)
 
 abbrev pub is_later : (opens : ℕ) → (closes : Option ℕ) → Bool
 is_later opens None = true
@@ -89,7 +113,10 @@ route_at before table =
     mode_at table >>= λ mode.
     numbers_at table >>= λ numbers.
     schedule_at table >>= λ schedule.
-    Ok (planned (terms_with name mode numbers) schedule)
+    callers_at table >>= λ callers.
+    access_at table >>= λ access.
+    rules_at numbers.sessions (draft_if_none callers) table >>= λ rules.
+    Ok (planned (with_rules rules (with_access access (terms_with name mode numbers))) schedule)
 
 -- the entries of routes, and as many schedules
 pub record Routes : Type 0 where

@@ -63,5 +63,7 @@ TapesAreIsolated =
     e ≡ entry_at sorting reply entries' r events' →
     accepted sorting reply entries r events ≡ accepted sorting reply entries' r events' →
     IsQuiet (lane_at sorting reply entries r events) → IsQuiet (lane_at sorting reply entries' r events') →
-    (sent_lines sorting reply entries r tape (tape_text sorting reply entries tape) ≡ sent_lines sorting reply entries' r tape' (tape_text sorting reply entries' tape')) ×
+    (sent_lines sorting reply entries r tape (tape_text sorting reply entries tape)
+    ≡ sent_lines sorting reply entries' r tape' (tape_text sorting reply entries' tape'))
+    ×
     (sent_lines sorting reply entries r tape (tape_text sorting reply entries tape) ≡ map sent_line (solo reply e r (accepted sorting reply entries r events)))

@@ -1,4 +1,4 @@
--- The grammar of a tape's text: lines, fields, numbers and hexadecimal digits (this profile).
+-- The grammar of a tape's text: lines, fields, numbers and hexadecimal digits (our choice).
 use Rattle.std.specs.Prelude.{ℕ, ◌+◌, ◌-◌, ◌*◌, ◌==◌, nat_le, nat_lt, Bool, false, ◌&&◌, List, [], ◌∷◌, Option, None, Some, if◌then◌else◌}
 use Rattle.std.specs.Result.{result_ok}
 use Rattle.hex.specs.Hex.{decode_of, decode_sized}
@@ -14,8 +14,8 @@ lines_of [] = []
 lines_of (b ∷ bytes) = if b == 10 then [] ∷ lines_of bytes else onto b (lines_of bytes)
 
 -- the greatest length of a line in bytes
-abbrev pub line_max : ℕ
-line_max = 4096
+abbrev pub max_line : ℕ
+max_line = 4096
 
 -- the fields of a line, separated by one space each
 abbrev pub fields_of : List ℕ → List (List ℕ)

@@ -1,4 +1,4 @@
--- The text of the answer to each event (this profile).
+-- The text of the answer to each event (our choice).
 use Rattle.std.specs.Prelude.{ℕ, ◌+◌, List, [], ◌∷◌, ◌++◌, Option, None, Some, Result, Ok, Err, codes, decimal}
 use Rattle.hex.specs.Hex.{encode_lower}
 use Rattle.srt_seq.specs.declared.shared.OpenFault.{OpenFault}
@@ -15,7 +15,8 @@ use Rattle.srt_hub.specs.declared.answers.Ticked.{Ticked}
 use Rattle.srt_hub.specs.declared.answers.Ticked.TheVariants as ticked
 use Rattle.srt_seq.specs.Items.{Datagram}
 use Rattle.srt_seq.specs.Terms.{Terms}
-use Rattle.srt_hub.specs.World.{Event, Arrives, Ticks, Turns, Sends, Opens, Closes, Sorting, Meaning, arrival_of, tick, turn, first, opening, closing, world_after}
+use Rattle.srt_hub.specs.World.{Event, Arrives, Ticks, Turns, Sends, Opens, Closes, Sorting, Meaning, arrival_of, tick, turn, first}
+use Rattle.srt_hub.specs.World.{opening, closing, world_after}
 use Rattle.srt_hub.specs.Hubs.{names_at, entry_at, lane_at, room_at}
 
 -- the digit of a cause's number
@@ -66,7 +67,8 @@ arrival_text (Some answer) = arrived_text answer
 
 -- the line of an event's answer, after these events, the newest first
 unfoldable pub event_text : Sorting → Meaning → List Terms → List Event → Event → List ℕ
-event_text class reply entries events (Arrives d moment refused) = arrival_text (arrival_of refused (room_at class reply entries events) (class (names_at class reply entries events) d moment))
+event_text class reply entries events (Arrives d moment refused) =
+    arrival_text (arrival_of refused (room_at class reply entries events) (class (names_at class reply entries events) d moment))
 event_text class reply entries events (Ticks r moment) = ticked_text r (tick (entry_at class reply entries r events) (lane_at class reply entries r events))
 event_text class reply entries events (Turns r) = turned_text (turn (entry_at class reply entries r events) (lane_at class reply entries r events))
 event_text class reply entries events (Sends r) = sent_text (first (lane_at class reply entries r events).outbox)

@@ -29,18 +29,18 @@ abbrev pub last_try : {W : Type 0} → CountedWriter W → Tried
 last_try writer = last_in writer.note
 
 -- the result that is noted for an error
-abbrev pub CameOfError : Error → Tried → Type 0
-CameOfError e tried = (error_kind e ≡ Interrupted → tried ≡ Nothing) × (error_kind e ≢ Interrupted → tried ≡ Failure)
+abbrev pub IsOutcomeOfError : Error → Tried → Type 0
+IsOutcomeOfError e tried = (error_kind e ≡ Interrupted → tried ≡ Nothing) × (error_kind e ≢ Interrupted → tried ≡ Failure)
 
 -- the result that is noted for what a write returned
-abbrev pub CameOfWrite : Result ℕ Error → Tried → Type 0
-CameOfWrite (Ok n) tried = (n ≡ 0 → tried ≡ NoBytes) × (0 < n → tried ≡ Bytes)
-CameOfWrite (Err e) tried = CameOfError e tried
+abbrev pub IsOutcomeOfWrite : Result ℕ Error → Tried → Type 0
+IsOutcomeOfWrite (Ok n) tried = (n ≡ 0 → tried ≡ NoBytes) × (0 < n → tried ≡ Bytes)
+IsOutcomeOfWrite (Err e) tried = IsOutcomeOfError e tried
 
 -- and for what a flush returned
-abbrev pub CameOfFlush : Result (Unit {0}) Error → Tried → Type 0
-CameOfFlush (Ok u) tried = tried ≡ Flushed
-CameOfFlush (Err e) tried = CameOfError e tried
+abbrev pub IsOutcomeOfFlush : Result (Unit {0}) Error → Tried → Type 0
+IsOutcomeOfFlush (Ok u) tried = tried ≡ Flushed
+IsOutcomeOfFlush (Err e) tried = IsOutcomeOfError e tried
 
 -- at the last try the writer failed or took nothing, or 2^33 tries were made
 abbrev pub WasGivenUp : TryNote → Type 0

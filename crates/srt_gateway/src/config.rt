@@ -7,20 +7,26 @@ ghost use Rattle.srt_seq.specs.Entries.{is_between};
 ghost use Rattle.srt_lobby.specs.Opening.{fault_of};
 ghost use Rattle.srt_gateway.specs.Routes.{closes_later};
 
+mod access;
 mod address;
 mod faults;
 mod keys;
 mod reading;
 mod routes;
+mod rules;
 mod values;
 
+pub use access::{MAX_KEY, MAX_NETWORKS, is_key_text, read_network};
 pub use address::BindAddress;
 pub use faults::{ConfigFault, Key};
 pub use reading::{TOP_KEYS, read_config, read_table};
-pub use routes::ROUTE_KEYS;
 pub(crate) use routes::RouteNumbers;
+pub use routes::{MAX_ROUND, ROUTE_KEYS};
 use srt_cookie::Secret;
 use srt_seq::{Entry, Schedule};
+
+/// The most threads that serve routes.
+pub const MAX_WORKERS: usize = 16;
 
 /// A configuration: everything that the gateway is started with.
 #[derive(Drop)]
@@ -31,6 +37,8 @@ pub struct Config {
     pub bind: BindAddress,
     /// The number of threads that serve the routes in `serve`: 1 to 16.
     pub workers: u32,
+    /// The address and TCP port at which `run` shows its status page; `None` if it shows none.
+    pub status: Option<BindAddress>,
     /// The routes, in the order of their indexes: 1 to 511, with distinct names.
     pub entries: Vec<Entry>,
     /// The rounds of the poller in which each of them opens and closes, in the same order. A replay has no rounds: it

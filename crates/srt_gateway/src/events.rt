@@ -2,21 +2,21 @@
 
 ghost use Rattle.std.specs.Prelude.{◌≡◌, ◌≢◌, ℕ, List, ◌∷◌, [], ◌≤◌, ◌<◌, ◌^◌, length, option_map, IfSome};
 ghost use Rattle.srt_gateway.specs.Tape.{fields_of};
-ghost use Rattle.srt_gateway.specs.Pieces.{fields_behind, FourOf};
-ghost use Rattle.srt_gateway.specs.Parts.{OneOf, TwoOf};
+ghost use Rattle.srt_gateway.specs.inside.Pieces.{fields_behind, FourOf};
+ghost use Rattle.srt_gateway.specs.inside.Parts.{OneOf, TwoOf};
 ghost use Rattle.srt_gateway.specs.Events.{event_of, event_in, text_in, mode_in, numbers_in, arrival_in, tick_in, turn_in, send_in, opening_in, closing_in};
-ghost use Rattle.srt_gateway.specs.Said.{event_said, IsSound};
-ghost use Rattle.srt_gateway.specs.RouteParts.{numbers_of};
+ghost use Rattle.srt_gateway.specs.inside.Said.{event_said, IsSound};
+ghost use Rattle.srt_gateway.specs.inside.RouteParts.{numbers_of};
 
 use crate::config::RouteNumbers;
 use crate::fields::split_field;
-use crate::lines::LINE_MAX;
+use crate::lines::MAX_LINE;
 use crate::numbers::{read_address, read_bytes, read_number};
 use srt_seq::{MOMENT_END, Mode, Peer};
 
 /// A route that is to be opened: the entry of its line, whose name and numbers may be any.
 #[derive(Clone, Copy)]
-pub(crate) struct Opening<'a> {
+pub(crate) struct NewRoute<'a> {
     /// The name.
     pub(crate) name: &'a str,
     /// The mode.
@@ -55,7 +55,7 @@ pub(crate) enum Said<'a> {
         route: usize,
     },
     /// `O`: a route is opened.
-    Opens(Opening<'a>),
+    Opens(NewRoute<'a>),
     /// `C`: a route is closed, at a moment in microseconds, below 2^62.
     Closes {
         /// The route's index.
@@ -232,7 +232,7 @@ fn read_opening(text: &[u8]) -> Option<Said<'_>>
     let name = read_text(name.field)?;
     let live_or_buffer = read_mode(mode.field)?;
     let numbers = read_numbers(mode.rest?)?;
-    Some(Said::Opens(Opening {
+    Some(Said::Opens(NewRoute {
         name,
         mode: live_or_buffer,
         numbers,
@@ -282,7 +282,7 @@ pub(crate) fn read_event<'a>(
     ensures value { option_map (event_said buffer.new) result ≡ event_of routes line.now }
     ensures sound { IfSome result (IsSound routes) }
 {
-    if line.len() > LINE_MAX {
+    if line.len() > MAX_LINE {
         return None;
     }
     read_fields(line, routes, buffer)

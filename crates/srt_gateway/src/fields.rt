@@ -2,9 +2,9 @@
 
 ghost use Rattle.std.specs.Prelude.{◌≡◌, ◌∷◌, ◌≤◌, length, IfSome};
 ghost use Rattle.srt_gateway.specs.Tape.{fields_of};
-ghost use Rattle.srt_gateway.specs.Pieces.{fields_behind};
+ghost use Rattle.srt_gateway.specs.inside.Pieces.{fields_behind};
 
-use memchr::memchr;
+use crate::splitting::parted;
 
 /// A text split at its first space.
 #[derive(Clone, Copy)]
@@ -21,10 +21,10 @@ pub(crate) fn split_field(text: &[u8]) -> Split<'_>
     ensures field_within { length result.field.now ≤ length text.now }
     ensures rest_within { IfSome result.rest (λ t. length t.now ≤ length text.now) }
 {
-    match memchr(b' ', text) {
-        Some(at) => Split {
-            field: &text[..at],
-            rest: Some(&text[at + 1..]),
+    match parted(b' ', text) {
+        Some(parts) => Split {
+            field: parts.before,
+            rest: Some(parts.behind),
         },
         None => Split {
             field: text,

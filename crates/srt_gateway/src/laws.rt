@@ -2,6 +2,7 @@
 
 ghost use Rattle.srt_gateway.specs.Sent.{SentLinesTell, TapesAreIsolated};
 ghost use Rattle.srt_gateway.specs.KeyFaults.{TellsFirstFault};
+ghost use Rattle.srt_gateway.specs.ChangeLaws.{SameKeysDecide, SameAsksNothing};
 
 /// No route's traffic changes what a replay writes for another. The `sent` lines at a tape's sends of a route are those
 /// of the datagrams that were sent for it. Take two tapes, replayed over gateways with the same secret and the same
@@ -16,4 +17,11 @@ pub fn tapes()
 /// table, `secret`, `bind`, `workers` and `route`; then for each route its least unknown key and its keys.
 pub fn configurations()
     ensures { TellsFirstFault }
+{}
+
+/// Two routes of configurations are compared exactly: the test says that their keys are the same if, and only if, all of
+/// them have the same values. A configuration that is the same as the one before asks nothing of a gateway that runs.
+pub fn changes()
+    ensures keys { SameKeysDecide }
+    ensures same { SameAsksNothing }
 {}

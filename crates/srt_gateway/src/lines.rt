@@ -8,7 +8,7 @@ use crate::reader::{CountedReader, Piece, ReadFailed};
 use std::io::BufRead;
 
 /// The greatest length of a line, in bytes, without its LF.
-pub(crate) const LINE_MAX: usize = 4096;
+pub(crate) const MAX_LINE: usize = 4096;
 
 /// The result of taking a line.
 #[derive(Clone, Copy)]
@@ -37,7 +37,7 @@ fn at_end(len: usize) -> Taken
 /// such a reader isn't called again.
 pub(crate) fn next_line<R: BufRead>(
     reader: &mut CountedReader<R>,
-    line: &mut [u8; LINE_MAX],
+    line: &mut [u8; MAX_LINE],
 ) -> Result<Taken, ReadFailed>
     ensures fewer { reads_left reader.new ≤ reads_left reader.old }
     ensures reads { LineRead (reads_left reader.new) (last_brought reader.new) result }

@@ -7,13 +7,13 @@ ghost use Rattle.srt_gateway.specs.Known.{TookPiece};
 ghost use Rattle.srt_gateway.specs.Counted.{BroughtBy, MayLook, WasUnread, PieceRead, source, reads_left, last_brought, left_in, brought_in};
 ghost use types.Logic.{sem};
 
-use crate::lines::LINE_MAX;
+use crate::lines::MAX_LINE;
 use memchr::memchr;
 use srt_seq::write_at;
 use std::io::{self, BufRead, ErrorKind};
 
 /// The greatest number of reads of one replay.
-const READS_MAX: u64 = 1 << 33;
+const MAX_READS: u64 = 1 << 33;
 
 /// The result of the last read.
 #[derive(Clone, Copy, Debug, PartialEq, Eq)]
@@ -100,7 +100,7 @@ fn look<'a, R: BufRead>(reader: &'a mut R, budget: &mut ReadBudget) -> io::Resul
 fn take_piece<R: BufRead>(
     reader: &mut R,
     budget: &mut ReadBudget,
-    line: &mut [u8; LINE_MAX],
+    line: &mut [u8; MAX_LINE],
     len: usize,
 ) -> Result<Piece, ReadFailed>
     requires len { len ≤ 4096 }
@@ -120,7 +120,7 @@ fn take_piece<R: BufRead>(
     };
     match memchr(b'\n', available) {
         Some(end) => {
-            if end > LINE_MAX - len {
+            if end > MAX_LINE - len {
                 return Ok(Piece::Long);
             }
             let new_len = write_at(line, len, &available[..end]);
@@ -132,7 +132,7 @@ fn take_piece<R: BufRead>(
             if end == 0 {
                 return Ok(Piece::End);
             }
-            if end > LINE_MAX - len {
+            if end > MAX_LINE - len {
                 return Ok(Piece::Long);
             }
             let new_len = write_at(line, len, available);
@@ -149,7 +149,7 @@ impl<R> CountedReader<R> {
         ensures left { reads_left result ≡ 2 ^ 33 }
         ensures brought { last_brought result ≡ Brought.Nothing }
     {
-        CountedReader::within(reader, READS_MAX)
+        CountedReader::within(reader, MAX_READS)
     }
 
     /// A reader with a budget of this many reads.
@@ -197,7 +197,7 @@ impl<R: BufRead> CountedReader<R> {
     /// Reads once; appends this line's bytes to `line[..len]`.
     pub(crate) fn take_piece(
         &mut self,
-        line: &mut [u8; LINE_MAX],
+        line: &mut [u8; MAX_LINE],
         len: usize,
     ) -> Result<Piece, ReadFailed>
         requires len { len ≤ 4096 }

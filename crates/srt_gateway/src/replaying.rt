@@ -6,31 +6,32 @@ ghost use Rattle.srt_hub.specs.Calls.{wants_memory, Happened, FaultAnswers};
 ghost use Rattle.srt_seq.specs.Terms.{terms_of};
 ghost use Rattle.srt_seq.specs.Entries.{in_limits};
 ghost use Rattle.srt_gateway.specs.Routes.{terms_with};
-ghost use Rattle.srt_gateway.specs.RouteParts.{numbers_of};
-ghost use Rattle.srt_gateway.specs.Said.{arrival, terms_said, event_said, IsSound};
+ghost use Rattle.srt_gateway.specs.inside.RouteParts.{numbers_of};
+ghost use Rattle.srt_gateway.specs.inside.Said.{arrival, terms_said, event_said, IsSound};
 ghost use Rattle.srt_gateway.specs.Replay.{WasRefused};
 ghost use Rattle.srt_gateway.specs.Counted.{source, reads_left, last_brought, TurnRead, ReplayRead};
 ghost use Rattle.srt_gateway.specs.Tries.{sink, HasWriteCause, ReplayWritten};
-ghost use Rattle.srt_gateway.specs.Step.{Answers, Tries, TriesLine, TriesNext};
+ghost use Rattle.srt_gateway.specs.inside.Step.{Answers, Tries, TriesLine, TriesNext};
 ghost use Rattle.srt_gateway.specs.ReplayOver.{ReplaysOver, ReplaysOf};
 
 use crate::config::Config;
-use crate::events::{Opening, Said, read_event};
-use crate::lines::{LINE_MAX, Taken, next_line};
+use crate::events::{NewRoute, Said, read_event};
+use crate::lines::{MAX_LINE, Taken, next_line};
 use crate::reader::CountedReader;
 use crate::texts::{
-    TEXT_MAX, write_arrived, write_closed, write_none, write_opened, write_sent, write_ticked,
+    MAX_TEXT, write_arrived, write_closed, write_none, write_opened, write_sent, write_ticked,
     write_turned,
 };
 use crate::writer::CountedWriter;
 use srt_hub::{Doors, Gateway, Hub, Lobby, OutOfMemory, RouteStep, SrtGateway};
-use srt_seq::{Entry, OpenFault, Peer};
+use srt_seq::limits::MAX_DATAGRAM;
+use srt_seq::{Access, Entry, OpenFault, Peer, Rules};
 use std::alloc::Global;
 use std::io::{BufRead, Write};
 use thiserror::Error;
 
 /// The greatest number of lines of a tape.
-pub(crate) const LINES_MAX: u32 = 1_000_000;
+pub(crate) const MAX_LINES: u32 = 1_000_000;
 
 /// Why a replay ended early. What was written before stays written. Its text is the line that the program prints,
 /// which prints none for `Write`.
@@ -61,7 +62,7 @@ fn answer_arrival<R: RouteStep, L: Lobby>(
     peer: Peer,
     moment: u64,
     bytes: &[u8],
-    out: &mut [u8; TEXT_MAX],
+    out: &mut [u8; MAX_TEXT],
 ) -> Result<usize, OutOfMemory>
     requires { moment < 2 ^ 62 }
     ensures within { IfOk result (λ n. n ≤ 4096) }
@@ -79,7 +80,7 @@ fn answer_tick<R: RouteStep, L: Lobby>(
     hub: &mut Hub<R, L>,
     route: usize,
     moment: u64,
-    out: &mut [u8; TEXT_MAX],
+    out: &mut [u8; MAX_TEXT],
 ) -> usize
     requires route { route < ⟦<Hub<R, L> as Gateway>⟧.routes hub.old }
     requires moment { moment < 2 ^ 62 }
@@ -95,7 +96,7 @@ fn answer_tick<R: RouteStep, L: Lobby>(
 fn answer_turn<R: RouteStep, L: Lobby>(
     hub: &mut Hub<R, L>,
     route: usize,
-    out: &mut [u8; TEXT_MAX],
+    out: &mut [u8; MAX_TEXT],
 ) -> usize
     requires { route < ⟦<Hub<R, L> as Gateway>⟧.routes hub.old }
     ensures within { result ≤ 4096 }
@@ -111,8 +112,8 @@ fn answer_turn<R: RouteStep, L: Lobby>(
 fn answer_send<R: RouteStep, L: Lobby>(
     hub: &mut Hub<R, L>,
     route: usize,
-    packet: &mut [u8; 1472],
-    out: &mut [u8; TEXT_MAX],
+    packet: &mut [u8; MAX_DATAGRAM],
+    out: &mut [u8; MAX_TEXT],
 ) -> usize
     requires { route < ⟦<Hub<R, L> as Gateway>⟧.routes hub.old }
     ensures within { result ≤ 4096 }
@@ -124,8 +125,8 @@ fn answer_send<R: RouteStep, L: Lobby>(
     }
 }
 
-/// The entry of a line, with this name.
-fn entry_with(name: String, opening: Opening<'_>) -> Entry
+/// The entry of a line, with this name. Anyone may call the route.
+fn entry_with(name: String, opening: NewRoute<'_>) -> Entry
     ensures { terms_of result ≡ terms_with (string_bytes name) opening.entry.mode (numbers_of opening.entry.numbers) }
 {
     Entry {
@@ -136,11 +137,13 @@ fn entry_with(name: String, opening: Opening<'_>) -> Entry
         sessions: opening.numbers.sessions,
         inbox: opening.numbers.inbox,
         outbox: opening.numbers.outbox,
+        access: Access::anyone(),
+        rules: Rules::DRAFT,
     }
 }
 
-/// The entry of a line. Takes memory for a copy of the name.
-fn entry_of(alloc: Global, opening: Opening<'_>) -> Result<Entry, OutOfMemory>
+/// The entry of a line. Allocates a copy of the name.
+fn entry_of(alloc: Global, opening: NewRoute<'_>) -> Result<Entry, OutOfMemory>
     ensures { IfOk result (λ entry. terms_of entry ≡ terms_said opening.entry) }
 {
     match String::from_str(alloc, opening.name) {
@@ -149,13 +152,14 @@ fn entry_of(alloc: Global, opening: Opening<'_>) -> Result<Entry, OutOfMemory>
     }
 }
 
-/// The first reason why the route of a line can't be opened, memory aside. Takes no memory.
+/// The first reason why the route of a line can't be opened, memory aside. Doesn't allocate.
 fn opening_fault<R: RouteStep, L: Doors>(
     alloc: Global,
     hub: &Hub<R, L>,
-    opening: Opening<'_>,
+    opening: NewRoute<'_>,
 ) -> Option<OpenFault>
-    ensures fault { FaultAnswers ⟦<Hub<R, L> as Gateway>⟧.stands hub.now L.class R.reply (terms_said opening.entry).name (in_limits (terms_said opening.entry)) result }
+    ensures fault { FaultAnswers ⟦<Hub<R, L> as Gateway>⟧.stands hub.now L.class R.reply (terms_said opening.entry).name
+        (in_limits (terms_said opening.entry)) result }
     // An opening that has a fault changes nothing.
     ensures stands { IfSome result (λ _. Happened ⟦<Hub<R, L> as Gateway>⟧.stands hub.now hub.now (Opens (terms_said opening.entry) false)) }
 {
@@ -175,12 +179,12 @@ fn is_refused(opened: Result<usize, OpenFault>) -> bool
 }
 
 /// Opens a route, and writes the answer as a line to the front of `out`. Returns the line's length. The error is that
-/// memory was refused, for the entry's name or for the route; an opening that has a fault takes none.
+/// memory was refused, for the entry's name or for the route; an opening that has a fault allocates nothing.
 fn answer_opening<R: RouteStep, L: Doors>(
     alloc: Global,
     hub: &mut Hub<R, L>,
-    opening: Opening<'_>,
-    out: &mut [u8; TEXT_MAX],
+    opening: NewRoute<'_>,
+    out: &mut [u8; MAX_TEXT],
 ) -> Result<usize, OutOfMemory>
     ensures within { IfOk result (λ n. n ≤ 4096) }
     ensures answered { Tries ⟦<Hub<R, L> as Gateway>⟧.stands hub.old hub.new L.class R.reply (Opens (terms_said opening.entry) false) out.new result }
@@ -204,7 +208,7 @@ fn answer_closing<R: RouteStep, L: Doors>(
     hub: &mut Hub<R, L>,
     route: usize,
     moment: u64,
-    out: &mut [u8; TEXT_MAX],
+    out: &mut [u8; MAX_TEXT],
 ) -> usize
     requires route { route < ⟦<Hub<R, L> as Gateway>⟧.routes hub.old }
     requires moment { moment < 2 ^ 62 }
@@ -221,14 +225,14 @@ fn answer_closing<R: RouteStep, L: Doors>(
 struct Desk {
     alloc: Global,
     datagram: [u8; 2048],
-    packet: [u8; 1472],
-    text: [u8; TEXT_MAX],
+    packet: [u8; MAX_DATAGRAM],
+    text: [u8; MAX_TEXT],
 }
 
 /// What a replay works with, made once: a buffer for a line, and what its answer is made with.
 #[derive(Drop)]
 struct Workspace {
-    line: [u8; LINE_MAX],
+    line: [u8; MAX_LINE],
     desk: Desk,
 }
 
@@ -301,7 +305,7 @@ fn answer_next<R: RouteStep, L: Doors, B: BufRead, W: Write>(
         Ok(Taken::End) => return Ok(false),
         Err(_) => return Err(ReplayFault::Read),
     };
-    if number > LINES_MAX {
+    if number > MAX_LINES {
         return Err(ReplayFault::Tape(number));
     }
     let end = match answer_line(hub, &work.line[..len], &mut work.desk) {
@@ -327,7 +331,7 @@ fn answer_lines<R: RouteStep, L: Doors, B: BufRead, W: Write>(
     ensures writes { HasWriteCause writer.new result }
     ensures replays { ReplaysOver ⟦<Hub<R, L> as Gateway>⟧.stands hub.old L.class R.reply B.remaining reader.old W.contents writer.old writer.new result }
 {
-    for before in 0..LINES_MAX + 1 {
+    for before in 0..MAX_LINES + 1 {
         match answer_next(hub, reader, writer, work, before + 1) {
             Ok(true) => {}
             Ok(false) => return Ok(()),
@@ -341,7 +345,7 @@ fn answer_lines<R: RouteStep, L: Doors, B: BufRead, W: Write>(
 /// Replays a tape over a hub without events so far: runs the event of each line, and writes its answer as a line. Reads
 /// and writes are as large as the reader's and the writer's buffers, so pass ones with buffers. Each call of the reader
 /// counts as a read, also an interrupted one. The writer is flushed at the end, unless it failed. Only copies of
-/// datagrams to routes, and routes that are opened, take memory. Errors: see `ReplayFault`. What was written by then is
+/// datagrams to routes, and routes that are opened, are allocated. Errors: see `ReplayFault`. What was written by then is
 /// the answers to the lines before it: all of them, but after `Read` those to some first lines, and after `Write` a part
 /// of the text from its front.
 pub fn replay_over<R: RouteStep, L: Doors, B: BufRead, W: Write>(
@@ -356,12 +360,12 @@ pub fn replay_over<R: RouteStep, L: Doors, B: BufRead, W: Write>(
     ensures replays { ReplaysOver ⟦<Hub<R, L> as Gateway>⟧.stands hub.old L.class R.reply B.remaining reader.old W.contents writer.old writer.new result }
 {
     let mut work = Workspace {
-        line: [0; LINE_MAX],
+        line: [0; MAX_LINE],
         desk: Desk {
             alloc,
             datagram: [0; 2048],
-            packet: [0; 1472],
-            text: [0; TEXT_MAX],
+            packet: [0; MAX_DATAGRAM],
+            text: [0; MAX_TEXT],
         },
     };
     let answered = answer_lines(hub, reader, writer, &mut work);
@@ -374,8 +378,8 @@ pub fn replay_over<R: RouteStep, L: Doors, B: BufRead, W: Write>(
     }
 }
 
-/// Replays a tape over the gateway of a configuration, without events so far. Takes the memory of the routes first; if
-/// that is refused, nothing is read or written, and the error is `OutOfMemory`. Else as `replay_over`.
+/// Replays a tape over the gateway of a configuration, without events so far. Allocates the routes first; if memory
+/// is refused, nothing is read or written, and the error is `OutOfMemory`. Else as `replay_over`.
 pub fn replay<B: BufRead, W: Write>(
     alloc: Global,
     config: &Config,

@@ -1,6 +1,7 @@
 //! What is read of right configurations, and how replays over readers and writers of any kind end. The faults of
 //! configurations and the lines of tapes are cases of `tests/cli`. Cookies were computed by Python's hashlib.
 
+mod changes;
 mod configs;
 mod devices;
 mod ends;
@@ -39,5 +40,23 @@ fn config_of(rt: &(impl AllocGlobal + Abort), text: &str) -> Result<Config, Fail
     match read_config(rt.alloc(), text) {
         Ok(config) => Ok(config),
         Err(_) => Err(Fail::from("a right configuration")),
+    }
+}
+
+/// The text, with the first occurrence of one line replaced by another.
+fn changed(
+    rt: &(impl AllocGlobal + Abort),
+    text: &str,
+    from: &str,
+    to: &str,
+) -> Result<String, Fail> {
+    match text.split_once(from) {
+        Some((before, behind)) => {
+            let mut out = String::from_str(rt.alloc(), before)?;
+            out.push_str(to)?;
+            out.push_str(behind)?;
+            Ok(out)
+        }
+        None => Err(Fail::from("nothing to change")),
     }
 }

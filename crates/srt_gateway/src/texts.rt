@@ -9,7 +9,7 @@ use srt_hub::{Arrived, Cause, Closing, Ticked};
 use srt_seq::{OpenFault, Peer, Turned, write_at};
 
 /// The greatest length of an answer's line, in bytes, with its LF.
-pub(crate) const TEXT_MAX: usize = 4096;
+pub(crate) const MAX_TEXT: usize = 4096;
 
 fn digit_of(cause: Cause) -> u8
     ensures { result ≡ the_digit cause }
@@ -18,7 +18,7 @@ fn digit_of(cause: Cause) -> u8
 }
 
 /// Writes a number in decimal digits at offset `at`. Returns the offset behind it.
-fn write_number(out: &mut [u8; TEXT_MAX], at: usize, number: usize) -> usize
+fn write_number(out: &mut [u8; MAX_TEXT], at: usize, number: usize) -> usize
     requires { at ≤ 4000 }
     ensures end { result ≤ at + 20 }
     ensures written { take result out.new ≡ take at out.old ++ decimal number }
@@ -28,7 +28,7 @@ fn write_number(out: &mut [u8; TEXT_MAX], at: usize, number: usize) -> usize
 }
 
 /// Writes bytes in hexadecimal digits at offset `at`. Returns the offset behind them.
-fn write_hex(out: &mut [u8; TEXT_MAX], at: usize, bytes: &[u8]) -> usize
+fn write_hex(out: &mut [u8; MAX_TEXT], at: usize, bytes: &[u8]) -> usize
     requires { at + 2 * length bytes.now ≤ 4096 }
     ensures end { result ≡ at + 2 * length bytes.now }
     ensures written { take result out.new ≡ take at out.old ++ encode_lower bytes.now }
@@ -38,7 +38,7 @@ fn write_hex(out: &mut [u8; TEXT_MAX], at: usize, bytes: &[u8]) -> usize
     end
 }
 
-fn write_route(out: &mut [u8; TEXT_MAX], words: &[u8], route: usize) -> usize
+fn write_route(out: &mut [u8; MAX_TEXT], words: &[u8], route: usize) -> usize
     requires { length words.now ≤ 16 }
     ensures within { result ≤ 4096 }
     ensures text { take result out.new ≡ route_text words.now route }
@@ -50,7 +50,7 @@ fn write_route(out: &mut [u8; TEXT_MAX], words: &[u8], route: usize) -> usize
 
 /// Writes the line of an arrival's result to the front of `out`: `answer` and bytes, `accepted` or `full` and the
 /// route, or `dropped` and the cause. Returns its length.
-pub(crate) fn write_arrived(answer: &Arrived, out: &mut [u8; TEXT_MAX]) -> usize
+pub(crate) fn write_arrived(answer: &Arrived, out: &mut [u8; MAX_TEXT]) -> usize
     ensures within { result ≤ 4096 }
     ensures text { take result out.new ≡ arrived_text answer.now }
 {
@@ -70,7 +70,7 @@ pub(crate) fn write_arrived(answer: &Arrived, out: &mut [u8; TEXT_MAX]) -> usize
 }
 
 /// Writes the line of a tick's result to the front of `out`: `accepted` or `full` and the route. Returns its length.
-pub(crate) fn write_ticked(route: usize, answer: Ticked, out: &mut [u8; TEXT_MAX]) -> usize
+pub(crate) fn write_ticked(route: usize, answer: Ticked, out: &mut [u8; MAX_TEXT]) -> usize
     ensures within { result ≤ 4096 }
     ensures text { take result out.new ≡ ticked_text route answer }
 {
@@ -82,7 +82,7 @@ pub(crate) fn write_ticked(route: usize, answer: Ticked, out: &mut [u8; TEXT_MAX
 
 /// Writes the line of a turn's result to the front of `out`: `moved`, `applied`, `blocked` or `idle`. Returns its
 /// length.
-pub(crate) fn write_turned(answer: Turned, out: &mut [u8; TEXT_MAX]) -> usize
+pub(crate) fn write_turned(answer: Turned, out: &mut [u8; MAX_TEXT]) -> usize
     ensures within { result ≤ 4096 }
     ensures text { take result out.new ≡ turned_text answer }
 {
@@ -95,7 +95,7 @@ pub(crate) fn write_turned(answer: Turned, out: &mut [u8; TEXT_MAX]) -> usize
 }
 
 /// Writes the line of a send with an empty outbox, `none`, to the front of `out`. Returns its length.
-pub(crate) fn write_none(out: &mut [u8; TEXT_MAX]) -> usize
+pub(crate) fn write_none(out: &mut [u8; MAX_TEXT]) -> usize
     ensures within { result ≤ 4096 }
     ensures text { take result out.new ≡ sent_text None }
 {
@@ -104,7 +104,7 @@ pub(crate) fn write_none(out: &mut [u8; TEXT_MAX]) -> usize
 
 /// Writes the line of a datagram that was sent to the front of `out`: `sent`, the address, the port and the bytes.
 /// Returns its length.
-pub(crate) fn write_sent(peer: Peer, bytes: &[u8], out: &mut [u8; TEXT_MAX]) -> usize
+pub(crate) fn write_sent(peer: Peer, bytes: &[u8], out: &mut [u8; MAX_TEXT]) -> usize
     requires { length bytes.now ≤ 1472 }
     ensures within { result ≤ 4096 }
     ensures text { take result out.new ≡ sent_text (Some (record { peer = peer; bytes = bytes.now })) }
@@ -120,7 +120,7 @@ pub(crate) fn write_sent(peer: Peer, bytes: &[u8], out: &mut [u8; TEXT_MAX]) -> 
 
 /// Writes the line of an opening's result to the front of `out`: `opened` and the route, or `open fault` and its
 /// number; nothing if memory was refused. Returns its length.
-pub(crate) fn write_opened(opened: Result<usize, OpenFault>, out: &mut [u8; TEXT_MAX]) -> usize
+pub(crate) fn write_opened(opened: Result<usize, OpenFault>, out: &mut [u8; MAX_TEXT]) -> usize
     ensures within { result ≤ 4096 }
     ensures text { take result out.new ≡ opened_text opened }
 {
@@ -134,7 +134,7 @@ pub(crate) fn write_opened(opened: Result<usize, OpenFault>, out: &mut [u8; TEXT
 
 /// Writes the line of a closing's result to the front of `out`: `closing`, `full` or `closed` and the route. Returns
 /// its length.
-pub(crate) fn write_closed(route: usize, closing: Closing, out: &mut [u8; TEXT_MAX]) -> usize
+pub(crate) fn write_closed(route: usize, closing: Closing, out: &mut [u8; MAX_TEXT]) -> usize
     ensures within { result ≤ 4096 }
     ensures text { take result out.new ≡ closed_text route closing }
 {

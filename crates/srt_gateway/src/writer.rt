@@ -4,12 +4,12 @@ ghost use Rattle.std.specs.Prelude.{◌≡◌, ℕ, ◌+◌, ◌<◌, ◌^◌, O
 ghost use Rattle.std.specs.Io.{WritesAtMost};
 ghost use Rattle.std.specs.Io.KnownBytes.{Keeps, WriteAppends};
 ghost use Rattle.srt_gateway.specs.Known.{Wrote};
-ghost use Rattle.srt_gateway.specs.Tries.{CameOfWrite, CameOfFlush, WasGivenUp, IsUnwritten, sink, last_try, made_in, last_in};
+ghost use Rattle.srt_gateway.specs.Tries.{IsOutcomeOfWrite, IsOutcomeOfFlush, WasGivenUp, IsUnwritten, sink, last_try, made_in, last_in};
 
 use std::io::{self, ErrorKind, Write};
 
 /// The greatest number of tries to write one text, and to flush.
-const TRIES_MAX: u64 = 1 << 33;
+const MAX_TRIES: u64 = 1 << 33;
 
 /// The result of the last try to write or to flush.
 #[derive(Clone, Copy, Debug, PartialEq, Eq)]
@@ -46,8 +46,8 @@ pub struct CountedWriter<W> {
 pub(crate) struct WriteFailed;
 
 /// The result of a write that returned this.
-fn came_of_write(written: &io::Result<usize>) -> Tried
-    ensures { CameOfWrite written.now result }
+fn outcome_of_write(written: &io::Result<usize>) -> Tried
+    ensures { IsOutcomeOfWrite written.now result }
 {
     match written {
         Ok(0) => Tried::NoBytes,
@@ -62,8 +62,8 @@ fn came_of_write(written: &io::Result<usize>) -> Tried
 }
 
 /// The result of a flush that returned this.
-fn came_of_flush(flushed: &io::Result<()>) -> Tried
-    ensures { CameOfFlush flushed.now result }
+fn outcome_of_flush(flushed: &io::Result<()>) -> Tried
+    ensures { IsOutcomeOfFlush flushed.now result }
 {
     match flushed {
         Ok(()) => Tried::Flushed,
@@ -80,13 +80,13 @@ fn came_of_flush(flushed: &io::Result<()>) -> Tried
 fn try_write<W: Write>(writer: &mut W, note: &mut TryNote, bytes: &[u8]) -> io::Result<usize>
     requires { made_in note.old < 2 ^ 33 }
     ensures made { made_in note.new ≡ made_in note.old + 1 }
-    ensures came { CameOfWrite result (last_in note.new) }
+    ensures outcome { IsOutcomeOfWrite result (last_in note.new) }
     ensures bound { WritesAtMost result bytes.now }
     ensures bytes { WriteAppends (W.contents writer.old) (W.contents writer.new) result bytes.now }
 {
     note.made += 1;
     let written = writer.write(bytes);
-    note.last = came_of_write(&written);
+    note.last = outcome_of_write(&written);
     written
 }
 
@@ -94,12 +94,12 @@ fn try_write<W: Write>(writer: &mut W, note: &mut TryNote, bytes: &[u8]) -> io::
 fn try_flush<W: Write>(writer: &mut W, note: &mut TryNote) -> io::Result<()>
     requires { made_in note.old < 2 ^ 33 }
     ensures made { made_in note.new ≡ made_in note.old + 1 }
-    ensures came { CameOfFlush result (last_in note.new) }
+    ensures outcome { IsOutcomeOfFlush result (last_in note.new) }
     ensures bytes { Keeps (W.contents writer.old) (W.contents writer.new) }
 {
     note.made += 1;
     let flushed = writer.flush();
-    note.last = came_of_flush(&flushed);
+    note.last = outcome_of_flush(&flushed);
     flushed
 }
 
@@ -115,7 +115,7 @@ fn write_bytes<W: Write>(
 {
     note.made = 0;
     let mut at = 0;
-    while note.made < TRIES_MAX {
+    while note.made < MAX_TRIES {
         if at >= bytes.len() {
             return Ok(());
         }
@@ -140,7 +140,7 @@ fn flush<W: Write>(writer: &mut W, note: &mut TryNote) -> Result<(), WriteFailed
     ensures cause { OnErr result (WasGivenUp note.new) }
 {
     note.made = 0;
-    while note.made < TRIES_MAX {
+    while note.made < MAX_TRIES {
         match try_flush(writer, note) {
             Ok(()) => return Ok(()),
             Err(_) => match note.last {

@@ -5,7 +5,9 @@ use Rattle.std.proofs.Math.Seq.{take-suc}
 use Rattle.srt_seq.specs.Words.{word_at, words_in}
 use Rattle.srt_hs.specs.Grammar.{turned_words, before_zeros, without_zeros}
 
-pub turned_step : (front rest : List ℕ) → 4 ≤ length rest → (front ++ get_or rest 3 0 ∷ get_or rest 2 0 ∷ get_or rest 1 0 ∷ get_or rest 0 0 ∷ []) ++ turned_words (drop 4 rest) ≡ front ++ turned_words rest
+pub turned_step : (front rest : List ℕ) → 4 ≤ length rest
+    → (front ++ get_or rest 3 0 ∷ get_or rest 2 0 ∷ get_or rest 1 0 ∷ get_or rest 0 0 ∷ []) ++ turned_words (drop 4 rest)
+    ≡ front ++ turned_words rest
 turned_step front [] h = absurd (omega arith)
 turned_step front (a ∷ []) h = absurd (omega arith)
 turned_step front (a ∷ b ∷ []) h = absurd (omega arith)

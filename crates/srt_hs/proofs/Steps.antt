@@ -1,8 +1,7 @@
 -- Reading all blocks is reading the first and then the others, whatever the bound on their number.
-use Rattle.std.proofs.Common.{◌≡◌, ℕ, zero, suc, ◌-◌, ◌<◌, ◌≤◌, List, [], ◌∷◌, length, take, drop, Result, Ok, Err, ltb, refl, sym, ap, ◌∙◌, length-drop, arith}
+use Rattle.std.proofs.Common.{◌≡◌, ℕ, zero, suc, ◌-◌, ◌<◌, ◌≤◌, List, [], ◌∷◌, length, drop, Result, Ok, Err, ltb, refl, sym, ap, ◌∙◌, length-drop, arith}
 use Rattle.srt_hs.specs.declared.handshake.HsKind.{HsKind}
 use Rattle.srt_hs.specs.declared.handshake.HsFault.{HsFault}
-use Rattle.std.proofs.Math.Seq.{take-length}
 use Rattle.std.proofs.lemmas.Bool.{cond-true, cond-false, lt-ltb, le-ltb}
 use Rattle.srt_seq.specs.Words.{word_at}
 use Rattle.srt_hs.specs.declared.handshake.HsFault.TheVariants.{Short}
@@ -28,24 +27,31 @@ enough (suc m) (suc n) before (b ∷ bytes) h k =
     let shorter = after_shorter b bytes in
     same_then (with_first before (b ∷ bytes)) _ _ (λ next. enough m n next (after_block (b ∷ bytes)) (omega arith) (omega arith))
 
-pub all_step : (before : Blocks) (bytes : List ℕ) → 0 < length bytes → with_all (length bytes) before bytes ≡ and_then (with_first before bytes) (λ next. with_all (length (after_block bytes)) next (after_block bytes))
+pub all_step : (before : Blocks) (bytes : List ℕ) → 0 < length bytes
+    → with_all (length bytes) before bytes
+    ≡ and_then (with_first before bytes) (λ next. with_all (length (after_block bytes)) next (after_block bytes))
 all_step before [] h = absurd (omega arith)
 all_step before (b ∷ bytes) h =
     let shorter = after_shorter b bytes in
-    same_then (with_first before (b ∷ bytes)) _ _ (λ next. enough (length bytes) (length (after_block (b ∷ bytes))) next (after_block (b ∷ bytes)) shorter (omega arith))
+    same_then (with_first before (b ∷ bytes)) _ _
+    (λ next. enough (length bytes) (length (after_block (b ∷ bytes))) next (after_block (b ∷ bytes)) shorter (omega arith))
 
-pub all_ok : (before next : Blocks) (bytes : List ℕ) → 0 < length bytes → with_first before bytes ≡ Ok next → with_all (length bytes) before bytes ≡ with_all (length (after_block bytes)) next (after_block bytes)
+pub all_ok : (before next : Blocks) (bytes : List ℕ) → 0 < length bytes → with_first before bytes ≡ Ok next
+    → with_all (length bytes) before bytes ≡ with_all (length (after_block bytes)) next (after_block bytes)
 all_ok before next bytes h e = all_step before bytes h ∙ ap (λ r. and_then r (λ next. with_all (length (after_block bytes)) next (after_block bytes))) e
 
-pub all_err : (before : Blocks) (fault : HsFault) (bytes : List ℕ) → 0 < length bytes → with_first before bytes ≡ Err fault → with_all (length bytes) before bytes ≡ Err fault
+pub all_err : (before : Blocks) (fault : HsFault) (bytes : List ℕ)
+    → 0 < length bytes → with_first before bytes ≡ Err fault → with_all (length bytes) before bytes ≡ Err fault
 all_err before fault bytes h e = all_step before bytes h ∙ ap (λ r. and_then r (λ next. with_all (length (after_block bytes)) next (after_block bytes))) e
 
-pub read_ok : (bytes : List ℕ) (blocks : Blocks) → 48 ≤ length bytes → Ok blocks ≡ extension_in (kind_of (word_at bytes 20)) (drop 48 bytes) → Ok (with_fields bytes blocks) ≡ handshake_in bytes
+pub read_ok : (bytes : List ℕ) (blocks : Blocks) → 48 ≤ length bytes → Ok blocks ≡ extension_in (kind_of (word_at bytes 20)) (drop 48 bytes)
+    → Ok (with_fields bytes blocks) ≡ handshake_in bytes
 unfolding handshake_in
 read_ok bytes blocks h e =
     ap (λ r. and_then r (λ b. Ok (with_fields bytes b))) e ∙ sym (cond-false (ltb (length bytes) 48) (Err Short) _ (le-ltb (length bytes) 48 h))
 
-pub read_err : (bytes : List ℕ) (fault : HsFault) → 48 ≤ length bytes → Err fault ≡ extension_in (kind_of (word_at bytes 20)) (drop 48 bytes) → Err fault ≡ handshake_in bytes
+pub read_err : (bytes : List ℕ) (fault : HsFault)
+    → 48 ≤ length bytes → Err fault ≡ extension_in (kind_of (word_at bytes 20)) (drop 48 bytes) → Err fault ≡ handshake_in bytes
 unfolding handshake_in
 read_err bytes fault h e =
     ap (λ r. and_then r (λ b. Ok (with_fields bytes b))) e ∙ sym (cond-false (ltb (length bytes) 48) (Err Short) _ (le-ltb (length bytes) 48 h))
@@ -54,8 +60,20 @@ pub read_short : (bytes : List ℕ) → length bytes < 48 → Err Short ≡ hand
 unfolding handshake_in
 read_short bytes h = sym (cond-true (ltb (length bytes) 48) (Err Short) _ (lt-ltb (length bytes) 48 h))
 
-pub built : (bytes : List ℕ) (version encryption extension initial mtu window : ℕ) (kind : HsKind) (id cookie : ℕ) (blocks : Blocks) → version ≡ word_at bytes 0 → encryption ≡ half_at bytes 4 → extension ≡ half_at bytes 6 → initial ≡ word_at bytes 8 → mtu ≡ word_at bytes 12 → window ≡ word_at bytes 16 → kind ≡ kind_of (word_at bytes 20) → id ≡ word_at bytes 24 → cookie ≡ word_at bytes 28 → record { version = version; encryption = encryption; extension = extension; initial = initial; mtu = mtu; window = window; kind = kind; id = id; cookie = cookie; blocks = blocks } ≡ with_fields bytes blocks
+pub built : (bytes : List ℕ) (version encryption extension initial mtu window : ℕ) (kind : HsKind) (id cookie : ℕ) (blocks : Blocks)
+    → version ≡ word_at bytes 0 → encryption ≡ half_at bytes 4 → extension ≡ half_at bytes 6 → initial ≡ word_at bytes 8
+    → mtu ≡ word_at bytes 12 → window ≡ word_at bytes 16 → kind ≡ kind_of (word_at bytes 20) → id ≡ word_at bytes 24 → cookie ≡ word_at bytes 28
+    → record {
+      version = version;
+      encryption = encryption;
+      extension = extension;
+      initial = initial;
+      mtu = mtu;
+      window = window;
+      kind = kind;
+      id = id;
+      cookie = cookie;
+      blocks = blocks;
+    }
+    ≡ with_fields bytes blocks
 built bytes version encryption extension initial mtu window kind id cookie blocks a b c d e f g h i = cc
-
-pub whole_rest : (n : ℕ) (bytes : List ℕ) → take (length bytes - n) (drop n bytes) ≡ drop n bytes
-whole_rest n bytes = ap (λ k. take k (drop n bytes)) (sym (length-drop n bytes)) ∙ take-length (drop n bytes)

@@ -1,5 +1,6 @@
 -- Handshakes as the wire spells them, as a relation by cases, and the faults (section 3.2.1).
-use Rattle.std.specs.Prelude.{◌≡◌, ◌≢◌, ℕ, ◌+◌, ◌*◌, ◌<◌, ◌≤◌, ◌⊎◌, Bool, true, false, List, [], ◌∷◌, length, take, drop, slice_index, Option, None, Some, IsSome, if◌then◌else◌, ◌==◌}
+use Rattle.std.specs.Prelude.{◌≡◌, ◌≢◌, ℕ, ◌+◌, ◌*◌, ◌<◌, ◌≤◌, ◌⊎◌, Bool, true, false, List, [], ◌∷◌, length, take, drop, slice_index}
+use Rattle.std.specs.Prelude.{Option, None, Some, IsSome, if◌then◌else◌, ◌==◌}
 use Rattle.std.specs.Int.{w16, from_be_bytes}
 use Rattle.srt_seq.specs.Words.{word_at, words_in}
 use Rattle.srt_hs.specs.declared.handshake.HsKind.{HsKind}
@@ -107,7 +108,8 @@ pub data Adds (before : Blocks) (contents : List ℕ) : ℕ → Blocks → Type 
   -- at most 128 words, once
   stream_id : length contents ≤ 512 → before.stream_id ≡ None → Adds before contents 5 (record before { stream_id = Some (stream_id_in contents) })
   -- one to four words, once
-  congestion : 0 < length contents → length contents ≤ 16 → before.congestion ≡ None → Adds before contents 6 (record before { congestion = Some (words_in contents) })
+  congestion : 0 < length contents
+      → length contents ≤ 16 → before.congestion ≡ None → Adds before contents 6 (record before { congestion = Some (words_in contents) })
   filter : Adds before contents 7 (record before { has_filter = true })
   group : Adds before contents 8 (record before { has_group = true })
   skipped : (type : ℕ) → IsSkipped type → Adds before contents type before
@@ -115,7 +117,9 @@ pub data Adds (before : Blocks) (contents : List ℕ) : ℕ → Blocks → Type 
 -- these bytes are a sequence of whole blocks, which turn the blocks before them into these blocks
 pub data SpellsBlocks : List ℕ → Blocks → Blocks → Type 0 where
   nothing : (before : Blocks) → SpellsBlocks [] before before
-  block : (bytes : List ℕ) (before next after : Blocks) → HasBlock bytes → Adds before (contents_of bytes) (type_of bytes) next → SpellsBlocks (after_block bytes) next after → SpellsBlocks bytes before after
+  block : (bytes : List ℕ) (before next after : Blocks) → HasBlock bytes → Adds before (contents_of bytes) (type_of bytes) next
+      → SpellsBlocks (after_block bytes) next after
+      → SpellsBlocks bytes before after
 
 -- only the blocks of a conclusion are read
 abbrev pub SpellsExtension : HsKind → List ℕ → Blocks → Type 0
@@ -136,13 +140,13 @@ pub record Spells (bytes : List ℕ) (hs : Handshake) : Type 0 where
   pub cookie : hs.cookie ≡ word_at bytes 28
   pub blocks : SpellsExtension (kind_of (word_at bytes 20)) (drop 48 bytes) hs.blocks
 
--- the contents have a length that a block of this type can't have (this profile)
+-- the contents have a length that a block of this type can't have (our choice)
 pub data HasBadLength (contents : List ℕ) : ℕ → Type 0 where
   hsreq_length : length contents ≢ 12 → HasBadLength contents 1
   stream_id_length : 512 < length contents → HasBadLength contents 5
   congestion_length : (length contents ≡ 0) ⊎ (16 < length contents) → HasBadLength contents 6
 
--- a second block of a type that may occur only once (this profile)
+-- a second block of a type that may occur only once (our choice)
 pub data IsRepeated (before : Blocks) : ℕ → Type 0 where
   second_hsreq : IsSome before.hsreq → IsRepeated before 1
   second_stream_id : IsSome before.stream_id → IsRepeated before 5
@@ -158,7 +162,9 @@ HasBlockFault bytes before Repeated = HasBlock bytes × (HasBadLength (contents_
 -- the first block that has a fault has this one
 pub data HasBlocksFault : List ℕ → Blocks → HsFault → Type 0 where
   here : (bytes : List ℕ) (before : Blocks) (fault : HsFault) → HasBlockFault bytes before fault → HasBlocksFault bytes before fault
-  later : (bytes : List ℕ) (before next : Blocks) (fault : HsFault) → HasBlock bytes → Adds before (contents_of bytes) (type_of bytes) next → HasBlocksFault (after_block bytes) next fault → HasBlocksFault bytes before fault
+  later : (bytes : List ℕ) (before next : Blocks) (fault : HsFault) → HasBlock bytes → Adds before (contents_of bytes) (type_of bytes) next
+      → HasBlocksFault (after_block bytes) next fault
+      → HasBlocksFault bytes before fault
 
 -- the first fault of these bytes, from the left
 abbrev pub HasFault : List ℕ → HsFault → Type 0

@@ -14,8 +14,8 @@ use Rattle.srt_hs.specs.Text.{code_of, extension_of, flags_of, hsrsp_text, answe
 abbrev pub AreWords : List ℕ → Type 0
 AreWords words = (at : ℕ) → slice_index words at < 2 ^ 32
 
--- at most four words
-pub record AreFewWords (words : List ℕ) : Type 0 where
+-- the words of a congestion control type: at most four
+pub record AreCongestionWords (words : List ℕ) : Type 0 where
   pub few : length words ≤ 4
   pub fit : AreWords words
 
@@ -24,7 +24,7 @@ abbrev pub KindFits : AnswerKind → Type 0
 KindFits (Induction cookie) = cookie < 2 ^ 32
 KindFits (Refusal code) = Unit {0}
 KindFits (Conclusion mtu window id mode recv_ms send_ms congestion) =
-    (mtu < 2 ^ 32) × (window < 2 ^ 32) × (id < 2 ^ 32) × IfSome congestion (λ text. AreFewWords (text_words text))
+    (mtu < 2 ^ 32) × (window < 2 ^ 32) × (id < 2 ^ 32) × IfSome congestion (λ text. AreCongestionWords (text_words text))
 
 pub record CanBeWritten (a : HsAnswer) : Type 0 where
   pub initial : a.initial < 2 ^ 32
@@ -32,7 +32,18 @@ pub record CanBeWritten (a : HsAnswer) : Type 0 where
 
 abbrev pub fields : (extension initial mtu window : ℕ) (kind : HsKind) (id cookie : ℕ) → Blocks → Handshake
 fields extension initial mtu window kind id cookie blocks =
-    record { version = 5; encryption = 0; extension = extension; initial = initial; mtu = mtu; window = window; kind = kind; id = id; cookie = cookie; blocks = blocks }
+    record {
+      version = 5;
+      encryption = 0;
+      extension = extension;
+      initial = initial;
+      mtu = mtu;
+      window = window;
+      kind = kind;
+      id = id;
+      cookie = cookie;
+      blocks = blocks;
+    }
 
 -- the blocks of an accepted conclusion's answer as a reader sees them: an HSRSP is skipped
 abbrev pub answered_blocks : Option (List ℕ) → Blocks
@@ -60,4 +71,6 @@ pub record IsHsrsp (mode : Mode) (recv_ms send_ms : ℕ) (rest bytes : List ℕ)
   pub after : after_block bytes ≡ rest
 
 abbrev pub HsrspReadsBack : Type 0
-HsrspReadsBack = (mode : Mode) (recv_ms send_ms : ℕ) (rest : List ℕ) → recv_ms < 2 ^ 16 → send_ms < 2 ^ 16 → IsHsrsp mode recv_ms send_ms rest (hsrsp_text mode recv_ms send_ms ++ rest)
+HsrspReadsBack =
+    (mode : Mode) (recv_ms send_ms : ℕ) (rest : List ℕ)
+    → recv_ms < 2 ^ 16 → send_ms < 2 ^ 16 → IsHsrsp mode recv_ms send_ms rest (hsrsp_text mode recv_ms send_ms ++ rest)

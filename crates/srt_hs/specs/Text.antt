@@ -26,9 +26,10 @@ code_of codes.MessageApi = 1012
 code_of codes.Filter = 1014
 code_of codes.Group = 1015
 
--- the 48 bytes before the extension blocks: version 5, no encryption, and zeros for the peer's address (this profile)
+-- the 48 bytes before the extension blocks: version 5, no encryption, and zeros for the peer's address (our choice)
 abbrev pub fields_text : (extension initial mtu window type id cookie : ℕ) → List ℕ
-fields_text extension initial mtu window type id cookie = word 5 ++ half 0 ++ half extension ++ word initial ++ word mtu ++ word window ++ word type ++ word id ++ word cookie ++ replicate 16 0
+fields_text extension initial mtu window type id cookie =
+    word 5 ++ half 0 ++ half extension ++ word initial ++ word mtu ++ word window ++ word type ++ word id ++ word cookie ++ replicate 16 0
 
 -- the flags of an HSRSP (section 3.2.1.1.1)
 abbrev pub flags_of : Mode → ℕ
@@ -57,7 +58,8 @@ blocks_text (Conclusion mtu window id mode recv_ms send_ms congestion) = hsrsp_t
 abbrev pub kind_text : (initial : ℕ) → AnswerKind → List ℕ
 kind_text initial (Induction cookie) = fields_text 0x4a17 initial 1500 8192 1 1 cookie
 kind_text initial (Refusal code) = fields_text 0 initial 1500 8192 (code_of code) 1 0
-kind_text initial (Conclusion mtu window id mode recv_ms send_ms congestion) = fields_text (extension_of (option_map text_words congestion)) initial mtu window 0xffff_ffff id 0
+kind_text initial (Conclusion mtu window id mode recv_ms send_ms congestion) =
+    fields_text (extension_of (option_map text_words congestion)) initial mtu window 0xffff_ffff id 0
 
 -- the bytes of an answer
 unfoldable pub answer_text : HsAnswer → List ℕ

@@ -2,7 +2,7 @@
 //! (draft-sharabayko-srt-01, sections 3.2.1 and 4.3).
 //!
 //! It decides nothing: `srt_lobby` and `srt_route` decide who is answered, admitted or refused. The packet's header is
-//! `srt_packet`'s, the meaning of a Stream ID `srt_streamid`'s, the cookie `srt_cookie`'s. It takes no memory.
+//! `srt_packet`'s, the meaning of a Stream ID `srt_streamid`'s, the cookie `srt_cookie`'s. It doesn't allocate.
 //!
 //! Reading: [`read`] in `reading.rt` takes what follows the packet's header and returns an [`HsRef`] with its
 //! [`BlocksRef`] (types in `handshake.rt`), or the first [`HsFault`]. Then [`stream_id`] and [`congestion`], in

@@ -2,7 +2,8 @@
 
 ghost use Rattle.std.specs.Prelude.{◌≡◌, ℕ, ◌+◌, ◌*◌, ◌%◌, ◌<◌, ◌≤◌, ◌++◌, length, take, IfOk, IfErr, IfSome, IsOkAnd, option_map, Ok};
 ghost use Rattle.srt_hs.specs.Grammar.{Handshake, Spells, HasFault, half_at, kind_of, after_block};
-ghost use Rattle.srt_hs.specs.Reading.{with_hsreq as hsreq_added, with_stream_id as stream_id_added, with_congestion as congestion_added, with_block as block_added, with_first as first_added, blocks_in, extension_in, handshake_in};
+ghost use Rattle.srt_hs.specs.Reading.{with_hsreq as hsreq_added, with_stream_id as stream_id_added, with_congestion as congestion_added};
+ghost use Rattle.srt_hs.specs.Reading.{with_block as block_added, with_first as first_added, blocks_in, extension_in, handshake_in};
 ghost use Rattle.srt_hs.specs.View.{blocks_of, first_of, handshake_of, seen, seen_blocks};
 
 use crate::{BlocksRef, CongestionRef, HsFault, HsKind, HsRef, HsReq, StreamIdRef};

@@ -3,8 +3,13 @@ pub mod Isolation
 pub mod OwnSteps
 pub mod Named
 pub mod Own
+pub mod Callers
 pub mod Happens
-pub mod Refusals
+pub mod Unchanged
+pub mod Unaccepted
+pub mod OtherRoutes
+pub mod OpeningRoutes
+pub mod ClosingRoutes
 pub mod Pushed
 pub mod Opened
 pub mod Shutting

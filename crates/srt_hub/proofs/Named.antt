@@ -1,5 +1,6 @@
 -- The names in force, after any events.
-use Rattle.std.proofs.Common.{◌≡◌, ℕ, zero, suc, ◌<◌, Bool, List, [], ◌∷◌, ◌++◌, length, map, Option, None, Some, slice_get, Result, Ok, Err, refl, sym, ap, subst, arith}
+use Rattle.std.proofs.Common.{◌≡◌, ℕ, zero, suc, ◌<◌, Bool, List, [], ◌∷◌, ◌++◌, length, map, Option, None, Some, slice_get, Result, Ok}
+use Rattle.std.proofs.Common.{Err, refl, sym, ap, subst, arith}
 use Rattle.std.proofs.lemmas.List.{map-append}
 use Rattle.srt_seq.specs.declared.shared.OpenFault.{OpenFault}
 use Rattle.srt_seq.specs.Terms.{Terms}
@@ -9,7 +10,8 @@ use Rattle.srt_lobby.specs.Changing as changing
 use Rattle.srt_lobby.proofs.Changing.{adding_keeps_names, hiding_keeps_names}
 use Rattle.srt_hub.specs.declared.answers.Closing.{Closing}
 use Rattle.srt_hub.specs.declared.answers.Closing.TheVariants as closings
-use Rattle.srt_hub.specs.World.{Event, Arrives, Ticks, Turns, Sends, Opens, Closes, Sorting, Meaning, Place, World, opened, name_at, names_in, hidden_at, opening_of, opening, places_opened, closing, places_closed, world_after}
+use Rattle.srt_hub.specs.World.{Event, Arrives, Ticks, Turns, Sends, Opens, Closes, Sorting, Meaning, Place, World, opened, name_at}
+use Rattle.srt_hub.specs.World.{names_in, hidden_at, opening_of, opening, places_opened, closing, places_closed, world_after}
 use Rattle.srt_hub.specs.Hubs.{names, names_at}
 use Rattle.srt_hub.proofs.Places.{at}
 
@@ -43,17 +45,23 @@ pub sound_of : (next r : ℕ) (refused : Bool) (o : Option OpenFault) → openin
 sound_of next r refused None h = refl
 sound_of next r refused (Some fault) h = absurd (let bad : Err fault ≡ Ok r = h in cc)
 
-opened_distinct : (w : World) (e : Terms) (refused : Bool) (result : Result ℕ OpenFault) → opening w e refused ≡ result → AreDistinct (names_in w) → AreDistinct (map name_at (places_opened e w.places result))
+opened_distinct : (w : World) (e : Terms) (refused : Bool) (result : Result ℕ OpenFault)
+    → opening w e refused ≡ result → AreDistinct (names_in w) → AreDistinct (map name_at (places_opened e w.places result))
 opened_distinct w e refused (Err fault) is distinct = distinct
 opened_distinct w e refused (Ok r) is distinct =
     subst AreDistinct (sym (more_names w.places e)) (adding_keeps_names (names_in w) e (sound_of _ r refused (fault_of_adding (names_in w) e) is) distinct)
 
 -- no two shown routes have the same name, after any events
-pub always_distinct : (class : Sorting) (reply : Meaning) (entries : List Terms) (events : List Event) → AreDistinct (names entries) → AreDistinct (names_at class reply entries events)
+pub always_distinct : (class : Sorting) (reply : Meaning) (entries : List Terms) (events : List Event)
+    → AreDistinct (names entries) → AreDistinct (names_at class reply entries events)
 always_distinct class reply entries [] h = rw (start_names entries) h
 always_distinct class reply entries (Arrives d moment refused ∷ events) h = always_distinct class reply entries events h
 always_distinct class reply entries (Ticks r moment ∷ events) h = always_distinct class reply entries events h
 always_distinct class reply entries (Turns r ∷ events) h = always_distinct class reply entries events h
 always_distinct class reply entries (Sends r ∷ events) h = always_distinct class reply entries events h
-always_distinct class reply entries (Opens e refused ∷ events) h = let w = world_after class reply entries events in opened_distinct w e refused (opening w e refused) refl (always_distinct class reply entries events h)
-always_distinct class reply entries (Closes r moment ∷ events) h = let w = world_after class reply entries events in closed_distinct w.places r (closing w r) (always_distinct class reply entries events h)
+always_distinct class reply entries (Opens e refused ∷ events) h =
+    let w = world_after class reply entries events in
+    opened_distinct w e refused (opening w e refused) refl (always_distinct class reply entries events h)
+always_distinct class reply entries (Closes r moment ∷ events) h =
+    let w = world_after class reply entries events in
+    closed_distinct w.places r (closing w r) (always_distinct class reply entries events h)

@@ -1,19 +1,29 @@
 -- The places of routes, and how events change them.
-use Rattle.std.proofs.Common.{◌≡◌, ℕ, zero, suc, ◌<◌, nat_lt, Bool, true, false, not, ◌&&◌, cond, eqb, List, [], ◌∷◌, length, map, get_or, Result, Ok, Err, refl, sym, ap, subst, ◌∙◌, arith, inl, inr}
+use Rattle.std.proofs.Common.{◌≡◌, ℕ, zero, suc, ◌<◌, nat_lt, Bool, true, false, not, ◌&&◌, cond, eqb, List, [], ◌∷◌, length, map, get_or}
+use Rattle.std.proofs.Common.{Result, Ok, Err, refl, sym, ap, subst, ◌∙◌, arith, inl, inr}
 use Rattle.std.proofs.lemmas.Bool.{cases_eq, eq-eqb, ne_eqb}
 use Rattle.std.proofs.lemmas.Bool.Decides.{nat_tests}
 use Rattle.std.proofs.lemmas.List.{get_or_append_left, length_push, length-map}
 use Rattle.srt_seq.specs.declared.shared.Mode.TheVariants.{Live}
 use Rattle.srt_seq.specs.declared.shared.OpenFault.{OpenFault}
+use Rattle.srt_seq.specs.Access.{anyone}
+use Rattle.srt_seq.specs.Entries.{draft_rules}
 use Rattle.srt_seq.specs.Terms.{Terms}
 use Rattle.srt_hub.specs.declared.answers.Closing.{Closing}
 use Rattle.srt_hub.specs.declared.answers.Closing.TheVariants as closings
-use Rattle.srt_hub.specs.World.{Event, Arrives, Ticks, Turns, Sends, Opens, Closes, Sorting, Meaning, Place, World, opened, place_in, entry_in, is_shown_in, hidden, hidden_at, opening, places_opened, closing_of, closing, places_closed, places_after, world_after, has_room}
+use Rattle.srt_hub.specs.World.{Event, Arrives, Ticks, Turns, Sends, Opens, Closes, Sorting, Meaning, Place, World, opened, place_in}
+use Rattle.srt_hub.specs.World.{entry_in, is_shown_in, hidden, hidden_at, opening, places_opened, closing_of, closing, places_closed}
+use Rattle.srt_hub.specs.World.{places_after, world_after, has_room}
 use Rattle.srt_hub.specs.Hubs.{terms_at, entry_at}
 
 -- where there is no route
 abbrev pub nowhere : Place
-nowhere = record { entry = record { name = []; mode = Live; latency_ms = 0; buffer = 0; sessions = 0; inbox = 0; outbox = 0 }; is_shown = false }
+nowhere =
+    record {
+      entry =
+          record { name = []; mode = Live; latency_ms = 0; buffer = 0; sessions = 0; inbox = 0; outbox = 0; access = anyone; rules = draft_rules };
+      is_shown = false;
+    }
 
 abbrev pub at : List Place → ℕ → Place
 at places r = get_or places r nowhere
@@ -104,20 +114,27 @@ shows_on (Sends s) r shown room = shown
 shows_on (Opens e refused) r shown room = shown
 shows_on (Closes s moment) r shown room = cond (eqb s r) (shown && not room) shown
 
-closed_shows : (places : List Place) (r : ℕ) (shown room : Bool) → (at places r).is_shown ≡ shown → (at (places_closed r places (closing_of shown room)) r).is_shown ≡ (shown && not room)
+closed_shows : (places : List Place) (r : ℕ) (shown room : Bool)
+    → (at places r).is_shown ≡ shown → (at (places_closed r places (closing_of shown room)) r).is_shown ≡ (shown && not room)
 closed_shows places r true true h = ap (λ (p : Place). p.is_shown) (hidden_same places r)
 closed_shows places r true false h = h
 closed_shows places r false room h = h
 
-closing_shows : (w : World) (s r moment : ℕ) → (at (places_after (Closes s moment) w) r).is_shown ≡ shows_on (Closes s moment) r (is_shown_in w r) (has_room (entry_in w r) (w.lane r))
+closing_shows : (w : World) (s r moment : ℕ)
+    → (at (places_after (Closes s moment) w) r).is_shown
+    ≡ shows_on (Closes s moment) r (is_shown_in w r) (has_room (entry_in w r) (w.lane r))
 closing_shows w s r moment = elim (cases_eq r s) [
   | inl here ↦
-      subst (λ (i : ℕ). (at (places_after (Closes i moment) w) r).is_shown ≡ shows_on (Closes i moment) r (is_shown_in w r) (has_room (entry_in w r) (w.lane r))) here
+      subst
+      (λ (i : ℕ). (at (places_after (Closes i moment) w) r).is_shown
+      ≡ shows_on (Closes i moment) r (is_shown_in w r) (has_room (entry_in w r) (w.lane r)))
+      here
       (rw (eq-eqb r r refl) (closed_shows w.places r (is_shown_in w r) (has_room (entry_in w r) (w.lane r)) refl))
   | inr other ↦ rw (ne_eqb s r (λ e. other (sym e))) (ap (λ (p : Place). p.is_shown) (closing_keeps w s moment r other))
 ]
 
-pub shows_next : (event : Event) (w : World) (r : ℕ) → r < length w.places → (at (places_after event w) r).is_shown ≡ shows_on event r (is_shown_in w r) (has_room (entry_in w r) (w.lane r))
+pub shows_next : (event : Event) (w : World) (r : ℕ)
+    → r < length w.places → (at (places_after event w) r).is_shown ≡ shows_on event r (is_shown_in w r) (has_room (entry_in w r) (w.lane r))
 shows_next (Arrives d moment refused) w r h = refl
 shows_next (Ticks s moment) w r h = refl
 shows_next (Turns s) w r h = refl
@@ -131,10 +148,15 @@ start_at [] r h = absurd (omega (arith, h))
 start_at (e ∷ entries) zero h = refl
 start_at (e ∷ entries) (suc r) h = start_at entries r (omega (arith, h))
 
-pub always_there : (class : Sorting) (reply : Meaning) (entries : List Terms) (r : ℕ) (events : List Event) → r < length entries → r < length (world_after class reply entries events).places
+pub always_there : (class : Sorting) (reply : Meaning) (entries : List Terms) (r : ℕ) (events : List Event)
+    → r < length entries → r < length (world_after class reply entries events).places
 always_there class reply entries r [] h = omega (arith, h, length-map entries opened)
-always_there class reply entries r (event ∷ events) h = there_stays event (world_after class reply entries events) r (always_there class reply entries r events h)
+always_there class reply entries r (event ∷ events) h =
+    there_stays event (world_after class reply entries events) r (always_there class reply entries r events h)
 
-pub always_entry : (class : Sorting) (reply : Meaning) (entries : List Terms) (r : ℕ) (events : List Event) → r < length entries → entry_at class reply entries r events ≡ terms_at entries r
+pub always_entry : (class : Sorting) (reply : Meaning) (entries : List Terms) (r : ℕ) (events : List Event)
+    → r < length entries → entry_at class reply entries r events ≡ terms_at entries r
 always_entry class reply entries r [] h = ap (λ (p : Place). p.entry) (start_at entries r h)
-always_entry class reply entries r (event ∷ events) h = entry_stays event (world_after class reply entries events) r (always_there class reply entries r events h) ∙ always_entry class reply entries r events h
+always_entry class reply entries r (event ∷ events) h =
+    entry_stays event (world_after class reply entries events) r (always_there class reply entries r events h)
+    ∙ always_entry class reply entries r events h

@@ -5,10 +5,11 @@ use Rattle.srt_seq.specs.Items.{Close}
 use Rattle.srt_lobby.specs.Names.{RouteName, is_shown_at}
 use Rattle.srt_lobby.specs.Changing as changing
 use Rattle.srt_hub.specs.declared.answers.Closing.TheVariants as closings
-use Rattle.srt_hub.specs.World.{Closes, Sorting, Nothing, Place, World, name_at, names_in, entry_in, is_shown_in, offer_if, own_step, closing_of, closing, places_closed, places_after, has_room}
+use Rattle.srt_hub.specs.World.{Closes, Sorting, Nothing, Place, World, name_at, names_in, entry_in, is_shown_in, offer_if, own_step}
+use Rattle.srt_hub.specs.World.{closing_of, closing, places_closed, places_after, has_room}
 use Rattle.srt_hub.proofs.Places.{at}
 use Rattle.srt_hub.proofs.Named.{hidden_names}
-use Rattle.srt_hub.proofs.Refusals.{close_here, close_elsewhere}
+use Rattle.srt_hub.proofs.OtherRoutes.{close_here, close_elsewhere}
 
 -- what the lobby knows of a route is what its place says
 pub shown_is : (places : List Place) (r : ℕ) → is_shown_at (map name_at places) r ≡ (at places r).is_shown
@@ -25,7 +26,8 @@ closed_is w r shown = ap (λ (b : Bool). closing_of b (has_room (entry_in w r) (
 
 pub close_nowhere : (class : Sorting) (w : World) (r moment : ℕ) → is_shown_in w r ≡ false → (k : ℕ) → own_step class w k (Closes r moment) ≡ Nothing
 close_nowhere class w r moment shown k = elim (cases_eq k r) [
-  | inl here ↦ subst (λ (j : ℕ). own_step class w j (Closes r moment) ≡ Nothing) (sym here) (close_here class w r moment ∙ ap (λ (b : Bool). offer_if b (Close moment)) shown)
+  | inl here ↦ subst (λ (j : ℕ). own_step class w j (Closes r moment) ≡ Nothing) (sym here)
+      (close_here class w r moment ∙ ap (λ (b : Bool). offer_if b (Close moment)) shown)
   | inr other ↦ close_elsewhere class w r moment k other
 ]
 
@@ -37,11 +39,12 @@ shown_closing w r room shown took = ap (λ (b : Bool). closing_of b (has_room (e
 pub kept_names : (w : World) (r moment : ℕ) → closing w r ≡ closings.Closed → map name_at (places_after (Closes r moment) w) ≡ names_in w
 kept_names w r moment is = ap (λ (ps : List Place). map name_at ps) (ap (places_closed r w.places) is)
 
-pub fewer_names : (w : World) (r moment : ℕ) → closing w r ≡ closings.Accepted → map name_at (places_after (Closes r moment) w) ≡ changing.hidden_at r (names_in w)
+pub fewer_names : (w : World) (r moment : ℕ)
+    → closing w r ≡ closings.Accepted → map name_at (places_after (Closes r moment) w) ≡ changing.hidden_at r (names_in w)
 fewer_names w r moment is = ap (λ (ps : List Place). map name_at ps) (ap (places_closed r w.places) is) ∙ hidden_names w.places r
 
 -- a name that isn't shown stays as it is
 pub hidden_already : (names : List RouteName) (r : ℕ) → is_shown_at names r ≡ false → names ≡ changing.hidden_at r names
 hidden_already [] r h = refl
-hidden_already (n ∷ ns) zero h = ap (λ (b : Bool). record { text = n.text; is_shown = b } ∷ ns) h
+hidden_already (n ∷ ns) zero h = ap (λ (b : Bool). record { text = n.text; is_shown = b; access = n.access } ∷ ns) h
 hidden_already (n ∷ ns) (suc r) h = ap (λ (rest : List RouteName). n ∷ rest) (hidden_already ns r h)

@@ -37,7 +37,8 @@ Past = (secret : List ℕ) → (entries : List Terms) → (events : List Event) 
 
 -- nothing happened after all that happened before
 abbrev pub IsUnchanged : {X : Type 0} → (Stands : X → Past) → (old new : X) → Type 0
-IsUnchanged Stands old new = (secret : List ℕ) (entries : List Terms) (events : List Event) → Stands old secret entries events → Stands new secret entries events
+IsUnchanged Stands old new =
+    (secret : List ℕ) (entries : List Terms) (events : List Event) → Stands old secret entries events → Stands new secret entries events
 
 -- a gateway of this number of routes
 abbrev pub HasRoutes : {X : Type 0} → (Stands : X → Past) → X → SortingFor → Meaning → (number : ℕ) → Type 0
@@ -46,16 +47,22 @@ HasRoutes Stands hub class reply number =
 
 -- this event happened, after all that happened before
 abbrev pub Happened : {X : Type 0} → (Stands : X → Past) → (old new : X) → Event → Type 0
-Happened Stands old new event = (secret : List ℕ) (entries : List Terms) (events : List Event) → Stands old secret entries events → Stands new secret entries (event ∷ events)
+Happened Stands old new event =
+    (secret : List ℕ) (entries : List Terms) (events : List Event)
+    → Stands old secret entries events → Stands new secret entries (event ∷ events)
 
 -- an arrival's result is the model's, with the names in force
-abbrev pub ArrivalAnswers : {X : Type 0} → (Stands : X → Past) → (old : X) → SortingFor → Meaning → Datagram → (moment : ℕ) → Result Arrived OutOfMemory → Type 0
+abbrev pub ArrivalAnswers : {X : Type 0}
+    → (Stands : X → Past) → (old : X) → SortingFor → Meaning → Datagram → (moment : ℕ) → Result Arrived OutOfMemory → Type 0
 ArrivalAnswers Stands old class reply d moment result =
     (secret : List ℕ) (entries : List Terms) (events : List Event) → Stands old secret entries events →
-    result_ok result ≡ arrival_of (is_err result) (room_at (class secret) reply entries events) (class secret (names_at (class secret) reply entries events) d moment)
+    result_ok result
+    ≡ arrival_of (is_err result) (room_at (class secret) reply entries events)
+    (class secret (names_at (class secret) reply entries events) d moment)
 
 -- the result of a call of route r is the model's for that route's lane
-abbrev pub RouteAnswers : {X A : Type 0} → (Stands : X → Past) → (old : X) → SortingFor → Meaning → (r : ℕ) → (answer : Terms → Lane → A) → (result : A) → Type 0
+abbrev pub RouteAnswers : {X A : Type 0}
+    → (Stands : X → Past) → (old : X) → SortingFor → Meaning → (r : ℕ) → (answer : Terms → Lane → A) → (result : A) → Type 0
 RouteAnswers Stands old class reply r answer result =
     (secret : List ℕ) (entries : List Terms) (events : List Event) → Stands old secret entries events →
     result ≡ answer (entry_at (class secret) reply entries r events) (lane_at (class secret) reply entries r events)
@@ -94,9 +101,11 @@ abbrev pub LaneAnswers : {X A : Type 0} → (Is : X → Terms → (index : ℕ) 
 LaneAnswers Is old answer result = (e : Terms) (r : ℕ) (m : Lane) → Is old e r m → result ≡ answer e m
 
 -- a lobby's result is the class of the datagram, whatever its secret and its names are
-abbrev pub LobbyAnswers : {X : Type 0} → (Knows : X → (secret : List ℕ) → (names : List RouteName) → Type 0) → X → SortingFor → Datagram → (moment : ℕ) → Class → Type 0
+abbrev pub LobbyAnswers : {X : Type 0}
+    → (Knows : X → (secret : List ℕ) → (names : List RouteName) → Type 0) → X → SortingFor → Datagram → (moment : ℕ) → Class → Type 0
 LobbyAnswers Knows lobby class d moment result = (secret : List ℕ) (names : List RouteName) → Knows lobby secret names → result ≡ class secret names d moment
 
 -- after an item these replies wait: the route's to that item, whatever its terms, its index and its items so far are
-abbrev pub RouteReplies : {X : Type 0} → (Stands : X → Terms → (index : ℕ) → List Item → Type 0) → (old : X) → Meaning → Item → (waiting : List Datagram) → Type 0
+abbrev pub RouteReplies : {X : Type 0}
+    → (Stands : X → Terms → (index : ℕ) → List Item → Type 0) → (old : X) → Meaning → Item → (waiting : List Datagram) → Type 0
 RouteReplies Stands old reply item waiting = (e : Terms) (index : ℕ) (items : List Item) → Stands old e index items → waiting ≡ reply e index (item ∷ items)

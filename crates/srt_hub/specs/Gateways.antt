@@ -1,10 +1,13 @@
 -- The laws of the gateway with the real lobby and the real routes.
-use Rattle.std.specs.Prelude.{◌≡◌, ◌↔◌, ℕ, ◌<◌, Bool, List, All, length}
-use Rattle.srt_seq.specs.Items.{Datagram, Item}
+use Rattle.std.specs.Prelude.{◌≡◌, ◌↔◌, ℕ, ◌<◌, Bool, List, All, length, ⊤}
+use Rattle.std.specs.List.{AllByRecursion}
+use Rattle.srt_seq.specs.Items.{Datagram, Item, Received, Tick, Close}
+use Rattle.srt_seq.specs.Access.{AccessTerms}
 use Rattle.srt_seq.specs.Terms.{Terms}
 use Rattle.srt_lobby.specs.declared.classes.Class.TheVariants.{Route}
 use Rattle.srt_lobby.specs.Names.{RouteName, AreDistinct}
 use Rattle.srt_lobby.specs.Lobby.{class_of}
+use Rattle.srt_lobby.specs.Laws.{MayCall}
 use Rattle.srt_route.specs.Route.{reply}
 use Rattle.srt_route.specs.Route as route
 use Rattle.srt_route.specs.Sendable.{IsSendable}
@@ -40,22 +43,25 @@ sent_of secret entries r events = sent (sorting secret) reply entries r events
 abbrev pub HasQuiet : (secret : List ℕ) → List Terms → ℕ → List Event → Type 0
 HasQuiet secret entries r events = IsQuiet (lane_at (sorting secret) reply entries r events)
 
--- after these events both gateways have this route under the same name, and both show it or both hide it; neither was
--- opened with a name twice, as no gateway is
+-- after these events both gateways have this route under the same name, with the same lists and keys, and both show it or
+-- both hide it; neither was opened with a name twice, as no gateway is
 pub record HaveRoute (secret : List ℕ) (entries others : List Terms) (events events' : List Event) (r : ℕ) : Type 0 where
   pub below : r < routes_of secret entries events
   pub below_there : r < routes_of secret others events'
   pub same_name : (entry_of secret entries r events).name ≡ (entry_of secret others r events').name
+  pub same_access : (entry_of secret entries r events).access ≡ (entry_of secret others r events').access
   pub same_shown : is_shown_of secret entries r events ≡ is_shown_of secret others r events'
   pub distinct : AreDistinct (names entries)
   pub distinct_there : AreDistinct (names others)
 
--- whether a datagram is the route's depends on the secret, the route's index and name, whether the route is shown, and
--- that datagram alone
+-- whether a datagram is the route's depends on the secret, the route's index and name, its lists and keys, whether the
+-- route is shown, and that datagram alone
 abbrev pub ArrivalsAreOwn : Type 0
 ArrivalsAreOwn =
     (secret : List ℕ) (entries others : List Terms) (events events' : List Event) (r : ℕ) → HaveRoute secret entries others events events' r →
-    (d : Datagram) (moment : ℕ) → (sorting secret (names_of secret entries events) d moment ≡ Route r) ↔ (sorting secret (names_of secret others events') d moment ≡ Route r)
+    (d : Datagram) (moment : ℕ)
+    → (sorting secret (names_of secret entries events) d moment ≡ Route r)
+    ↔ (sorting secret (names_of secret others events') d moment ≡ Route r)
 
 -- both gateways were opened with the same entry for this route, and neither with a name twice
 pub record OpenWith (entries others : List Terms) (r : ℕ) : Type 0 where
@@ -100,3 +106,15 @@ SoloIsTheRoutes = (e : Terms) (index : ℕ) (items : List Item) → solo reply e
 -- to that packet
 abbrev pub SentArePackets : Type 0
 SentArePackets = (secret : List ℕ) (entries : List Terms) (r : ℕ) (events : List Event) → All (λ d. IsSendable d.bytes) (sent_of secret entries r events)
+
+-- an item of a route with these lists and keys is a tick or a Close, or a datagram whose sender may call the route
+abbrev pub IsOfCaller : AccessTerms → Item → Type 0
+IsOfCaller access (Received d moment) = MayCall access d
+IsOfCaller access (Tick moment) = ⊤
+IsOfCaller access (Close moment) = ⊤
+
+-- whatever is sent to the gateway, this holds of each item that ever entered the route's inbox
+abbrev pub CallersMayCall : Type 0
+CallersMayCall =
+    (secret : List ℕ) (entries : List Terms) (r : ℕ) (events : List Event) →
+    AllByRecursion (IsOfCaller (entry_of secret entries r events).access) (accepted_of secret entries r events)

@@ -1,13 +1,17 @@
 -- The state of a hub, as a function of its events.
 use Rattle.std.specs.Prelude.{◌≡◌, ℕ, ◌<◌, Bool, List, [], map, length, slice_index_or}
 use Rattle.srt_seq.specs.declared.shared.Mode.TheVariants.{Live}
+use Rattle.srt_seq.specs.Access.{anyone}
+use Rattle.srt_seq.specs.Entries.{draft_rules}
 use Rattle.srt_seq.specs.Terms.{Terms}
 use Rattle.srt_lobby.specs.Names.{RouteName, name_of}
 use Rattle.srt_hub.specs.World.{Event, Sorting, Meaning, Lane, World, entry_in, is_shown_in, names_in, world_after, has_room}
 
 -- the entry with this index that the gateway was opened with
 abbrev pub terms_at : List Terms → ℕ → Terms
-terms_at entries r = slice_index_or entries r (record { name = []; mode = Live; latency_ms = 0; buffer = 0; sessions = 0; inbox = 0; outbox = 0 })
+terms_at entries r =
+    slice_index_or entries r
+    (record { name = []; mode = Live; latency_ms = 0; buffer = 0; sessions = 0; inbox = 0; outbox = 0; access = anyone; rules = draft_rules })
 
 -- the names in force when the gateway was opened
 abbrev pub names : List Terms → List RouteName

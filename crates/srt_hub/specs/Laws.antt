@@ -6,7 +6,9 @@ use Rattle.srt_seq.specs.Terms.{Terms}
 use Rattle.srt_lobby.specs.Names.{RouteName}
 use Rattle.srt_lobby.specs.Laws.{HasRoute}
 use Rattle.srt_lobby.specs.Opening.{fault_of}
-use Rattle.srt_hub.specs.World.{Event, Arrives, Ticks, Turns, Sends, Opens, Closes, Sorting, Meaning, solo, World, place_in, is_there, names_in, Step, Offers, Turn, Send, Nothing, is_route, step_for, after, world_after, accepted, sent, IsQuiet}
+use Rattle.srt_hub.specs.World.{Event, Arrives, Ticks, Turns, Sends, Opens, Closes, Sorting, Meaning, solo, World, place_in, is_there}
+use Rattle.srt_hub.specs.World.{names_in, Step, Offers, Turn, Send, Nothing, is_route, step_for, after, world_after, accepted, sent}
+use Rattle.srt_hub.specs.World.{IsQuiet}
 use Rattle.srt_hub.specs.Hubs.{terms_at, names_at, entry_at, is_shown_at, lane_at}
 
 -- xs is a prefix of ys
@@ -65,7 +67,10 @@ SortingDecides =
     (class class' : Sorting) (reply : Meaning) (entries entries' : List Terms) (r : ℕ) (events : List Event) →
     r < length entries → r < length entries' → terms_at entries r ≡ terms_at entries' r →
     ((earlier : List Event) → is_shown_at class reply entries r earlier ≡ is_shown_at class' reply entries' r earlier →
-    (d : Datagram) (moment : ℕ) → is_route r (class (names_at class reply entries earlier) d moment) ≡ is_route r (class' (names_at class' reply entries' earlier) d moment)) →
+    (d : Datagram) (moment : ℕ)
+    → is_route r (class (names_at class reply entries earlier) d moment)
+    ≡ is_route r (class' (names_at class' reply entries' earlier) d moment))
+    →
     own_steps class reply entries r events ≡ own_steps class' reply entries' r events
 
 -- a route's arrivals, ticks, turns, sends and closings don't change any other route, nor whether it is shown; the opening
@@ -76,7 +81,9 @@ OthersStay =
     ((d : Datagram) (moment : ℕ) (refused : Bool) → class (names_in w) d moment ≡ Route s → step_for class w r (Arrives d moment refused) ≡ Nothing) ×
     ((moment : ℕ) → step_for class w r (Ticks s moment) ≡ Nothing) × (step_for class w r (Turns s) ≡ Nothing) × (step_for class w r (Sends s) ≡ Nothing) ×
     ((moment : ℕ) → (step_for class w r (Closes s moment) ≡ Nothing) × (place_in (after class reply (Closes s moment) w) r ≡ place_in w r)) ×
-    ((e : Terms) (refused : Bool) → (step_for class w r (Opens e refused) ≡ Nothing) × (is_there w r ≡ true → place_in (after class reply (Opens e refused) w) r ≡ place_in w r))
+    ((e : Terms) (refused : Bool)
+    → (step_for class w r (Opens e refused) ≡ Nothing) ×
+    (is_there w r ≡ true → place_in (after class reply (Opens e refused) w) r ≡ place_in w r))
 
 -- the main law for whole gateways: with the same secret and the same entry for a route, the other entries and all that
 -- happens to them may differ; the route may have been opened among the events
@@ -88,10 +95,11 @@ GatewaysAreIsolated =
     e ≡ entry_at sorting reply entries' r events' →
     accepted sorting reply entries r events ≡ accepted sorting reply entries' r events' →
     IsQuiet (lane_at sorting reply entries r events) → IsQuiet (lane_at sorting reply entries' r events') →
-    (sent sorting reply entries r events ≡ sent sorting reply entries' r events') × (sent sorting reply entries r events ≡ solo reply e r (accepted sorting reply entries r events))
+    (sent sorting reply entries r events ≡ sent sorting reply entries' r events') ×
+    (sent sorting reply entries r events ≡ solo reply e r (accepted sorting reply entries r events))
 
--- a way of sorting in which a route's datagrams depend on the secret, the route's index and name, whether it is shown,
--- and the datagram alone, whatever other names are in force
+-- a way of sorting in which a route's datagrams depend on the secret, the route's index and name, whether it is shown, who
+-- may call it, and the datagram alone, whatever other names are in force
 abbrev pub SortsByOwnName : ((secret : List ℕ) → Sorting) → Type 0
 SortsByOwnName class =
     (secret : List ℕ) (names others : List RouteName) (r : ℕ) (name : RouteName) → HasRoute names r name → HasRoute others r name →

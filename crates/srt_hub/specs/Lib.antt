@@ -4,5 +4,4 @@ pub mod Calls
 pub mod Laws
 pub mod Gateways
 pub mod Refusals
-pub mod Stands
-pub mod Queued
+pub mod inside

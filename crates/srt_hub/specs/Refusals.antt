@@ -11,7 +11,8 @@ use Rattle.srt_lobby.specs.declared.classes.Cause.{Cause}
 use Rattle.srt_lobby.specs.Changing.{fault_of_adding}
 use Rattle.srt_seq.specs.Items.{Datagram, Close}
 use Rattle.srt_seq.specs.Terms.{Terms}
-use Rattle.srt_hub.specs.World.{Event, Arrives, Ticks, Turns, Opens, Closes, Sorting, Meaning, empty, world_after, is_there, opening, closing, accepted, sent, arrival_of, tick, turn}
+use Rattle.srt_hub.specs.World.{Event, Arrives, Ticks, Turns, Opens, Closes, Sorting, Meaning, empty, world_after, is_there, opening}
+use Rattle.srt_hub.specs.World.{closing, accepted, sent, arrival_of, tick, turn}
 use Rattle.srt_hub.specs.Hubs.{names_at, routes_at, entry_at, is_shown_at, lane_at, room_at}
 
 -- an event that leaves every route as it is, opens none and hides none
@@ -24,7 +25,8 @@ abbrev pub FullIsAtCapacity : Type 0
 FullIsAtCapacity =
     (class : Sorting) (reply : Meaning) (entries : List Terms) (events : List Event) (d : Datagram) (moment : ℕ) (refused : Bool) (r : ℕ) →
     arrival_of refused (room_at class reply entries events) (class (names_at class reply entries events) d moment) ≡ Some (arrived.Full r) →
-    (class (names_at class reply entries events) d moment ≡ Route r) × (length (lane_at class reply entries r events).inbox ≡ (entry_at class reply entries r events).inbox) ×
+    (class (names_at class reply entries events) d moment ≡ Route r) ×
+    (length (lane_at class reply entries r events).inbox ≡ (entry_at class reply entries r events).inbox) ×
     ChangesNoRoute class reply entries events (Arrives d moment refused)
 
 -- so is a tick
@@ -32,7 +34,8 @@ abbrev pub FullTickIsAtCapacity : Type 0
 FullTickIsAtCapacity =
     (class : Sorting) (reply : Meaning) (entries : List Terms) (events : List Event) (r moment : ℕ) →
     tick (entry_at class reply entries r events) (lane_at class reply entries r events) ≡ ticked.Full →
-    (length (lane_at class reply entries r events).inbox ≡ (entry_at class reply entries r events).inbox) × ChangesNoRoute class reply entries events (Ticks r moment)
+    (length (lane_at class reply entries r events).inbox ≡ (entry_at class reply entries r events).inbox) ×
+    ChangesNoRoute class reply entries events (Ticks r moment)
 
 -- a turn is Blocked only if a reply of the route waits and its own outbox holds its capacity
 abbrev pub BlockedIsAtCapacity : Type 0
@@ -40,7 +43,8 @@ BlockedIsAtCapacity =
     (class : Sorting) (reply : Meaning) (entries : List Terms) (events : List Event) (r : ℕ) →
     turn (entry_at class reply entries r events) (lane_at class reply entries r events) ≡ Blocked →
     ((lane_at class reply entries r events).waiting ≡ [] → ⊥) ×
-    (length (lane_at class reply entries r events).outbox ≡ (entry_at class reply entries r events).outbox) × ChangesNoRoute class reply entries events (Turns r)
+    (length (lane_at class reply entries r events).outbox ≡ (entry_at class reply entries r events).outbox) ×
+    ChangesNoRoute class reply entries events (Turns r)
 
 -- and Idle only if none waits and its inbox is empty
 abbrev pub IdleIsEmpty : Type 0
@@ -55,7 +59,8 @@ abbrev pub RefusedIsARoutes : Type 0
 RefusedIsARoutes =
     (class : Sorting) (reply : Meaning) (entries : List Terms) (events : List Event) (d : Datagram) (moment : ℕ) (refused : Bool) →
     arrival_of refused (room_at class reply entries events) (class (names_at class reply entries events) d moment) ≡ None →
-    ((r : ℕ) × (class (names_at class reply entries events) d moment ≡ Route r)) × (refused ≡ true) × ChangesNoRoute class reply entries events (Arrives d moment refused)
+    ((r : ℕ) × (class (names_at class reply entries events) d moment ≡ Route r)) × (refused ≡ true) ×
+    ChangesNoRoute class reply entries events (Arrives d moment refused)
 
 -- what the lobby answers or drops depends on its class of that one datagram, whatever the routes hold and whatever
 -- memory there is
@@ -75,7 +80,9 @@ abbrev pub FaultOpensNothing : Type 0
 FaultOpensNothing =
     (class : Sorting) (reply : Meaning) (entries : List Terms) (events : List Event) (e : Terms) (refused : Bool) (fault : OpenFault) →
     opening (world_after class reply entries events) e refused ≡ Err fault →
-    ((fault_of_adding (names_at class reply entries events) e ≡ Some fault) ⊎ ((fault_of_adding (names_at class reply entries events) e ≡ None) × (fault ≡ faults.OutOfMemory) × (refused ≡ true))) ×
+    ((fault_of_adding (names_at class reply entries events) e ≡ Some fault) ⊎
+    ((fault_of_adding (names_at class reply entries events) e ≡ None) × (fault ≡ faults.OutOfMemory) × (refused ≡ true)))
+    ×
     ChangesNoRoute class reply entries events (Opens e refused)
 
 -- an opening's index is the number of routes so far, those that are hidden too, so that no index is used again; there the

@@ -1,9 +1,10 @@
--- A model of the whole gateway: one step for each event (this profile). Lists of events, and of applied and accepted
+-- A model of the whole gateway: one step for each event (our choice). Lists of events, and of applied and accepted
 -- items, have the newest first; queues and lists of what was sent have the oldest first.
 --
 -- The model doesn't say what routes and lobby do: a route's meaning is its replies to all its items, and the lobby's is
 -- the class of each datagram with the names in force.
-use Rattle.std.specs.Prelude.{◌≡◌, ℕ, zero, suc, ◌==◌, Bool, true, false, Option, None, Some, Result, Ok, Err, List, [], ◌∷◌, ◌++◌, map, length, slice_index_or, nat_lt, if◌then◌else◌}
+use Rattle.std.specs.Prelude.{◌≡◌, ℕ, zero, suc, ◌==◌, Bool, true, false, Option, None, Some, Result, Ok, Err, List, [], ◌∷◌, ◌++◌, map}
+use Rattle.std.specs.Prelude.{length, slice_index_or, nat_lt, if◌then◌else◌}
 use Rattle.srt_seq.specs.declared.shared.Mode.TheVariants.{Live}
 use Rattle.srt_seq.specs.declared.shared.OpenFault.{OpenFault}
 use Rattle.srt_seq.specs.declared.shared.OpenFault.TheVariants as faults
@@ -20,6 +21,8 @@ use Rattle.srt_hub.specs.declared.answers.Ticked.TheVariants as ticked
 use Rattle.srt_hub.specs.declared.answers.Closing.{Closing}
 use Rattle.srt_hub.specs.declared.answers.Closing.TheVariants as closings
 use Rattle.srt_seq.specs.Items.{Datagram, Item, Received, Tick, Close}
+use Rattle.srt_seq.specs.Access.{anyone}
+use Rattle.srt_seq.specs.Entries.{draft_rules}
 use Rattle.srt_seq.specs.Terms.{Terms}
 
 -- the events of the gateway; an arrival is refused if there was no memory for its copy, and the opening of a route if
@@ -32,7 +35,7 @@ pub data Event : Type 0 where
   Opens : (entry : Terms) (refused : Bool) → Event
   Closes : (route moment : ℕ) → Event
 
--- the class of a datagram, which depends on the names in force and on nothing else
+-- the class of a datagram, which depends on the names in force, with their lists and keys, and on nothing else
 abbrev pub Sorting : Type 0
 Sorting = (names : List RouteName) → Datagram → (moment : ℕ) → Class
 
@@ -72,7 +75,12 @@ opened e = record { entry = e; is_shown = true }
 
 -- the place with this index; there is no route at an index that wasn't opened
 abbrev pub place_in : World → (r : ℕ) → Place
-place_in w r = slice_index_or w.places r (record { entry = record { name = []; mode = Live; latency_ms = 0; buffer = 0; sessions = 0; inbox = 0; outbox = 0 }; is_shown = false })
+place_in w r =
+    slice_index_or w.places r
+    (record {
+      entry = record { name = []; mode = Live; latency_ms = 0; buffer = 0; sessions = 0; inbox = 0; outbox = 0; access = anyone; rules = draft_rules };
+      is_shown = false;
+    })
 
 abbrev pub entry_in : World → (r : ℕ) → Terms
 entry_in w r = (place_in w r).entry
@@ -83,9 +91,9 @@ is_shown_in w r = (place_in w r).is_shown
 abbrev pub is_there : World → (r : ℕ) → Bool
 is_there w r = nat_lt r (length w.places)
 
--- the names in force
+-- the names in force, each with the lists and keys of its route
 abbrev pub name_at : Place → RouteName
-name_at p = record { text = p.entry.name; is_shown = p.is_shown }
+name_at p = record { text = p.entry.name; is_shown = p.is_shown; access = p.entry.access }
 
 abbrev pub names_in : World → List RouteName
 names_in w = map name_at w.places

@@ -4,98 +4,147 @@
 use crate::tests::{assert_floods, assert_sends, assert_sends_nothing, assert_turns, live_entry};
 use crate::{Arrived, Cause, Hub, SrtGateway, Ticked};
 use srt_cookie::Secret;
+use srt_samples::{
+    Acknowledged, Block, Caller, Handshake, Offer, Phase, Sample, conclusion, data_packet,
+    full_ack, handshake_packet, shutdown,
+};
 use srt_seq::{Entry, Mode, OpenFault, Peer, Turned};
 use std::alloc::Global;
 use std::array;
 use std::process::Abort;
 use std::test::Fail;
 
-/// A caller: its port, the time of its conclusion in microseconds, its conclusion up to the cookie, its cookie of minute
-/// 0, and the answer up to the session's ID.
+/// A call: its port, the time of its conclusion in microseconds, and what the caller says of itself, with its cookie of
+/// minute 0.
 #[derive(Clone, Copy)]
-pub(crate) struct Caller {
+pub(crate) struct Call {
     pub(crate) port: u16,
     pub(crate) micros: u32,
-    pub(crate) conclusion: &'static str,
-    pub(crate) cookie: &'static str,
-    pub(crate) answer: &'static str,
+    pub(crate) caller: Caller,
 }
 
-/// The caller with ID 1 and initial number 5.
-pub(crate) const FIRST: Caller = Caller {
+pub(crate) const FIRST: Call = Call {
     port: 5000,
     micros: 1_000_000,
-    conclusion: "80000000 00000000 00000000 00000000 00000005 00000005 00000005 000005dc 00002000 ffffffff 00000001",
-    cookie: "ecc958a6",
-    answer: "80000000 00000000 00000000 00000001 00000005 00000001 00000005 000005dc 00000400 ffffffff",
+    caller: Caller {
+        id: 1,
+        initial: 5,
+        mtu: 1500,
+        window: 8192,
+        cookie: 0xecc9_58a6,
+    },
 };
 
-/// The caller with ID 2 and initial number 9.
-const SECOND: Caller = Caller {
+const SECOND: Call = Call {
     port: 5001,
     micros: 1_010_000,
-    conclusion: "80000000 00000000 00000000 00000000 00000005 00000005 00000009 000005dc 00002000 ffffffff 00000002",
-    cookie: "6e4680bd",
-    answer: "80000000 00000000 00000000 00000002 00000005 00000001 00000009 000005dc 00000400 ffffffff",
+    caller: Caller {
+        id: 2,
+        initial: 9,
+        mtu: 1500,
+        window: 8192,
+        cookie: 0x6e46_80bd,
+    },
 };
 
-/// The caller with ID 3 and initial number 20.
-const THIRD: Caller = Caller {
+const THIRD: Call = Call {
     port: 5002,
     micros: 1_020_000,
-    conclusion: "80000000 00000000 00000000 00000000 00000005 00000005 00000014 000005dc 00002000 ffffffff 00000003",
-    cookie: "3b93c3d7",
-    answer: "80000000 00000000 00000000 00000003 00000005 00000001 00000014 000005dc 00000400 ffffffff",
+    caller: Caller {
+        id: 3,
+        initial: 20,
+        mtu: 1500,
+        window: 8192,
+        cookie: 0x3b93_c3d7,
+    },
 };
 
 /// The first caller's cookie of minute 3.
-const COOKIE_3: &str = "c3ac78a5";
+const COOKIE_3: u32 = 0xc3ac_78a5;
 
-/// Address and HSREQ.
-pub(crate) const REST: &str =
-    "00000000 00000000 00000000 00000000 00010003 00010500 000000bf 00780078";
+const HSREQ: Block<'static> = Block::Request(Offer {
+    version: 0x1_0500,
+    flags: 0xbf,
+    receiver_ms: 120,
+    sender_ms: 120,
+});
 
-/// The Stream ID `studio`.
-pub(crate) const STUDIO: &str = "00050002 64757473 00006f69";
+/// The blocks of a subscriber and of a publisher.
+pub(crate) const REQUESTS: [Block<'static>; 2] = [HSREQ, Block::StreamId("studio")];
 
-/// The Stream ID `#!::r=studio,m=publish`.
-const PUBLISH_STUDIO: &str = "00050006 3a3a2123 74733d72 6f696475 703d6d2c 696c6275 00006873";
+const PUBLISHES: [Block<'static>; 2] = [HSREQ, Block::StreamId("#!::r=studio,m=publish")];
 
-/// An answer after the session's ID.
-pub(crate) const ANSWER_REST: &str =
-    "00000000 00000000 00000000 00000000 00000000 00020003 00010500 0000003f 00780078";
+/// The block of an answer.
+const RESPONSE: [Block<'static>; 1] = [Block::Response(Offer {
+    version: 0x1_0500,
+    flags: 0x3f,
+    receiver_ms: 120,
+    sender_ms: 120,
+})];
 
-/// The answer of 1002 to the third caller.
-const REFUSED: &str =
-    "80000000 00000000 00000000 00000003 00000005 00000000 00000014 000005dc 00002000 000003ea 00000001 00000000 00000000 00000000 00000000 00000000";
+/// The answer to this call with this session ID, of a route with a window of this many packets.
+pub(crate) fn agreed<'a>(call: &Call, window: u32, session: u32) -> Sample<'a> {
+    handshake_packet(
+        Handshake {
+            version: 5,
+            fields: 1,
+            initial: call.caller.initial,
+            mtu: 1500,
+            window,
+            phase: Phase::Conclusion,
+            id: session,
+            cookie: 0,
+            address: 0,
+        },
+        &RESPONSE,
+    )
+    .to(call.caller.id)
+}
 
-/// Packet 9 of the second caller's session `00100001`, with timestamp 1000.
-const DATA: &str = "00000009 e0000001 000003e8 00100001 6869";
+/// The answer of 1002 to this call.
+pub(crate) fn refused<'a>(call: &Call) -> Sample<'a> {
+    handshake_packet(
+        Handshake {
+            version: 5,
+            fields: 0,
+            initial: call.caller.initial,
+            mtu: 1500,
+            window: 8192,
+            phase: Phase::Refused(1002),
+            id: 1,
+            cookie: 0,
+            address: 0,
+        },
+        &[],
+    )
+    .to(call.caller.id)
+}
 
-/// A Full ACK to the second caller: its number and timestamp stand between the first part and the second, the available
-/// buffer size between the second and the third.
-const ACK: [&str; 3] = [
-    "80020000",
-    "00000002 0000000a 000186a0 0000c350",
-    "00000000 00000000 00000000",
-];
+/// The socket ID of the first route's first session, and of the second route's.
+pub(crate) const SESSION: u32 = 0x10_0000;
 
-const SHUTDOWN: &str = "80050000 00000000 00000000 00100000";
+const OTHER_SESSION: u32 = 0x20_0000;
 
-/// A data packet of one byte for a session of the second route.
-const FLOOD: &str = "00000000 e0000001 00000000 00200000 00";
+/// A Full ACK of packet 9 to the second caller: its number, its timestamp and the available buffer size.
+fn acknowledged<'a>(number: u32, stamp: u32, available: u32) -> Sample<'a> {
+    full_ack(
+        number,
+        Acknowledged {
+            point: 10,
+            rtt: 100_000,
+            variance: 50_000,
+            available,
+        },
+    )
+    .stamp(stamp)
+    .to(SECOND.caller.id)
+}
 
 pub(crate) fn near(port: u16) -> Peer {
     Peer {
         ip: [0, 0, 0, 0, 0, 0, 0, 0, 0, 0, 0xff, 0xff, 127, 0, 0, 1],
         port,
     }
-}
-
-/// The bytes of these words.
-pub(crate) fn bytes_of(alloc: Global, parts: &[&'static str]) -> Result<Vec<u8>, Fail> {
-    let digits = parts.concat(alloc)?.replace(alloc, ' ', "")?;
-    Ok(hex::decode(alloc, digits.as_str())?)
 }
 
 fn entry(alloc: Global, name: &str, mode: Mode, buffer: u32) -> Result<Entry, Fail> {
@@ -122,22 +171,22 @@ pub(crate) fn opened(alloc: Global) -> Result<SrtGateway, Fail> {
     }
 }
 
-/// A datagram: the port that it comes from, the time in microseconds, and the words of its bytes.
+/// A datagram: the port that it comes from, the time in microseconds, and its bytes.
 #[derive(Clone, Copy)]
-pub(crate) struct Words<'a> {
+pub(crate) struct Arrival<'a> {
     pub(crate) port: u16,
     pub(crate) micros: u32,
-    pub(crate) parts: &'a [&'static str],
+    pub(crate) sample: Sample<'a>,
 }
 
 /// Asserts the result of a datagram.
 pub(crate) fn assert_arrives(
     rt: &(impl AllocGlobal + Abort),
     gateway: &mut SrtGateway,
-    datagram: &Words<'_>,
+    datagram: &Arrival<'_>,
     becomes: Arrived,
 ) -> Result<(), Fail> {
-    let bytes = bytes_of(rt.alloc(), datagram.parts)?;
+    let bytes = datagram.sample.bytes(rt.alloc())?;
     let moment = u64::from(datagram.micros);
     assert_eq!(rt;
         gateway.arrive(rt.alloc(), near(datagram.port), &bytes, moment),
@@ -146,14 +195,14 @@ pub(crate) fn assert_arrives(
     Ok(())
 }
 
-/// Asserts that the first route applies its only item and sends these words alone.
+/// Asserts that the first route applies its only item and sends this alone.
 fn assert_answers(
     rt: &(impl AllocGlobal + Abort),
     gateway: &mut SrtGateway,
     port: u16,
-    parts: &[&'static str],
+    answer: Sample<'_>,
 ) -> Result<(), Fail> {
-    let wanted = bytes_of(rt.alloc(), parts)?;
+    let wanted = answer.bytes(rt.alloc())?;
     assert_turns(
         rt,
         gateway,
@@ -165,36 +214,31 @@ fn assert_answers(
     Ok(())
 }
 
-/// Asserts that a caller's conclusion with this Stream ID is answered with these words alone.
+/// Asserts that a caller's conclusion with these blocks is answered with this alone.
 pub(crate) fn assert_concludes(
     rt: &(impl AllocGlobal + Abort),
     gateway: &mut SrtGateway,
-    caller: &Caller,
-    stream_id: &'static str,
-    answer: &[&'static str],
+    call: &Call,
+    blocks: &[Block<'_>],
+    answer: Sample<'_>,
 ) -> Result<(), Fail> {
-    let conclusion = Words {
-        port: caller.port,
-        micros: caller.micros,
-        parts: &[caller.conclusion, caller.cookie, REST, stream_id],
+    let conclusion = Arrival {
+        port: call.port,
+        micros: call.micros,
+        sample: conclusion(call.caller, blocks),
     };
     assert_arrives(rt, gateway, &conclusion, Arrived::Accepted(0))?;
-    assert_answers(rt, gateway, caller.port, answer)
-}
-
-/// The answer to this caller with this session ID.
-pub(crate) fn opening(caller: &Caller, session: &'static str) -> [&'static str; 3] {
-    [caller.answer, session, ANSWER_REST]
+    assert_answers(rt, gateway, call.port, answer)
 }
 
 /// A session opens, its answer is repeated, it is ended, and it opens again in the next generation.
 #[test]
 fn a_caller_comes_and_comes_again(rt: HostRuntime) -> Result<(), Fail> {
     let mut gateway = opened(rt.alloc())?;
-    let shutdown = Words {
+    let shutdown = Arrival {
         port: FIRST.port,
         micros: 1_000_000,
-        parts: &[SHUTDOWN],
+        sample: shutdown().to(SESSION),
     };
     assert_eq!(rt; gateway.routes(), 2);
     for _ in 0..2 {
@@ -202,8 +246,8 @@ fn a_caller_comes_and_comes_again(rt: HostRuntime) -> Result<(), Fail> {
             &rt,
             &mut gateway,
             &FIRST,
-            STUDIO,
-            &opening(&FIRST, "00100000"),
+            &REQUESTS,
+            agreed(&FIRST, 1024, SESSION),
         )?;
     }
     assert_arrives(&rt, &mut gateway, &shutdown, Arrived::Accepted(0))?;
@@ -212,17 +256,17 @@ fn a_caller_comes_and_comes_again(rt: HostRuntime) -> Result<(), Fail> {
         &rt,
         &mut gateway,
         &FIRST,
-        STUDIO,
-        &opening(&FIRST, "00100100"),
+        &REQUESTS,
+        agreed(&FIRST, 1024, 0x10_0100),
     )
 }
 
 /// The first and the second caller publish.
 fn two_publish(rt: &(impl AllocGlobal + Abort), gateway: &mut SrtGateway) -> Result<(), Fail> {
-    let first = opening(&FIRST, "00100000");
-    assert_concludes(rt, gateway, &FIRST, PUBLISH_STUDIO, &first)?;
-    let second = opening(&SECOND, "00100001");
-    assert_concludes(rt, gateway, &SECOND, PUBLISH_STUDIO, &second)
+    let first = agreed(&FIRST, 1024, SESSION);
+    assert_concludes(rt, gateway, &FIRST, &PUBLISHES, first)?;
+    let second = agreed(&SECOND, 1024, 0x10_0001);
+    assert_concludes(rt, gateway, &SECOND, &PUBLISHES, second)
 }
 
 /// A second publisher stands by, and a third one is refused.
@@ -230,23 +274,23 @@ fn two_publish(rt: &(impl AllocGlobal + Abort), gateway: &mut SrtGateway) -> Res
 fn a_third_publisher_is_refused(rt: HostRuntime) -> Result<(), Fail> {
     let mut gateway = opened(rt.alloc())?;
     two_publish(&rt, &mut gateway)?;
-    assert_concludes(&rt, &mut gateway, &THIRD, PUBLISH_STUDIO, &[REFUSED])
+    assert_concludes(&rt, &mut gateway, &THIRD, &PUBLISHES, refused(&THIRD))
 }
 
 /// The first and the second caller publish and the third subscribes; the second, who stands by, sends a packet that is
 /// due at 1131000.
 fn stands_by(rt: &(impl AllocGlobal + Abort), gateway: &mut SrtGateway) -> Result<(), Fail> {
     two_publish(rt, gateway)?;
-    let third = opening(&THIRD, "00100002");
-    assert_concludes(rt, gateway, &THIRD, STUDIO, &third)?;
-    let data = Words {
+    let third = agreed(&THIRD, 1024, 0x10_0002);
+    assert_concludes(rt, gateway, &THIRD, &REQUESTS, third)?;
+    let data = Arrival {
         port: SECOND.port,
         micros: 1_021_000,
-        parts: &[DATA],
+        sample: data_packet(9).stamp(1_000).to(0x10_0001).payload(b"hi"),
     };
     assert_arrives(rt, gateway, &data, Arrived::Accepted(0))?;
-    let ack = [ACK[0], "00000001 00002af8", ACK[1], "000003ff", ACK[2]];
-    assert_answers(rt, gateway, SECOND.port, &ack)
+    let ack = acknowledged(1, 11_000, 1023);
+    assert_answers(rt, gateway, SECOND.port, ack)
 }
 
 /// The first caller ends its session at this time in microseconds.
@@ -255,10 +299,10 @@ fn shuts_down(
     gateway: &mut SrtGateway,
     micros: u32,
 ) -> Result<(), Fail> {
-    let shutdown = Words {
+    let shutdown = Arrival {
         port: FIRST.port,
         micros,
-        parts: &[SHUTDOWN],
+        sample: shutdown().to(SESSION),
     };
     assert_arrives(rt, gateway, &shutdown, Arrived::Accepted(0))
 }
@@ -275,11 +319,15 @@ fn a_standby_takes_over(rt: HostRuntime) -> Result<(), Fail> {
     let mut gateway = opened(rt.alloc())?;
     stands_by(&rt, &mut gateway)?;
     shuts_down(&rt, &mut gateway, 1_130_500)?;
-    let ack = [ACK[0], "00000002 0001d6b4", ACK[1], "000003ff", ACK[2]];
-    assert_answers(&rt, &mut gateway, SECOND.port, &ack)?;
+    let ack = acknowledged(2, 120_500, 1023);
+    assert_answers(&rt, &mut gateway, SECOND.port, ack)?;
     ticks(&rt, &mut gateway, 1_131_000);
-    let data = ["00000014 e0000001 0001b198 00000003 6869"];
-    assert_answers(&rt, &mut gateway, THIRD.port, &data)
+    let data = data_packet(20)
+        .flags(0xe000_0001)
+        .stamp(111_000)
+        .to(THIRD.caller.id)
+        .payload(b"hi");
+    assert_answers(&rt, &mut gateway, THIRD.port, data)
 }
 
 /// If the active publisher ends after the packet was due, nobody gets it.
@@ -288,26 +336,27 @@ fn a_standby_delivers_to_nobody(rt: HostRuntime) -> Result<(), Fail> {
     let mut gateway = opened(rt.alloc())?;
     stands_by(&rt, &mut gateway)?;
     ticks(&rt, &mut gateway, 1_131_000);
-    let ack = [ACK[0], "00000002 0001d8a8", ACK[1], "00000400", ACK[2]];
-    assert_answers(&rt, &mut gateway, SECOND.port, &ack)?;
+    let ack = acknowledged(2, 121_000, 1024);
+    assert_answers(&rt, &mut gateway, SECOND.port, ack)?;
     shuts_down(&rt, &mut gateway, 1_141_000)?;
-    let again = [ACK[0], "00000003 0001ffb8", ACK[1], "00000400", ACK[2]];
-    assert_answers(&rt, &mut gateway, SECOND.port, &again)
+    let again = acknowledged(3, 131_000, 1024);
+    assert_answers(&rt, &mut gateway, SECOND.port, again)
 }
 
 /// A flood of the second route between two events of the first changes nothing of the first.
 #[test]
 fn a_flood_changes_no_other_route(rt: HostRuntime) -> Result<(), Fail> {
     let mut gateway = opened(rt.alloc())?;
-    let conclusion = Words {
+    let conclusion = Arrival {
         port: FIRST.port,
         micros: 1_000_000,
-        parts: &[FIRST.conclusion, FIRST.cookie, REST, STUDIO],
+        sample: conclusion(FIRST.caller, &REQUESTS),
     };
     assert_arrives(&rt, &mut gateway, &conclusion, Arrived::Accepted(0))?;
-    let flood = bytes_of(rt.alloc(), &[FLOOD])?;
+    let data = data_packet(0).to(OTHER_SESSION).payload(&[0]);
+    let flood = data.bytes(rt.alloc())?;
     assert_floods(&rt, &mut gateway, near(SECOND.port), 1, &flood)?;
-    assert_answers(&rt, &mut gateway, FIRST.port, &opening(&FIRST, "00100000"))
+    assert_answers(&rt, &mut gateway, FIRST.port, agreed(&FIRST, 1024, SESSION))
 }
 
 /// Asserts the result of a conclusion with the cookie of minute 3, from this port at this time in microseconds.
@@ -318,10 +367,14 @@ fn assert_cookie_3(
     micros: u32,
     becomes: Arrived,
 ) -> Result<(), Fail> {
-    let conclusion = Words {
+    let caller = Caller {
+        cookie: COOKIE_3,
+        ..FIRST.caller
+    };
+    let conclusion = Arrival {
         port,
         micros,
-        parts: &[FIRST.conclusion, COOKIE_3, REST, STUDIO],
+        sample: conclusion(caller, &REQUESTS),
     };
     assert_arrives(rt, gateway, &conclusion, becomes)
 }

@@ -1,6 +1,7 @@
 //! All routes of a gateway behind its lobby.
 
-ghost use Rattle.std.specs.Prelude.{◌≡◌, ℕ, ◌+◌, ◌<◌, ◌≤◌, ◌^◌, List, [], false, None, Some, Err, IfOk, IfErr, OnErr, IfSome, IfNone, map, take, drop, length, is_err, if◌then◌else◌};
+ghost use Rattle.std.specs.Prelude.{◌≡◌, ℕ, ◌+◌, ◌<◌, ◌≤◌, ◌^◌, List, [], false, None, Some, Err, IfOk, IfErr, OnErr, IfSome, IfNone, map};
+ghost use Rattle.std.specs.Prelude.{take, drop, length, is_err, if◌then◌else◌};
 ghost use Rattle.srt_packet.specs.Held.{IsPacketOrNothing};
 ghost use Rattle.srt_hub.specs.World.{offered_to};
 
@@ -55,7 +56,9 @@ impl<R: RouteStep, L: Lobby> Gateway for Hub<R, L> {
 
     ghost routes = { λ hub. length hub.lanes.items };
 
-    ghost stands = { λ hub secret entries events. let w = world_after (L.class secret) R.reply entries events in IsHub (L.knows hub.lobby secret (names_in w)) (AreLanes ⟦<Lane<R> as Standing>⟧.is w hub.lanes.items) };
+    ghost stands = { λ hub secret entries events.
+        let w = world_after (L.class secret) R.reply entries events in
+        IsHub (L.knows hub.lobby secret (names_in w)) (AreLanes ⟦<Lane<R> as Standing>⟧.is w hub.lanes.items) };
 }
 
 impl<R: RouteStep, L: Lobby> Hub<R, L> {
@@ -66,7 +69,7 @@ impl<R: RouteStep, L: Lobby> Hub<R, L> {
     ghost use Rattle.srt_hub.specs.World.{Arrives, Ticks, Turns, Sends, tick, turn};
     ghost use Rattle.srt_hub.specs.Calls.{HasRoutes, Happened, ArrivalAnswers, RouteAnswers, datagram, datagram_at, first_out};
 
-    /// Opens the gateway of these entries, 1 to 511. Takes all memory except that for copies of datagrams. Errors:
+    /// Opens the gateway of these entries, 1 to 511. Allocates all but the copies of datagrams. Errors:
     /// `Names` if a name has a wrong form or appears twice, else `Limits` if the number of entries or a number of an
     /// entry is outside its limits, else `OutOfMemory`. After an error nothing is kept.
     pub fn open(alloc: Global, secret: Secret, entries: &[Entry]) -> Result<Hub<R, L>, OpenFault>
@@ -102,8 +105,8 @@ impl<R: RouteStep, L: Lobby> Hub<R, L> {
     }
 
     /// Sorts a datagram and puts it into its route's inbox, if it is for a route. `moment` is in microseconds. Only a
-    /// datagram for a route is copied; that copy takes memory, also if the inbox turns out to be full. The only error
-    /// is that this memory is refused, and then nothing has changed. Linear in the length of the datagram.
+    /// datagram for a route is copied; that copy is allocated even if the inbox turns out to be full. The only error
+    /// is that its memory is refused, and then nothing has changed. Linear in the length of the datagram.
     pub fn arrive(
         &mut self,
         alloc: Global,
@@ -134,7 +137,7 @@ impl<R: RouteStep, L: Lobby> Hub<R, L> {
     }
 
     /// Puts a tick with this moment, in microseconds, into the inbox of route `r`. Returns `Full` and drops the tick if
-    /// the inbox holds its capacity. O(1). Takes no memory.
+    /// the inbox holds its capacity. O(1). Doesn't allocate.
     pub fn tick(&mut self, r: usize, moment: u64) -> Ticked
         requires route { r < ⟦<Hub<R, L> as Gateway>⟧.routes self.old }
         requires moment { moment < 2 ^ 62 }
@@ -149,7 +152,7 @@ impl<R: RouteStep, L: Lobby> Hub<R, L> {
     }
 
     /// One turn of route `r`: moves the oldest waiting reply to the outbox if there is one, else applies the oldest
-    /// item of the inbox. Takes no memory.
+    /// item of the inbox. Doesn't allocate.
     pub fn turn(&mut self, r: usize) -> Turned
         requires { r < ⟦<Hub<R, L> as Gateway>⟧.routes self.old }
         ensures stands { Happened ⟦<Hub<R, L> as Gateway>⟧.stands self.old self.new (Turns r) }
@@ -160,8 +163,8 @@ impl<R: RouteStep, L: Lobby> Hub<R, L> {
     }
 
     /// Takes the oldest reply out of the outbox of route `r` and writes its packet to the front of `out`. Returns its
-    /// receiver and its length in bytes; None if the outbox is empty. The rest of `out` doesn't change. Takes no
-    /// memory.
+    /// receiver and its length in bytes; None if the outbox is empty. The rest of `out` doesn't change. Doesn't
+    /// allocate.
     pub fn send(&mut self, r: usize, out: &mut [u8; 1472]) -> Option<(Peer, usize)>
         requires { r < ⟦<Hub<R, L> as Gateway>⟧.routes self.old }
         ensures stands { Happened ⟦<Hub<R, L> as Gateway>⟧.stands self.old self.new (Sends r) }
@@ -183,17 +186,19 @@ impl<R: RouteStep, L: Doors> Hub<R, L> {
     ghost use Rattle.srt_hub.specs.Calls.{Happened, IsUnchanged, FaultAnswers, OpeningAnswers, ClosingAnswers, wants_memory};
 
     /// The first reason why a route of this name can't be opened, memory aside, if the numbers of its entry are `within`
-    /// their limits or aren't: `Names` or `Limits`, as `open_route`. Takes no memory, not even for a copy of the name.
+    /// their limits or aren't: `Names` or `Limits`, as `open_route`. Doesn't allocate, not even for a copy of the name.
     pub fn opening_fault(&self, name: &[u8], within: bool) -> Option<OpenFault>
         ensures fault { FaultAnswers ⟦<Hub<R, L> as Gateway>⟧.stands self.now L.class R.reply name.now within result }
         // An opening that has a fault changes nothing.
-        ensures stands { IfSome result (λ _. (e : Terms) → e.name ≡ name.now → in_limits e ≡ within → Happened ⟦<Hub<R, L> as Gateway>⟧.stands self.now self.now (Opens e false)) }
+        ensures stands { IfSome result
+            (λ _. (e : Terms)
+            → e.name ≡ name.now → in_limits e ≡ within → Happened ⟦<Hub<R, L> as Gateway>⟧.stands self.now self.now (Opens e false)) }
     {
         self.lobby.fault(name, within)
     }
 
-    /// Opens one more route and shows it. Returns its index, the next one; an index is never used again. Takes all
-    /// memory that the route will need, except that for copies of datagrams. Errors: `Names` if the name has a wrong
+    /// Opens one more route and shows it. Returns its index, the next one; an index is never used again. Allocates
+    /// all that the route will need, except for copies of datagrams. Errors: `Names` if the name has a wrong
     /// form or is that of a shown route, else `Limits` if there are 511 routes or a number is outside its limits, else
     /// `OutOfMemory`. After an error nothing has changed.
     pub fn open_route(&mut self, alloc: Global, entry: &Entry) -> Result<usize, OpenFault>
@@ -228,7 +233,7 @@ impl<R: RouteStep, L: Doors> Hub<R, L> {
     /// Closes route `r` at this moment, in microseconds: puts the item that ends all its sessions into its inbox, and
     /// hides it. From then on no datagram is for it, and its name may be used again; its ticks, turns and sends go on.
     /// Returns `Closed` if the route was hidden already, else `Full` if its inbox holds its capacity; both change
-    /// nothing. O(1). Takes no memory.
+    /// nothing. O(1). Doesn't allocate.
     pub fn close_route(&mut self, r: usize, moment: u64) -> Closing
         requires route { r < ⟦<Hub<R, L> as Gateway>⟧.routes self.old }
         requires moment { moment < 2 ^ 62 }

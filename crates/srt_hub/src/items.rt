@@ -15,7 +15,7 @@ pub struct Timely {
     pub ghost timely: { moment_of (told item) < 2 ^ 62 },
 }
 
-/// Makes an item of a datagram, with a copy of all bytes after the first 16. Takes memory for that copy; the only error
+/// Makes an item of a datagram, with a copy of all bytes after the first 16. Allocates that copy; the only error
 /// is that it is refused.
 pub fn copied(alloc: Global, peer: Peer, bytes: &[u8], moment: u64) -> Result<Timely, OutOfMemory>
     requires header { 16 ≤ length bytes.now }

@@ -5,10 +5,9 @@ ghost use Rattle.std.specs.Vec.{vec_capacity};
 ghost use Rattle.std.specs.VecDeque.{deque_capacity};
 ghost use Rattle.srt_packet.specs.Held.{IsPacketOrNothing};
 
-use crate::boxes::blank_boxes;
 use crate::items::Timely;
 use crate::parts::RouteStep;
-use srt_route::Reply;
+use srt_route::{Reply, blank_boxes};
 use srt_seq::{Entry, OpenFault, Peer, Turned};
 use std::alloc::Global;
 use std::collections::VecDeque;
@@ -39,20 +38,21 @@ pub trait Standing {
 }
 
 impl<R: RouteStep> Standing for Lane<R> {
-    ghost use Rattle.srt_hub.specs.Queued.{item_in, reply_in};
-    ghost use Rattle.srt_hub.specs.Stands.{IsLane};
+    ghost use Rattle.srt_hub.specs.inside.Queued.{item_in, reply_in};
+    ghost use Rattle.srt_hub.specs.inside.Stands.{IsLane};
 
-    ghost is = { λ lane e r m. IsLane e (λ items. R.stands lane.route e r items) (R.waiting lane.route) (map item_in lane.inbox.items) (map reply_in lane.outbox.items) lane.inbox_room lane.outbox_room m };
+    ghost is = { λ lane e r m. IsLane e (λ items. R.stands lane.route e r items) (R.waiting lane.route) (map item_in lane.inbox.items)
+        (map reply_in lane.outbox.items) lane.inbox_room lane.outbox_room m };
 }
 
 impl<R: RouteStep> Lane<R> {
-    ghost use Rattle.srt_hub.specs.Queued.{item_in};
+    ghost use Rattle.srt_hub.specs.inside.Queued.{item_in};
     ghost use Rattle.srt_seq.specs.Entries.{is_name, in_limits};
     ghost use Rattle.srt_seq.specs.Terms.{terms_of};
     ghost use Rattle.srt_hub.specs.World.{empty, offered, has_room, turned, turn, sent_from};
     ghost use Rattle.srt_hub.specs.Calls.{LaneBecomes, LaneAnswers, datagram_at, first_out};
 
-    /// A route without items, with empty queues. Takes the memory of the route, of both queues and of `outbox` boxes.
+    /// A route without items, with empty queues. Allocates the route, both queues and `outbox` boxes.
     /// The only error is `OutOfMemory`.
     pub fn open(alloc: Global, entry: &Entry, index: usize) -> Result<Lane<R>, OpenFault>
         requires name { is_name (terms_of entry.now).name ≡ true }
@@ -83,8 +83,8 @@ impl<R: RouteStep> Lane<R> {
         })
     }
 
-    /// Appends an item to the inbox. Returns false, and changes nothing, if the inbox holds its capacity. O(1). Takes
-    /// no memory.
+    /// Appends an item to the inbox. Returns false, and changes nothing, if the inbox holds its capacity. O(1). Doesn't
+    /// allocate.
     pub fn offer(&mut self, item: Timely) -> bool
         ensures stands { LaneBecomes ⟦<Lane<R> as Standing>⟧.is self.old self.new (λ e r m. offered e (item_in item) m) }
         ensures answer { LaneAnswers ⟦<Lane<R> as Standing>⟧.is self.old has_room result }
@@ -96,7 +96,7 @@ impl<R: RouteStep> Lane<R> {
     }
 
     /// Moves the oldest waiting reply to the outbox, if there is one; else applies the oldest item of the inbox.
-    /// `Blocked` if the outbox is full, `Idle` if there is nothing to do. Takes no memory.
+    /// `Blocked` if the outbox is full, `Idle` if there is nothing to do. Doesn't allocate.
     pub fn turn(&mut self) -> Turned
         ensures stands { LaneBecomes ⟦<Lane<R> as Standing>⟧.is self.old self.new (turned R.reply) }
         ensures answer { LaneAnswers ⟦<Lane<R> as Standing>⟧.is self.old turn result }

@@ -1,12 +1,16 @@
 //! Laws of the definitions, for all lists of events, all kinds of route and all lobbies. The contracts of the hub's
 //! calls say that each call is the step of the model that these laws are about.
 
-ghost use Rattle.srt_hub.specs.Laws.{SentIsFront, SentIsWhole, RoutesAreIsolated, GatewaysAreIsolated, OwnStepsDecide, SortingDecides, SortsByOwnName, OwnNameDecides, OthersStay};
+ghost use Rattle.srt_hub.specs.Laws.{SentIsFront, SentIsWhole, RoutesAreIsolated, GatewaysAreIsolated, OwnStepsDecide, SortingDecides};
+ghost use Rattle.srt_hub.specs.Laws.{SortsByOwnName, OwnNameDecides, OthersStay};
 ghost use Rattle.srt_lobby.specs.Lobby.{class_of};
 ghost use Rattle.srt_hub.specs.Gateways.{ArrivalsAreOwn, StepsAreOwn, SentByOwnSteps, SentByAccepted, SoloIsTheRoutes, SentArePackets};
-ghost use Rattle.srt_hub.specs.Refusals.{FullIsAtCapacity, FullTickIsAtCapacity, BlockedIsAtCapacity, IdleIsEmpty, RefusedIsARoutes, LobbyAnswersAlone, FaultOpensNothing, OpeningIsNext, ClosedIsHidden, FullClosingIsAtCapacity, AcceptedClosingHides, HiddenStays};
+ghost use Rattle.srt_hub.specs.Gateways.{CallersMayCall};
+ghost use Rattle.srt_hub.specs.Refusals.{FullIsAtCapacity, FullTickIsAtCapacity, BlockedIsAtCapacity, IdleIsEmpty, RefusedIsARoutes};
+ghost use Rattle.srt_hub.specs.Refusals.{LobbyAnswersAlone, FaultOpensNothing, OpeningIsNext, ClosedIsHidden, FullClosingIsAtCapacity};
+ghost use Rattle.srt_hub.specs.Refusals.{AcceptedClosingHides, HiddenStays};
 
-/// No route's traffic changes another's. Take any two lists of arrivals, ticks, turns, sends, openings and closings for
+/// No route's traffic changes another's, of whatever kind routes and lobby are. Take any two lists of arrivals, ticks, turns, sends, openings and closings for
 /// two gateways with the same secret and the same entry for a route, which may be opened among the events. If the
 /// route's inbox accepted the same items in the same order and nothing of it waits, the datagrams that were sent for it
 /// are equal byte for byte, and are those that the route alone replies.
@@ -45,8 +49,9 @@ pub fn openings()
 {}
 
 /// The laws of the gateway with the real lobby and the real routes. Which datagrams are a route's depends on the
-/// secret, the route's index and name, whether it is shown, and each datagram alone; what is sent for a route depends
-/// on the route's own events alone.
+/// secret, the route's index and name, its lists and keys, whether it is shown, and each datagram alone; what is sent
+/// for a route depends on the route's own events alone. The clause `accepted` is the headline: whatever other routes do,
+/// what is sent for a route is what the route alone replies to the items that it accepted.
 pub fn gateways()
     ensures arrivals { ArrivalsAreOwn }
     // So the lobby is one for which `isolation` has its clause on own names.
@@ -58,4 +63,6 @@ pub fn gateways()
     ensures solo { SoloIsTheRoutes }
     // Every datagram that is sent for a route is the encoding of a packet, and decodes to that packet.
     ensures packets { SentArePackets }
+    // Every item that enters a route's inbox is of a caller that the route's lists and keys let in.
+    ensures callers { CallersMayCall }
 {}

@@ -19,7 +19,6 @@
 #![tactic(auto)]
 
 mod answers;
-mod boxes;
 mod entrance;
 mod gateways;
 mod hubs;

@@ -1,30 +1,17 @@
 //! Routes that are opened and closed while the gateway runs. The cookies were computed by Python's hashlib.
 
 use crate::caller_tests::{
-    ANSWER_REST, FIRST, REST, STUDIO, Words, assert_arrives, assert_concludes, bytes_of, near,
-    opened, opening,
+    Arrival, FIRST, REQUESTS, SESSION, agreed, assert_arrives, assert_concludes, near, opened,
+    refused,
 };
 use crate::tests::{assert_sends, assert_sends_nothing, assert_turns};
 use crate::{Arrived, Cause, Closing, Hub, SrtGateway, Ticked};
 use srt_cookie::Secret;
-use srt_seq::{Entry, Mode, OpenFault, Turned};
+use srt_samples::{conclusion, first_difference, keep_alive, shutdown};
+use srt_seq::{Access, Entry, Mode, OpenFault, Rules, Turned};
 use std::alloc::Global;
 use std::process::Abort;
 use std::test::Fail;
-
-/// SHUTDOWN to the first caller's session, half a second after it began.
-const SHUTDOWN: &str = "80050000 00000000 0007a120 00000001";
-
-/// A KEEPALIVE to session `00100000`.
-const TO_SESSION: &str = "80010000 00000000 00000000 00100000";
-
-/// The answer of 1002 to the first caller.
-const REFUSED: &str =
-    "80000000 00000000 00000000 00000001 00000005 00000000 00000005 000005dc 00002000 000003ea 00000001 00000000 00000000 00000000 00000000 00000000";
-
-/// The answer to the first caller of a route with a window of 32 packets, up to the session's ID.
-const ANSWER_OF_32: &str =
-    "80000000 00000000 00000000 00000001 00000005 00000001 00000005 000005dc 00000020 ffffffff";
 
 fn small(alloc: Global, name: &str, latency_ms: u32) -> Result<Entry, Fail> {
     Ok(Entry {
@@ -35,6 +22,8 @@ fn small(alloc: Global, name: &str, latency_ms: u32) -> Result<Entry, Fail> {
         sessions: 2,
         inbox: 16,
         outbox: 16,
+        access: Access::anyone(),
+        rules: Rules::DRAFT,
     })
 }
 
@@ -58,11 +47,11 @@ fn assert_closes(rt: &impl Abort, gateway: &mut SrtGateway, micros: u32, becomes
 }
 
 /// The first caller's conclusion at this time in microseconds.
-fn asks(micros: u32) -> Words<'static> {
-    Words {
+fn asks(micros: u32) -> Arrival<'static> {
+    Arrival {
         port: FIRST.port,
         micros,
-        parts: &[FIRST.conclusion, FIRST.cookie, REST, STUDIO],
+        sample: conclusion(FIRST.caller, &REQUESTS),
     }
 }
 
@@ -72,11 +61,11 @@ fn assert_refused(
     gateway: &mut SrtGateway,
     micros: u32,
 ) -> Result<(), Fail> {
-    let conclusion = bytes_of(rt.alloc(), asks(micros).parts)?;
-    let wanted = bytes_of(rt.alloc(), &[REFUSED])?;
+    let conclusion = asks(micros).sample.bytes(rt.alloc())?;
+    let wanted = refused(&FIRST).bytes(rt.alloc())?;
     match gateway.arrive(rt.alloc(), near(FIRST.port), &conclusion, u64::from(micros)) {
         Ok(Arrived::Answer(bytes)) => {
-            assert_eq!(rt; &bytes[..], wanted.as_slice());
+            assert_eq!(rt; first_difference(&bytes[..], &wanted), None);
             Ok(())
         }
         _ => Err(Fail::from("no answer")),
@@ -85,10 +74,13 @@ fn assert_refused(
 
 /// The first caller's session is ended by the closing of its route.
 fn is_ended(rt: &(impl AllocGlobal + Abort), gateway: &mut SrtGateway) -> Result<(), Fail> {
-    assert_concludes(rt, gateway, &FIRST, STUDIO, &opening(&FIRST, "00100000"))?;
+    let answer = agreed(&FIRST, 1024, SESSION);
+    assert_concludes(rt, gateway, &FIRST, &REQUESTS, answer)?;
     assert_closes(rt, gateway, 1_500_000, Closing::Accepted);
     assert_turns(rt, gateway, 0, &[Turned::Applied, Turned::Moved]);
-    let wanted = bytes_of(rt.alloc(), &[SHUTDOWN])?;
+    // Half a second after the session opened.
+    let end = shutdown().stamp(500_000).to(FIRST.caller.id);
+    let wanted = end.bytes(rt.alloc())?;
     assert_sends(rt, gateway, 0, near(FIRST.port), &wanted);
     Ok(())
 }
@@ -98,10 +90,10 @@ fn is_ended(rt: &(impl AllocGlobal + Abort), gateway: &mut SrtGateway) -> Result
 fn a_route_is_closed_and_its_name_opened_again(rt: HostRuntime) -> Result<(), Fail> {
     let mut gateway = opened(rt.alloc())?;
     is_ended(&rt, &mut gateway)?;
-    let late = Words {
+    let late = Arrival {
         port: FIRST.port,
         micros: 1_510_000,
-        parts: &[TO_SESSION],
+        sample: keep_alive().to(SESSION),
     };
     assert_arrives(&rt, &mut gateway, &late, Arrived::Dropped(Cause::UnknownId))?;
     assert_refused(&rt, &mut gateway, 1_520_000)?;
@@ -112,7 +104,7 @@ fn a_route_is_closed_and_its_name_opened_again(rt: HostRuntime) -> Result<(), Fa
     assert_eq!(rt; gateway.routes(), 3);
     assert_arrives(&rt, &mut gateway, &asks(1_700_000), Arrived::Accepted(2))?;
     assert_turns(&rt, &mut gateway, 2, &[Turned::Applied, Turned::Moved]);
-    let wanted = bytes_of(rt.alloc(), &[ANSWER_OF_32, "00300000", ANSWER_REST])?;
+    let wanted = agreed(&FIRST, 32, 0x30_0000).bytes(rt.alloc())?;
     assert_sends(&rt, &mut gateway, 2, near(FIRST.port), &wanted);
     Ok(())
 }

@@ -39,7 +39,7 @@ pub trait Lobby: Drop {
         ensures fault { (fault : TheFault) → fault_of (map terms_of entries.now) ≡ Some fault → result ≡ Err fault }
         ensures memory { fault_of (map terms_of entries.now) ≡ None → IfErr result (λ fault. fault ≡ OpenFault.OutOfMemory) };
 
-    /// Sorts a datagram that came from `peer` at this moment, in microseconds. Takes no memory.
+    /// Sorts a datagram that came from `peer` at this moment, in microseconds. Doesn't allocate.
     fn classify(&self, peer: Peer, bytes: &[u8], moment: u64) -> Class
         requires { moment < 2 ^ 62 }
         ensures class { LobbyAnswers knows self.now class (datagram peer bytes.now) moment result }
@@ -52,27 +52,31 @@ pub trait Lobby: Drop {
 
 /// A lobby whose routes open and close while it runs.
 pub trait Doors: Lobby {
-    /// Whether there is a route with this index, and it is shown. Takes no memory.
+    /// Whether there is a route with this index, and it is shown. Doesn't allocate.
     fn shows(&self, r: usize) -> bool
         ensures { (secret : List ℕ) (names : List RouteName) → Self.knows self.now secret names → result ≡ is_shown_at names r };
 
     /// The first reason why a route of this name can't be added, memory aside, if the numbers of its entry are `within`
-    /// their limits or aren't. Takes no memory.
+    /// their limits or aren't. Doesn't allocate.
     fn fault(&self, name: &[u8], within: bool) -> Option<OpenFault>
         ensures fault { (secret : List ℕ) (names : List RouteName) → Self.knows self.now secret names → result ≡ fault_of_name names name.now within }
         // Whatever the names are, the name and the numbers by themselves have none.
         ensures formed { result ≡ None → is_name name.now ≡ true }
         ensures limits { result ≡ None → within ≡ true };
 
-    /// Adds the name of a route, which is shown. Takes memory for copies of the name. After an error the
+    /// Adds the name of a route, which is shown. Allocates copies of the name. After an error the
     /// names are as before.
     fn add(&mut self, alloc: Global, entry: &Entry) -> Result<(), OpenFault>
-        ensures added { IfOk result (λ _. (secret : List ℕ) (names : List RouteName) → Self.knows self.old secret names → fault_of_adding names (terms_of entry.now) ≡ None → Self.knows self.new secret (added (terms_of entry.now) names)) }
+        ensures added { IfOk result
+            (λ _. (secret : List ℕ) (names : List RouteName) → Self.knows self.old secret names
+            → fault_of_adding names (terms_of entry.now) ≡ None
+            → Self.knows self.new secret (added (terms_of entry.now) names)) }
         ensures err { OnErr result ((secret : List ℕ) (names : List RouteName) → Self.knows self.old secret names → Self.knows self.new secret names) };
 
-    /// Hides a route: from now on no datagram is for it, and its name may be used again. Takes no memory.
+    /// Hides a route: from now on no datagram is for it, and its name may be used again. Doesn't allocate.
     fn hide(&mut self, r: usize)
-        ensures { (secret : List ℕ) (names : List RouteName) → r < length names → Self.knows self.old secret names → Self.knows self.new secret (hidden_at r names) };
+        ensures { (secret : List ℕ) (names : List RouteName)
+            → r < length names → Self.knows self.old secret names → Self.knows self.new secret (hidden_at r names) };
 }
 
 /// A route as the hub drives it: items in, replies out.
@@ -87,8 +91,8 @@ pub trait RouteStep: Drop {
     /// The replies that wait, the oldest first.
     ghost waiting: { Self → List Datagram };
 
-    /// Opens a route without items. Takes all memory that the route will ever need; the only error is that it is
-    /// refused. `index` is below 511.
+    /// Opens a route without items. Allocates all that the route will ever need; the only error is a refused
+    /// allocation. `index` is below 511.
     fn open(alloc: Global, entry: &Entry, index: usize) -> Result<Self, OpenFault>
         requires name { is_name (terms_of entry.now).name ≡ true }
         requires limits { in_limits (terms_of entry.now) ≡ true }
@@ -97,8 +101,8 @@ pub trait RouteStep: Drop {
         ensures none_waits { IfOk result (λ route. waiting route ≡ []) }
         ensures memory { IfErr result (λ fault. fault ≡ OpenFault.OutOfMemory) };
 
-    /// Applies one item. Returns the number of replies that now wait. To be called only if no reply waits. Takes no
-    /// memory.
+    /// Applies one item. Returns the number of replies that now wait. To be called only if no reply waits. Doesn't
+    /// allocate.
     fn step(&mut self, item: Item) -> usize
         requires none_waits { waiting self.old ≡ [] }
         requires timely { moment_of (told item) < 2 ^ 62 }
@@ -111,7 +115,7 @@ pub trait RouteStep: Drop {
         ensures { (result ≡ true) ↔ (0 < length (waiting self.now)) };
 
     /// Puts the oldest waiting reply into `place`, by an exchange of boxes; the box that was in `place` is kept for a
-    /// later reply. Returns false and changes nothing if none waits. Takes no memory.
+    /// later reply. Returns false and changes nothing if none waits. Doesn't allocate.
     fn next_reply(&mut self, place: &mut Box<Reply>) -> bool
         ensures first { result ≡ true → waiting self.old ≡ written place.new.value ∷ waiting self.new }
         ensures none { result ≡ false → (waiting self.old ≡ []) × (self.new ≡ self.old) × (place.new ≡ place.old) }

@@ -11,7 +11,8 @@ use crate::{Arrived, Cause, Class, Hub, Lobby, OutOfMemory, Reply, RouteStep, Ti
 use srt_cookie::Secret;
 use srt_lobby::Names;
 use srt_packet::{Body, Packet};
-use srt_seq::{Entry, Item, Mode, OpenFault, Peer, Turned};
+use srt_samples::first_difference;
+use srt_seq::{Access, Entry, Item, Mode, OpenFault, Peer, Rules, Turned};
 use std::alloc::Global;
 use std::process::Abort;
 use std::test::Fail;
@@ -28,7 +29,9 @@ impl Lobby for FirstByte {
     ghost use Rattle.std.proofs.Common.{arith};
     ghost use Rattle.std.proofs.lemmas.Bool.Decides.{nat_tests};
 
-    ghost class = { λ secret names d moment. (if nat_lt (length d.bytes) 16 then Dropped NoPacket else (if nat_lt (slice_index d.bytes 0) (length names) then ForRoute (slice_index d.bytes 0) else Answer (replicate 64 (slice_index d.bytes 0)))) };
+    ghost class = { λ secret names d moment. (if nat_lt (length d.bytes) 16 then Dropped NoPacket
+        else (if nat_lt (slice_index d.bytes 0) (length names) then ForRoute (slice_index d.bytes 0)
+        else Answer (replicate 64 (slice_index d.bytes 0)))) };
 
     ghost knows = { λ lobby secret names. lobby.routes ≡ length names };
 
@@ -80,11 +83,15 @@ struct Twice {
 }
 
 impl RouteStep for Twice {
-    ghost reply = { λ e index items. datagram (record { ip = replicate 16 9; port = 7 }) (text (record { stamp = 1; dest = 5; body = KeepAlive })) ∷ datagram (record { ip = replicate 16 9; port = 7 }) (text (record { stamp = 2; dest = 5; body = KeepAlive })) ∷ [] };
+    ghost reply = { λ e index items.
+        datagram (record { ip = replicate 16 9; port = 7 }) (text (record { stamp = 1; dest = 5; body = KeepAlive }))
+        ∷ datagram (record { ip = replicate 16 9; port = 7 }) (text (record { stamp = 2; dest = 5; body = KeepAlive })) ∷ [] };
 
     ghost stands = { λ route e index items. Unit {0} };
 
-    ghost waiting = { λ route. drop (2 - route.left) (datagram (record { ip = replicate 16 9; port = 7 }) (text (record { stamp = 1; dest = 5; body = KeepAlive })) ∷ datagram (record { ip = replicate 16 9; port = 7 }) (text (record { stamp = 2; dest = 5; body = KeepAlive })) ∷ []) };
+    ghost waiting = { λ route. drop (2 - route.left)
+        (datagram (record { ip = replicate 16 9; port = 7 }) (text (record { stamp = 1; dest = 5; body = KeepAlive }))
+        ∷ datagram (record { ip = replicate 16 9; port = 7 }) (text (record { stamp = 2; dest = 5; body = KeepAlive })) ∷ []) };
 
     fn open(_alloc: Global, _entry: &Entry, _index: usize) -> Result<Self, OpenFault> {
         Ok(Twice { left: 0 })
@@ -124,6 +131,8 @@ pub(crate) fn live_entry(alloc: Global, name: &str) -> Result<Entry, Fail> {
         sessions: 5,
         inbox: 16,
         outbox: 16,
+        access: Access::anyone(),
+        rules: Rules::DRAFT,
     })
 }
 
@@ -172,7 +181,7 @@ pub(crate) fn assert_sends<R: RouteStep, L: Lobby>(
     match hub.send(route, &mut out) {
         Some((peer, len)) => {
             assert!(rt; peer == to);
-            assert_eq!(rt; &out[..len], bytes);
+            assert_eq!(rt; first_difference(&out[..len], bytes), None);
         }
         None => assert!(rt; false, "nothing is sent"),
     }

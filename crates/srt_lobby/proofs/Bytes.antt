@@ -13,9 +13,14 @@ length_of_kind initial (Conclusion mtu window id mode recv_ms send_ms congestion
 
 pub length_of_answer : (a : HsAnswer) → blocks_text a.what ≡ [] → length (answer_text a) ≡ 48
 unfolding answer_text
-length_of_answer a h = ap (λ (rest : List ℕ). length (kind_text a.initial a.what ++ rest)) h ∙ ap length (append-nil (kind_text a.initial a.what)) ∙ length_of_kind a.initial a.what
+length_of_answer a h =
+    ap (λ (rest : List ℕ). length (kind_text a.initial a.what ++ rest)) h ∙ ap length (append-nil (kind_text a.initial a.what))
+    ∙ length_of_kind a.initial a.what
 
 -- what was written piece by piece
-pub joined : (none out0 out1 out2 head id text : List ℕ) (n0 n1 n2 : ℕ) → none ≡ [] → take n0 out0 ≡ none ++ head → take n1 out1 ≡ take n0 out0 ++ id → take n2 out2 ≡ take n1 out1 ++ text → length out2 ≤ n2 → out2 ≡ (head ++ id) ++ text
+pub joined : (none out0 out1 out2 head id text : List ℕ) (n0 n1 n2 : ℕ) → none ≡ [] → take n0 out0 ≡ none ++ head
+    → take n1 out1 ≡ take n0 out0 ++ id → take n2 out2 ≡ take n1 out1 ++ text → length out2 ≤ n2
+    → out2 ≡ (head ++ id) ++ text
 joined none out0 out1 out2 head id text n0 n1 n2 z p q r h =
-    sym (take_all n2 out2 h) ∙ r ∙ ap (λ (front : List ℕ). front ++ text) (q ∙ ap (λ (front : List ℕ). front ++ id) (p ∙ ap (λ (front : List ℕ). front ++ head) z))
+    sym (take_all n2 out2 h) ∙ r
+    ∙ ap (λ (front : List ℕ). front ++ text) (q ∙ ap (λ (front : List ℕ). front ++ id) (p ∙ ap (λ (front : List ℕ). front ++ head) z))

@@ -1,6 +1,8 @@
 -- Names and their indexes.
-use Rattle.std.proofs.Common.{◌≡◌, ℕ, zero, suc, ◌+◌, ◌<◌, Bool, true, false, not, cond, ◌&&◌, List, [], ◌∷◌, length, get_or, take, drop, ◌++◌, map, None, Some, position, slice_get, nat_lt, refl, sym, ap, ◌∙◌, arith}
+use Rattle.std.proofs.Common.{◌≡◌, ℕ, zero, suc, ◌+◌, ◌<◌, Bool, true, false, not, cond, ◌&&◌, List, [], ◌∷◌, length, get_or, take, drop}
+use Rattle.std.proofs.Common.{◌++◌, map, Option, None, Some, position, slice_get, nat_lt, refl, sym, ap, ◌∙◌, arith}
 use Rattle.std.specs.List.{position_or_len, list_any, list_all}
+use Rattle.std.specs.Option.{option_map}
 use Rattle.std.specs.Str.{bytes_eq}
 use Rattle.std.proofs.lemmas.Bool.{false_from_ne_true}
 use Rattle.std.proofs.lemmas.Bool.Decides.{nat_tests}
@@ -13,7 +15,8 @@ use Rattle.srt_seq.specs.declared.shared.Entry.{Entry}
 use Rattle.srt_seq.specs.Terms.{Terms, terms_of}
 use Rattle.srt_seq.specs.Entries.{is_between, is_name, in_limits}
 use Rattle.srt_lobby.specs.Opening.{text_in, is_taken, is_fresh, are_names, are_in_limits}
-use Rattle.srt_lobby.specs.Names.{RouteName, AreDistinct, shown, is_asked, index_of, shows, is_shown_at}
+use Rattle.srt_seq.specs.Access.{anyone}
+use Rattle.srt_lobby.specs.Names.{RouteName, AreDistinct, shown, name_of, is_asked, index_of, shows, is_shown_at, has_name, has_name_at}
 
 same_length : {K X : Type 0} (f : K → X) (ks : List K) → length (map f ks) ≡ length ks
 same_length f [] = refl
@@ -33,11 +36,13 @@ any_of p f [] = refl
 any_of p f (k ∷ ks) = rw (any_of p f ks)
 
 abbrev pub no_name : RouteName
-no_name = shown []
+no_name = shown [] anyone
 
 -- what is found is asked for, and is shown
-pub found_name : (names : List RouteName) (r : ℕ) (name : RouteName) (asked : List ℕ) → slice_get names r ≡ Some name → index_of names asked ≡ Some r → is_asked asked name ≡ true
-found_name names r name asked h e = ap (is_asked asked) (sym (get_or_from_slice_get names r name no_name h)) ∙ (position-Some (is_asked asked) names r no_name e).1
+pub found_name : (names : List RouteName) (r : ℕ) (name : RouteName) (asked : List ℕ)
+    → slice_get names r ≡ Some name → index_of names asked ≡ Some r → is_asked asked name ≡ true
+found_name names r name asked h e =
+    ap (is_asked asked) (sym (get_or_from_slice_get names r name no_name h)) ∙ (position-Some (is_asked asked) names r no_name e).1
 
 record IsBoth (a b : Bool) : Type 0 where
   first : a ≡ true
@@ -47,31 +52,29 @@ both : (a b : Bool) → (a && b) ≡ true → IsBoth a b
 both true b h = record { first = refl; second = h }
 both false b h = cc
 
--- what is asked for is this name, shown
-asked_is : (asked : List ℕ) (name : RouteName) → is_asked asked name ≡ true → name ≡ shown asked
-asked_is asked name h =
-    let parts = both name.is_shown (bytes_eq asked name.text) h in
-    ap (λ (b : Bool). record { text = name.text; is_shown = b }) parts.first
-    ∙ ap shown (sym ((bytes_eq-Decides asked name.text).0 parts.second))
-
 pub asked_is_shown : (asked : List ℕ) (name : RouteName) → is_asked asked name ≡ true → name.is_shown ≡ true
 asked_is_shown asked name h = (both name.is_shown (bytes_eq asked name.text) h).first
 
-other_before : (names : List RouteName) (r : ℕ) (asked : List ℕ) → AreDistinct names → slice_get names r ≡ Some (shown asked) → (k : ℕ) → k < r → is_asked asked (get_or names k no_name) ≡ false
-other_before names r asked distinct h k below =
+pub asked_is_text : (asked : List ℕ) (name : RouteName) → is_asked asked name ≡ true → asked ≡ name.text
+asked_is_text asked name h = (bytes_eq-Decides asked name.text).0 (both name.is_shown (bytes_eq asked name.text) h).second
+
+other_before : (names : List RouteName) (r : ℕ) (asked : List ℕ)
+    → AreDistinct names → has_name_at names r asked ≡ true → r < length names → (k : ℕ) → k < r → is_asked asked (get_or names k no_name) ≡ false
+other_before names r asked distinct h inside k below =
     false_from_ne_true _ (λ same.
-    let inside : r < length names = slice_get_within names r (shown asked) h in
-    let there : slice_get names k ≡ Some (shown asked) = slice_get-get_or names k no_name (omega arith) ∙ ap Some (asked_is asked (get_or names k no_name) same) in
+    let there : has_name_at names k asked ≡ true = ap (has_name asked) (slice_get-get_or names k no_name (omega arith)) ∙ same in
     let e : k ≡ r = distinct k r asked there h in
     omega arith)
 
 -- a shown name is found
-pub name_found : (names : List RouteName) (r : ℕ) (name : RouteName) (asked : List ℕ) → AreDistinct names → slice_get names r ≡ Some name → is_asked asked name ≡ true → index_of names asked ≡ Some r
+pub name_found : (names : List RouteName) (r : ℕ) (name : RouteName) (asked : List ℕ)
+    → AreDistinct names → slice_get names r ≡ Some name → is_asked asked name ≡ true → index_of names asked ≡ Some r
 name_found names r name asked distinct h is =
     let inside : r < length names = slice_get_within names r name h in
     let here : is_asked asked (get_or names r no_name) ≡ true = ap (is_asked asked) (get_or_from_slice_get names r name no_name h) ∙ is in
     let at : position_or_len (is_asked asked) names ≡ r =
-    position_or_len_is (is_asked asked) names r no_name (omega arith) (other_before names r asked distinct (h ∙ ap Some (asked_is asked name is))) (λ w. here) in
+    position_or_len_is (is_asked asked) names r no_name (omega arith)
+    (other_before names r asked distinct (ap (has_name asked) h ∙ is) inside) (λ w. here) in
     rw at (grind (arith, nat_tests))
 
 -- a route that is shown exists
@@ -86,10 +89,19 @@ found_shown names r asked e =
     let found = position-Some (is_asked asked) names r no_name e in
     ap shows (slice_get-get_or names r no_name found.0) ∙ asked_is_shown asked (get_or names r no_name) found.1
 
-pub found_there : (names : List RouteName) (r : ℕ) (text : List ℕ) → index_of names text ≡ Some r → slice_get names r ≡ Some (shown text)
+pub found_there : (names : List RouteName) (r : ℕ) (text : List ℕ) → index_of names text ≡ Some r → has_name_at names r text ≡ true
 found_there names r text e =
     let found = position-Some (is_asked text) names r no_name e in
-    slice_get-get_or names r no_name found.0 ∙ ap Some (asked_is text (get_or names r no_name) found.1)
+    ap (has_name text) (slice_get-get_or names r no_name found.0) ∙ found.1
+
+-- a route that has a name is shown, and has this text
+pub has_name_shown : (text : List ℕ) (o : Option RouteName) → has_name text o ≡ true → shows o ≡ true
+has_name_shown text (Some name) h = asked_is_shown text name h
+has_name_shown text None h = cc
+
+pub has_name_text : (text : List ℕ) (o : Option RouteName) → has_name text o ≡ true → option_map (λ (name : RouteName). name.text) o ≡ Some text
+has_name_text text (Some name) h = ap Some (sym (asked_is_text text name h))
+has_name_text text None h = cc
 
 pub any_taken : (name : List ℕ) (es : List Entry) → list_any (λ (e : Entry). bytes_eq (terms_of e).name name) es ≡ is_taken name (map terms_of es)
 any_taken name es = sym (any_of (λ (e : Terms). bytes_eq e.name name) terms_of es)
@@ -98,7 +110,8 @@ pub all_limited : (es : List Entry) → list_all (λ (e : Entry). in_limits (ter
 all_limited es = sym (list_all-map in_limits terms_of es)
 
 -- the names of entries, the first apart
-pub names_step : (es : List Entry) (d : Entry) → 0 < length es → are_names (map terms_of es) ≡ (is_fresh (terms_of (get_or es 0 d)) (map terms_of (drop 1 es)) && are_names (map terms_of (drop 1 es)))
+pub names_step : (es : List Entry) (d : Entry) → 0 < length es
+    → are_names (map terms_of es) ≡ (is_fresh (terms_of (get_or es 0 d)) (map terms_of (drop 1 es)) && are_names (map terms_of (drop 1 es)))
 names_step [] d h = absurd (omega arith)
 names_step (e ∷ es) d h = refl
 
@@ -107,6 +120,12 @@ pub name_at : (es : List Entry) (i : ℕ) (d : Entry) → i < length es → slic
 name_at [] i d h = absurd (omega arith)
 name_at (e ∷ es) zero d h = refl
 name_at (e ∷ es) (suc i) d h = name_at es i d (omega arith)
+
+pub route_at : (es : List Entry) (i : ℕ) (d : Entry)
+    → i < length es → slice_get (map name_of (map terms_of es)) i ≡ Some (name_of (terms_of (get_or es i d)))
+route_at [] i d h = absurd (omega arith)
+route_at (e ∷ es) zero d h = refl
+route_at (e ∷ es) (suc i) d h = route_at es i d (omega arith)
 
 -- one name more
 pub take_next : (names : List (List ℕ)) (i : ℕ) (name : List ℕ) → slice_get names i ≡ Some name → take (suc i) names ≡ take i names ++ name ∷ []
@@ -126,6 +145,8 @@ fresh e others name good taken p q h t =
     true_and (is_name (terms_of e).name) _ (sym (ap is_name p) ∙ sym q ∙ h)
 
 -- entries whose numbers are within their limits
-pub limited : (es : List Entry) (fits all : Bool) → fits ≡ is_between 1 511 (length es) → fits ≡ true → all ≡ list_all (λ (e : Entry). in_limits (terms_of e)) es → all ≡ are_in_limits (map terms_of es)
+pub limited : (es : List Entry) (fits all : Bool) → fits ≡ is_between 1 511 (length es) → fits ≡ true
+    → all ≡ list_all (λ (e : Entry). in_limits (terms_of e)) es
+    → all ≡ are_in_limits (map terms_of es)
 limited es fits all p h t =
     t ∙ all_limited es ∙ true_and (is_between 1 511 (length (map terms_of es))) _ (ap (is_between 1 511) (same_length terms_of es) ∙ sym p ∙ h)

@@ -1,7 +1,9 @@
 -- The class of a datagram and the routes.
-use Rattle.std.proofs.Common.{◌≡◌, ℕ, ◌-◌, ◌+◌, ◌/◌, ◌^◌, ◌<◌, ◌≤◌, Bool, true, false, cond, ◌&&◌, List, length, Option, None, Some, Result, Ok, Err, nat_lt, ◌==◌, refl, sym, ap, ◌∙◌, arith}
+use Rattle.std.proofs.Common.{◌≡◌, ℕ, ◌-◌, ◌+◌, ◌/◌, ◌^◌, ◌<◌, ◌≤◌, Bool, true, false, cond, ◌&&◌, List, length, Option, None, Some, Result}
+use Rattle.std.proofs.Common.{Ok, Err, nat_lt, ◌==◌, refl, sym, ap, ◌∙◌, arith}
 use Rattle.std.proofs.lemmas.Bool.Decides.{nat_tests}
 use Rattle.srt_seq.specs.declared.shared.Peer.{Peer}
+use Rattle.srt_seq.specs.declared.shared.Role.{Role}
 use Rattle.srt_packet.specs.declared.reading.PacketFault.{PacketFault}
 use Rattle.srt_packet.specs.declared.reading.PacketFault.TheVariants as faults
 use Rattle.srt_packet.specs.Grammar as packets
@@ -16,13 +18,14 @@ use Rattle.srt_hs.specs.Grammar.{Handshake}
 use Rattle.srt_hs.specs.Reading.{handshake_in}
 use Rattle.srt_streamid.specs.declared.reading.Ask.{Ask}
 use Rattle.srt_streamid.specs.declared.reading.AskFault.{AskFault}
-use Rattle.srt_streamid.specs.Reading.{ask_in, name_of}
+use Rattle.srt_streamid.specs.Reading.{ask_in, key_of, name_of}
 use Rattle.srt_cookie.specs.Cookie.{is_right}
 use Rattle.srt_lobby.specs.declared.classes.Class.{Class}
 use Rattle.srt_lobby.specs.declared.classes.Class.TheVariants.{Route, Dropped}
 use Rattle.srt_lobby.specs.declared.classes.Cause.TheVariants as causes
-use Rattle.srt_lobby.specs.Names.{RouteName, index_of, shows, is_shown_at}
-use Rattle.srt_lobby.specs.Lobby.{answered, reason_of, route_named, route_asked, by_route, by_reason, of_conclusion, by_kind, of_handshake, of_body, by_place, to_session, of_packet, class_of}
+use Rattle.srt_lobby.specs.Names.{RouteName, index_of, shows, is_shown_at, knows_caller, knows_caller_at, admits_caller, admits_caller_at}
+use Rattle.srt_lobby.specs.Lobby.{answered, reason_of, admitted, route_named, route_asked, by_route, by_reason, of_conclusion, by_kind, of_handshake}
+use Rattle.srt_lobby.specs.Lobby.{of_body, if_known, by_place, to_session, of_packet, class_of}
 use Rattle.srt_lobby.specs.Laws.{HasRoute, RouteIsItsOwn, RouteIsNamed, RouteIsShown, RouteHasHeader}
 use Rattle.srt_lobby.proofs.Finds.{found_name, name_found, found_shown, shown_within}
 
@@ -34,31 +37,66 @@ by_test : (r : ℕ) (b : Bool) (x y v w : Class) → Follows r x v → Follows r
 by_test r true x y v w p q = p
 by_test r false x y v w p q = q
 
-never_answered : (r : ℕ) (hs : Handshake) (what : AnswerKind) → answered hs what ≡ Route r → ⊥
+pub never_answered : (r : ℕ) (hs : Handshake) (what : AnswerKind) → answered hs what ≡ Route r → ⊥
 unfolding answered
 never_answered r hs what h = cc
 
-route_is : (hs : Handshake) (r : ℕ) (found : Option ℕ) → by_route hs found ≡ Route r → found ≡ Some r
+pub route_is : (hs : Handshake) (r : ℕ) (found : Option ℕ) → by_route hs found ≡ Route r → found ≡ Some r
 route_is hs r (Some s) h = cc
 route_is hs r None h = absurd (never_answered r hs _ h)
 
-module _ (secret : List ℕ) (names others : List RouteName) (r : ℕ) (name : RouteName) (has : HasRoute names r name) (have : HasRoute others r name) (peer : Peer) (moment : ℕ) where
+-- a route that is admitted was found, and admits the caller
+pub record IsAdmitted (names : List RouteName) (peer : Peer) (role : Role) (brought : Option (List ℕ)) (r : ℕ) (found : Option ℕ) : Type 0 where
+  pub is : found ≡ Some r
+  pub admits : admits_caller_at names r peer role brought ≡ true
+
+pub admitted_is : (names : List RouteName) (peer : Peer) (role : Role) (brought : Option (List ℕ)) (r : ℕ) (found : Option ℕ)
+    → admitted names peer role brought found ≡ Some r → IsAdmitted names peer role brought r found
+admitted_is names peer role brought r (Some s) h = by (admits_caller_at names s peer role brought) refl h
+  where
+    by : (b : Bool) → admits_caller_at names s peer role brought ≡ b → cond b (Some s) None ≡ Some r → IsAdmitted names peer role brought r (Some s)
+    by true e h =
+        let same : s ≡ r = cc in
+        record { is = h; admits = ap (λ (k : ℕ). admits_caller_at names k peer role brought) (sym same) ∙ e }
+    by false e h = cc
+admitted_is names peer role brought r None h = cc
+
+-- of packets with destination 0, handshakes alone are for a route
+pub only_a_handshake : (secret : List ℕ) (names : List RouteName) (peer : Peer) (moment r : ℕ) (body : Body)
+    → of_body secret names peer moment body ≡ Route r → (info : List ℕ) × (body ≡ packets.Handshake info)
+only_a_handshake secret names peer moment r (packets.Handshake info) h = (info, refl)
+only_a_handshake secret names peer moment r (packets.Data number encryption payload) h = cc
+only_a_handshake secret names peer moment r packets.KeepAlive h = cc
+only_a_handshake secret names peer moment r (packets.Ack number info) h = cc
+only_a_handshake secret names peer moment r (packets.Nak info) h = cc
+only_a_handshake secret names peer moment r packets.CongestionWarning h = cc
+only_a_handshake secret names peer moment r packets.Shutdown h = cc
+only_a_handshake secret names peer moment r (packets.AckAck number) h = cc
+only_a_handshake secret names peer moment r (packets.DropRequest message first last) h = cc
+only_a_handshake secret names peer moment r packets.PeerError h = cc
+only_a_handshake secret names peer moment r packets.UserDefined h = cc
+
+module _ (secret : List ℕ) (names others : List RouteName) (r : ℕ) (name : RouteName) (has : HasRoute names r name)
+    (have : HasRoute others r name) (peer : Peer) (moment : ℕ) where
   index_follows : (asked : List ℕ) → index_of names asked ≡ Some r → index_of others asked ≡ Some r
   index_follows asked h = name_found others r name asked have.distinct have.named (found_name names r name asked has.named h)
 
-  named_follows : (bytes : List ℕ) (ask : Result Ask AskFault) → route_named names bytes ask ≡ Some r → route_named others bytes ask ≡ Some r
-  named_follows bytes (Ok ask) h = index_follows (name_of bytes ask) h
+  named_follows : (bytes : List ℕ) (ask : Result Ask AskFault) → route_named names peer bytes ask ≡ Some r → route_named others peer bytes ask ≡ Some r
+  named_follows bytes (Ok ask) h =
+      let was = admitted_is names peer ask.role (key_of bytes) r (index_of names (name_of bytes ask)) h in
+      ap (admitted others peer ask.role (key_of bytes)) (index_follows (name_of bytes ask) was.is)
+      ∙ ap (λ (b : Bool). cond b (Some r) None) (ap (admits_caller peer ask.role (key_of bytes)) (have.named ∙ sym has.named) ∙ was.admits)
   named_follows bytes (Err fault) h = h
 
-  asked_follows : (id : Option (List ℕ)) → route_asked names id ≡ Some r → route_asked others id ≡ Some r
+  asked_follows : (id : Option (List ℕ)) → route_asked names peer id ≡ Some r → route_asked others peer id ≡ Some r
   asked_follows (Some bytes) h = named_follows bytes (ask_in bytes) h
   asked_follows None h = h
 
-  reason_follows : (hs : Handshake) (reason : Option RefusalCode) → Follows r (by_reason names hs reason) (by_reason others hs reason)
+  reason_follows : (hs : Handshake) (reason : Option RefusalCode) → Follows r (by_reason names peer hs reason) (by_reason others peer hs reason)
   reason_follows hs (Some code) h = h
-  reason_follows hs None h = ap (by_route hs) (asked_follows hs.blocks.stream_id (route_is hs r (route_asked names hs.blocks.stream_id) h))
+  reason_follows hs None h = ap (by_route hs) (asked_follows hs.blocks.stream_id (route_is hs r (route_asked names peer hs.blocks.stream_id) h))
 
-  conclusion_follows : (hs : Handshake) → Follows r (of_conclusion names hs) (of_conclusion others hs)
+  conclusion_follows : (hs : Handshake) → Follows r (of_conclusion names peer hs) (of_conclusion others peer hs)
   unfolding of_conclusion
   conclusion_follows hs = reason_follows hs (reason_of hs)
 
@@ -75,49 +113,61 @@ module _ (secret : List ℕ) (names others : List RouteName) (r : ℕ) (name : R
   handshake_follows (Err fault) h = h
 
   body_follows : (body : Body) → Follows r (of_body secret names peer moment body) (of_body secret others peer moment body)
-  body_follows (packets.Data number encryption payload) h = h
-  body_follows (packets.Handshake info) h = handshake_follows (handshake_in info) h
-  body_follows packets.KeepAlive h = h
-  body_follows (packets.Ack number info) h = h
-  body_follows (packets.Nak info) h = h
-  body_follows packets.CongestionWarning h = h
-  body_follows packets.Shutdown h = h
-  body_follows (packets.AckAck number) h = h
-  body_follows (packets.DropRequest message first last) h = h
-  body_follows packets.PeerError h = h
-  body_follows packets.UserDefined h = h
+  body_follows body h =
+      let at = only_a_handshake secret names peer moment r body h in
+      ap (of_body secret others peer moment) at.1
+      ∙ handshake_follows (handshake_in at.0) (sym (ap (of_body secret names peer moment) at.1) ∙ h)
 
-record IsPlace (names : List RouteName) (place r : ℕ) : Type 0 where
-  is : place ≡ r + 1
-  is_there : is_shown_at names r ≡ true
+pub record IsPlace (names : List RouteName) (peer : Peer) (place r : ℕ) : Type 0 where
+  pub is : place ≡ r + 1
+  pub is_there : is_shown_at names r ≡ true
+  pub is_known : knows_caller_at names r peer ≡ true
 
-place_is : (names : List RouteName) (place r : ℕ) → by_place names place ≡ Route r → IsPlace names place r
-place_is names place r h = by_cases (nat_lt 0 place) refl (is_shown_at names (place - 1)) refl h
+abbrev placed : (a b k : Bool) → (r : ℕ) → Class
+placed a b k r = cond (a && b) (if_known k r) (Dropped causes.UnknownId)
+
+pub place_is : (names : List RouteName) (peer : Peer) (place r : ℕ) → by_place names peer place ≡ Route r → IsPlace names peer place r
+place_is names peer place r h =
+    by_cases (nat_lt 0 place) refl (is_shown_at names (place - 1)) refl (knows_caller_at names (place - 1) peer) refl h
   where
-    by_cases : (a : Bool) → nat_lt 0 place ≡ a → (b : Bool) → is_shown_at names (place - 1) ≡ b → cond (a && b) (Route (place - 1)) (Dropped causes.UnknownId) ≡ Route r → IsPlace names place r
-    by_cases true p true q h =
+    by_cases : (a : Bool) → nat_lt 0 place ≡ a → (b : Bool) → is_shown_at names (place - 1) ≡ b → (k : Bool)
+        → knows_caller_at names (place - 1) peer ≡ k → placed a b k (place - 1) ≡ Route r
+        → IsPlace names peer place r
+    by_cases true p true q true known h =
         let e : place - 1 ≡ r = cc in
-        record { is = grind (arith, nat_tests); is_there = ap (is_shown_at names) (sym e) ∙ q }
-    by_cases true p false q h = cc
-    by_cases false p b q h = cc
+        record {
+          is = grind (arith, nat_tests);
+          is_there = ap (is_shown_at names) (sym e) ∙ q;
+          is_known = ap (λ (s : ℕ). knows_caller_at names s peer) (sym e) ∙ known;
+        }
+    by_cases true p true q false known h = cc
+    by_cases true p false q k known h = cc
+    by_cases false p b q k known h = cc
 
-place_goes : (names : List RouteName) (place r : ℕ) → IsPlace names place r → by_place names place ≡ Route r
-place_goes names place r h =
+place_goes : (names : List RouteName) (peer : Peer) (place r : ℕ) → IsPlace names peer place r → by_place names peer place ≡ Route r
+place_goes names peer place r h =
     let e : place - 1 ≡ r = omega (arith, h.is) in
     let some : nat_lt 0 place ≡ true = grind (arith, nat_tests, h.is) in
-    ap (λ (b : Bool). cond (b && is_shown_at names (place - 1)) (Route (place - 1)) (Dropped causes.UnknownId)) some
-    ∙ ap (λ (b : Bool). cond b (Route (place - 1)) (Dropped causes.UnknownId)) (ap (is_shown_at names) e ∙ h.is_there)
-    ∙ ap Route e
+    ap (λ (b : Bool). placed b (is_shown_at names (place - 1)) (knows_caller_at names (place - 1) peer) (place - 1)) some
+    ∙ ap (λ (s : ℕ). placed true (is_shown_at names s) (knows_caller_at names s peer) s) e
+    ∙ ap (λ (b : Bool). placed true b (knows_caller_at names r peer) r) h.is_there
+    ∙ ap (λ (k : Bool). placed true true k r) h.is_known
 
-session_follows : (names others : List RouteName) (r : ℕ) (name : RouteName) (has : HasRoute names r name) (have : HasRoute others r name) (dest : ℕ) → Follows r (to_session names dest) (to_session others dest)
-session_follows names others r name has have dest h =
-    let place = place_is names (dest / 2 ^ 20) r h in
-    place_goes others (dest / 2 ^ 20) r (record { is = place.is; is_there = ap shows (have.named ∙ sym has.named) ∙ place.is_there })
+session_follows : (names others : List RouteName) (r : ℕ) (name : RouteName) (has : HasRoute names r name) (have : HasRoute others r name)
+    (peer : Peer) (dest : ℕ)
+    → Follows r (to_session names peer dest) (to_session others peer dest)
+session_follows names others r name has have peer dest h =
+    let place = place_is names peer (dest / 2 ^ 20) r h in
+    let same = have.named ∙ sym has.named in
+    place_goes others peer (dest / 2 ^ 20) r
+    (record { is = place.is; is_there = ap shows same ∙ place.is_there; is_known = ap (knows_caller peer) same ∙ place.is_known })
 
-packet_follows : (secret : List ℕ) (names others : List RouteName) (r : ℕ) (name : RouteName) → HasRoute names r name → HasRoute others r name → (peer : Peer) (moment : ℕ) (packet : Result Packet PacketFault) →
+packet_follows : (secret : List ℕ) (names others : List RouteName) (r : ℕ) (name : RouteName)
+    → HasRoute names r name → HasRoute others r name → (peer : Peer) (moment : ℕ) (packet : Result Packet PacketFault) →
     Follows r (of_packet secret names peer moment packet) (of_packet secret others peer moment packet)
 packet_follows secret names others r name has have peer moment (Ok packet) h =
-    by_test r (packet.dest == 0) _ _ _ _ (body_follows secret names others r name has have peer moment packet.body) (session_follows names others r name has have packet.dest) h
+    by_test r (packet.dest == 0) _ _ _ _ (body_follows secret names others r name has have peer moment packet.body)
+    (session_follows names others r name has have peer packet.dest) h
 packet_follows secret names others r name has have peer moment (Err fault) h = h
 
 pub own : RouteIsItsOwn
@@ -136,19 +186,20 @@ either names r true x y p q = p
 either names r false x y p q = q
 
 module _ (secret : List ℕ) (names : List RouteName) (r : ℕ) (peer : Peer) (moment : ℕ) where
-  named_shown : (bytes : List ℕ) (ask : Result Ask AskFault) → route_named names bytes ask ≡ Some r → is_shown_at names r ≡ true
-  named_shown bytes (Ok ask) h = found_shown names r (name_of bytes ask) h
+  named_shown : (bytes : List ℕ) (ask : Result Ask AskFault) → route_named names peer bytes ask ≡ Some r → is_shown_at names r ≡ true
+  named_shown bytes (Ok ask) h =
+      found_shown names r (name_of bytes ask) (admitted_is names peer ask.role (key_of bytes) r (index_of names (name_of bytes ask)) h).is
   named_shown bytes (Err fault) h = cc
 
-  asked_shown : (id : Option (List ℕ)) → route_asked names id ≡ Some r → is_shown_at names r ≡ true
+  asked_shown : (id : Option (List ℕ)) → route_asked names peer id ≡ Some r → is_shown_at names r ≡ true
   asked_shown (Some bytes) h = named_shown bytes (ask_in bytes) h
   asked_shown None h = cc
 
-  reason_shown : (hs : Handshake) (reason : Option RefusalCode) → Shown names r (by_reason names hs reason)
+  reason_shown : (hs : Handshake) (reason : Option RefusalCode) → Shown names r (by_reason names peer hs reason)
   reason_shown hs (Some code) h = absurd (never_answered r hs _ h)
-  reason_shown hs None h = asked_shown hs.blocks.stream_id (route_is hs r (route_asked names hs.blocks.stream_id) h)
+  reason_shown hs None h = asked_shown hs.blocks.stream_id (route_is hs r (route_asked names peer hs.blocks.stream_id) h)
 
-  conclusion_shown : (hs : Handshake) → Shown names r (of_conclusion names hs)
+  conclusion_shown : (hs : Handshake) → Shown names r (of_conclusion names peer hs)
   unfolding of_conclusion
   conclusion_shown hs = reason_shown hs (reason_of hs)
 
@@ -165,20 +216,12 @@ module _ (secret : List ℕ) (names : List RouteName) (r : ℕ) (peer : Peer) (m
   handshake_shown (Err fault) h = cc
 
   body_shown : (body : Body) → Shown names r (of_body secret names peer moment body)
-  body_shown (packets.Data number encryption payload) h = cc
-  body_shown (packets.Handshake info) h = handshake_shown (handshake_in info) h
-  body_shown packets.KeepAlive h = cc
-  body_shown (packets.Ack number info) h = cc
-  body_shown (packets.Nak info) h = cc
-  body_shown packets.CongestionWarning h = cc
-  body_shown packets.Shutdown h = cc
-  body_shown (packets.AckAck number) h = cc
-  body_shown (packets.DropRequest message first last) h = cc
-  body_shown packets.PeerError h = cc
-  body_shown packets.UserDefined h = cc
+  body_shown body h =
+      let at = only_a_handshake secret names peer moment r body h in
+      handshake_shown (handshake_in at.0) (sym (ap (of_body secret names peer moment) at.1) ∙ h)
 
   packet_shown : (packet : Result Packet PacketFault) → Shown names r (of_packet secret names peer moment packet)
-  packet_shown (Ok packet) h = either names r (packet.dest == 0) _ _ (body_shown packet.body) (λ e. (place_is names (packet.dest / 2 ^ 20) r e).is_there) h
+  packet_shown (Ok packet) h = either names r (packet.dest == 0) _ _ (body_shown packet.body) (λ e. (place_is names peer (packet.dest / 2 ^ 20) r e).is_there) h
   packet_shown (Err fault) h = cc
 
 pub is_for_shown : RouteIsShown
@@ -188,7 +231,10 @@ is_for_shown secret names datagram moment r h = packet_shown secret names r data
 pub inside : RouteIsNamed
 inside secret names datagram moment r h = shown_within names r (is_for_shown secret names datagram moment r h)
 
-no_route : (secret : List ℕ) (names : List RouteName) (peer : Peer) (moment r : ℕ) (packet : Result Packet PacketFault) (fault : PacketFault) → packet ≡ Err fault → of_packet secret names peer moment packet ≡ Route r → ⊥
+no_route : (secret : List ℕ) (names : List RouteName) (peer : Peer) (moment r : ℕ) (packet : Result Packet PacketFault)
+    (fault : PacketFault)
+    → packet ≡ Err fault → of_packet secret names peer moment packet ≡ Route r
+    → ⊥
 no_route secret names peer moment r packet fault e h =
     let dropped : of_packet secret names peer moment packet ≡ Dropped causes.Packet = ap (of_packet secret names peer moment) e in
     cc
@@ -201,4 +247,6 @@ not_less n f = omega (arith, f)
 
 pub header : RouteHasHeader
 unfolding class_of
-header secret names datagram moment r h = not_less (length datagram.bytes) (λ short. no_route secret names datagram.peer moment r (packet_in datagram.bytes) faults.Short (packet_is_short datagram.bytes short) h)
+header secret names datagram moment r h =
+    not_less (length datagram.bytes)
+    (λ short. no_route secret names datagram.peer moment r (packet_in datagram.bytes) faults.Short (packet_is_short datagram.bytes short) h)

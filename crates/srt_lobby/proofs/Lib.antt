@@ -1,7 +1,11 @@
 pub mod Finds
 pub mod Distinct
 pub mod Kept
+pub mod Callers
+pub mod Refusing
 pub mod Bytes
 pub mod Changing
 pub mod Tables
 pub mod Rows
+pub mod HiddenNames
+pub mod Appending

@@ -1,19 +1,20 @@
 -- How the names of the routes change while a gateway runs: a route is added, hidden or shown. An index is never used
 -- again; the name of a hidden route may be.
-use Rattle.std.specs.Prelude.{◌≡◌, ◌≢◌, ◌↔◌, ℕ, zero, suc, ◌<◌, Bool, true, false, not, List, [], ◌∷◌, ◌++◌, length, map, Option, None, Some, IfSome, is_some, slice_get, nat_lt, ◌&&◌, if◌then◌else◌}
+use Rattle.std.specs.Prelude.{◌≡◌, ◌≢◌, ◌↔◌, ℕ, zero, suc, ◌<◌, Bool, true, false, not, List, [], ◌∷◌, ◌++◌, length, map, Option, None}
+use Rattle.std.specs.Prelude.{Some, IfSome, is_some, slice_get, nat_lt, ◌&&◌, if◌then◌else◌}
 use Rattle.srt_seq.specs.declared.shared.OpenFault.{OpenFault}
 use Rattle.srt_seq.specs.declared.shared.OpenFault.TheVariants as faults
 use Rattle.srt_seq.specs.Items.{Datagram}
 use Rattle.srt_seq.specs.Terms.{Terms}
 use Rattle.srt_seq.specs.Entries.{is_name, in_limits}
 use Rattle.srt_lobby.specs.declared.classes.Class.TheVariants.{Route}
-use Rattle.srt_lobby.specs.Names.{RouteName, shown, name_of, index_of, AreDistinct}
+use Rattle.srt_lobby.specs.Names.{RouteName, as_shown, name_of, index_of, AreDistinct}
 use Rattle.srt_lobby.specs.Lobby.{class_of}
 
 -- the names with the route with this index hidden, or shown
 abbrev pub marked_at : (is_shown : Bool) → (r : ℕ) → List RouteName → List RouteName
 marked_at is_shown r [] = []
-marked_at is_shown zero (name ∷ names) = record { text = name.text; is_shown = is_shown } ∷ names
+marked_at is_shown zero (name ∷ names) = record name { is_shown = is_shown } ∷ names
 marked_at is_shown (suc r) (name ∷ names) = name ∷ marked_at is_shown r names
 
 abbrev pub hidden_at : (r : ℕ) → List RouteName → List RouteName
@@ -53,23 +54,43 @@ ShowingKeepsNames = (names : List RouteName) (r : ℕ) → r < length names → 
 
 -- where no two routes have the same name, shown or not, no name is used by another route
 abbrev pub DistinctAreUnused : Type 0
-DistinctAreUnused = (names : List RouteName) → AreDistinct (map (λ (name : RouteName). shown name.text) names) → (r : ℕ) → IsUnused r names
+DistinctAreUnused = (names : List RouteName) → AreDistinct (map as_shown names) → (r : ℕ) → IsUnused r names
 
 -- a datagram is for a route with some names if it is with others
 abbrev pub AreSameFor : (r : ℕ) → (names others : List RouteName) → Type 0
 AreSameFor r names others =
-    (secret : List ℕ) (datagram : Datagram) (moment : ℕ) → (class_of secret names datagram moment ≡ Route r) ↔ (class_of secret others datagram moment ≡ Route r)
+    (secret : List ℕ) (datagram : Datagram) (moment : ℕ)
+    → (class_of secret names datagram moment ≡ Route r) ↔ (class_of secret others datagram moment ≡ Route r)
 
 -- the routes that are there keep their datagrams when another one is added, hidden or shown
 abbrev pub AddingKeepsOthers : Type 0
-AddingKeepsOthers = (names : List RouteName) (e : Terms) (r : ℕ) → r < length names → fault_of_adding names e ≡ None → AreDistinct names → AreSameFor r names (added e names)
+AddingKeepsOthers =
+    (names : List RouteName) (e : Terms) (r : ℕ)
+    → r < length names → fault_of_adding names e ≡ None → AreDistinct names → AreSameFor r names (added e names)
 
 abbrev pub HidingKeepsOthers : Type 0
 HidingKeepsOthers = (names : List RouteName) (s r : ℕ) → r < length names → r ≢ s → AreDistinct names → AreSameFor r names (hidden_at s names)
 
 abbrev pub ShowingKeepsOthers : Type 0
-ShowingKeepsOthers = (names : List RouteName) (s r : ℕ) → r < length names → s < length names → r ≢ s → IsUnused s names → AreDistinct names → AreSameFor r names (shown_at s names)
+ShowingKeepsOthers =
+    (names : List RouteName) (s r : ℕ)
+    → r < length names → s < length names → r ≢ s → IsUnused s names → AreDistinct names → AreSameFor r names (shown_at s names)
 
 -- a hidden route has no datagrams
 abbrev pub HiddenHasNone : Type 0
-HiddenHasNone = (secret : List ℕ) (names : List RouteName) (r : ℕ) (datagram : Datagram) (moment : ℕ) → class_of secret (hidden_at r names) datagram moment ≡ Route r → ⊥
+HiddenHasNone =
+    (secret : List ℕ) (names : List RouteName) (r : ℕ) (datagram : Datagram) (moment : ℕ)
+    → class_of secret (hidden_at r names) datagram moment ≡ Route r → ⊥
+
+-- all of these are hidden
+abbrev pub AreHidden : List RouteName → Type 0
+AreHidden [] = Unit {0}
+AreHidden (name ∷ names) = (name.is_shown ≡ false) × AreHidden names
+
+-- hidden routes behind the others change no datagram's class: a route may be appended, hidden, long before it is shown
+abbrev pub HiddenChangeNothing : Type 0
+HiddenChangeNothing =
+    (secret : List ℕ) (names more : List RouteName)
+    → AreHidden more
+    → (datagram : Datagram) (moment : ℕ)
+    → class_of secret (names ++ more) datagram moment ≡ class_of secret names datagram moment

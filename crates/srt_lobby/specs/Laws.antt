@@ -1,12 +1,21 @@
 -- Which datagrams are which route's.
-use Rattle.std.specs.Prelude.{◌≡◌, ◌↔◌, ℕ, ◌<◌, ◌≤◌, true, List, length, None, Some, map, slice_get}
+use Rattle.std.specs.Prelude.{◌≡◌, ◌↔◌, ℕ, ◌<◌, ◌≤◌, true, List, length, None, Some, Ok, map, slice_get}
+use Rattle.srt_seq.specs.Access.{AccessTerms, in_role, knows, admits}
 use Rattle.srt_seq.specs.Items.{Datagram}
 use Rattle.srt_seq.specs.Terms.{Terms}
+use Rattle.srt_packet.specs.Grammar as packets
+use Rattle.srt_packet.specs.Grammar.{Packet as ReadPacket}
+use Rattle.srt_packet.specs.Reading.{packet_in}
 use Rattle.srt_packet.specs.declared.writing.Packet.{Packet}
 use Rattle.srt_packet.specs.declared.writing.Body.TheVariants as bodies
 use Rattle.srt_packet.specs.Text.{text}
+use Rattle.srt_hs.specs.declared.handshake.HsKind.TheVariants as kinds
+use Rattle.srt_hs.specs.Grammar.{Handshake}
+use Rattle.srt_hs.specs.Reading.{handshake_in}
 use Rattle.srt_hs.specs.declared.writing.HsAnswer.{HsAnswer}
 use Rattle.srt_hs.specs.Text.{answer_text}
+use Rattle.srt_streamid.specs.declared.reading.Ask.{Ask}
+use Rattle.srt_streamid.specs.Reading.{ask_in, key_of}
 use Rattle.srt_lobby.specs.declared.classes.Class.TheVariants.{Route}
 use Rattle.srt_lobby.specs.Names.{RouteName, AreDistinct, is_shown_at, name_of}
 use Rattle.srt_lobby.specs.Opening.{fault_of}
@@ -21,8 +30,8 @@ pub record HasRoute (names : List RouteName) (r : ℕ) (name : RouteName) : Type
 abbrev pub NamesAreDistinct : Type 0
 NamesAreDistinct = (entries : List Terms) → fault_of entries ≡ None → AreDistinct (map name_of entries)
 
--- whether a datagram is for a route depends on the secret, the route's index, its name, whether it is shown, and that
--- datagram: other routes, their names and their number make no difference
+-- whether a datagram is for a route depends on the secret, the route's index, its name, whether it is shown, who may call
+-- it, and that datagram: other routes, their names and their number make no difference
 abbrev pub RouteIsItsOwn : Type 0
 RouteIsItsOwn =
     (secret : List ℕ) (names others : List RouteName) (r : ℕ) (name : RouteName) → HasRoute names r name → HasRoute others r name →
@@ -39,6 +48,28 @@ abbrev pub RouteIsShown : Type 0
 RouteIsShown =
     (secret : List ℕ) (names : List RouteName) (datagram : Datagram) (moment r : ℕ) →
     class_of secret names datagram moment ≡ Route r → is_shown_at names r ≡ true
+
+-- what a datagram asks for: it is a conclusion, and its Stream ID is these bytes, which ask for a name in a role
+pub record IsAsking (datagram : Datagram) (bytes : List ℕ) (ask : Ask) : Type 0 where
+  pub says : (packet : ReadPacket) × (info : List ℕ) × (hs : Handshake) × (packet_in datagram.bytes ≡ Ok packet)
+      × (packet.body ≡ packets.Handshake info) × (handshake_in info ≡ Ok hs) × (hs.kind ≡ kinds.Conclusion)
+      × (hs.blocks.stream_id ≡ Some bytes)
+  pub asks : ask_in bytes ≡ Ok ask
+
+-- the sender of a datagram may call a route with these lists and keys: its address is in one of the lists; and if the
+-- packet has destination 0, it is a conclusion, the address is in the list of the role that it asks for, and it brings
+-- the key of that role
+abbrev pub MayCall : AccessTerms → Datagram → Type 0
+MayCall access datagram =
+    (knows access datagram.peer ≡ true) ×
+    ((packet : ReadPacket) → packet_in datagram.bytes ≡ Ok packet → packet.dest ≡ 0 →
+    (bytes : List ℕ) × (ask : Ask) × IsAsking datagram bytes ask × (admits (in_role access ask.role) datagram.peer (key_of bytes) ≡ true))
+
+-- whatever arrives, the sender of a datagram for a route may call the route
+abbrev pub RouteIsForCallers : Type 0
+RouteIsForCallers =
+    (secret : List ℕ) (names : List RouteName) (datagram : Datagram) (moment r : ℕ) (name : RouteName) → slice_get names r ≡ Some name →
+    class_of secret names datagram moment ≡ Route r → MayCall name.access datagram
 
 -- a datagram for a route has a whole header
 abbrev pub RouteHasHeader : Type 0

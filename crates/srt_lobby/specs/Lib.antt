@@ -4,5 +4,6 @@ pub mod RouteNames
 pub mod Tables
 pub mod Names
 pub mod Lobby
+pub mod Causes
 pub mod Laws
 pub mod Changing

@@ -1,7 +1,10 @@
--- The class of a datagram. It depends on the secret, the routes' names, which of them are shown, and the datagram alone.
--- The order of the tests is this profile's.
-use Rattle.std.specs.Prelude.{ℕ, ◌-◌, ◌/◌, ◌^◌, List, Option, None, Some, is_some, not, Result, Ok, Err, nat_le, nat_lt, ◌==◌, ◌++◌, ◌&&◌, ◌||◌, if◌then◌else◌}
+-- The class of a datagram. It depends on the secret, the routes' names, which of them are shown, who may call them, and the
+-- datagram alone.
+-- The order of the tests is our choice.
+use Rattle.std.specs.Prelude.{ℕ, Bool, ◌-◌, ◌/◌, ◌^◌, List, Option, None, Some, is_some, not, Result, Ok, Err, nat_le, nat_lt, ◌==◌, ◌++◌}
+use Rattle.std.specs.Prelude.{◌&&◌, ◌||◌, if◌then◌else◌}
 use Rattle.srt_seq.specs.declared.shared.Peer.{Peer}
+use Rattle.srt_seq.specs.declared.shared.Role.{Role}
 use Rattle.srt_seq.specs.Items.{Datagram}
 use Rattle.srt_seq.specs.Words.{word}
 use Rattle.srt_packet.specs.declared.reading.PacketFault.{PacketFault}
@@ -21,12 +24,12 @@ use Rattle.srt_hs.specs.Reading.{handshake_in}
 use Rattle.srt_hs.specs.Text.{answer_text}
 use Rattle.srt_streamid.specs.declared.reading.Ask.{Ask}
 use Rattle.srt_streamid.specs.declared.reading.AskFault.{AskFault}
-use Rattle.srt_streamid.specs.Reading.{ask_in, name_of}
+use Rattle.srt_streamid.specs.Reading.{ask_in, key_of, name_of}
 use Rattle.srt_cookie.specs.Cookie.{cookie_of, is_right, minute_of}
 use Rattle.srt_lobby.specs.declared.classes.Class.{Class}
 use Rattle.srt_lobby.specs.declared.classes.Class.TheVariants.{Answer, Route, Dropped}
 use Rattle.srt_lobby.specs.declared.classes.Cause.TheVariants as causes
-use Rattle.srt_lobby.specs.Names.{RouteName, index_of, is_shown_at}
+use Rattle.srt_lobby.specs.Names.{RouteName, index_of, is_shown_at, knows_caller_at, admits_caller_at}
 
 -- the 64 bytes of an answer: a handshake packet (section 3.2) with timestamp 0, to the caller's socket
 abbrev pub answer_bytes : (id : ℕ) → HsAnswer → List ℕ
@@ -50,15 +53,20 @@ reason_of hs =
     else if hs.blocks.has_group then Some codes.Group
     else None
 
--- the index of the shown route that these bytes ask for, in either role
-abbrev pub route_named : (names : List RouteName) → (bytes : List ℕ) → Result Ask AskFault → Option ℕ
-route_named names bytes (Ok ask) = index_of names (name_of bytes ask)
-route_named names bytes (Err fault) = None
+-- this route, if it admits the caller in this role, with the key that it brought: by its list first, then by its key
+abbrev pub admitted : (names : List RouteName) → Peer → Role → (brought : Option (List ℕ)) → Option ℕ → Option ℕ
+admitted names peer role brought (Some r) = if admits_caller_at names r peer role brought then Some r else None
+admitted names peer role brought None = None
 
--- the index of the shown route that a Stream ID asks for, if there is one (appendix B)
-abbrev pub route_asked : (names : List RouteName) → Option (List ℕ) → Option ℕ
-route_asked names (Some bytes) = route_named names bytes (ask_in bytes)
-route_asked names None = None
+-- the index of the shown route that these bytes ask for, if it admits the caller in the role that they ask for
+abbrev pub route_named : (names : List RouteName) → Peer → (bytes : List ℕ) → Result Ask AskFault → Option ℕ
+route_named names peer bytes (Ok ask) = admitted names peer ask.role (key_of bytes) (index_of names (name_of bytes ask))
+route_named names peer bytes (Err fault) = None
+
+-- the index of the shown route that a Stream ID asks for, if there is one that admits the caller (appendix B)
+abbrev pub route_asked : (names : List RouteName) → Peer → Option (List ℕ) → Option ℕ
+route_asked names peer (Some bytes) = route_named names peer bytes (ask_in bytes)
+route_asked names peer None = None
 
 -- a conclusion that names this route, or none
 abbrev pub by_route : Handshake → Option ℕ → Class
@@ -66,18 +74,18 @@ by_route hs (Some r) = Route r
 by_route hs None = refused hs codes.Peer
 
 -- a conclusion that is refused for this reason, or isn't refused yet
-abbrev pub by_reason : (names : List RouteName) → Handshake → Option RefusalCode → Class
-by_reason names hs (Some code) = refused hs code
-by_reason names hs None = by_route hs (route_asked names hs.blocks.stream_id)
+abbrev pub by_reason : (names : List RouteName) → Peer → Handshake → Option RefusalCode → Class
+by_reason names peer hs (Some code) = refused hs code
+by_reason names peer hs None = by_route hs (route_asked names peer hs.blocks.stream_id)
 
 -- a conclusion with a valid cookie
-unfoldable pub of_conclusion : (names : List RouteName) → Handshake → Class
-of_conclusion names hs = by_reason names hs (reason_of hs)
+unfoldable pub of_conclusion : (names : List RouteName) → Peer → Handshake → Class
+of_conclusion names peer hs = by_reason names peer hs (reason_of hs)
 
 -- a handshake of this type (section 4.3.1)
 abbrev pub by_kind : (secret : List ℕ) → (names : List RouteName) → Peer → (moment : ℕ) → Handshake → HsKind → Class
 by_kind secret names peer moment hs kinds.Induction = answered hs (answers.Induction (cookie_of secret peer (minute_of moment)))
-by_kind secret names peer moment hs kinds.Conclusion = if is_right secret peer moment hs.cookie then of_conclusion names hs else Dropped causes.WrongCookie
+by_kind secret names peer moment hs kinds.Conclusion = if is_right secret peer moment hs.cookie then of_conclusion names peer hs else Dropped causes.WrongCookie
 by_kind secret names peer moment hs _ = Dropped causes.WrongKind
 
 abbrev pub of_handshake : (secret : List ℕ) → (names : List RouteName) → Peer → (moment : ℕ) → Result Handshake HsFault → Class
@@ -89,17 +97,23 @@ abbrev pub of_body : (secret : List ℕ) → (names : List RouteName) → Peer �
 of_body secret names peer moment (packets.Handshake info) = of_handshake secret names peer moment (handshake_in info)
 of_body secret names peer moment _ = Dropped causes.NotHandshake
 
--- the route with this index + 1, if there is one and it is shown
-abbrev pub by_place : (names : List RouteName) → (place : ℕ) → Class
-by_place names place = if nat_lt 0 place && is_shown_at names (place - 1) then Route (place - 1) else Dropped causes.UnknownId
+-- a shown route's, if the caller's address is in one of its lists
+abbrev pub if_known : (known : Bool) → (r : ℕ) → Class
+if_known known r = if known then Route r else Dropped causes.NotAllowed
 
--- a session's socket ID has its route's index + 1 at bit 20 (this profile)
-abbrev pub to_session : (names : List RouteName) → (dest : ℕ) → Class
-to_session names dest = by_place names (dest / 2 ^ 20)
+-- the route with this index + 1, if there is one, it is shown and it knows the caller
+abbrev pub by_place : (names : List RouteName) → Peer → (place : ℕ) → Class
+by_place names peer place =
+    if nat_lt 0 place && is_shown_at names (place - 1)
+    then if_known (knows_caller_at names (place - 1) peer) (place - 1) else Dropped causes.UnknownId
+
+-- a session's socket ID has its route's index + 1 at bit 20 (our choice)
+abbrev pub to_session : (names : List RouteName) → Peer → (dest : ℕ) → Class
+to_session names peer dest = by_place names peer (dest / 2 ^ 20)
 
 abbrev pub of_packet : (secret : List ℕ) → (names : List RouteName) → Peer → (moment : ℕ) → Result Packet PacketFault → Class
 of_packet secret names peer moment (Ok packet) =
-    if packet.dest == 0 then of_body secret names peer moment packet.body else to_session names packet.dest
+    if packet.dest == 0 then of_body secret names peer moment packet.body else to_session names peer packet.dest
 of_packet secret names peer moment (Err fault) = Dropped causes.Packet
 
 -- the class of a datagram

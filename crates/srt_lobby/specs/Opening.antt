@@ -1,4 +1,4 @@
--- Which entries a gateway can be opened with (this profile).
+-- Which entries a gateway can be opened with (our choice).
 use Rattle.std.specs.Prelude.{ℕ, Bool, true, Option, None, Some, List, [], ◌∷◌, length, ◌&&◌, not, if◌then◌else◌}
 use Rattle.std.specs.List.{list_any, list_all}
 use Rattle.std.specs.Str.{bytes_eq}

@@ -1,19 +1,35 @@
 -- The names of routes, in the order of their indexes.
 use Rattle.std.specs.Prelude.{◌≡◌, ℕ, Bool, true, false, List, Option, position, slice_get, None, Some, ◌&&◌}
 use Rattle.std.specs.Str.{bytes_eq}
+use Rattle.srt_seq.specs.declared.shared.Peer.{Peer}
+use Rattle.srt_seq.specs.declared.shared.Role.{Role}
+use Rattle.srt_seq.specs.Access.{AccessTerms, in_role, admits, knows}
 use Rattle.srt_seq.specs.Terms.{Terms}
 
--- the name of a route, and whether the route is shown: datagrams are for shown routes alone
+-- the name of a route, whether the route is shown, and who may call it: datagrams are for shown routes alone
 pub record RouteName : Type 0 where
   pub text : List ℕ
   pub is_shown : Bool
+  pub access : AccessTerms
 
-abbrev pub shown : (text : List ℕ) → RouteName
-shown text = record { text = text; is_shown = true }
+abbrev pub shown : (text : List ℕ) → AccessTerms → RouteName
+shown text access = record { text = text; is_shown = true; access = access }
+
+-- the same route, shown
+abbrev pub as_shown : RouteName → RouteName
+as_shown name = record name { is_shown = true }
+
+-- a route that isn't shown yet
+abbrev pub hidden : (text : List ℕ) → AccessTerms → RouteName
+hidden text access = record { text = text; is_shown = false; access = access }
+
+-- the same route, hidden
+abbrev pub as_hidden : RouteName → RouteName
+as_hidden name = record name { is_shown = false }
 
 -- the name of a route that a gateway is opened with
 abbrev pub name_of : Terms → RouteName
-name_of e = shown e.name
+name_of e = shown e.name e.access
 
 -- whether this name is asked for, and its route is shown
 abbrev pub is_asked : (text : List ℕ) → RouteName → Bool
@@ -31,6 +47,30 @@ shows None = false
 abbrev pub is_shown_at : (names : List RouteName) → (r : ℕ) → Bool
 is_shown_at names r = shows (slice_get names r)
 
+-- whether there is a route with this index that is shown with this name
+abbrev pub has_name : (text : List ℕ) → Option RouteName → Bool
+has_name text (Some name) = is_asked text name
+has_name text None = false
+
+abbrev pub has_name_at : (names : List RouteName) → (r : ℕ) → (text : List ℕ) → Bool
+has_name_at names r text = has_name text (slice_get names r)
+
 -- no two shown routes have the same name
 abbrev pub AreDistinct : List RouteName → Type 0
-AreDistinct names = (i j : ℕ) (text : List ℕ) → slice_get names i ≡ Some (shown text) → slice_get names j ≡ Some (shown text) → i ≡ j
+AreDistinct names = (i j : ℕ) (text : List ℕ) → has_name_at names i text ≡ true → has_name_at names j text ≡ true → i ≡ j
+
+-- whether there is a route with this index that has the caller's address in one of its lists
+abbrev pub knows_caller : Peer → Option RouteName → Bool
+knows_caller peer (Some name) = knows name.access peer
+knows_caller peer None = false
+
+abbrev pub knows_caller_at : (names : List RouteName) → (r : ℕ) → Peer → Bool
+knows_caller_at names r peer = knows_caller peer (slice_get names r)
+
+-- whether there is a route with this index that admits the caller in this role, with the key that it brought
+abbrev pub admits_caller : Peer → Role → (brought : Option (List ℕ)) → Option RouteName → Bool
+admits_caller peer role brought (Some name) = admits (in_role name.access role) peer brought
+admits_caller peer role brought None = false
+
+abbrev pub admits_caller_at : (names : List RouteName) → (r : ℕ) → Peer → Role → (brought : Option (List ℕ)) → Bool
+admits_caller_at names r peer role brought = admits_caller peer role brought (slice_get names r)

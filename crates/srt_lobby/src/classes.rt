@@ -19,10 +19,12 @@ pub enum Cause {
     WrongKind,
     /// It is a conclusion whose cookie is neither that of this minute nor that of the minute before (section 4.3.1.1).
     WrongCookie,
+    /// Its destination isn't 0 and names a route, but none of the route's lists has the sender's address.
+    NotAllowed,
 }
 
 impl Cause {
-    /// The number of the cause in the output of a replay: 1 to 6, in the order above.
+    /// The number of the cause in the output of a replay: 1 to 7, in the order above.
     pub fn number(self) -> u8
         ensures { result ≡ number_of self }
     {
@@ -33,6 +35,7 @@ impl Cause {
             Cause::Handshake => 4,
             Cause::WrongKind => 5,
             Cause::WrongCookie => 6,
+            Cause::NotAllowed => 7,
         }
     }
 }

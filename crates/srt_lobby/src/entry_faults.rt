@@ -1,5 +1,5 @@
 //! The faults of entries: a gateway can be opened with 1 to 511 routes, with distinct names and numbers inside their
-//! limits (this profile).
+//! limits (our choice).
 
 ghost use Rattle.std.specs.Prelude.{◌≡◌, map};
 ghost use Rattle.std.specs.List.{list_any, list_all};
@@ -17,7 +17,7 @@ fn has_any(name: &[u8], entries: &[Entry]) -> bool
     entries.iter().any(|e| e.name.as_bytes() == name)
 }
 
-/// Whether one of these entries has this name. Linear in the number of entries. Takes no memory.
+/// Whether one of these entries has this name. Linear in the number of entries. Doesn't allocate.
 pub fn is_taken(name: &[u8], entries: &[Entry]) -> bool
     ensures { result ≡ is_taken name.now (map terms_of entries.now) }
 {

@@ -1,4 +1,4 @@
-//! What is done with a datagram, test by test (section 4.3.1; the order is this profile's).
+//! What is done with a datagram, test by test (section 4.3.1; the order is our choice).
 
 ghost use Rattle.std.specs.Prelude.{◌≡◌, ℕ, ◌^◌, ◌<◌, ◌≤◌, [], length};
 ghost use Rattle.srt_seq.specs.Items.{Datagram};
@@ -7,16 +7,18 @@ ghost use Rattle.srt_packet.specs.Reading.{packet_in};
 ghost use Rattle.srt_hs.specs.Text.{blocks_text};
 ghost use Rattle.srt_hs.specs.View.{handshake_of};
 ghost use Rattle.srt_hs.specs.Reading.{handshake_in};
-ghost use Rattle.srt_streamid.specs.Reading.{ask_in};
+ghost use Rattle.srt_streamid.specs.Reading.{ask_in, key_of};
 ghost use Rattle.srt_cookie.specs.Cookie.{secret_bytes};
-ghost use Rattle.srt_lobby.specs.Names.{names_of};
-ghost use Rattle.srt_lobby.specs.Lobby.{answer_bytes, answered as is_answered, refused as is_refused, reason_of, route_named, route_asked, by_kind, of_conclusion, of_handshake, of_body, to_session, of_packet, class_of};
+ghost use Rattle.srt_lobby.specs.Names.{names_of, knows_caller_at};
+ghost use Rattle.srt_lobby.specs.Lobby.{answer_bytes, answered as is_answered, refused as is_refused, reason_of, admitted, route_named, route_asked};
+ghost use Rattle.srt_lobby.specs.Lobby.{if_known};
+ghost use Rattle.srt_lobby.specs.Lobby.{by_kind, of_conclusion, of_handshake, of_body, to_session, of_packet, class_of};
 
 use crate::{Cause, Class, Names};
 use srt_cookie::{Secret, cookie, minute_of, right};
 use srt_hs::{AnswerKind, HsAnswer, HsKind, HsRef, RefusalCode, stream_id, write};
 use srt_packet::{Kind, PacketRef, decode};
-use srt_seq::{Peer, write_at};
+use srt_seq::{Peer, Role, write_at};
 
 /// The 64 bytes of a handshake packet with this answer, to the caller's socket `id`, with timestamp 0.
 fn answer(id: u32, initial: u32, what: AnswerKind) -> [u8; 64]
@@ -51,7 +53,7 @@ fn refused(hs: &HsRef<'_>, code: RefusalCode) -> Class
 /// there is no HSREQ; 1011 (SRT_REJ_UNSECURE) for a KMREQ, since there is no encryption; 1014 (SRT_REJ_FILTER) for a
 /// packet filter; 1015 (SRT_REJ_GROUP) for a connection group.
 #[tactic(auto, unfolding(crate::specs::Lobby::reason_of))]
-fn reason(hs: &HsRef<'_>) -> Option<RefusalCode>
+pub(crate) fn reason(hs: &HsRef<'_>) -> Option<RefusalCode>
     ensures { result ≡ reason_of (handshake_of hs.now) }
 {
     if hs.version != 5 {
@@ -69,37 +71,60 @@ fn reason(hs: &HsRef<'_>) -> Option<RefusalCode>
     }
 }
 
-/// The index of the route that a Stream ID asks for (appendix B); None if it has a fault or names no route.
-fn route_by_text(names: &Names, bytes: &[u8]) -> Option<usize>
-    ensures { result ≡ route_named (names_of names.now) bytes.now (ask_in bytes.now) }
+/// This route, if it admits the caller in this role, with this Stream ID; None if it doesn't or if there is none.
+fn admitted(
+    names: &Names,
+    peer: Peer,
+    role: Role,
+    bytes: &[u8],
+    found: Option<usize>,
+) -> Option<usize>
+    ensures { result ≡ admitted (names_of names.now) peer role (key_of bytes.now) found }
+{
+    let route = found?;
+    if names.admits(route, peer, role, bytes) {
+        Some(route)
+    } else {
+        None
+    }
+}
+
+/// The index of the route that a Stream ID asks for (appendix B); None if it has a fault, names no route, or names one
+/// that doesn't admit the caller.
+fn route_by_text(names: &Names, peer: Peer, bytes: &[u8]) -> Option<usize>
+    ensures { result ≡ route_named (names_of names.now) peer bytes.now (ask_in bytes.now) }
 {
     match srt_streamid::read(bytes) {
-        Ok(ask) => names.find(&bytes[ask.start..ask.start + ask.len]),
+        Ok(ask) => {
+            let found = names.find(&bytes[ask.start..ask.start + ask.len]);
+            admitted(names, peer, ask.role, bytes, found)
+        }
         Err(_) => None,
     }
 }
 
 /// The index of the route that a conclusion asks for; None also if it has no Stream ID.
-fn route_of(names: &Names, hs: &HsRef<'_>) -> Option<usize>
-    ensures { result ≡ route_asked (names_of names.now) (handshake_of hs.now).blocks.stream_id }
+fn route_of(names: &Names, peer: Peer, hs: &HsRef<'_>) -> Option<usize>
+    ensures { result ≡ route_asked (names_of names.now) peer (handshake_of hs.now).blocks.stream_id }
 {
     let mut text = [0; 512];
     match stream_id(hs, &mut text) {
-        Some(len) => route_by_text(names, &text[..len]),
+        Some(len) => route_by_text(names, peer, &text[..len]),
         None => None,
     }
 }
 
 /// The class of a conclusion with a valid cookie: refused for `reason`; refused with 1002 (SRT_REJ_PEER) if it has no
-/// Stream ID, one with a fault, or a name that is no route's; else for the named route.
+/// Stream ID, one with a fault, or a name that is no route's, or if the route doesn't admit the caller; else for the named
+/// route.
 #[tactic(auto, unfolding(crate::specs::Lobby::of_conclusion))]
-fn of_conclusion(names: &Names, hs: &HsRef<'_>) -> Class
-    ensures { result ≡ of_conclusion (names_of names.now) (handshake_of hs.now) }
+fn of_conclusion(names: &Names, peer: Peer, hs: &HsRef<'_>) -> Class
+    ensures { result ≡ of_conclusion (names_of names.now) peer (handshake_of hs.now) }
 {
     if let Some(code) = reason(hs) {
         return refused(hs, code);
     }
-    match route_of(names, hs) {
+    match route_of(names, peer, hs) {
         Some(route) => Class::Route(route),
         None => refused(hs, RefusalCode::Peer),
     }
@@ -115,7 +140,7 @@ fn of_handshake(secret: &Secret, names: &Names, peer: Peer, moment: u64, hs: &Hs
         }
         HsKind::Conclusion => {
             if right(secret, peer, moment, hs.cookie) {
-                of_conclusion(names, hs)
+                of_conclusion(names, peer, hs)
             } else {
                 Class::Dropped(Cause::WrongCookie)
             }
@@ -135,15 +160,27 @@ fn of_info(secret: &Secret, names: &Names, peer: Peer, moment: u64, info: &[u8])
     }
 }
 
-/// The class of a packet to this socket ID, which isn't 0: its bits from 20 up are the route's index + 1 (this
-/// profile).
+/// The class of a packet from this sender for a shown route: the route's, if one of its lists has the address.
 #[inline(always)]
-fn to_session(names: &Names, dest: u32) -> Class
-    ensures { result ≡ to_session (names_of names.now) dest }
+fn if_known(names: &Names, peer: Peer, route: usize) -> Class
+    ensures { result ≡ if_known (knows_caller_at (names_of names.now) route peer) route }
+{
+    if names.knows(route, peer) {
+        Class::Route(route)
+    } else {
+        Class::Dropped(Cause::NotAllowed)
+    }
+}
+
+/// The class of a packet to this socket ID, which isn't 0: its bits from 20 up are the route's index + 1 (our
+/// choice).
+#[inline(always)]
+fn to_session(names: &Names, peer: Peer, dest: u32) -> Class
+    ensures { result ≡ to_session (names_of names.now) peer dest }
 {
     let place = (dest >> 20) as usize;
     if 0 < place && names.shows(place - 1) {
-        Class::Route(place - 1)
+        if_known(names, peer, place - 1)
     } else {
         Class::Dropped(Cause::UnknownId)
     }
@@ -160,7 +197,7 @@ fn of_packet(
     ensures { result ≡ of_packet (secret_bytes secret.now) (names_of names.now) peer moment (Ok (packet_of packet.entry)) }
 {
     if packet.dest != 0 {
-        return to_session(names, packet.dest);
+        return to_session(names, peer, packet.dest);
     }
     match packet.kind {
         Kind::Handshake { info } => of_info(secret, names, peer, moment, info),
@@ -168,8 +205,9 @@ fn of_packet(
     }
 }
 
-/// Sorts a datagram that came from `peer` at this moment, in microseconds. Linear in its length; a name costs one
-/// look-up, for any number of routes. Takes no memory and changes nothing; the result depends on the arguments alone.
+/// Sorts a datagram that came from `peer` at this moment, in microseconds. Linear in its length and in the
+/// networks of the one route that it is for; a name costs one look-up, for any number of routes. Doesn't allocate and
+/// changes nothing; the result depends on the arguments alone.
 #[tactic(auto, unfolding(crate::specs::Lobby::class_of))]
 #[inline(always)]
 pub fn classify(secret: &Secret, names: &Names, peer: Peer, bytes: &[u8], moment: u64) -> Class

@@ -3,9 +3,12 @@
 
 ghost use Rattle.std.specs.Prelude.{◌^◌, ◌<◌};
 
+mod appending;
+mod causes;
+
 use crate::{Cause, Class, Names, classify};
 use srt_cookie::Secret;
-use srt_seq::{Entry, MOMENT_END, Mode, OpenFault, Peer};
+use srt_seq::{Access, Entry, MOMENT_END, Mode, OpenFault, Peer, Rules};
 use std::alloc::Global;
 use std::process::Abort;
 use std::test::Fail;
@@ -101,6 +104,8 @@ fn entry(alloc: Global, name: &str) -> Result<Entry, Fail> {
         sessions: 5,
         inbox: 16,
         outbox: 16,
+        access: Access::anyone(),
+        rules: Rules::DRAFT,
     })
 }
 
@@ -590,6 +595,7 @@ fn causes_have_their_numbers(rt: HostRuntime) -> Result<(), Fail> {
         (Cause::Handshake, 4),
         (Cause::WrongKind, 5),
         (Cause::WrongCookie, 6),
+        (Cause::NotAllowed, 7),
     ] {
         assert_eq!(rt; cause.number(), number);
     }

@@ -1,21 +1,16 @@
 -- Two looks that are equal.
 use Rattle.std.proofs.Common.{◌≡◌, ℕ, ◌-◌, ◌/◌, ◌%◌, Bool, true, false, not, cond, ◌==◌, nat_lt, ◌&&◌, ◌||◌, Option, None, Some, refl, ap, ◌∙◌, arith}
-use Rattle.std.proofs.lemmas.Bool.Decides.{nat_tests}
+use Rattle.std.proofs.lemmas.Bool.{and_from, eq-eqb}
 use Rattle.srt_log.specs.declared.looks.SessionLook.{SessionLook}
 use Rattle.srt_log.specs.declared.looks.RouteLook.{RouteLook}
 use Rattle.srt_log.specs.declared.changes.Change.{Change}
-use Rattle.srt_log.specs.Changes.{is_same, is_open, is_active, is_new, ended_at, opened_at, ended_at_once, took_over_at, slot_at, opened_below, unseen_of, unseen, change_at}
-
-alike : (n : ℕ) → (n == n) ≡ true
-alike n = grind (arith, nat_tests)
-
-both : (d e : Bool) → d ≡ true → e ≡ true → (d && e) ≡ true
-both true true h k = refl
-both true false h k = k
-both false e h k = h
+use Rattle.srt_log.specs.declared.events.Trouble.{Trouble}
+use Rattle.srt_log.specs.Changes.{is_same, is_open, is_active, is_new, ended_at, opened_at, ended_at_once, took_over_at, has_trouble}
+use Rattle.srt_log.specs.Changes.{trouble_at, troubled_at, slot_at, opened_below, unseen_of, unseen, change_at}
 
 same : (session : SessionLook) → is_same (Some session) (Some session) ≡ true
-same session = both (session.id == session.id) (session.opened_at == session.opened_at) (alike session.id) (alike session.opened_at)
+same session = and_from (session.id == session.id) (session.opened_at == session.opened_at) (eq-eqb session.id session.id refl)
+    (eq-eqb session.opened_at session.opened_at refl)
 
 never_new : (d : Bool) → d ≡ true → (not d) ≡ false
 never_new true h = refl
@@ -56,6 +51,16 @@ over_of false a n o = refl
 not_over : (slot : ℕ) (look : Option SessionLook) → took_over_at slot look look ≡ None
 not_over slot look = over_of (is_same look look) (is_active look) (not (is_open look)) _
 
+no_news : (s t : Bool) (o : Option Change) → s ≡ true → cond (not t) None (cond (s && t) None o) ≡ None
+no_news true true o h = refl
+no_news true false o h = refl
+no_news false t o h = cc
+
+no_trouble : (slot : ℕ) (trouble : Trouble) (look : Option SessionLook) → troubled_at slot trouble look look ≡ None
+no_trouble slot trouble None = refl
+no_trouble slot trouble (Some session) =
+    no_news (is_same (Some session) (Some session)) (has_trouble trouble (Some session)) _ (same session)
+
 nothing_unseen : (look : RouteLook) → unseen look look ≡ None
 unfolding unseen
 nothing_unseen look =
@@ -71,6 +76,8 @@ pub nothing_between : (look : RouteLook) (step : ℕ) → change_at look look st
 nothing_between look step =
     one_of (nat_lt step 17) _ _ (not_ended step (slot_at step look.slots))
     (one_of (nat_lt step 51) _ _
-    (one_of (step % 2 == 1) _ _ (not_opened ((step - 17) / 2) (slot_at ((step - 17) / 2) look.slots)) (not_ended_at_once ((step - 17) / 2) (slot_at ((step - 17) / 2) look.slots)))
+    (one_of (step % 2 == 1) _ _ (not_opened ((step - 17) / 2) (slot_at ((step - 17) / 2) look.slots))
+    (not_ended_at_once ((step - 17) / 2) (slot_at ((step - 17) / 2) look.slots)))
     (one_of (nat_lt step 68) _ _ (not_over (step - 51) (slot_at (step - 51) look.slots))
-    (one_of (step == 68) _ _ (nothing_unseen look) refl)))
+    (one_of (nat_lt step 119) _ _ (no_trouble ((step - 68) / 3) (trouble_at (step - 68)) (slot_at ((step - 68) / 3) look.slots))
+    (one_of (step == 119) _ _ (nothing_unseen look) refl))))

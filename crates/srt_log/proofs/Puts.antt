@@ -1,5 +1,7 @@
 -- Bytes put at the end of a text that is cut off.
-use Rattle.std.proofs.Common.{◌≡◌, ℕ, zero, suc, ◌+◌, ◌-◌, ◌<◌, ◌≤◌, List, [], ◌∷◌, ◌++◌, length, take, slice_index, refl, ap, sym, ◌∙◌, arith, append_assoc, length-append}
+use Rattle.std.proofs.Common.{◌≡◌, ℕ, zero, suc, ◌+◌, ◌<◌, ◌≤◌, List, [], ◌∷◌, ◌++◌, length, take, slice_index, refl, ap, sym, ◌∙◌, subst}
+use Rattle.std.proofs.Common.{arith, append_assoc, length-append}
+use Rattle.std.proofs.Math.Seq.{take-append-add}
 use Rattle.std.proofs.lemmas.List.{length-take-le, take_all, take_more, flat_map_more}
 use Rattle.std.specs.List.{flat_map}
 use Rattle.srt_log.specs.Texts.{put, escaped, escaped_all}
@@ -21,19 +23,12 @@ put_whole x a within =
     let fits : length (x ++ a) ≤ 1023 = omega (arith, length-append x a) in
     sym (take_all 1023 (x ++ a) fits)
 
-front : (n : ℕ) (x a : List ℕ) → length x ≤ n → take n (x ++ a) ≡ x ++ take (n - length x) a
-front n [] a within = let same : n ≡ n - 0 = omega arith in ap (λ (k : ℕ). take k a) same
-front zero (b ∷ x) a within = absurd (omega arith)
-front (suc n) (b ∷ x) a within =
-    let same : n - length x ≡ suc n - suc (length x) = omega arith in
-    ap (λ (l : List ℕ). b ∷ l) (front n x a (omega arith)) ∙ ap (λ (k : ℕ). b ∷ (x ++ take k a)) same
-
 -- of others their front is put
 pub put_front : (x a : List ℕ) (room : ℕ) → room + length x ≡ 1023 → x ++ take room a ≡ put x a
 unfolding put
 put_front x a room e =
-    let same : 1023 - length x ≡ room = omega arith in
-    ap (λ (k : ℕ). x ++ take k a) (sym same) ∙ sym (front 1023 x a (omega arith))
+    let full : length x + room ≡ 1023 = omega (arith, e) in
+    sym (subst (λ (n : ℕ). take n (x ++ a) ≡ x ++ take room a) full (take-append-add x a room))
 
 pub front_len : (room : ℕ) (a : List ℕ) → room ≤ length a → length (take room a) ≡ room
 front_len room a within = length-take-le room a within

@@ -7,6 +7,7 @@ pub no_slots : (old new : List (Option SessionLook)) → opened_below 0 old new 
 unfolding opened_below
 no_slots old new = refl
 
-pub next_slot : (count : ℕ) (old new : List (Option SessionLook)) → opened_below (count + 1) old new ≡ opened_below count old new + cond (is_new (slot_at count old) (slot_at count new)) 1 0
+pub next_slot : (count : ℕ) (old new : List (Option SessionLook))
+    → opened_below (count + 1) old new ≡ opened_below count old new + cond (is_new (slot_at count old) (slot_at count new)) 1 0
 unfolding opened_below
 next_slot count old new = rw add-one refl

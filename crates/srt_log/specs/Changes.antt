@@ -1,9 +1,13 @@
--- What came between two looks at a route.
-use Rattle.std.specs.Prelude.{◌≡◌, ℕ, zero, suc, ◌+◌, ◌-◌, ◌/◌, ◌%◌, Bool, false, not, ◌==◌, ◌&&◌, ◌||◌, nat_lt, List, Option, None, Some, is_some, is_none, slice_index_or, if◌then◌else◌}
+-- What changed at a route between two looks.
+use Rattle.std.specs.Prelude.{◌≡◌, ℕ, zero, suc, ◌+◌, ◌-◌, ◌/◌, ◌%◌, Bool, false, not, ◌==◌, ◌&&◌, ◌||◌, nat_lt, List, Option, None, Some}
+use Rattle.std.specs.Prelude.{is_some, is_none, slice_index_or, if◌then◌else◌}
 use Rattle.srt_log.specs.declared.looks.SessionLook.{SessionLook}
 use Rattle.srt_log.specs.declared.looks.RouteLook.{RouteLook}
+use Rattle.srt_log.specs.declared.looks.Troubles.{Troubles}
+use Rattle.srt_log.specs.declared.events.Trouble.{Trouble}
+use Rattle.srt_log.specs.declared.events.Trouble.TheVariants.{Misdirected, FullWindow, LatePackets}
 use Rattle.srt_log.specs.declared.changes.Change.{Change}
-use Rattle.srt_log.specs.declared.changes.Change.TheVariants.{Gone, Ended, Opened, TookOver, Unseen}
+use Rattle.srt_log.specs.declared.changes.Change.TheVariants.{Gone, Ended, Opened, TookOver, Troubled, Unseen}
 
 -- two looks at a slot have the same session
 abbrev pub is_same : (old new : Option SessionLook) → Bool
@@ -43,6 +47,26 @@ took_over_at slot old new =
     if not (is_same old new) then None
     else (if is_active old || not (is_active new) || not (is_open new) then None else Some (TookOver slot))
 
+-- how often this was wrong with a session's stream, and whether it was at all
+abbrev pub count_of : Trouble → Troubles → ℕ
+count_of Misdirected troubles = troubles.misdirected
+count_of FullWindow troubles = troubles.full_window
+count_of LatePackets troubles = troubles.late
+
+abbrev pub has_trouble : Trouble → Option SessionLook → Bool
+has_trouble trouble None = false
+has_trouble trouble (Some session) = not (count_of trouble session.troubles == 0)
+
+-- each slot has three steps, one for each trouble
+abbrev pub trouble_at : (step : ℕ) → Trouble
+trouble_at step = if step % 3 == 0 then Misdirected else (if step % 3 == 1 then FullWindow else LatePackets)
+
+-- it is wrong for the first time
+abbrev pub troubled_at : (slot : ℕ) → Trouble → (old new : Option SessionLook) → Option Change
+troubled_at slot trouble old new =
+    if not (has_trouble trouble new) then None
+    else (if is_same old new && has_trouble trouble old then None else Some (Troubled slot trouble))
+
 -- the session of a slot
 abbrev pub slot_at : (slot : ℕ) → List (Option SessionLook) → Option SessionLook
 slot_at slot slots = slice_index_or slots slot None
@@ -52,14 +76,14 @@ unfoldable pub opened_below : (count : ℕ) → (old new : List (Option SessionL
 opened_below zero old new = 0
 opened_below (suc count) old new = opened_below count old new + (if is_new (slot_at count old) (slot_at count new) then 1 else 0)
 
--- what came and went unseen
+-- how many sessions opened and ended between the looks, and how many conclusions were refused, if there were any
 abbrev pub unseen_of : (opened refused : ℕ) → Option Change
 unseen_of opened refused = if (opened == 0) && (refused == 0) then None else Some (Unseen opened refused)
 
 unfoldable pub unseen : (old new : RouteLook) → Option Change
 unseen old new = unseen_of (new.opened - old.opened - opened_below 17 old.slots new.slots) (new.refused - old.refused)
 
--- what came between two looks, step by step
+-- what changed between two looks, step by step
 abbrev pub change_at : (old new : RouteLook) → (step : ℕ) → Option Change
 change_at old new step =
     if nat_lt step 17 then ended_at step (slot_at step old.slots) (slot_at step new.slots)
@@ -67,7 +91,9 @@ change_at old new step =
     (if step % 2 == 1 then opened_at ((step - 17) / 2) (slot_at ((step - 17) / 2) old.slots) (slot_at ((step - 17) / 2) new.slots)
     else ended_at_once ((step - 17) / 2) (slot_at ((step - 17) / 2) old.slots) (slot_at ((step - 17) / 2) new.slots))
     else (if nat_lt step 68 then took_over_at (step - 51) (slot_at (step - 51) old.slots) (slot_at (step - 51) new.slots)
-    else (if step == 68 then unseen old new else None)))
+    else (if nat_lt step 119 then troubled_at ((step - 68) / 3) (trouble_at (step - 68)) (slot_at ((step - 68) / 3) old.slots)
+    (slot_at ((step - 68) / 3) new.slots)
+    else (if step == 119 then unseen old new else None))))
 
 -- two looks that are equal have nothing between them
 abbrev pub NothingBetweenEqual : Type 0

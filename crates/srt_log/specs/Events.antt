@@ -6,9 +6,13 @@ use Rattle.srt_seq.specs.declared.shared.Role.TheVariants.{Publish, Request}
 use Rattle.srt_log.specs.declared.events.Caller.{Caller}
 use Rattle.srt_log.specs.declared.events.SessionCounts.{SessionCounts}
 use Rattle.srt_log.specs.declared.events.EndReason.{EndReason}
-use Rattle.srt_log.specs.declared.events.EndReason.TheVariants.{Shutdown, Silence, WindowLost, StreamEnd, RouteClosed, GatewayStops, Unknown}
+use Rattle.srt_log.specs.declared.events.EndReason.TheVariants.{Shutdown, DrainedTooLong, Silence, WindowLost, StreamEnd, RouteClosed, GatewayStops, Unknown}
 use Rattle.srt_log.specs.declared.events.StopCause.{StopCause}
 use Rattle.srt_log.specs.declared.events.StopCause.TheVariants as causes
+use Rattle.srt_log.specs.declared.events.Trouble.{Trouble}
+use Rattle.srt_log.specs.declared.events.Trouble.TheVariants as troubles
+use Rattle.srt_seq.specs.declared.shared.NotAdmitted.{NotAdmitted}
+use Rattle.srt_seq.specs.declared.shared.NotAdmitted.TheVariants as obstacles
 use Rattle.srt_log.specs.declared.events.LogEvent.{LogEvent}
 use Rattle.srt_log.specs.declared.events.LogEvent.TheVariants as events
 use Rattle.srt_log.specs.Texts.{put, id_text, escaped_all}
@@ -31,6 +35,7 @@ opened_text standby = if standby then codes " opened as standby, socket " else c
 
 abbrev pub reason_text : EndReason → List ℕ
 reason_text Shutdown = codes ", its peer sent a SHUTDOWN"
+reason_text DrainedTooLong = codes ", its peer sent a SHUTDOWN, and not all of it could be delivered"
 reason_text Silence = codes ", nothing came from its peer"
 reason_text WindowLost = codes ", its window was lost"
 reason_text StreamEnd = codes ", the stream is at its end"
@@ -63,9 +68,36 @@ started_text ip port routes workers memory =
     codes "serving at " ++ socket_text ip port ++ codes ", routes " ++ decimal routes ++ codes ", workers " ++ decimal workers ++ codes ", memory "
     ++ decimal (memory / 1024) ++ codes " KiB"
 
-abbrev pub refused_text : (code : ℕ) → Peer → (asked : List ℕ) → List ℕ
-refused_text code peer asked =
+-- the list and the key of a role, as the configuration names them
+abbrev pub list_text : Role → List ℕ
+list_text Publish = codes ", not in publish_from"
+list_text Request = codes ", not in request_from"
+
+abbrev pub key_text : Role → List ℕ
+key_text Publish = codes ", publish_key missing or wrong"
+key_text Request = codes ", request_key missing or wrong"
+
+-- what stood against a caller
+abbrev pub refused_by_text : Option NotAdmitted → List ℕ
+refused_by_text None = []
+refused_by_text (Some obstacles.NoName) = codes ", no name"
+refused_by_text (Some obstacles.UnknownName) = codes ", unknown name"
+refused_by_text (Some (obstacles.Address role)) = list_text role
+refused_by_text (Some (obstacles.Key role)) = key_text role
+
+abbrev pub refused_text : (code : ℕ) → Peer → (asked : List ℕ) → Option NotAdmitted → List ℕ
+refused_text code peer asked by =
     peer_text peer ++ codes " refused, " ++ decimal code ++ code_text code ++ codes ", asked for \"" ++ escaped_all asked ++ codes "\""
+    ++ refused_by_text by
+
+-- how many conclusions each limit of a route refused
+abbrev pub limits_text : (full reserved per_address : ℕ) → List ℕ
+limits_text full reserved per_address =
+    decimal full ++ codes " no free session, " ++ decimal reserved ++ codes " reserved, " ++ decimal per_address ++ codes " sessions_per_address"
+
+abbrev pub limited_text : (route : List ℕ) → (full reserved per_address : ℕ) → List ℕ
+limited_text route full reserved per_address =
+    escaped_all route ++ codes ": refused by its limits, 1003 RESOURCE: " ++ limits_text full reserved per_address
 
 abbrev pub unseen_text : (route : List ℕ) → (opened refused : ℕ) → List ℕ
 unseen_text route opened refused =
@@ -89,13 +121,24 @@ session_opened_text caller standby latency_ms = caller_text caller ++ opened_tex
 abbrev pub took_over_text : Caller → List ℕ
 took_over_text caller = caller_text caller ++ codes " took over, socket " ++ id_text caller.id
 
+-- something is wrong with a session's stream
+abbrev pub trouble_text : Trouble → List ℕ
+trouble_text troubles.Misdirected = codes " sends data, but has not asked to publish (m=publish), socket "
+trouble_text troubles.FullWindow = codes " fills its window and waits, buffer is too small, socket "
+trouble_text troubles.LatePackets = codes " sends packets that come too late, socket "
+
+abbrev pub troubled_text : Caller → Trouble → List ℕ
+troubled_text caller trouble = caller_text caller ++ trouble_text trouble ++ id_text caller.id
+
 -- the text of an event
 abbrev pub event_text : LogEvent → List ℕ
 event_text (events.Started ip port routes workers memory) = started_text ip port routes workers memory
 event_text (events.Opened caller standby latency_ms) = session_opened_text caller standby latency_ms
 event_text (events.Ended caller reason lasted_ms counts) = ended_text caller reason lasted_ms counts
 event_text (events.TookOver caller) = took_over_text caller
-event_text (events.Refused code peer asked) = refused_text code peer asked.now
+event_text (events.Troubled caller trouble) = troubled_text caller trouble
+event_text (events.Refused code peer asked by) = refused_text code peer asked.now by
+event_text (events.Limited route full reserved per_address) = limited_text route.now full reserved per_address
 event_text (events.Unseen route opened refused) = unseen_text route.now opened refused
 event_text events.Unblocked = unblocked_text
 event_text (events.Warned warning) = escaped_all warning.now

@@ -1,6 +1,6 @@
 pub mod Texts
 pub mod Peers
 pub mod Events
-pub mod Limit
+pub mod LineLimit
 pub mod Changes
 pub mod Telling

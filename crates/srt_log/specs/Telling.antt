@@ -5,13 +5,14 @@ use Rattle.srt_seq.specs.declared.shared.Role.{Role}
 use Rattle.srt_seq.specs.declared.shared.Role.TheVariants.{Publish, Request}
 use Rattle.srt_log.specs.declared.events.Caller.{Caller}
 use Rattle.srt_log.specs.declared.events.EndReason.TheVariants as reasons
+use Rattle.srt_log.specs.declared.events.Trouble.{Trouble}
 use Rattle.srt_log.specs.declared.events.LogEvent.{LogEvent}
 use Rattle.srt_log.specs.declared.events.LogEvent.TheVariants as events
 use Rattle.srt_log.specs.declared.looks.SessionEnd.{SessionEnd}
 use Rattle.srt_log.specs.declared.looks.SessionLook.{SessionLook}
 use Rattle.srt_log.specs.declared.looks.RouteLook.{RouteLook}
 use Rattle.srt_log.specs.declared.changes.Change.{Change}
-use Rattle.srt_log.specs.declared.changes.Change.TheVariants.{Gone, Ended, Opened, TookOver, Unseen}
+use Rattle.srt_log.specs.declared.changes.Change.TheVariants.{Gone, Ended, Opened, TookOver, Troubled, Unseen}
 use Rattle.srt_log.specs.Changes.{slot_at}
 
 -- the session in a slot
@@ -47,6 +48,9 @@ gone_event route session moment = events.Ended (caller_of route session) reasons
 abbrev pub took_over_event : Bor (List ℕ) → SessionLook → LogEvent
 took_over_event route session = events.TookOver (caller_of route session)
 
+abbrev pub troubled_event : Bor (List ℕ) → SessionLook → Trouble → LogEvent
+troubled_event route session trouble = events.Troubled (caller_of route session) trouble
+
 -- what is said of a session, if there is one
 abbrev pub of_session : (SessionLook → Option LogEvent) → Option SessionLook → Option LogEvent
 of_session f None = None
@@ -58,4 +62,5 @@ event_of route old new (Gone slot) = of_session (λ session. Some (gone_event ro
 event_of route old new (Ended slot) = of_session (λ session. ended_event route session) (session_at new slot)
 event_of route old new (Opened slot) = of_session (λ session. Some (opened_event route session)) (session_at new slot)
 event_of route old new (TookOver slot) = of_session (λ session. Some (took_over_event route session)) (session_at new slot)
+event_of route old new (Troubled slot trouble) = of_session (λ session. Some (troubled_event route session trouble)) (session_at new slot)
 event_of route old new (Unseen opened refused) = Some (events.Unseen route opened refused)

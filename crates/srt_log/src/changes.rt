@@ -1,14 +1,16 @@
-//! What came between two looks at a route.
+//! What changed at a route between two looks.
 
 ghost use Rattle.std.specs.Prelude.{◌≡◌};
-ghost use Rattle.srt_log.specs.Changes.{is_same, is_open, is_active, is_new, ended_at, opened_at, ended_at_once, took_over_at, opened_below, unseen, change_at};
+ghost use Rattle.srt_log.specs.Changes.{is_same, is_open, is_active, is_new, ended_at, opened_at, ended_at_once, took_over_at, count_of};
+ghost use Rattle.srt_log.specs.Changes.{has_trouble, trouble_at, troubled_at, opened_below, unseen, change_at};
 
-use crate::looks::{RouteLook, SLOTS, SessionLook};
+use crate::events::Trouble;
+use crate::looks::{RouteLook, SLOTS, SessionLook, Troubles};
 
 /// The number of steps in which two looks are compared.
-pub const STEPS: usize = 69;
+pub const STEPS: usize = 120;
 
-/// Something that came between two looks at a route.
+/// Something that changed between two looks at a route.
 #[derive(Clone, Copy, Debug, PartialEq, Eq)]
 pub enum Change {
     /// The session that was open in this slot has ended, and another one stands there now: only the earlier look knows
@@ -32,7 +34,14 @@ pub enum Change {
         /// The slot, from 0.
         slot: usize,
     },
-    /// What came and went unseen.
+    /// Something is wrong with the stream of the session in this slot, for the first time.
+    Troubled {
+        /// The slot, from 0.
+        slot: usize,
+        /// What it is.
+        trouble: Trouble,
+    },
+    /// Sessions that opened and ended between the looks, and refused conclusions.
     Unseen {
         /// Sessions that opened, and of which the later look has nothing.
         opened: u64,
@@ -140,6 +149,56 @@ fn took_over_at(slot: usize, old: &Option<SessionLook>, new: &Option<SessionLook
     Some(Change::TookOver { slot })
 }
 
+/// How often this was wrong.
+fn count_of(trouble: Trouble, troubles: &Troubles) -> u64
+    ensures { result ≡ count_of trouble troubles.now }
+{
+    match trouble {
+        Trouble::Misdirected => troubles.misdirected,
+        Trouble::FullWindow => troubles.full_window,
+        Trouble::LatePackets => troubles.late,
+    }
+}
+
+/// Whether this was wrong with the session of a slot.
+fn has_trouble(trouble: Trouble, look: &Option<SessionLook>) -> bool
+    ensures { result ≡ has_trouble trouble look.now }
+{
+    match look {
+        Some(session) => count_of(trouble, &session.troubles) != 0,
+        None => false,
+    }
+}
+
+/// What a step of those for troubles asks for: each slot has three.
+fn trouble_at(step: usize) -> Trouble
+    ensures { result ≡ trouble_at step }
+{
+    match step % 3 {
+        0 => Trouble::Misdirected,
+        1 => Trouble::FullWindow,
+        _ => Trouble::LatePackets,
+    }
+}
+
+/// The first time that this is wrong with the session of a slot.
+fn troubled_at(
+    slot: usize,
+    trouble: Trouble,
+    old: &Option<SessionLook>,
+    new: &Option<SessionLook>,
+) -> Option<Change>
+    ensures { result ≡ troubled_at slot trouble old.now new.now }
+{
+    if !has_trouble(trouble, new) {
+        return None;
+    }
+    if is_same(old, new) && has_trouble(trouble, old) {
+        return None;
+    }
+    Some(Change::Troubled { slot, trouble })
+}
+
 /// How many slots have a new session.
 #[tactic(auto, using(crate::proofs::Slots::no_slots, crate::proofs::Slots::next_slot))]
 fn opened_in(old: &RouteLook, new: &RouteLook) -> u64
@@ -154,7 +213,7 @@ fn opened_in(old: &RouteLook, new: &RouteLook) -> u64
     opened
 }
 
-/// What came and went unseen, if there is something.
+/// How many sessions opened and ended between the looks, and how many conclusions were refused, if there were any.
 #[tactic(auto, unfolding(crate::specs::Changes::unseen))]
 fn unseen(old: &RouteLook, new: &RouteLook) -> Option<Change>
     ensures { result ≡ unseen old.now new.now }
@@ -170,10 +229,10 @@ fn unseen(old: &RouteLook, new: &RouteLook) -> Option<Change>
     Some(Change::Unseen { opened, refused })
 }
 
-/// What came between two looks at a route, in this one of the [`STEPS`] steps; None if there is nothing in it, or no
+/// What changed at a route between two looks, in this one of the [`STEPS`] steps; None if nothing did, or if there is no
 /// such step. Taken in order, the steps give what a log tells: the ends of sessions that the earlier look had open,
 /// slots upwards; for each slot the session that opened there, and its end if it has ended again; the publisher that
-/// took over; how many came and went unseen.
+/// took over; for each slot what is wrong for the first time with its session's stream; how many sessions no look saw.
 pub fn change_at(old: &RouteLook, new: &RouteLook, step: usize) -> Option<Change>
     ensures { result ≡ change_at old.now new.now step }
 {
@@ -191,7 +250,16 @@ pub fn change_at(old: &RouteLook, new: &RouteLook, step: usize) -> Option<Change
         let slot = step - 51;
         return took_over_at(slot, &old.slots[slot], &new.slots[slot]);
     }
-    if step == 68 {
+    if step < 119 {
+        let slot = (step - 68) / 3;
+        return troubled_at(
+            slot,
+            trouble_at(step - 68),
+            &old.slots[slot],
+            &new.slots[slot],
+        );
+    }
+    if step == 119 {
         return unseen(old, new);
     }
     None

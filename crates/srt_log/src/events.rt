@@ -1,6 +1,6 @@
 //! What a line of the log says.
 
-use srt_seq::{Peer, Role};
+use srt_seq::{NotAdmitted, Peer, Role};
 
 /// A session as a line names it.
 #[derive(Clone, Copy)]
@@ -24,8 +24,19 @@ pub struct SessionCounts {
     pub bytes: u64,
     /// Packets that were lost: those that a publisher's session dropped as missing, or a subscriber's as too late.
     pub lost: u64,
-    /// Packets that were sent again; of a publisher's session those that came beside the ones that are counted.
+    /// Packets that were sent again; of a publisher's session those that arrived beside the ones that are counted.
     pub resent: u64,
+}
+
+/// Something wrong with a session's stream, of which its caller learns nothing.
+#[derive(Clone, Copy, Debug, PartialEq, Eq)]
+pub enum Trouble {
+    /// Data packets arrived from a caller that didn't ask to publish. They are ignored.
+    Misdirected,
+    /// Full ACKs said that no place of a publisher's window was available, so that its encoder waits or loses packets.
+    FullWindow,
+    /// Packets of a publisher arrived after their place was passed. They are ignored.
+    LatePackets,
 }
 
 /// Why a session ended.
@@ -33,7 +44,9 @@ pub struct SessionCounts {
 pub enum EndReason {
     /// Its peer sent a SHUTDOWN.
     Shutdown,
-    /// Nothing came from its peer for five seconds.
+    /// Its peer sent a SHUTDOWN, and what was left then couldn't be delivered in time.
+    DrainedTooLong,
+    /// Nothing arrived from its peer for five seconds.
     Silence,
     /// Its window moved past packets that were neither received nor given up.
     WindowLost,
@@ -99,16 +112,36 @@ pub enum LogEvent<'a> {
         /// Its session.
         caller: Caller<'a>,
     },
+    /// Something is wrong with a session's stream.
+    Troubled {
+        /// The session.
+        caller: Caller<'a>,
+        /// What it is.
+        trouble: Trouble,
+    },
     /// A conclusion was refused.
     Refused {
         /// The number of the reason (draft-sharabayko-srt-01, section 4.3, table 7).
         code: u32,
         /// The caller's address and port.
         peer: Peer,
-        /// The name that it asked for, as it came.
+        /// The name that it asked for, as it was received.
         asked: &'a [u8],
+        /// What stood against it, if that is known.
+        by: Option<NotAdmitted>,
     },
-    /// What came and went on a route between two looks, known by its number alone.
+    /// A limit of a route refused conclusions with 1003 between two looks, of which each has a line of its own.
+    Limited {
+        /// The route's name.
+        route: &'a [u8],
+        /// Those that found no slot free.
+        full: u64,
+        /// Those that asked for a subscriber's session while the free slots were reserved for publishers.
+        reserved: u64,
+        /// Those whose address had as many open sessions as `sessions_per_address` allows.
+        per_address: u64,
+    },
+    /// Sessions that opened and ended on a route between two looks, and refused conclusions: only their numbers are known.
     Unseen {
         /// The route's name.
         route: &'a [u8],

@@ -1,12 +1,12 @@
 //! The log of a gateway that runs: one line of plain text for each event, a limit of lines in a second, and the events
 //! between two looks at the sessions of a route.
 //!
-//! It reads nothing of the gateway: whoever calls it brings what an event says. A line has no control characters, and no
+//! It reads nothing of the gateway: its caller passes in what an event says. A line has no control characters, and no
 //! more than 1,024 bytes with its line feed; it is written by one call of its writer, so that lines of several threads
-//! don't mix. Nothing takes memory.
+//! don't mix. Nothing allocates.
 //!
 //! Types: [`LogEvent`] (`events.rt`), what a line says; [`LineLimit`] (`limit.rt`), how many lines a second may have;
-//! [`RouteLook`] (`looks.rt`), the sessions of a route at one moment; [`Change`] (`changes.rt`), what came between two.
+//! [`RouteLook`] (`looks.rt`), the sessions of a route at one moment; [`Change`] (`changes.rt`), what changed between two.
 //!
 //! Calls: [`write_line`] (`writing.rt`) writes an event's line, [`LineLimit::line`] says whether it may, [`change_at`]
 //! compares two looks, step by step, and [`event_of`] (`telling.rt`) gives what the log says of a change. `srtgw` makes
@@ -24,9 +24,9 @@ mod telling;
 mod writing;
 
 pub use changes::{Change, STEPS, change_at};
-pub use events::{Caller, EndReason, LogEvent, SessionCounts, StopCause};
-pub use limit::{Allowed, LineLimit};
-pub use looks::{RouteLook, SLOTS, SessionEnd, SessionLook};
+pub use events::{Caller, EndReason, LogEvent, SessionCounts, StopCause, Trouble};
+pub use limit::{LineAllowance, LineLimit};
+pub use looks::{RouteLook, SLOTS, SessionEnd, SessionLook, Troubles};
 pub use telling::event_of;
 pub use writing::write_line;
 

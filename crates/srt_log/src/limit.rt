@@ -3,14 +3,14 @@
 ghost use Rattle.std.specs.Prelude.{◌≡◌, [], ◌∷◌, List, true, false};
 
 /// The greatest number of lines in a second.
-const LINES_MAX: u64 = 50;
+const MAX_LINES: u64 = 50;
 
 /// The microseconds of a second.
 const SECOND: u64 = 1_000_000;
 
 /// What a limit says of one line.
 #[derive(Clone, Copy, Debug, PartialEq, Eq)]
-pub struct Allowed {
+pub struct LineAllowance {
     /// Whether the line may be written.
     pub written: bool,
     /// How many lines were left out in the second before, to be told ahead of this one; 0 for none.
@@ -27,7 +27,7 @@ pub struct LineLimit {
 }
 
 impl LineLimit {
-    ghost use Rattle.srt_log.specs.Limit.{Asked, StandsFor, left_out_in, is_written, told_at};
+    ghost use Rattle.srt_log.specs.LineLimit.{Asked, StandsFor, left_out_in, is_written, told_at};
 
     /// A limit that was asked nothing so far.
     pub fn new() -> LineLimit
@@ -43,19 +43,19 @@ impl LineLimit {
     pub fn left_out(&self) -> u64
         ensures { (asked : List Asked) → StandsFor self.now asked → result ≡ left_out_in asked }
     {
-        self.lines.saturating_sub(LINES_MAX)
+        self.lines.saturating_sub(MAX_LINES)
     }
 
     /// Whether one more line may be written at this moment.
-    pub fn line(&mut self, moment: u64) -> Allowed
+    pub fn line(&mut self, moment: u64) -> LineAllowance
         ensures stands { (asked : List Asked) → StandsFor self.old asked → StandsFor self.new (record { is_line = true; moment = moment } ∷ asked) }
         ensures written { (asked : List Asked) → StandsFor self.old asked → result.written ≡ is_written asked moment }
         ensures left_out { (asked : List Asked) → StandsFor self.old asked → result.left_out ≡ told_at asked moment }
     {
         let left_out = self.look(moment);
         self.lines = self.lines.saturating_add(1);
-        Allowed {
-            written: self.lines <= LINES_MAX,
+        LineAllowance {
+            written: self.lines <= MAX_LINES,
             left_out,
         }
     }

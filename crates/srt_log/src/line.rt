@@ -7,20 +7,20 @@ use arrayvec::ArrayVec;
 use itoa::Buffer;
 
 /// The greatest length of a line, in bytes, with its line feed.
-pub(crate) const LINE_MAX: usize = 1024;
+pub(crate) const MAX_LINE: usize = 1024;
 
 /// The greatest length of a line's text, in bytes.
-const TEXT_MAX: usize = 1023;
+const MAX_TEXT: usize = 1023;
 
 /// The text of a line: at most 1,023 bytes.
 #[derive(Drop)]
 pub(crate) struct Line {
-    pub(crate) text: ArrayVec<u8, LINE_MAX>,
+    pub(crate) text: ArrayVec<u8, MAX_LINE>,
     pub(crate) ghost within: { length text.items ≤ 1023 },
 }
 
 /// Puts bytes behind others, where there is room for them.
-fn append(text: &mut ArrayVec<u8, LINE_MAX>, bytes: &[u8])
+fn append(text: &mut ArrayVec<u8, MAX_LINE>, bytes: &[u8])
     requires { length text.old.items + length bytes.now ≤ 1024 }
     ensures { text.new.items ≡ text.old.items ++ bytes.now }
 {
@@ -42,7 +42,7 @@ impl Line {
     pub(crate) fn put(&mut self, bytes: &[u8])
         ensures { self.new.text.items ≡ put self.old.text.items bytes.now }
     {
-        let room = TEXT_MAX - self.text.len();
+        let room = MAX_TEXT - self.text.len();
         if bytes.len() <= room {
             append(&mut self.text, bytes);
         } else {
@@ -107,7 +107,7 @@ impl Line {
     }
 
     /// The line with its line feed.
-    pub(crate) fn ended(self) -> ArrayVec<u8, LINE_MAX>
+    pub(crate) fn ended(self) -> ArrayVec<u8, MAX_LINE>
         ensures { result.items ≡ self.text.items ++ 10 ∷ [] }
     {
         let mut text = self.text;

@@ -15,6 +15,17 @@ pub struct SessionEnd {
     pub moment: u64,
 }
 
+/// How often something was wrong with a session's stream since its opening. None of these goes back.
+#[derive(Clone, Copy, Debug, Default, PartialEq, Eq)]
+pub struct Troubles {
+    /// Data packets from a caller that didn't ask to publish.
+    pub misdirected: u64,
+    /// Full ACKs that said that no place of a publisher's window was available.
+    pub full_window: u64,
+    /// Packets of a publisher that arrived too late.
+    pub late: u64,
+}
+
 /// A session, as it stood at a moment.
 #[derive(Clone, Copy, Debug, PartialEq, Eq)]
 pub struct SessionLook {
@@ -34,9 +45,11 @@ pub struct SessionLook {
     pub end: Option<SessionEnd>,
     /// What it took and gave.
     pub counts: SessionCounts,
+    /// What was wrong with its stream.
+    pub troubles: Troubles,
 }
 
-/// The sessions of a route at a moment, and what came to it so far.
+/// The sessions of a route at a moment, and the route's counts so far.
 #[derive(Clone, Copy)]
 pub struct RouteLook {
     /// The moment, in microseconds.

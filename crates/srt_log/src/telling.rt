@@ -1,10 +1,10 @@
 //! What the log says of a change.
 
 ghost use Rattle.std.specs.Prelude.{◌≡◌};
-ghost use Rattle.srt_log.specs.Telling.{session_at, caller_of, stands_by, opened_event, ended_event, gone_event, took_over_event, event_of};
+ghost use Rattle.srt_log.specs.Telling.{session_at, caller_of, stands_by, opened_event, ended_event, gone_event, took_over_event, troubled_event, event_of};
 
 use crate::changes::Change;
-use crate::events::{Caller, EndReason, LogEvent};
+use crate::events::{Caller, EndReason, LogEvent, Trouble};
 use crate::looks::{RouteLook, SLOTS, SessionLook};
 use srt_seq::Role;
 
@@ -81,6 +81,15 @@ fn took_over_event<'a>(route: &'a [u8], session: &SessionLook) -> LogEvent<'a>
     }
 }
 
+fn troubled_event<'a>(route: &'a [u8], session: &SessionLook, trouble: Trouble) -> LogEvent<'a>
+    ensures { result ≡ troubled_event route.entry session.now trouble }
+{
+    LogEvent::Troubled {
+        caller: caller_of(route, session),
+        trouble,
+    }
+}
+
 /// What the log says of a change between two looks at the route of this name. None for a change of a slot that has no
 /// such session, which [`change_at`](crate::change_at) doesn't give for these looks. Of a session whose slot was taken
 /// again the line has what the earlier look knew.
@@ -108,6 +117,10 @@ pub fn event_of<'a>(
         Change::TookOver { slot } => {
             let session = session_at(new, slot)?;
             Some(took_over_event(route, &session))
+        }
+        Change::Troubled { slot, trouble } => {
+            let session = session_at(new, slot)?;
+            Some(troubled_event(route, &session, trouble))
         }
         Change::Unseen { opened, refused } => Some(LogEvent::Unseen {
             route,

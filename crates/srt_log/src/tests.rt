@@ -1,10 +1,11 @@
 //! Lines as a person reads them, the limit over moments, and what comes between looks.
 
 use crate::{
-    Allowed, Caller, Change, EndReason, LineLimit, LogEvent, RouteLook, SLOTS, STEPS,
-    SessionCounts, SessionEnd, SessionLook, StopCause, change_at, event_of, write_line,
+    Caller, Change, EndReason, LineAllowance, LineLimit, LogEvent, RouteLook, SLOTS, STEPS,
+    SessionCounts, SessionEnd, SessionLook, StopCause, Trouble, Troubles, change_at, event_of,
+    write_line,
 };
-use srt_seq::{Peer, Role};
+use srt_seq::{NotAdmitted, Peer, Role};
 use std::process::Abort;
 use std::test::Fail;
 
@@ -141,6 +142,11 @@ fn lines_of_some_reasons(rt: HostRuntime) -> Result<(), Fail> {
     )?;
     assert_reason(
         &rt,
+        EndReason::DrainedTooLong,
+        "studio: publisher 192.0.2.7:50123 ended, socket 0x00100001, its peer sent a SHUTDOWN, and not all of it could be delivered, after 0 ms, 0 packets, 0 bytes, 0 lost, 0 resent\n",
+    )?;
+    assert_reason(
+        &rt,
         EndReason::Unknown,
         "studio: publisher 192.0.2.7:50123 ended, socket 0x00100001, its slot was taken again, after 0 ms, 0 packets, 0 bytes, 0 lost, 0 resent\n",
     )
@@ -155,6 +161,7 @@ fn bytes_that_callers_chose_are_escaped(rt: HostRuntime) -> Result<(), Fail> {
             code: 1002,
             peer: near(40000),
             asked: b"a \"b\\\n\x00\x1b[31m\x7f\xc3\xa9",
+            by: None,
         },
         "192.0.2.7:40000 refused, 1002 PEER, asked for \"a \\x22b\\x5c\\x0a\\x00\\x1b[31m\\x7f\\xc3\\xa9\"\n",
     )?;
@@ -165,8 +172,77 @@ fn bytes_that_callers_chose_are_escaped(rt: HostRuntime) -> Result<(), Fail> {
             code: 1016,
             peer: near(0),
             asked: b"",
+            by: None,
         },
         "192.0.2.7:0 refused, 1016 UNKNOWN, asked for \"\"\n",
+    )
+}
+
+/// Asserts what stands at the end of the line of a caller that was refused with 1002.
+fn assert_refused_by<R: Abort + AllocGlobal>(
+    rt: &R,
+    by: NotAdmitted,
+    line: &str,
+) -> Result<(), Fail> {
+    assert_line(
+        rt,
+        None,
+        LogEvent::Refused {
+            code: 1002,
+            peer: near(7),
+            asked: b"studio",
+            by: Some(by),
+        },
+        line,
+    )
+}
+
+#[test]
+fn a_refusal_names_the_list_or_key(rt: HostRuntime) -> Result<(), Fail> {
+    assert_refused_by(
+        &rt,
+        NotAdmitted::UnknownName,
+        "192.0.2.7:7 refused, 1002 PEER, asked for \"studio\", unknown name\n",
+    )?;
+    assert_refused_by(
+        &rt,
+        NotAdmitted::NoName,
+        "192.0.2.7:7 refused, 1002 PEER, asked for \"studio\", no name\n",
+    )?;
+    assert_refused_by(
+        &rt,
+        NotAdmitted::Address(Role::Publish),
+        "192.0.2.7:7 refused, 1002 PEER, asked for \"studio\", not in publish_from\n",
+    )?;
+    assert_refused_by(
+        &rt,
+        NotAdmitted::Address(Role::Request),
+        "192.0.2.7:7 refused, 1002 PEER, asked for \"studio\", not in request_from\n",
+    )?;
+    assert_refused_by(
+        &rt,
+        NotAdmitted::Key(Role::Publish),
+        "192.0.2.7:7 refused, 1002 PEER, asked for \"studio\", publish_key missing or wrong\n",
+    )?;
+    assert_refused_by(
+        &rt,
+        NotAdmitted::Key(Role::Request),
+        "192.0.2.7:7 refused, 1002 PEER, asked for \"studio\", request_key missing or wrong\n",
+    )
+}
+
+#[test]
+fn the_limits_of_a_route_are_told_apart(rt: HostRuntime) -> Result<(), Fail> {
+    assert_line(
+        &rt,
+        None,
+        LogEvent::Limited {
+            route: b"studio",
+            full: 1,
+            reserved: 20,
+            per_address: 300,
+        },
+        "studio: refused by its limits, 1003 RESOURCE: 1 no free session, 20 reserved, 300 sessions_per_address\n",
     )
 }
 
@@ -256,6 +332,7 @@ fn a_long_line_is_cut_off(rt: HostRuntime) -> Result<(), Fail> {
             code: 1002,
             peer: near(1),
             asked: &asked,
+            by: None,
         },
     )?;
     assert_eq!(rt; out.len(), 1024);
@@ -284,7 +361,7 @@ fn fifty_lines_of_a_second(rt: HostRuntime) {
     let next = limit.line(6_000_000);
     assert_eq!(rt;
         next,
-        Allowed {
+        LineAllowance {
             written: true,
             left_out: 2
         }
@@ -318,6 +395,11 @@ fn session(id: u32, active: bool) -> SessionLook {
             bytes: 0,
             lost: 0,
             resent: 0,
+        },
+        troubles: Troubles {
+            misdirected: 0,
+            full_window: 0,
+            late: 0,
         },
     }
 }
@@ -377,6 +459,62 @@ fn openings_ends_and_a_take_over(rt: HostRuntime) {
         &[Change::Ended { slot: 0 }, Change::TookOver { slot: 16 }],
     );
     assert_changes(&rt, &over, &over, &[]);
+}
+
+/// The same, open, with these troubles.
+fn troubled(misdirected: u64, full_window: u64, late: u64) -> SessionLook {
+    let mut look = session(1, true);
+    look.troubles = Troubles {
+        misdirected,
+        full_window,
+        late,
+    };
+    look
+}
+
+#[test]
+fn a_trouble_is_told_the_first_time(rt: HostRuntime) {
+    let none = route(Some(troubled(0, 0, 0)), None, 1, 0);
+    let some = route(Some(troubled(9, 0, 1)), None, 1, 0);
+    let more = route(Some(troubled(10, 2, 1)), None, 1, 0);
+    let misdirected = Change::Troubled {
+        slot: 0,
+        trouble: Trouble::Misdirected,
+    };
+    let late = Change::Troubled {
+        slot: 0,
+        trouble: Trouble::LatePackets,
+    };
+    let full = Change::Troubled {
+        slot: 0,
+        trouble: Trouble::FullWindow,
+    };
+    assert_changes(&rt, &none, &some, &[misdirected, late]);
+    assert_changes(&rt, &some, &more, &[full]);
+    assert_changes(&rt, &more, &more, &[]);
+}
+
+#[test]
+fn lines_of_troubles(rt: HostRuntime) -> Result<(), Fail> {
+    let none = route(Some(troubled(0, 0, 0)), None, 1, 0);
+    assert_told(
+        &rt,
+        &none,
+        &route(Some(troubled(1, 0, 0)), None, 1, 0),
+        "studio: publisher 192.0.2.7:50123 sends data, but has not asked to publish (m=publish), socket 0x00000001\n",
+    )?;
+    assert_told(
+        &rt,
+        &none,
+        &route(Some(troubled(0, 1, 0)), None, 1, 0),
+        "studio: publisher 192.0.2.7:50123 fills its window and waits, buffer is too small, socket 0x00000001\n",
+    )?;
+    assert_told(
+        &rt,
+        &none,
+        &route(Some(troubled(0, 0, 1)), None, 1, 0),
+        "studio: publisher 192.0.2.7:50123 sends packets that come too late, socket 0x00000001\n",
+    )
 }
 
 #[test]

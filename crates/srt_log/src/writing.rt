@@ -3,12 +3,15 @@
 ghost use Rattle.std.specs.Prelude.{◌≡◌, ◌++◌, [], OnOk};
 ghost use Rattle.std.specs.Io.KnownBytes.{Appends};
 ghost use Rattle.srt_log.specs.Texts.{put};
-ghost use Rattle.srt_log.specs.Events.{role_text, caller_text, latency_text, opened_text, session_opened_text, took_over_text, reason_text, counts_text, ended_text, code_text, started_text, refused_text, unseen_text, unblocked_text, count_text, cause_text, event_text, time_text, line_text};
+ghost use Rattle.srt_log.specs.Events.{role_text, caller_text, latency_text, opened_text, session_opened_text, took_over_text};
+ghost use Rattle.srt_log.specs.Events.{trouble_text, troubled_text, reason_text, counts_text, ended_text, code_text, started_text};
+ghost use Rattle.srt_log.specs.Events.{list_text, key_text, refused_by_text, refused_text, limits_text, limited_text, unseen_text, unblocked_text};
+ghost use Rattle.srt_log.specs.Events.{count_text, cause_text, event_text, time_text, line_text};
 
-use crate::events::{Caller, EndReason, LogEvent, SessionCounts, StopCause};
+use crate::events::{Caller, EndReason, LogEvent, SessionCounts, StopCause, Trouble};
 use crate::line::Line;
 use crate::peers::{put_peer, put_socket};
-use srt_seq::{Peer, Role};
+use srt_seq::{NotAdmitted, Peer, Role};
 use std::io::{self, Write};
 
 fn put_role(line: &mut Line, role: Role)
@@ -60,6 +63,9 @@ fn put_reason(line: &mut Line, reason: EndReason)
 {
     match reason {
         EndReason::Shutdown => line.put(b", its peer sent a SHUTDOWN"),
+        EndReason::DrainedTooLong => {
+            line.put(b", its peer sent a SHUTDOWN, and not all of it could be delivered")
+        }
         EndReason::Silence => line.put(b", nothing came from its peer"),
         EndReason::WindowLost => line.put(b", its window was lost"),
         EndReason::StreamEnd => line.put(b", the stream is at its end"),
@@ -128,6 +134,31 @@ fn put_took_over(line: &mut Line, caller: Caller<'_>)
     line.put_id(caller.id);
 }
 
+fn put_trouble(line: &mut Line, trouble: Trouble)
+    ensures { line.new.text.items ≡ put line.old.text.items (trouble_text trouble) }
+{
+    match trouble {
+        Trouble::Misdirected => {
+            line.put(b" sends data, but has not asked to publish (m=publish), socket ");
+        }
+        Trouble::FullWindow => {
+            line.put(b" fills its window and waits, buffer is too small, socket ");
+        }
+        Trouble::LatePackets => {
+            line.put(b" sends packets that come too late, socket ");
+        }
+    }
+}
+
+#[tactic(auto, using(crate::proofs::Puts::put_put))]
+fn put_troubled(line: &mut Line, caller: Caller<'_>, trouble: Trouble)
+    ensures { line.new.text.items ≡ put line.old.text.items (troubled_text caller.entry trouble) }
+{
+    put_caller(line, caller);
+    put_trouble(line, trouble);
+    line.put_id(caller.id);
+}
+
 /// Puts words and a number.
 #[tactic(auto, using(crate::proofs::Puts::put_put))]
 fn put_count(line: &mut Line, words: &[u8], count: u64)
@@ -177,9 +208,43 @@ fn put_started(line: &mut Line, ip: [u8; 4], port: u16, routes: u32, workers: u3
     line.put(b" KiB");
 }
 
+/// Puts the name of a role's list.
+fn put_list(line: &mut Line, role: Role)
+    ensures { line.new.text.items ≡ put line.old.text.items (list_text role) }
+{
+    match role {
+        Role::Publish => line.put(b", not in publish_from"),
+        Role::Request => line.put(b", not in request_from"),
+    }
+}
+
+/// Puts the name of a role's key.
+fn put_key(line: &mut Line, role: Role)
+    ensures { line.new.text.items ≡ put line.old.text.items (key_text role) }
+{
+    match role {
+        Role::Publish => line.put(b", publish_key missing or wrong"),
+        Role::Request => line.put(b", request_key missing or wrong"),
+    }
+}
+
+/// Puts what stood against a caller, if that is known.
 #[tactic(auto, using(crate::proofs::Puts::put_put))]
-fn put_refused(line: &mut Line, code: u32, peer: Peer, asked: &[u8])
-    ensures { line.new.text.items ≡ put line.old.text.items (refused_text code peer asked.now) }
+fn put_refused_by(line: &mut Line, by: Option<NotAdmitted>)
+    ensures { line.new.text.items ≡ put line.old.text.items (refused_by_text by) }
+{
+    match by {
+        Some(NotAdmitted::NoName) => line.put(b", no name"),
+        Some(NotAdmitted::UnknownName) => line.put(b", unknown name"),
+        Some(NotAdmitted::Address(role)) => put_list(line, role),
+        Some(NotAdmitted::Key(role)) => put_key(line, role),
+        None => line.put(b""),
+    }
+}
+
+#[tactic(auto, using(crate::proofs::Puts::put_put))]
+fn put_refused(line: &mut Line, code: u32, peer: Peer, asked: &[u8], by: Option<NotAdmitted>)
+    ensures { line.new.text.items ≡ put line.old.text.items (refused_text code peer asked.now by) }
 {
     put_peer(line, peer);
     line.put(b" refused, ");
@@ -188,6 +253,29 @@ fn put_refused(line: &mut Line, code: u32, peer: Peer, asked: &[u8])
     line.put(b", asked for \"");
     line.put_escaped(asked);
     line.put(b"\"");
+    put_refused_by(line, by);
+}
+
+/// Puts how many conclusions each limit of a route refused.
+#[tactic(auto, using(crate::proofs::Puts::put_put))]
+fn put_limits(line: &mut Line, full: u64, reserved: u64, per_address: u64)
+    ensures { line.new.text.items ≡ put line.old.text.items (limits_text full reserved per_address) }
+{
+    line.put_number(full);
+    line.put(b" no free session, ");
+    line.put_number(reserved);
+    line.put(b" reserved, ");
+    line.put_number(per_address);
+    line.put(b" sessions_per_address");
+}
+
+#[tactic(auto, using(crate::proofs::Puts::put_put))]
+fn put_limited(line: &mut Line, route: &[u8], full: u64, reserved: u64, per_address: u64)
+    ensures { line.new.text.items ≡ put line.old.text.items (limited_text route.now full reserved per_address) }
+{
+    line.put_escaped(route);
+    line.put(b": refused by its limits, 1003 RESOURCE: ");
+    put_limits(line, full, reserved, per_address);
 }
 
 #[tactic(auto, using(crate::proofs::Puts::put_put))]
@@ -240,7 +328,19 @@ fn put_event(line: &mut Line, event: LogEvent<'_>)
             counts,
         } => put_ended(line, caller, reason, lasted_ms, counts),
         LogEvent::TookOver { caller } => put_took_over(line, caller),
-        LogEvent::Refused { code, peer, asked } => put_refused(line, code, peer, asked),
+        LogEvent::Troubled { caller, trouble } => put_troubled(line, caller, trouble),
+        LogEvent::Refused {
+            code,
+            peer,
+            asked,
+            by,
+        } => put_refused(line, code, peer, asked, by),
+        LogEvent::Limited {
+            route,
+            full,
+            reserved,
+            per_address,
+        } => put_limited(line, route, full, reserved, per_address),
         LogEvent::Unseen {
             route,
             opened,

@@ -1,5 +1,6 @@
 -- The function reads what the relation spells.
-use Rattle.std.proofs.Common.{IfOk, IfErr, IsOkAnd, ◌≡◌, ◌⊎◌, ℕ, ◌+◌, ◌-◌, ◌%◌, ◌^◌, ◌<◌, ◌≤◌, ◌≢◌, None, Result, Ok, Err, List, [], ◌∷◌, length, refl, sym, ap, subst, inl, inr, ◌∙◌, arith}
+use Rattle.std.proofs.Common.{IfOk, IfErr, IsOkAnd, ◌≡◌, ◌⊎◌, ℕ, ◌+◌, ◌-◌, ◌%◌, ◌^◌, ◌<◌, ◌≤◌, ◌≢◌, None, Result, Ok, Err, List, [], ◌∷◌}
+use Rattle.std.proofs.Common.{length, refl, sym, ap, subst, inl, inr, ◌∙◌, arith}
 use Rattle.std.proofs.lemmas.Bool.{cases_lt, cases_order}
 use Rattle.std.specs.Result.{result_err, result_unwrap_or}
 use Rattle.srt_seq.specs.Runs.{Range, span}
@@ -63,7 +64,8 @@ Outcome ws (Err Ragged) = ⊥
 Outcome ws (Err Dangling) = (ranges : List Range) × (rest : List ℕ) × SpellsUpTo ws ranges rest × IsDangling rest
 Outcome ws (Err Backward) = (ranges : List Range) × (rest : List ℕ) × SpellsUpTo ws ranges rest × IsBackward rest
 
-outcome_after : (ws : List ℕ) (r : Range) (next : List ℕ) → Begins ws r next → (read : Result (List Range) LossFault) → Outcome next read → Outcome ws (then_those r read)
+outcome_after : (ws : List ℕ) (r : Range) (next : List ℕ)
+    → Begins ws r next → (read : Result (List Range) LossFault) → Outcome next read → Outcome ws (then_those r read)
 unfolding Outcome
 outcome_after ws r next b (Ok rs) o = (next, b, o)
 outcome_after ws r next b (Err Ragged) o = o
@@ -72,7 +74,8 @@ outcome_after ws r next b (Err Backward) (rs, rest, s, h) = (r ∷ rs, rest, (ne
 
 alone_outcome : (w : ℕ) (ws : List ℕ) → w < 2 ^ 31 → Outcome ws (ranges_in None ws) → Outcome (w ∷ ws) (ranges_in None (w ∷ ws))
 alone_outcome w ws h o =
-    subst (λ (x : Result (List Range) LossFault). Outcome (w ∷ ws) x) (sym (alone_read w ws h)) (outcome_after (w ∷ ws) (alone w) ws (Single refl h refl) (ranges_in None ws) o)
+    subst (λ (x : Result (List Range) LossFault). Outcome (w ∷ ws) x) (sym (alone_read w ws h))
+    (outcome_after (w ∷ ws) (alone w) ws (Single refl h refl) (ranges_in None ws) o)
 
 both_outcome : (w v : ℕ) (ws : List ℕ) → 2 ^ 31 ≤ w → v < 2 ^ 31 → Outcome ws (ranges_in None ws) → Outcome (w ∷ v ∷ ws) (ranges_in None (w ∷ v ∷ ws))
 unfolding Outcome
@@ -80,7 +83,8 @@ both_outcome w v ws h l o =
     let r : Range = record { first = w - 2 ^ 31; last = v } in
     let back : w ≡ (w - 2 ^ 31) + 2 ^ 31 = omega arith in
     elim (cases_lt (span r) (2 ^ 30)) [
-      | inl n ↦ subst (λ (x : Result (List Range) LossFault). Outcome (w ∷ v ∷ ws) x) (sym (both_read w v ws h l n)) (outcome_after (w ∷ v ∷ ws) r ws (FirstAndLast (ap (λ x. x ∷ v ∷ ws) back) l n) (ranges_in None ws) o)
+      | inl n ↦ subst (λ (x : Result (List Range) LossFault). Outcome (w ∷ v ∷ ws) x) (sym (both_read w v ws h l n))
+          (outcome_after (w ∷ v ∷ ws) r ws (FirstAndLast (ap (λ x. x ∷ v ∷ ws) back) l n) (ranges_in None ws) o)
       | inr n ↦ subst (λ (x : Result (List Range) LossFault). Outcome (w ∷ v ∷ ws) x) (sym (backward_read w v ws h l n)) ([], w ∷ v ∷ ws, refl, (h, l, n))
     ]
 
@@ -154,7 +158,8 @@ pub answer_found : (bytes : List ℕ) (read : Result (List Range) LossFault) →
 answer_found bytes (Ok rs) e = read_spelled bytes rs (sym e)
 answer_found bytes (Err fault) e = tt
 
-pub answer_only : (bytes : List ℕ) (read : Result (List Range) LossFault) → read ≡ losses_in bytes → (ranges : List Range) → Spells bytes ranges → IsOkAnd read (λ losses. losses ≡ ranges)
+pub answer_only : (bytes : List ℕ) (read : Result (List Range) LossFault)
+    → read ≡ losses_in bytes → (ranges : List Range) → Spells bytes ranges → IsOkAnd read (λ losses. losses ≡ ranges)
 answer_only bytes (Ok rs) e ranges s = let k = e ∙ spelled_read bytes ranges s in cc
 answer_only bytes (Err fault) e ranges s = let k = e ∙ spelled_read bytes ranges s in absurd cc
 
@@ -171,5 +176,6 @@ empty_read [] h = refl
 empty_read (b ∷ bytes) h = absurd (omega (arith, h))
 
 -- if the bytes have the same fault as the empty rest, they have none
-pub all_read : (bytes rest : List ℕ) → result_err (losses_in rest) ≡ result_err (losses_in bytes) → length rest ≡ 0 → losses_in bytes ≡ Ok (result_unwrap_or (losses_in bytes) [])
+pub all_read : (bytes rest : List ℕ) → result_err (losses_in rest) ≡ result_err (losses_in bytes) → length rest ≡ 0
+    → losses_in bytes ≡ Ok (result_unwrap_or (losses_in bytes) [])
 all_read bytes rest e h = no_fault (losses_in bytes) (sym e ∙ ap (λ x. result_err x) (empty_read rest h))

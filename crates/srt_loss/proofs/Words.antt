@@ -28,11 +28,15 @@ pub alone_read : (w : ℕ) (ws : List ℕ) → w < 2 ^ 31 → ranges_in None (w 
 alone_read w ws h = grind (arith, nat_tests)
 
 -- a first and a last word
-pub both_read : (first last : ℕ) (ws : List ℕ) → 2 ^ 31 ≤ first → last < 2 ^ 31 → span (record { first = first - 2 ^ 31; last = last }) < 2 ^ 30 → ranges_in None (first ∷ last ∷ ws) ≡ then_those (record { first = first - 2 ^ 31; last = last }) (ranges_in None ws)
+pub both_read : (first last : ℕ) (ws : List ℕ) → 2 ^ 31 ≤ first → last < 2 ^ 31
+    → span (record { first = first - 2 ^ 31; last = last }) < 2 ^ 30
+    → ranges_in None (first ∷ last ∷ ws) ≡ then_those (record { first = first - 2 ^ 31; last = last }) (ranges_in None ws)
 both_read first last ws h l n = grind (arith, nat_tests)
 
 -- the same, if they are too far apart
-pub backward_read : (first last : ℕ) (ws : List ℕ) → 2 ^ 31 ≤ first → last < 2 ^ 31 → 2 ^ 30 ≤ span (record { first = first - 2 ^ 31; last = last }) → ranges_in None (first ∷ last ∷ ws) ≡ Err Backward
+pub backward_read : (first last : ℕ) (ws : List ℕ) → 2 ^ 31 ≤ first → last < 2 ^ 31
+    → 2 ^ 30 ≤ span (record { first = first - 2 ^ 31; last = last })
+    → ranges_in None (first ∷ last ∷ ws) ≡ Err Backward
 backward_read first last ws h l n = grind (arith, nat_tests)
 
 -- a first word without a last word
@@ -43,10 +47,12 @@ pub last_read : (first : ℕ) → 2 ^ 31 ≤ first → ranges_in None (first ∷
 last_read first h = grind (arith, nat_tests)
 
 -- the range of two words
-pub range_read : (r : Range) (ws : List ℕ) → r.last < 2 ^ 31 → span r < 2 ^ 30 → ranges_in None ((r.first + 2 ^ 31) ∷ r.last ∷ ws) ≡ then_those r (ranges_in None ws)
+pub range_read : (r : Range) (ws : List ℕ)
+    → r.last < 2 ^ 31 → span r < 2 ^ 30 → ranges_in None ((r.first + 2 ^ 31) ∷ r.last ∷ ws) ≡ then_those r (ranges_in None ws)
 range_read r ws h n =
     let e : (r.first + 2 ^ 31) - 2 ^ 31 ≡ r.first = omega arith in
-    let P : ℕ → Type 0 = λ f. span (record { first = f; last = r.last }) < 2 ^ 30 → ranges_in None ((r.first + 2 ^ 31) ∷ r.last ∷ ws) ≡ then_those (record { first = f; last = r.last }) (ranges_in None ws) in
+    let P : ℕ → Type 0 = λ f. span (record { first = f; last = r.last }) < 2 ^ 30
+    → ranges_in None ((r.first + 2 ^ 31) ∷ r.last ∷ ws) ≡ then_those (record { first = f; last = r.last }) (ranges_in None ws) in
     subst P e (λ m. both_read (r.first + 2 ^ 31) r.last ws (omega arith) h m) n
 
 -- two words, and the bytes after them
@@ -58,9 +64,12 @@ words_two (a ∷ b ∷ c ∷ []) h = absurd (omega arith)
 words_two (a ∷ b ∷ c ∷ d ∷ bytes) h = ap (λ x. from_be_bytes w32 (a ∷ b ∷ c ∷ d ∷ []) ∷ x) (words_front bytes (omega arith))
 
 -- a text that begins with a first and a last word
-pub both_front : (text : List ℕ) (first last : ℕ) → 8 ≤ length text → length text % 4 ≡ 0 → first + 2 ^ 31 ≡ word_at text 0 → last ≡ word_at text 4 → last < 2 ^ 31 → span (record { first = first; last = last }) < 2 ^ 30 → losses_in text ≡ then_those (record { first = first; last = last }) (losses_in (drop 8 text))
+pub both_front : (text : List ℕ) (first last : ℕ) → 8 ≤ length text → length text % 4 ≡ 0 → first + 2 ^ 31 ≡ word_at text 0
+    → last ≡ word_at text 4 → last < 2 ^ 31 → span (record { first = first; last = last }) < 2 ^ 30
+    → losses_in text ≡ then_those (record { first = first; last = last }) (losses_in (drop 8 text))
 both_front text first last long whole f l small near =
     let r : Range = record { first = first; last = last } in
     let rest : length (drop 8 text) % 4 ≡ 0 = simp length-drop (omega arith) in
     let front : words_in text ≡ (first + 2 ^ 31) ∷ last ∷ words_in (drop 8 text) = words_two text long ∙ cc in
-    whole_read text whole ∙ ap (λ x. ranges_in None x) front ∙ range_read r (words_in (drop 8 text)) small near ∙ ap (λ x. then_those r x) (sym (whole_read (drop 8 text) rest))
+    whole_read text whole ∙ ap (λ x. ranges_in None x) front ∙ range_read r (words_in (drop 8 text)) small near
+    ∙ ap (λ x. then_those r x) (sym (whole_read (drop 8 text) rest))

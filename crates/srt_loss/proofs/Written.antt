@@ -26,11 +26,13 @@ words_alone r e = grind (arith, nat_tests)
 words_both : (r : Range) → r.last ≢ r.first → range_words r ≡ (r.first + 2 ^ 31) ∷ r.last ∷ []
 words_both r e = grind (arith, nat_tests)
 
-begins_alone : (r : Range) (ws : List ℕ) → IsWritable r → r.last ≡ r.first → Begins (words_in (flat_map word (range_words r ++ ws))) r (words_in (flat_map word ws))
+begins_alone : (r : Range) (ws : List ℕ)
+    → IsWritable r → r.last ≡ r.first → Begins (words_in (flat_map word (range_words r ++ ws))) r (words_in (flat_map word ws))
 begins_alone r ws w e =
     Single (ap (λ x. words_in (flat_map word (x ++ ws))) (words_alone r e) ∙ word_front r.first (flat_map word ws) (omega (arith, w.first))) w.first e
 
-begins_both : (r : Range) (ws : List ℕ) → IsWritable r → r.last ≢ r.first → Begins (words_in (flat_map word (range_words r ++ ws))) r (words_in (flat_map word ws))
+begins_both : (r : Range) (ws : List ℕ)
+    → IsWritable r → r.last ≢ r.first → Begins (words_in (flat_map word (range_words r ++ ws))) r (words_in (flat_map word ws))
 begins_both r ws w e =
     FirstAndLast
     (ap (λ x. words_in (flat_map word (x ++ ws))) (words_both r e)
@@ -54,6 +56,11 @@ pub written_is_read : WrittenIsRead
 written_is_read rs w = spelled_read (loss_text rs) rs (record { whole = text_whole (loss_words rs); words = spelled rs w })
 
 -- runs whose ends are fewer than 2^30 apart are read back
-pub runs_read : (runs : List (Seq31 × Seq31)) (words : List ℕ) → words ≡ loss_words (map range_of runs) → All (λ r. span (range_of r) < 2 ^ 30) runs → losses_in (flat_map word words) ≡ Ok (map range_of runs)
+pub runs_read : (runs : List (Seq31 × Seq31)) (words : List ℕ) → words ≡ loss_words (map range_of runs)
+    → All (λ r. span (range_of r) < 2 ^ 30) runs
+    → losses_in (flat_map word words) ≡ Ok (map range_of runs)
 runs_read runs words e near =
-    ap (λ x. losses_in (flat_map word x)) e ∙ written_is_read (map range_of runs) (All-map IsWritable range_of runs (λ k d h. record { first = (slice_index_or runs k d).0.small; last = (slice_index_or runs k d).1.small; near = near k d h }))
+    ap (λ x. losses_in (flat_map word x)) e
+    ∙ written_is_read (map range_of runs)
+    (All-map IsWritable range_of runs
+    (λ k d h. record { first = (slice_index_or runs k d).0.small; last = (slice_index_or runs k d).1.small; near = near k d h }))

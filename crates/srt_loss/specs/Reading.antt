@@ -14,8 +14,8 @@ then_those r (Err fault) = Err fault
 abbrev pub alone : ℕ → Range
 alone n = record { first = n; last = n }
 
--- a range whose last word was read, and then those after it: the last number is fewer than 2^30 after the first (this
--- profile)
+-- a range whose last word was read, and then those after it: the last number is fewer than 2^30 after the first (our
+-- choice)
 abbrev pub ended : Range → Result (List Range) LossFault → Result (List Range) LossFault
 ended r those = if nat_lt (span r) (2 ^ 30) then then_those r those else Err Backward
 

@@ -1,7 +1,7 @@
 //! Loss lists: which packets a receiver asks for again (draft-sharabayko-srt-01, section 3.2.5 and appendix A).
 //!
 //! It reads and writes the content of a NAK and knows no buffer: the packet around it is `srt_packet`'s, which packets
-//! are missing is `srt_recvbuf`'s, and what is sent again is `srt_sendbuf`'s. It takes no memory.
+//! are missing is `srt_recvbuf`'s, and what is sent again is `srt_sendbuf`'s. It doesn't allocate.
 //!
 //! Reading: [`read`] in `reading.rt` checks the bytes once and returns a [`LossRef`], or the first [`LossFault`]. Then
 //! `LossRef::asks` tests one number, and `LossRef::ranges` gives a [`Ranges`], whose `next_range` takes one range after

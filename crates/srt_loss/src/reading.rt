@@ -12,14 +12,14 @@ use srt_seq::limits::RANGE_END;
 use srt_seq::{Seq31, read_word};
 use std::marker::Model;
 
-/// Why bytes are no loss list. `Ragged` is checked first; then the first fault from the left counts (this profile).
+/// Why bytes are no loss list. `Ragged` is checked first; then the first fault from the left counts (our choice).
 #[derive(Clone, Copy, Debug, PartialEq, Eq)]
 pub enum LossFault {
     /// The number of bytes is no multiple of 4.
     Ragged,
     /// The first word of a range (top bit 1) isn't followed by a last word (top bit 0).
     Dangling,
-    /// The distance from the first number of a range to its last, modulo 2^31, is 2^30 or more (this profile).
+    /// The distance from the first number of a range to its last, modulo 2^31, is 2^30 or more (our choice).
     Backward,
 }
 

@@ -4,7 +4,8 @@ use Rattle.crossbeam_queue.specs.Fifo.{Pushes, Pops, Forks, Merges, Learns}
 use Rattle.std.specs.Global.{Box}
 use Rattle.srt_route.specs.declared.replies.Reply.{Reply}
 use Rattle.srt_mailbox.specs.declared.outbox_rule.OutboxView.{OutboxView}
-use Rattle.srt_mailbox.specs.Outbox.{replies_in, view_of, fresh, without_drain, drain, with_drain, nobody, Knows, Kept, Put, Drained, StoodAsPut, StoodAsDrained, KnowsAll}
+use Rattle.srt_mailbox.specs.Outbox.{replies_in, view_of, fresh, without_drain, drain, with_drain, nobody, Knows, Kept, Put, Drained}
+use Rattle.srt_mailbox.specs.Outbox.{StoodAsPut, StoodAsDrained, KnowsAll}
 use Rattle.srt_mailbox.proofs.Rights.{never, all_one, before, used, kept, given, held, returned, outlasts}
 
 -- the two rights, and what each pass knows was done by them

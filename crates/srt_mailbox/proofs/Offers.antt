@@ -2,9 +2,11 @@
 use Rattle.std.proofs.Common.{◌≡◌, ℕ, Bool, true, false, List, [], ◌∷◌, ◌++◌, sym, refl, ap, ◌∙◌, append_assoc, append-nil}
 use Rattle.crossbeam_queue.specs.Fifo.{Pushes, Pops, Forks, Merges, Learns}
 use Rattle.srt_seq.specs.declared.shared.Item.{Item}
-use Rattle.srt_mailbox.specs.declared.inbox_rule.Marked.{Marked}
+use Rattle.srt_mailbox.specs.declared.inbox_rule.InboxEntry.{InboxEntry}
 use Rattle.srt_mailbox.specs.declared.inbox_rule.InboxView.{InboxView}
-use Rattle.srt_mailbox.specs.Inbox.{keep, skip, polled_of, ticked_of, view_of, fresh, nobody, without_poller, poller, with_poller, without_clock, clock, with_clock, Knows, Kept, Polled, Ticked, Took, StoodAsPolled, StoodAsTicked, StoodAsTaken, KnowsAll}
+use Rattle.srt_mailbox.specs.Inbox.{keep, skip, polled_of, ticked_of, view_of, fresh, nobody, without_poller, poller, with_poller}
+use Rattle.srt_mailbox.specs.Inbox.{without_clock, clock, with_clock, Knows, Kept, Polled, Ticked, Took, StoodAsPolled, StoodAsTicked}
+use Rattle.srt_mailbox.specs.Inbox.{StoodAsTaken, KnowsAll}
 use Rattle.srt_mailbox.proofs.Rights.{never, all_one, before, used, kept, given, held, returned, outlasts}
 
 keep_append : (b : Bool) (i : Item) (xs ys : List Item) → keep b i (xs ++ ys) ≡ keep b i xs ++ ys
@@ -15,19 +17,19 @@ skip_append : (b : Bool) (i : Item) (xs ys : List Item) → skip b i (xs ++ ys) 
 skip_append true i xs ys = refl
 skip_append false i xs ys = refl
 
-polled_append : (xs ys : List Marked) → polled_of (xs ++ ys) ≡ polled_of xs ++ polled_of ys
+polled_append : (xs ys : List InboxEntry) → polled_of (xs ++ ys) ≡ polled_of xs ++ polled_of ys
 polled_append [] ys = refl
 polled_append (m ∷ ms) ys = ap (keep m.polled m.item) (polled_append ms ys) ∙ keep_append m.polled m.item (polled_of ms) (polled_of ys)
 
-ticked_append : (xs ys : List Marked) → ticked_of (xs ++ ys) ≡ ticked_of xs ++ ticked_of ys
+ticked_append : (xs ys : List InboxEntry) → ticked_of (xs ++ ys) ≡ ticked_of xs ++ ticked_of ys
 ticked_append [] ys = refl
 ticked_append (m ∷ ms) ys = ap (skip m.polled m.item) (ticked_append ms ys) ∙ skip_append m.polled m.item (ticked_of ms) (ticked_of ys)
 
 -- what an item at the end adds
-polled_snoc : (taken items : List Marked) (x : Marked) → polled_of (taken ++ (items ++ x ∷ [])) ≡ polled_of (taken ++ items) ++ keep x.polled x.item []
+polled_snoc : (taken items : List InboxEntry) (x : InboxEntry) → polled_of (taken ++ (items ++ x ∷ [])) ≡ polled_of (taken ++ items) ++ keep x.polled x.item []
 polled_snoc taken items x = ap polled_of (sym (append_assoc taken items (x ∷ []))) ∙ polled_append (taken ++ items) (x ∷ [])
 
-ticked_snoc : (taken items : List Marked) (x : Marked) → ticked_of (taken ++ (items ++ x ∷ [])) ≡ ticked_of (taken ++ items) ++ skip x.polled x.item []
+ticked_snoc : (taken items : List InboxEntry) (x : InboxEntry) → ticked_of (taken ++ (items ++ x ∷ [])) ≡ ticked_of (taken ++ items) ++ skip x.polled x.item []
 ticked_snoc taken items x = ap ticked_of (sym (append_assoc taken items (x ∷ []))) ∙ ticked_append (taken ++ items) (x ∷ [])
 
 -- the three rights, and what each pass knows was done by them
@@ -46,19 +48,21 @@ ticked_in v = v.ticked
 abbrev takes_of : InboxView → Bool
 takes_of v = v.takes
 
-abbrev taken_in : InboxView → List Marked
+abbrev taken_in : InboxView → List InboxEntry
 taken_in v = v.taken
 
 pub begins : Kept [] (fresh ∷ [])
 begins = (0, 0, 0, [], all_one (Knows 0 0 0 [] []) fresh ((λ _. (refl, refl)), (λ _. (refl, refl)), λ _. (refl, refl)))
 
 -- a push by the poller
-pub polls : (n pass : ℕ) (v : InboxView) (x : Marked) → v.polls ≡ true → x.polled ≡ true → Pushes Kept n pass v x (Polled v x)
+pub polls : (n pass : ℕ) (v : InboxView) (x : InboxEntry) → v.polls ≡ true → x.polled ≡ true → Pushes Kept n pass v x (Polled v x)
 polls n pass v x may mark items views room h at =
     let w : InboxView = view_of v.polls v.ticks v.takes (v.polled ++ x.item ∷ []) v.ticked v.taken in
     let taken = h.3 in
-    let ps : polled_of (taken ++ (items ++ x ∷ [])) ≡ polled_of (taken ++ items) ++ x.item ∷ [] = polled_snoc taken items x ∙ ap (λ b. polled_of (taken ++ items) ++ keep b x.item []) mark in
-    let ts : ticked_of (taken ++ (items ++ x ∷ [])) ≡ ticked_of (taken ++ items) = ticked_snoc taken items x ∙ ap (λ b. ticked_of (taken ++ items) ++ skip b x.item []) mark ∙ append-nil (ticked_of (taken ++ items)) in
+    let ps : polled_of (taken ++ (items ++ x ∷ [])) ≡ polled_of (taken ++ items) ++ x.item ∷ [] =
+    polled_snoc taken items x ∙ ap (λ b. polled_of (taken ++ items) ++ keep b x.item []) mark in
+    let ts : ticked_of (taken ++ (items ++ x ∷ [])) ≡ ticked_of (taken ++ items) =
+    ticked_snoc taken items x ∙ ap (λ b. ticked_of (taken ++ items) ++ skip b x.item []) mark ∙ append-nil (ticked_of (taken ++ items)) in
     let knows = ap (λ l. l ++ x.item ∷ []) ((h.4 pass v at).0 may).1 ∙ sym ps in (
       w,
       (
@@ -76,12 +80,14 @@ polls n pass v x may mark items views room h at =
     )
 
 -- a push by the clock
-pub ticks : (n pass : ℕ) (v : InboxView) (x : Marked) → v.ticks ≡ true → x.polled ≡ false → Pushes Kept n pass v x (Ticked v x)
+pub ticks : (n pass : ℕ) (v : InboxView) (x : InboxEntry) → v.ticks ≡ true → x.polled ≡ false → Pushes Kept n pass v x (Ticked v x)
 ticks n pass v x may mark items views room h at =
     let w : InboxView = view_of v.polls v.ticks v.takes v.polled (v.ticked ++ x.item ∷ []) v.taken in
     let taken = h.3 in
-    let ps : polled_of (taken ++ (items ++ x ∷ [])) ≡ polled_of (taken ++ items) = polled_snoc taken items x ∙ ap (λ b. polled_of (taken ++ items) ++ keep b x.item []) mark ∙ append-nil (polled_of (taken ++ items)) in
-    let ts : ticked_of (taken ++ (items ++ x ∷ [])) ≡ ticked_of (taken ++ items) ++ x.item ∷ [] = ticked_snoc taken items x ∙ ap (λ b. ticked_of (taken ++ items) ++ skip b x.item []) mark in
+    let ps : polled_of (taken ++ (items ++ x ∷ [])) ≡ polled_of (taken ++ items) =
+    polled_snoc taken items x ∙ ap (λ b. polled_of (taken ++ items) ++ keep b x.item []) mark ∙ append-nil (polled_of (taken ++ items)) in
+    let ts : ticked_of (taken ++ (items ++ x ∷ [])) ≡ ticked_of (taken ++ items) ++ x.item ∷ [] =
+    ticked_snoc taken items x ∙ ap (λ b. ticked_of (taken ++ items) ++ skip b x.item []) mark in
     let knows = ap (λ l. l ++ x.item ∷ []) ((h.4 pass v at).1 may).1 ∙ sym ts in (
       w,
       (

@@ -1,5 +1,6 @@
 -- What a turn adds to what was taken and to what was put.
-use Rattle.std.proofs.Common.{◌≡◌, ℕ, suc, true, ◌+◌, ◌-◌, ◌^◌, min, arith, Option, None, Some, List, [], ◌∷◌, ◌++◌, length, map, option_map, option_to_list, refl, sym, ap, ◌∙◌, append_assoc, append-nil, subst}
+use Rattle.std.proofs.Common.{◌≡◌, ℕ, suc, true, ◌+◌, ◌-◌, ◌^◌, min, arith, Option, None, Some, List, [], ◌∷◌, ◌++◌, length, map}
+use Rattle.std.proofs.Common.{option_map, option_to_list, refl, sym, ap, ◌∙◌, append_assoc, append-nil, subst}
 use Rattle.std.proofs.lemmas.List.{map-append, length-append}
 use Rattle.std.specs.Global.{Box}
 use Rattle.srt_seq.specs.declared.shared.Item.{Item as TheItem}
@@ -8,21 +9,22 @@ use Rattle.srt_seq.specs.declared.shared.Turned.{Turned}
 use Rattle.srt_seq.specs.declared.shared.Turned.TheVariants.{Moved, Applied, Blocked, Idle}
 use Rattle.srt_seq.specs.Terms.{Terms}
 use Rattle.srt_route.specs.declared.replies.Reply.{Reply}
-use Rattle.srt_route.specs.declared.state.Route.{Route}
+use Rattle.srt_route.specs.declared.route.Route.{Route}
 use Rattle.srt_route.specs.Route.{reply, solo}
 use Rattle.srt_route.specs.Written.{written}
 use Rattle.srt_route.specs.Stands.{waiting}
-use Rattle.srt_mailbox.specs.declared.inbox_rule.Marked.{Marked}
+use Rattle.srt_mailbox.specs.declared.inbox_rule.InboxEntry.{InboxEntry}
 use Rattle.srt_mailbox.specs.Counts.{counted}
 use Rattle.srt_mailbox.specs.Inbox.{told_before}
 use Rattle.srt_mailbox.specs.Outbox.{replies_in}
-use Rattle.srt_mailbox.specs.Cells.{Name, Bears}
+use Rattle.srt_mailbox.specs.Cells.{CellIdentity, Bears}
 use Rattle.srt_mailbox.specs.Evidence.{Refused, EmptyOnceMore, FullOnceMore}
 use Rattle.srt_mailbox.specs.Runs.{Run, waiting_at, AppliedOne, MovedOne, WasBlocked, WasIdle, TurnedAs}
 use Rattle.srt_mailbox.specs.Asked.{Answer, answer, passes}
 use Rattle.srt_mailbox.specs.Visits.{turns_of}
 
-pub told_last : (earlier : List Item) (taken : List Marked) (x : Marked) → told_before earlier (taken ++ x ∷ []) ≡ told x.item ∷ told_before earlier taken
+pub told_last : (earlier : List Item) (taken : List InboxEntry) (x : InboxEntry)
+    → told_before earlier (taken ++ x ∷ []) ≡ told x.item ∷ told_before earlier taken
 told_last earlier [] x = refl
 told_last earlier (m ∷ ms) x = told_last (told m.item ∷ earlier) ms x
 
@@ -32,28 +34,33 @@ none_held None route none = refl
 none_held (Some b) route none = absurd (let e : (written b.value ∷ (waiting route)) ≡ [] = none in cc)
 
 -- the replies to an item that was applied while none waited are all that wait; the item is known by another expression, j
-pub waits_next : (e : Terms) (r : ℕ) (items : List Item) (held : Option (Box Reply)) (old new : Route) (i j : TheItem) → waiting_at held old ≡ [] → waiting new ≡ reply e r (told i ∷ items) → i ≡ j → waiting_at held new ≡ reply e r (told j ∷ items)
-waits_next e r items held old new i j none replies same = ap (λ l. l ++ waiting new) (none_held held old none) ∙ replies ∙ ap (λ (k : TheItem). reply e r (told k ∷ items)) same
+pub waits_next : (e : Terms) (r : ℕ) (items : List Item) (held : Option (Box Reply)) (old new : Route) (i j : TheItem)
+    → waiting_at held old ≡ [] → waiting new ≡ reply e r (told i ∷ items) → i ≡ j → waiting_at held new ≡ reply e r (told j ∷ items)
+waits_next e r items held old new i j none replies same =
+    ap (λ l. l ++ waiting new) (none_held held old none) ∙ replies ∙ ap (λ (k : TheItem). reply e r (told k ∷ items)) same
 
-pub applied_replays : (e : Terms) (r : ℕ) (put old new : List Datagram) (items : List Item) (item : Item) → put ++ old ≡ solo e r items → old ≡ [] → new ≡ reply e r (item ∷ items) → put ++ new ≡ solo e r (item ∷ items)
+pub applied_replays : (e : Terms) (r : ℕ) (put old new : List Datagram) (items : List Item) (item : Item)
+    → put ++ old ≡ solo e r items → old ≡ [] → new ≡ reply e r (item ∷ items) → put ++ new ≡ solo e r (item ∷ items)
 applied_replays e r put old new items item so_far none is =
     ap (λ l. put ++ l) is ∙ ap (λ l. l ++ reply e r (item ∷ items)) (sym (append-nil put) ∙ ap (λ l. put ++ l) (sym none) ∙ so_far)
 
-pub moved_replays : (put : List Reply) (y : Reply) (rest all : List Datagram) → map written put ++ (written y ∷ rest) ≡ all → map written (put ++ y ∷ []) ++ rest ≡ all
+pub moved_replays : (put : List Reply) (y : Reply) (rest all : List Datagram)
+    → map written put ++ (written y ∷ rest) ≡ all → map written (put ++ y ∷ []) ++ rest ≡ all
 moved_replays put y rest all so_far = ap (λ l. l ++ rest) (map-append written put (y ∷ [])) ∙ append_assoc (map written put) (written y ∷ []) rest ∙ so_far
 
 pub counted_more : (n m : ℕ) → m ≡ counted n → min (m + 1) (2 ^ 64 - 1) ≡ counted (n + 1)
 counted_more n m is = omega (arith, is)
 
 -- a turn is of the same route, at the same queues
-pub still_bears : (t : Turned) (a b : Run) → TurnedAs t a b → (n : Name) → Bears n a → Bears n b
+pub still_bears : (t : Turned) (a b : Run) → TurnedAs t a b → (n : CellIdentity) → Bears n a → Bears n b
 still_bears Applied a b turned n bears = subst (λ (r : Run). Bears n r) (sym turned.2) bears
 still_bears Moved a b turned n bears = subst (λ (r : Run). Bears n r) (sym turned.3) bears
 still_bears Blocked a b turned n bears = subst (λ (r : Run). Bears n r) (sym turned.3) bears
 still_bears Idle a b turned n bears = subst (λ (r : Run). Bears n r) (sym turned.1) bears
 
 -- an item that was taken is one turn more
-pub taken_more : (t : Turned) (a b : Run) → t ≡ Applied → TurnedAs t a b → (length b.outbox.put ≡ length a.outbox.put) × (turns_of b ≡ turns_of a + 1) × (b.refusals ≡ a.refusals)
+pub taken_more : (t : Turned) (a b : Run)
+    → t ≡ Applied → TurnedAs t a b → (length b.outbox.put ≡ length a.outbox.put) × (turns_of b ≡ turns_of a + 1) × (b.refusals ≡ a.refusals)
 taken_more t a b is turned =
     let one : AppliedOne a b = subst (λ (u : Turned). TurnedAs u a b) is turned in
     let put : length b.outbox.put ≡ length a.outbox.put = ap (λ (r : Run). length r.outbox.put) one.2 in
@@ -61,7 +68,8 @@ taken_more t a b is turned =
     (put, omega (arith, put, taken), ap (λ (r : Run). r.refusals) one.2)
 
 -- so is a reply that was put
-pub put_more : (t : Turned) (a b : Run) → t ≡ Moved → TurnedAs t a b → (length b.outbox.put ≡ length a.outbox.put + 1) × (turns_of b ≡ turns_of a + 1) × (b.refusals ≡ a.refusals)
+pub put_more : (t : Turned) (a b : Run) → t ≡ Moved → TurnedAs t a b
+    → (length b.outbox.put ≡ length a.outbox.put + 1) × (turns_of b ≡ turns_of a + 1) × (b.refusals ≡ a.refusals)
 put_more t a b is turned =
     let one : MovedOne a b = subst (λ (u : Turned). TurnedAs u a b) is turned in
     let taken : length b.inbox.taken ≡ length a.inbox.taken = ap (λ (r : Run). length r.inbox.taken) one.3 in
@@ -84,7 +92,8 @@ passes_more : (r n : ℕ) (earlier : List Answer) → passes r (n + 1) earlier �
 passes_more r n earlier = let next : n + 1 ≡ suc n = omega arith in ap (λ (m : ℕ). passes r m earlier) next
 
 -- a gate that let n turns pass lets another one pass
-pub asked_more : (r n : ℕ) (old mid new : Option (List Answer)) → mid ≡ option_map (passes r n) old → new ≡ option_map (λ xs. answer r true ∷ xs) mid → new ≡ option_map (passes r (n + 1)) old
+pub asked_more : (r n : ℕ) (old mid new : Option (List Answer))
+    → mid ≡ option_map (passes r n) old → new ≡ option_map (λ xs. answer r true ∷ xs) mid → new ≡ option_map (passes r (n + 1)) old
 asked_more r n None mid new first next = next ∙ ap (option_map (λ (xs : List Answer). answer r true ∷ xs)) first
 asked_more r n (Some xs) mid new first next =
     next ∙ ap (option_map (λ (ys : List Answer). answer r true ∷ ys)) first ∙ ap (λ (ys : List Answer). Some ys) (sym (passes_more r n xs))

@@ -6,19 +6,19 @@ use Rattle.srt_mailbox.specs.Ends.{Producer, Drained}
 use Rattle.srt_mailbox.specs.Runs.{Run}
 
 -- The route's terms and index, and its two queues. Fixed when the cell is made
-pub record Name : Type 0 where
+pub record CellIdentity : Type 0 where
   pub terms : Terms
   pub index : ℕ
   pub inbox : TableId
   pub outbox : TableId
 
-abbrev pub name_of : Terms → (index : ℕ) → (inbox outbox : TableId) → Name
-name_of e r i o = record { terms = e; index = r; inbox = i; outbox = o }
+abbrev pub identity_of : Terms → (index : ℕ) → (inbox outbox : TableId) → CellIdentity
+identity_of e r i o = record { terms = e; index = r; inbox = i; outbox = o }
 
 -- the route is the one that the name gives, at the same queues
-abbrev pub Bears : Name → Run → Type 0
+abbrev pub Bears : CellIdentity → Run → Type 0
 Bears n r = (r.terms ≡ n.terms) × (r.index ≡ n.index) × (r.inbox.queue ≡ n.inbox) × (r.outbox.queue ≡ n.outbox)
 
 -- the ends belong to the queues of this name
-abbrev pub AreEndsOf : Name → Producer → Producer → Drained → Type 0
+abbrev pub AreEndsOf : CellIdentity → Producer → Producer → Drained → Type 0
 AreEndsOf n ingress clock drain = (ingress.queue ≡ n.inbox) × (clock.queue ≡ n.inbox) × (drain.queue ≡ n.outbox)

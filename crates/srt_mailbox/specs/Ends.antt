@@ -3,7 +3,7 @@ use Rattle.std.specs.Prelude.{◌≡◌, ℕ, List, [], ◌++◌, length}
 use Rattle.atomic_table.specs.Seated.{TableId}
 use Rattle.srt_seq.specs.declared.shared.Item.{Item}
 use Rattle.srt_route.specs.declared.replies.Reply.{Reply}
-use Rattle.srt_mailbox.specs.declared.inbox_rule.Marked.{Marked}
+use Rattle.srt_mailbox.specs.declared.inbox_rule.InboxEntry.{InboxEntry}
 use Rattle.srt_mailbox.specs.Inbox.{polled_of, ticked_of}
 
 -- an end that offers items: which inbox, its capacity, and the items of this end that were accepted, the oldest first
@@ -19,9 +19,9 @@ producer q c xs = record { queue = q; capacity = c; offered = xs }
 pub record Consumer : Type 0 where
   pub queue : TableId
   pub capacity : ℕ
-  pub taken : List Marked
+  pub taken : List InboxEntry
 
-abbrev pub consumer : TableId → (capacity : ℕ) → (taken : List Marked) → Consumer
+abbrev pub consumer : TableId → (capacity : ℕ) → (taken : List InboxEntry) → Consumer
 consumer q c xs = record { queue = q; capacity = c; taken = xs }
 
 -- the end that puts replies: which outbox, its capacity, and the replies that were put, the oldest first
@@ -46,11 +46,11 @@ drained q c xs h = record { queue = q; capacity = c; through = xs; hand = h }
 
 -- the three ends of one inbox, through which nothing has passed
 abbrev pub AreNew : (capacity : ℕ) → (ingress clock : Producer) → Consumer → Type 0
-AreNew capacity ingress clock taker =
-    (ingress ≡ producer taker.queue capacity []) × (clock ≡ producer taker.queue capacity []) × (taker ≡ consumer taker.queue capacity [])
+AreNew capacity ingress clock receiver =
+    (ingress ≡ producer receiver.queue capacity []) × (clock ≡ producer receiver.queue capacity []) × (receiver ≡ consumer receiver.queue capacity [])
 
 -- n items are left: those taken, followed by those left, are what the two ends offered, each in order
-abbrev pub AreLeft : (n : ℕ) → (taken : List Marked) → (ingress clock : Producer) → Type 0
+abbrev pub AreLeft : (n : ℕ) → (taken : List InboxEntry) → (ingress clock : Producer) → Type 0
 AreLeft n taken ingress clock =
-    (left : List Marked) × (length left ≡ n)
+    (left : List InboxEntry) × (length left ≡ n)
     × (ingress.offered ≡ polled_of (taken ++ left)) × (clock.offered ≡ ticked_of (taken ++ left))

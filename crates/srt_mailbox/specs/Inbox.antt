@@ -4,7 +4,7 @@ use mathlib.Core.Option.{some}
 use lib.ListN.{get_elem?}
 use Rattle.srt_seq.specs.declared.shared.Item.{Item}
 use Rattle.srt_seq.specs.Items.{Item as ToldItem, told}
-use Rattle.srt_mailbox.specs.declared.inbox_rule.Marked.{Marked}
+use Rattle.srt_mailbox.specs.declared.inbox_rule.InboxEntry.{InboxEntry}
 use Rattle.srt_mailbox.specs.declared.inbox_rule.InboxView.{InboxView}
 
 -- the item in front of the others, if the poller offered it
@@ -18,24 +18,24 @@ skip true i is = is
 skip false i is = i ∷ is
 
 -- the items that the poller offered, in order
-abbrev pub polled_of : List Marked → List Item
+abbrev pub polled_of : List InboxEntry → List Item
 polled_of [] = []
 polled_of (m ∷ ms) = keep m.polled m.item (polled_of ms)
 
 -- the items that the clock offered, in order
-abbrev pub ticked_of : List Marked → List Item
+abbrev pub ticked_of : List InboxEntry → List Item
 ticked_of [] = []
 ticked_of (m ∷ ms) = skip m.polled m.item (ticked_of ms)
 
 -- the taken items as the route's definition sees them, the newest first
-abbrev pub told_before : List ToldItem → List Marked → List ToldItem
+abbrev pub told_before : List ToldItem → List InboxEntry → List ToldItem
 told_before earlier [] = earlier
 told_before earlier (m ∷ ms) = told_before (told m.item ∷ earlier) ms
 
-abbrev pub applied : List Marked → List ToldItem
+abbrev pub applied : List InboxEntry → List ToldItem
 applied taken = told_before [] taken
 
-abbrev pub view_of : (polls ticks takes : Bool) → (polled ticked : List Item) → (taken : List Marked) → InboxView
+abbrev pub view_of : (polls ticks takes : Bool) → (polled ticked : List Item) → (taken : List InboxEntry) → InboxView
 view_of p q r ps qs ts = record { polls = p; ticks = q; takes = r; polled = ps; ticked = qs; taken = ts }
 
 -- the first pass: all rights, and nothing done yet
@@ -67,41 +67,41 @@ abbrev pub with_clock : InboxView → InboxView → InboxView
 with_clock v w = view_of v.polls w.ticks v.takes v.polled w.ticked v.taken
 
 -- what the pass of this number knows, if the passes that have the three rights are p, q and r
-abbrev pub Knows : (p q r : ℕ) → (taken items : List Marked) → (pass : ℕ) → InboxView → Type 0
+abbrev pub Knows : (p q r : ℕ) → (taken items : List InboxEntry) → (pass : ℕ) → InboxView → Type 0
 Knows p q r taken items pass v =
     (v.polls ≡ true → (pass ≡ p) × (v.polled ≡ polled_of (taken ++ items)))
     × (v.ticks ≡ true → (pass ≡ q) × (v.ticked ≡ ticked_of (taken ++ items)))
     × (v.takes ≡ true → (pass ≡ r) × (v.taken ≡ taken))
 
 -- at most one pass has each right, and it knows all that was done by that right
-abbrev pub Kept : (items : List Marked) → (views : List InboxView) → Type 0
+abbrev pub Kept : (items : List InboxEntry) → (views : List InboxView) → Type 0
 Kept items views =
-    (p : ℕ) × (q : ℕ) × (r : ℕ) × (taken : List Marked)
+    (p : ℕ) × (q : ℕ) × (r : ℕ) × (taken : List InboxEntry)
     × ((pass : ℕ) (v : InboxView) → get_elem? views pass ≡ some v → Knows p q r taken items pass v)
 
 -- a pass's view before and after a step of that pass
-abbrev pub Polled : InboxView → Marked → InboxView → Type 0
+abbrev pub Polled : InboxView → InboxEntry → InboxView → Type 0
 Polled v x w = w ≡ view_of v.polls v.ticks v.takes (v.polled ++ x.item ∷ []) v.ticked v.taken
 
-abbrev pub Ticked : InboxView → Marked → InboxView → Type 0
+abbrev pub Ticked : InboxView → InboxEntry → InboxView → Type 0
 Ticked v x w = w ≡ view_of v.polls v.ticks v.takes v.polled (v.ticked ++ x.item ∷ []) v.taken
 
-abbrev pub Took : InboxView → Marked → InboxView → Type 0
+abbrev pub Took : InboxView → InboxEntry → InboxView → Type 0
 Took v x w = w ≡ view_of v.polls v.ticks v.takes v.polled v.ticked (v.taken ++ x ∷ [])
 
 -- at some moment the rule was true with these items held, and some pass knew this
-abbrev pub Stood : (items : List Marked) → (InboxView → Type 0) → Type 0
+abbrev pub Stood : (items : List InboxEntry) → (InboxView → Type 0) → Type 0
 Stood items knows = (views : List InboxView) × (pass : ℕ) × (v : InboxView) × Kept items views × (get_elem? views pass ≡ some v) × knows v
 
-abbrev pub StoodAsPolled : (polled : List Item) → (items : List Marked) → Type 0
+abbrev pub StoodAsPolled : (polled : List Item) → (items : List InboxEntry) → Type 0
 StoodAsPolled polled items = Stood items (λ v. (v.polls ≡ true) × (v.polled ≡ polled))
 
-abbrev pub StoodAsTicked : (ticked : List Item) → (items : List Marked) → Type 0
+abbrev pub StoodAsTicked : (ticked : List Item) → (items : List InboxEntry) → Type 0
 StoodAsTicked ticked items = Stood items (λ v. (v.ticks ≡ true) × (v.ticked ≡ ticked))
 
-abbrev pub StoodAsTaken : (taken items : List Marked) → Type 0
+abbrev pub StoodAsTaken : (taken items : List InboxEntry) → Type 0
 StoodAsTaken taken items = Stood items (λ v. (v.takes ≡ true) × (v.taken ≡ taken))
 
 -- what the pass with all three rights knows of the items held
-abbrev pub KnowsAll : InboxView → (items : List Marked) → Type 0
+abbrev pub KnowsAll : InboxView → (items : List InboxEntry) → Type 0
 KnowsAll v items = (v.polled ≡ polled_of (v.taken ++ items)) × (v.ticked ≡ ticked_of (v.taken ++ items))

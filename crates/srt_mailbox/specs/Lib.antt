@@ -1,4 +1,4 @@
-pub mod Marks
+pub mod inside
 pub mod Inbox
 pub mod Outbox
 pub mod Ends
@@ -10,4 +10,6 @@ pub mod Visits
 pub mod Cells
 pub mod Looks
 pub mod Settled
-pub mod Names
+pub mod Identities
+pub mod Seats
+pub mod Places

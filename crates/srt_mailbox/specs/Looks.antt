@@ -1,10 +1,10 @@
 -- What a look at a route saw.
 use Rattle.std.specs.Prelude.{◌≡◌, ℕ, Option, List, ◌∷◌, length, option_map}
-use Rattle.srt_route.specs.declared.state.Route.{Route as TheRoute}
+use Rattle.srt_route.specs.declared.route.Route.{Route as TheRoute}
 use Rattle.srt_route.specs.Stands.{stands}
 use Rattle.srt_mailbox.specs.Inbox.{applied}
 use Rattle.srt_mailbox.specs.Runs.{Run, Replays}
-use Rattle.srt_mailbox.specs.Cells.{Name, Bears}
+use Rattle.srt_mailbox.specs.Cells.{CellIdentity, Bears}
 
 -- a route as it was shown, and how many replies waited at it
 pub record Seen : Type 0 where
@@ -25,5 +25,5 @@ WasShown r old new =
     × SawMore (seen route (length r.waiting)) old new
 
 -- a route of this name was shown once
-abbrev pub OneWasShown : Name → (old new : Option (List Seen)) → Type 0
+abbrev pub OneWasShown : CellIdentity → (old new : Option (List Seen)) → Type 0
 OneWasShown n old new = (r : Run) × Bears n r × WasShown r old new

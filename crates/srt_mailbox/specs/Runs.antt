@@ -10,8 +10,8 @@ use Rattle.srt_route.specs.declared.replies.Reply.{Reply}
 use Rattle.srt_route.specs.Route.{reply, solo}
 use Rattle.srt_route.specs.Written.{written}
 use Rattle.srt_route.specs.Stands.{waiting}
-use Rattle.srt_route.specs.declared.state.Route.{Route as TheRoute}
-use Rattle.srt_mailbox.specs.declared.inbox_rule.Marked.{Marked}
+use Rattle.srt_route.specs.declared.route.Route.{Route as TheRoute}
+use Rattle.srt_mailbox.specs.declared.inbox_rule.InboxEntry.{InboxEntry}
 use Rattle.srt_mailbox.specs.Inbox.{applied, StoodAsTaken}
 use Rattle.srt_mailbox.specs.Outbox.{replies_in, StoodAsPut}
 use Rattle.srt_mailbox.specs.Ends.{Consumer, consumer, Pipe, pipe}
@@ -45,8 +45,11 @@ Replays r = map written r.outbox.put ++ r.waiting ≡ solo r.terms r.index (appl
 -- none waited; an item was taken, and now the route's replies to it wait
 abbrev pub AppliedOne : Run → Run → Type 0
 AppliedOne a b =
-    (x : Marked) × (a.waiting ≡ [])
-    × (b ≡ run a.terms a.index (consumer a.inbox.queue a.inbox.capacity (a.inbox.taken ++ x ∷ [])) a.outbox (reply a.terms a.index (told x.item ∷ applied a.inbox.taken)) a.refusals)
+    (x : InboxEntry) × (a.waiting ≡ [])
+    ×
+    (b
+    ≡ run a.terms a.index (consumer a.inbox.queue a.inbox.capacity (a.inbox.taken ++ x ∷ [])) a.outbox
+    (reply a.terms a.index (told x.item ∷ applied a.inbox.taken)) a.refusals)
 
 -- the oldest reply that waited was put
 abbrev pub MovedOne : Run → Run → Type 0

@@ -1,18 +1,18 @@
 -- The account of a route that has ended.
 use Rattle.std.specs.Prelude.{◌≡◌, List, ◌++◌, length}
 use Rattle.srt_route.specs.declared.replies.Reply.{Reply}
-use Rattle.srt_mailbox.specs.declared.inbox_rule.Marked.{Marked}
+use Rattle.srt_mailbox.specs.declared.inbox_rule.InboxEntry.{InboxEntry}
 use Rattle.srt_mailbox.specs.declared.accounts.Account.{Account}
 use Rattle.srt_mailbox.specs.Inbox.{polled_of, ticked_of}
 use Rattle.srt_mailbox.specs.Ends.{Producer, Drained}
 use Rattle.srt_mailbox.specs.Runs.{Run, Replays}
-use Rattle.srt_mailbox.specs.Cells.{Name, Bears}
+use Rattle.srt_mailbox.specs.Cells.{CellIdentity, Bears}
 use Rattle.srt_mailbox.specs.Counts.{counted}
 
 -- The account has the numbers of this route and of its two queues: the items that it took, those that are left of what the two ends
 -- offered, the replies that wait at it, those that are queued of what it put, and those that were drained
 pub record IsAccountOf (a : Account) (r : Run) (ingress clock : Producer) (drain : Drained) : Type 0 where
-  pub left : List Marked
+  pub left : List InboxEntry
   pub queued : List Reply
   pub polled : ingress.offered ≡ polled_of (r.inbox.taken ++ left)
   pub ticked : clock.offered ≡ ticked_of (r.inbox.taken ++ left)
@@ -24,7 +24,7 @@ pub record IsAccountOf (a : Account) (r : Run) (ingress clock : Producer) (drain
   pub drained_is : a.drained ≡ counted (length drain.through)
 
 -- The account is that of a route of this name, which put and keeps waiting what it, alone, replies to the items that it took
-pub record Settles (a : Account) (n : Name) (ingress clock : Producer) (drain : Drained) : Type 0 where
+pub record Settles (a : Account) (n : CellIdentity) (ingress clock : Producer) (drain : Drained) : Type 0 where
   pub route : Run
   pub bears : Bears n route
   pub replays : Replays route

@@ -2,7 +2,7 @@
 use Rattle.std.specs.Prelude.{◌≡◌, ℕ, true, false, Option, None, Some, List, ◌∷◌, ◌+◌, length}
 use Rattle.srt_seq.specs.declared.shared.Turned.TheVariants.{Moved, Applied, Blocked, Idle}
 use Rattle.srt_mailbox.specs.declared.gates.Served.{Served}
-use Rattle.srt_mailbox.specs.declared.gates.Served.TheVariants.{Turned, Held, Busy}
+use Rattle.srt_mailbox.specs.declared.gates.Served.TheVariants.{Turned, GateRefused, ClaimedElsewhere}
 use Rattle.srt_mailbox.specs.declared.gates.Visit.{Visit}
 use Rattle.srt_mailbox.specs.Asked.{Answer, answer, passes}
 use Rattle.srt_mailbox.specs.Evidence.{EmptyOnceMore, FullOnceMore}
@@ -11,8 +11,8 @@ use Rattle.srt_mailbox.specs.Runs.{Run, TurnedAs}
 -- what the gate was asked for the turn that ended a visit, or that was alone, in front of the earlier answers
 abbrev pub asked_last : (route : ℕ) → Served → List Answer → List Answer
 asked_last r (Turned t) earlier = answer r true ∷ earlier
-asked_last r Held earlier = answer r false ∷ earlier
-asked_last r Busy earlier = earlier
+asked_last r GateRefused earlier = answer r false ∷ earlier
+asked_last r ClaimedElsewhere earlier = earlier
 
 abbrev pub asked_at_end : (route : ℕ) → Option Served → List Answer → List Answer
 asked_at_end r None earlier = earlier
@@ -29,8 +29,8 @@ turns_of r = length r.inbox.taken + length r.outbox.put
 -- one turn was made, or none where the gate refused it
 abbrev pub ServedAs : Served → Run → Run → Type 0
 ServedAs (Turned t) a b = TurnedAs t a b
-ServedAs Held a b = b ≡ a
-ServedAs Busy a b = ⊥
+ServedAs GateRefused a b = b ≡ a
+ServedAs ClaimedElsewhere a b = ⊥
 
 -- what the end of a visit says of the refusals: the last turn found the inbox empty, or the outbox full, or there was none
 abbrev pub EndedAs : Option Served → Run → Run → Type 0
@@ -38,6 +38,6 @@ EndedAs (Some (Turned Idle)) a b = EmptyOnceMore a.refusals b.refusals
 EndedAs (Some (Turned Blocked)) a b = FullOnceMore a.refusals b.refusals
 EndedAs (Some (Turned Applied)) a b = ⊥
 EndedAs (Some (Turned Moved)) a b = ⊥
-EndedAs (Some Held) a b = b.refusals ≡ a.refusals
-EndedAs (Some Busy) a b = ⊥
+EndedAs (Some GateRefused) a b = b.refusals ≡ a.refusals
+EndedAs (Some ClaimedElsewhere) a b = ⊥
 EndedAs None a b = b.refusals ≡ a.refusals

@@ -2,7 +2,7 @@
 
 ghost use Rattle.std.specs.Prelude.{◌≡◌, IfOk, IfErr};
 ghost use Rattle.srt_mailbox.specs.Cells.{AreEndsOf};
-ghost use Rattle.srt_mailbox.specs.Names.{name_in};
+ghost use Rattle.srt_mailbox.specs.Identities.{identity_in};
 ghost use Rattle.srt_mailbox.specs.Runs.{Replays};
 ghost use Rattle.srt_mailbox.specs.Settled.{IsAccountOf, Settles};
 
@@ -42,7 +42,7 @@ pub struct Unsettled {
 
 impl Running {
     /// Ends the route and returns its account. The three ends must be of its two queues. What is left in the queues is
-    /// counted and discarded. Takes no memory.
+    /// counted and discarded. Doesn't allocate.
     pub fn settle<R: Wait>(self, rt: &R, ingress: Ingress, clock: ClockEnd, drain: Drain) -> Account
         requires inbox { (ingress.queue ≡ self.inbox.queue) × (clock.queue ≡ self.inbox.queue) }
         requires outbox { drain.queue ≡ self.outbox.queue }
@@ -50,8 +50,8 @@ impl Running {
         ensures replays { Replays self }
     {
         let parts = self.into_parts();
-        let left = parts.taker.settle(rt, ingress, clock);
-        let (queued, drained) = parts.putter.settle(rt, drain);
+        let left = parts.receiver.settle(rt, ingress, clock);
+        let (queued, drained) = parts.sender.settle(rt, drain);
         Account {
             taken: parts.taken,
             left: left as u64,
@@ -63,7 +63,7 @@ impl Running {
 }
 
 /// Ends a route and returns its account. The four ends must come from one `open_route`. If another call has claimed the
-/// route, `Unsettled` hands them back unchanged. What is left in the queues is counted and discarded. Takes no memory.
+/// route, `Unsettled` hands them back unchanged. What is left in the queues is counted and discarded. Doesn't allocate.
 pub fn settle<R: Wait>(
     rt: &R,
     ingress: Ingress,
@@ -71,8 +71,8 @@ pub fn settle<R: Wait>(
     cell: RouteCell,
     drain: Drain,
 ) -> Result<Account, Unsettled>
-    requires { AreEndsOf (name_in cell) ingress clock drain }
-    ensures settled { IfOk result (λ account. Settles account (name_in cell) ingress clock drain) }
+    requires { AreEndsOf (identity_in cell) ingress clock drain }
+    ensures settled { IfOk result (λ account. Settles account (identity_in cell) ingress clock drain) }
     ensures busy { IfErr result (λ ends. (ends.ingress ≡ ingress) × (ends.clock ≡ clock) × (ends.cell ≡ cell) × (ends.drain ≡ drain)) }
 {
     match cell.into_running() {

@@ -4,9 +4,9 @@
 ghost use Rattle.std.specs.Prelude.{◌≡◌, ◌≢◌, ◌≤◌, true, false, Some, None, IfSome, IfOk, IfErr, option_map};
 ghost use Rattle.srt_seq.specs.Terms.{terms_of};
 ghost use Rattle.srt_mailbox.specs.Counts.{Grew};
-ghost use Rattle.srt_mailbox.specs.Cells.{Name, Bears};
+ghost use Rattle.srt_mailbox.specs.Cells.{CellIdentity, Bears};
 ghost use Rattle.srt_mailbox.specs.Looks.{Seen, OneWasShown, SawMore};
-ghost use Rattle.srt_mailbox.specs.declared.gates.Served.TheVariants.{Held, Busy};
+ghost use Rattle.srt_mailbox.specs.declared.gates.Served.TheVariants.{GateRefused, ClaimedElsewhere};
 
 use crate::gates::{Gate, Served, Visit};
 use crate::inbox_rule::Inbox;
@@ -20,23 +20,25 @@ use std::snapshot::Snapshot;
 use std::sync::{Arc, Wait};
 
 /// Which route a cell holds, and its two queues. Fixed when the cell is made, and the tag of its slot: so what a claim
-/// finds there is known to be that route between those queues, whoever put it there. Contracts see it as a `Name`.
+/// finds there is known to be that route between those queues, whoever put it there. Contracts see it as a
+/// `CellIdentity`.
 #[derive(Drop)]
-pub struct Label {
+pub struct CellTag {
     pub(crate) inbox: Arc<Inbox>,
     pub(crate) outbox: Arc<Outbox>,
     pub(crate) entry: Snapshot<Entry>,
     pub(crate) index: Snapshot<usize>,
 }
 
-impl Model for Label {
+impl Model for CellTag {
     ghost use Rattle.std.specs.Arc.{arc_value};
     ghost use Rattle.srt_seq.specs.Terms.{terms_of};
-    ghost use Rattle.srt_mailbox.specs.Cells.{Name, name_of};
+    ghost use Rattle.srt_mailbox.specs.Cells.{CellIdentity, identity_of};
 
-    ghost Value = { Name };
+    ghost Value = { CellIdentity };
 
-    ghost view = { λ s. name_of (terms_of s.entry.value) s.index.value (arc_value s.inbox).table.shared.table_id (arc_value s.outbox).table.shared.table_id };
+    ghost view = { λ s. identity_of (terms_of s.entry.value) s.index.value
+        (arc_value s.inbox).table.shared.table_id (arc_value s.outbox).table.shared.table_id };
 }
 
 /// A route in its box. A claim moves the box out and back; the route itself is never copied.
@@ -48,9 +50,22 @@ pub struct Boxed {
 impl Fits for Boxed {
     ghost use Rattle.srt_mailbox.specs.Cells.{Bears};
 
-    type Tag = Label;
+    type Tag = CellTag;
 
     ghost fits = { λ label boxed. Bears label boxed.running.value };
+}
+
+/// Takes out what a slot holds. `None` if it holds nothing, or another call has it. One compare-exchange; never waits.
+#[inline(always)]
+pub(crate) fn take_out<X: Fits + Drop>(slot: &Counted<Option<X>>) -> Option<X>
+    ensures { IfSome result (X.fits slot.now) }
+{
+    let (found, claim) = slot.turn(FREE, TAKEN);
+    if found != FREE {
+        claim.done();
+        return None;
+    }
+    claim.put(None, PRESENT)
 }
 
 /// A route that workers share. At most one call has the route at a time; the slot is empty meanwhile.
@@ -64,14 +79,14 @@ pub struct RouteCell {
 }
 
 impl RouteCell {
-    ghost use Rattle.srt_mailbox.specs.Names.{name_in};
+    ghost use Rattle.srt_mailbox.specs.Identities.{identity_in};
     ghost use Rattle.srt_mailbox.specs.Visits.{asked_in, asked_last};
 
     /// A cell that holds this route, with a free claim word. `index` is the route's; gates are asked about it.
-    pub(crate) fn new(index: usize, boxed: Boxed, label: &Label) -> RouteCell
+    pub(crate) fn new(index: usize, boxed: Boxed, label: &CellTag) -> RouteCell
         requires bears { Bears label.now boxed.running.value }
         requires index { index ≡ label.now.index }
-        ensures { name_in result ≡ label.now }
+        ensures { identity_in result ≡ label.now }
     {
         RouteCell {
             index,
@@ -82,23 +97,36 @@ impl RouteCell {
 
     // Takes the route out of the slot. `None` if another call has it. One compare-exchange; never waits.
     fn claim(&self) -> Option<Boxed>
-        ensures { IfSome result (λ r. Bears (name_in self.now) r.running.value) }
+        ensures { IfSome result (λ r. Bears (identity_in self.now) r.running.value) }
     {
-        let (found, claim) = self.slot.turn(FREE, TAKEN);
-        if found != FREE {
-            claim.done();
-            return None;
-        }
-        claim.put(None, PRESENT)
+        take_out(&self.slot)
     }
 
-    /// Ends the cell and returns its route. If another call has the route, the cell comes back unchanged. Never waits.
-    pub fn into_running(self) -> Result<Running, RouteCell>
-        ensures route { IfOk result (λ running. Bears (name_in self) running) }
-        ensures busy { IfErr result (λ cell. cell ≡ self) }
+    /// The route's index.
+    pub(crate) fn index(&self) -> usize
+        ensures { result ≡ (identity_in self.now).index }
+    {
+        self.index
+    }
+
+    /// Takes the route out for good: to every later call the route is claimed elsewhere. `None` if another call has it.
+    /// Never waits.
+    pub(crate) fn take(&self) -> Option<Running>
+        ensures { IfSome result (λ running. Bears (identity_in self.now) running) }
     {
         match self.claim() {
-            Some(boxed) => Ok(Box::into_inner(boxed.running)),
+            Some(boxed) => Some(Box::into_inner(boxed.running)),
+            None => None,
+        }
+    }
+
+    /// Ends the cell and returns its route. If another call has the route, the cell is returned unchanged. Never waits.
+    pub fn into_running(self) -> Result<Running, RouteCell>
+        ensures route { IfOk result (λ running. Bears (identity_in self) running) }
+        ensures busy { IfErr result (λ cell. cell ≡ self) }
+    {
+        match self.take() {
+            Some(running) => Ok(running),
             None => Err(self),
         }
     }
@@ -106,7 +134,7 @@ impl RouteCell {
     // Puts the route back and frees the claim word. While a call has the route, no other call changes the word, so the
     // first try succeeds. The proof doesn't know that, hence the loop.
     fn give_back<R: Wait>(&self, rt: &R, boxed: Boxed)
-        requires { Bears (name_in self.now) boxed.running.value }
+        requires { Bears (identity_in self.now) boxed.running.value }
     {
         for _ in rt.forever() {
             let (found, claim) = self.slot.turn(PRESENT, TAKEN);
@@ -118,15 +146,15 @@ impl RouteCell {
         }
     }
 
-    /// Makes one turn of the route, if no other call has it and the gate lets it pass. `Held`: the gate refused.
-    /// `Busy`: another call had the route, and the gate wasn't asked. In both cases no turn is made. The route is given
-    /// back in every case. Takes no memory and doesn't wait for the route.
+    /// Makes one turn of the route, if no other call has it and the gate lets it pass. `GateRefused`: the gate
+    /// refused. `ClaimedElsewhere`: another call had the route, and the gate wasn't asked. In both cases no turn is
+    /// made. The route is given back in every case. Doesn't allocate and doesn't wait for the route.
     pub fn serve<R: Wait, G: Gate>(&self, rt: &R, gate: &mut G) -> Served
-        ensures held { result ≡ Held → Grew (G.held gate.old) (G.held gate.new) }
-        ensures asked { G.asked gate.new ≡ option_map (asked_last (name_in self.now).index result) (G.asked gate.old) }
+        ensures held { result ≡ GateRefused → Grew (G.held gate.old) (G.held gate.new) }
+        ensures asked { G.asked gate.new ≡ option_map (asked_last (identity_in self.now).index result) (G.asked gate.old) }
     {
         let Some(mut boxed) = self.claim() else {
-            return Served::Busy;
+            return Served::ClaimedElsewhere;
         };
         let served = boxed.running.serve(rt, self.index, gate);
         self.give_back(rt, boxed);
@@ -135,21 +163,21 @@ impl RouteCell {
 
     /// Makes turns of the route, at most `most`, if no other call has it, until one finds nothing to do or a full
     /// outbox, or the gate refuses one; it is asked before each. The route is claimed once for all of them, since a
-    /// claim and its return are four locked operations. Takes no memory and doesn't wait for the route.
+    /// claim and its return are four locked operations. Doesn't allocate and doesn't wait for the route.
     pub fn visit<R: Wait, G: Gate>(&self, rt: &R, gate: &mut G, most: u32) -> Visit
         ensures most { result.turns ≤ most }
         ensures moved { result.moved ≤ result.turns }
         ensures all { result.end ≡ None → result.turns ≡ most }
-        ensures held { result.end ≡ Some Held → Grew (G.held gate.old) (G.held gate.new) }
-        ensures passed { result.end ≢ Some Held → G.held gate.new ≡ G.held gate.old }
-        ensures busy { result.end ≡ Some Busy → (result.turns ≡ 0) × (gate.new ≡ gate.old) }
-        ensures asked { G.asked gate.new ≡ option_map (asked_in (name_in self.now).index result) (G.asked gate.old) }
+        ensures held { result.end ≡ Some GateRefused → Grew (G.held gate.old) (G.held gate.new) }
+        ensures passed { result.end ≢ Some GateRefused → G.held gate.new ≡ G.held gate.old }
+        ensures busy { result.end ≡ Some ClaimedElsewhere → (result.turns ≡ 0) × (gate.new ≡ gate.old) }
+        ensures asked { G.asked gate.new ≡ option_map (asked_in (identity_in self.now).index result) (G.asked gate.old) }
     {
         let Some(mut boxed) = self.claim() else {
             return Visit {
                 turns: 0,
                 moved: 0,
-                end: Some(Served::Busy),
+                end: Some(Served::ClaimedElsewhere),
             };
         };
         let visit = boxed.running.visit(rt, self.index, gate, most);
@@ -159,16 +187,16 @@ impl RouteCell {
 
     // Puts a route back that is as it was when it was claimed.
     fn give_back_same<R: Wait>(&self, rt: &R, boxed: Boxed, _claimed: Snapshot<Boxed>)
-        requires bears { Bears (name_in self.now) boxed.running.value }
+        requires bears { Bears (identity_in self.now) boxed.running.value }
         requires same { boxed ≡ _claimed.value }
     {
         self.give_back(rt, boxed);
     }
 
     /// Shows the route, once, if no other call has it. False if another call has it; then nothing was shown. Makes no
-    /// turn: the route is given back as it was. Takes no memory and doesn't wait for the route.
+    /// turn: the route is given back as it was. Doesn't allocate and doesn't wait for the route.
     pub fn show<R: Wait, L: Look>(&self, rt: &R, look: &mut L) -> bool
-        ensures shown { result ≡ true → OneWasShown (name_in self.now) (L.looked look.old) (L.looked look.new) }
+        ensures shown { result ≡ true → OneWasShown (identity_in self.now) (L.looked look.old) (L.looked look.new) }
         ensures busy { result ≡ false → look.new ≡ look.old }
     {
         let Some(boxed) = self.claim() else {
@@ -189,13 +217,13 @@ pub trait Serve {
         ensures most { result.turns ≤ most }
         ensures moved { result.moved ≤ result.turns }
         ensures all { result.end ≡ None → result.turns ≡ most }
-        ensures held { result.end ≡ Some Held → Grew (G.held gate.old) (G.held gate.new) }
-        ensures passed { result.end ≢ Some Held → G.held gate.new ≡ G.held gate.old }
-        ensures busy { result.end ≡ Some Busy → (result.turns ≡ 0) × (gate.new ≡ gate.old) };
+        ensures held { result.end ≡ Some GateRefused → Grew (G.held gate.old) (G.held gate.new) }
+        ensures passed { result.end ≢ Some GateRefused → G.held gate.new ≡ G.held gate.old }
+        ensures busy { result.end ≡ Some ClaimedElsewhere → (result.turns ≡ 0) × (gate.new ≡ gate.old) };
 
     /// Makes one turn of the route, as `RouteCell::serve` does.
     fn serve<R: Wait, G: Gate>(&self, rt: &R, gate: &mut G) -> Served
-        ensures held { result ≡ Held → Grew (G.held gate.old) (G.held gate.new) };
+        ensures held { result ≡ GateRefused → Grew (G.held gate.old) (G.held gate.new) };
 
     /// Shows the route, as `RouteCell::show` does.
     fn show<R: Wait, L: Look>(&self, rt: &R, look: &mut L) -> bool

@@ -9,7 +9,7 @@ ghost use Rattle.crossbeam_queue.specs.Fifo.{Held, Learns, Pops, Pushes};
 ghost use Rattle.crossbeam_queue.specs.Passes.{view, IsPassOf, IsSamePass, ruled_capacity};
 ghost use Rattle.srt_mailbox.specs.Evidence.{AskedBy};
 
-use crate::inbox_rule::{InboxView, Marked};
+use crate::inbox_rule::{InboxEntry, InboxView};
 use crate::outbox_rule::{OutboxView, Parcel};
 use crossbeam_queue::protocol::{Lesson, Outcome, Protocol};
 use crossbeam_queue::{Pass, RuledArrayQueue};
@@ -53,9 +53,11 @@ where
     P: Protocol<T, V>,
     R: Wait,
     requires queue { IsPassOf queue.now pass.old }
-    requires rule { Pushes P.holds (ruled_capacity queue.now) pass.old.id (view pass.old) value (M.then (view pass.old) value) × Learns P.holds pass.old.id (view pass.old) (M.fact (view pass.old)) }
+    requires rule { Pushes P.holds (ruled_capacity queue.now) pass.old.id (view pass.old) value (M.then (view pass.old) value) ×
+        Learns P.holds pass.old.id (view pass.old) (M.fact (view pass.old)) }
     ensures queue { IsSamePass pass.old pass.new }
-    ensures rule { MatchResult result (λ _. M.then (view pass.old) value (view pass.new)) (λ back. (back.0 ≡ value) × (view pass.new ≡ view pass.old) × Held (ruled_capacity queue.now) (M.fact (view pass.old))) }
+    ensures rule { MatchResult result (λ _. M.then (view pass.old) value (view pass.new))
+        (λ back. (back.0 ≡ value) × (view pass.new ≡ view pass.old) × Held (ruled_capacity queue.now) (M.fact (view pass.old))) }
     ensures evidence { IfErr result (λ back. AskedBy back.1.asked.value pass.old) }
 {
     match queue.push_as::<M, R>(rt, pass, value) {
@@ -107,7 +109,8 @@ where
     requires queue { IsPassOf queue.now pass.old }
     requires rule { Pops P.holds pass.old.id (view pass.old) (M.then (view pass.old)) × Learns P.holds pass.old.id (view pass.old) (M.fact (view pass.old)) }
     ensures queue { IsSamePass pass.old pass.new }
-    ensures rule { MatchResult result (λ value. M.then (view pass.old) value (view pass.new)) (λ _. (view pass.new ≡ view pass.old) × Held 0 (M.fact (view pass.old))) }
+    ensures rule { MatchResult result (λ value. M.then (view pass.old) value (view pass.new))
+        (λ _. (view pass.new ≡ view pass.old) × Held 0 (M.fact (view pass.old))) }
     ensures evidence { IfErr result (λ empty. AskedBy empty.asked.value pass.old) }
 {
     match queue.pop_as::<M, R>(rt, pass) {
@@ -145,7 +148,7 @@ where
 /// which inbox, and what the end that asked had offered by then.
 #[derive(Drop)]
 pub struct InboxFull {
-    full: WasFull<Marked, InboxView>,
+    full: WasFull<InboxEntry, InboxView>,
 }
 
 impl Model for InboxFull {
@@ -161,7 +164,7 @@ impl InboxFull {
 
     /// The same evidence, of an inbox.
     #[inline(always)]
-    pub(crate) fn new(full: WasFull<Marked, InboxView>) -> InboxFull
+    pub(crate) fn new(full: WasFull<InboxEntry, InboxView>) -> InboxFull
         ensures { result ≡ found_full full.asked.value.table_id full.asked.value.me.0.client.polled full.asked.value.me.0.client.ticked }
     {
         InboxFull { full }
@@ -212,13 +215,13 @@ impl fmt::Debug for OutboxEmpty {
 /// How often a route found its inbox empty and its outbox full. Only evidence makes a count grow. Contracts see it as a
 /// `Refused`.
 #[derive(Drop)]
-pub struct Refusals {
+pub struct QueueRefusals {
     // both saturate at 2^64 - 1
     empty: u64,
     full: u64,
 }
 
-impl Model for Refusals {
+impl Model for QueueRefusals {
     ghost use Rattle.srt_mailbox.specs.Evidence.{Refused, refused};
 
     ghost Value = { Refused };
@@ -226,19 +229,19 @@ impl Model for Refusals {
     ghost view = { λ s. refused s.empty s.full };
 }
 
-impl Refusals {
+impl QueueRefusals {
     ghost use Rattle.srt_mailbox.specs.Evidence.{EmptyOnceMore, FullOnceMore, refused};
 
     /// None so far.
-    pub fn new() -> Refusals
+    pub fn new() -> QueueRefusals
         ensures { result ≡ refused 0 0 }
     {
-        Refusals { empty: 0, full: 0 }
+        QueueRefusals { empty: 0, full: 0 }
     }
 
     /// Counts an empty inbox.
     #[inline(always)]
-    pub fn note_empty(&mut self, _empty: WasEmpty<Marked, InboxView>)
+    pub fn note_empty(&mut self, _empty: WasEmpty<InboxEntry, InboxView>)
         ensures { EmptyOnceMore self.old self.new }
     {
         self.empty = self.empty.saturating_add(1);

@@ -16,7 +16,7 @@ pub trait Gate {
     ghost asked: { Self → Option (List Answer) };
 
     /// Whether a turn of the route with this index may be made now. If not, the refusals grow by one.
-    fn pass(&mut self, route: usize) -> bool
+    fn allows(&mut self, route: usize) -> bool
         ensures refused { IsFalse result → Grew (held self.old) (held self.new) }
         ensures passed { IsTrue result → held self.new ≡ held self.old }
         ensures asked { asked self.new ≡ option_map (λ answers. answer route result ∷ answers) (asked self.old) };
@@ -37,7 +37,7 @@ impl Gate for Ungated {
 
     ghost asked = { λ gate. None };
 
-    fn pass(&mut self, _route: usize) -> bool {
+    fn allows(&mut self, _route: usize) -> bool {
         true
     }
 
@@ -52,9 +52,9 @@ pub enum Served {
     /// The route made one turn, with this outcome.
     Turned(Turned),
     /// The gate refused; no turn was made.
-    Held,
+    GateRefused,
     /// Another call had the route; no turn was made.
-    Busy,
+    ClaimedElsewhere,
 }
 
 /// What `RouteCell::visit` did.

@@ -10,16 +10,17 @@ ghost use Rattle.srt_mailbox.specs.Inbox.{StoodAsPolled, StoodAsTicked, StoodAsT
 
 use crate::evidence::{InboxFull, WasEmpty, find_empty, find_full, pop, push};
 use crate::inbox_rule::{
-    Clock, Inbox, InboxPass, InboxView, Left, Marked, Poller, Polls, PollsDatagram, Takes, Ticks,
+    Inbox, InboxEntry, InboxPass, InboxView, ItemsLeft, Polling, Polls, PollsDatagram, Takes,
+    Ticking, Ticks,
 };
 use srt_seq::{Item, Peer};
 use std::alloc::{AllocError, Global};
 use std::marker::Model;
 use std::sync::{Arc, Wait};
 
-/// The error of `offer`: the inbox was full at some moment of the call. The item comes back.
+/// The error of `offer`: the inbox was full at some moment of the call. It has the item.
 #[derive(Debug, Drop)]
-pub struct Full {
+pub struct OfferFault {
     /// The item that was offered, unchanged.
     pub item: Item,
     /// That the inbox was full.
@@ -72,12 +73,12 @@ impl Model for ClockEnd {
 
 /// The route's own end of its inbox. Contracts see which inbox it is, its capacity, and the items that were taken.
 #[derive(Drop)]
-pub struct Taker {
+pub struct InboxReceiver {
     queue: Arc<Inbox>,
     pass: InboxPass,
 }
 
-impl Model for Taker {
+impl Model for InboxReceiver {
     ghost use Rattle.std.specs.Prelude.{◌≡◌, true};
     ghost use Rattle.std.specs.Arc.{arc_value};
     ghost use Rattle.crossbeam_queue.specs.Passes.{IsPassOf, ruled_capacity};
@@ -91,18 +92,18 @@ impl Model for Taker {
 }
 
 impl Ingress {
-    /// Appends an item to the inbox. `Full` hands it back if the inbox was full at some moment of the call; then
-    /// nothing changed. The item's moment is in microseconds, below 2^62. Takes no memory.
-    pub fn offer<R: Wait>(&mut self, rt: &R, item: Item) -> Result<(), Full>
+    /// Appends an item to the inbox. `OfferFault` hands it back if the inbox was full at some moment of the call; then
+    /// nothing changed. The item's moment is in microseconds, below 2^62. Doesn't allocate.
+    pub fn offer<R: Wait>(&mut self, rt: &R, item: Item) -> Result<(), OfferFault>
         requires timely { moment_of (told item) < 2 ^ 62 }
         ensures ok { OnOk result (self.new ≡ producer self.old.queue self.old.capacity (self.old.offered ++ item ∷ [])) }
         ensures full { IfErr result (λ full. (full.item ≡ item) × (self.new ≡ self.old) × Held self.old.capacity (StoodAsPolled self.old.offered)) }
         ensures evidence { IfErr result (λ full. (full.evidence.queue ≡ self.old.queue) × (full.evidence.polled ≡ self.old.offered)) }
     {
-        let marked = Marked::new(self.alloc, true, item);
-        match push::<Polls, _, _, _, R>(&self.queue, rt, &mut self.pass, marked) {
+        let entry = InboxEntry::new(self.alloc, true, item);
+        match push::<Polls, _, _, _, R>(&self.queue, rt, &mut self.pass, entry) {
             Ok(()) => Ok(()),
-            Err((back, full)) => Err(Full {
+            Err((back, full)) => Err(OfferFault {
                 item: back.into_item(),
                 evidence: InboxFull::new(full),
             }),
@@ -111,7 +112,7 @@ impl Ingress {
 
     /// Appends a datagram to the inbox, as `offer` does with its item. The error is evidence that the inbox was full at
     /// some moment of the call; then nothing changed, and the datagram is discarded. Its moment is in microseconds, below
-    /// 2^62. Takes no memory. The datagram comes by its parts: an `Item` that is passed on is copied four times by words
+    /// 2^62. Doesn't allocate. The datagram comes by its parts: an `Item` that is passed on is copied four times by words
     /// that overlap, and the processor waits at each copy.
     #[inline(always)]
     pub fn offer_datagram<R: Wait>(
@@ -127,8 +128,8 @@ impl Ingress {
         ensures full { IfErr result (λ _. (self.new ≡ self.old) × Held self.old.capacity (StoodAsPolled self.old.offered)) }
         ensures evidence { IfErr result (λ full. (full.queue ≡ self.old.queue) × (full.polled ≡ self.old.offered)) }
     {
-        let marked = Marked::datagram(true, peer, moment, head, body);
-        match push::<PollsDatagram, _, _, _, R>(&self.queue, rt, &mut self.pass, marked) {
+        let entry = InboxEntry::datagram(true, peer, moment, head, body);
+        match push::<PollsDatagram, _, _, _, R>(&self.queue, rt, &mut self.pass, entry) {
             Ok(()) => Ok(()),
             Err((_, full)) => Err(InboxFull::new(full)),
         }
@@ -136,18 +137,18 @@ impl Ingress {
 }
 
 impl ClockEnd {
-    /// Appends an item to the inbox. `Full` hands it back if the inbox was full at some moment of the call; then
-    /// nothing changed. The item's moment is in microseconds, below 2^62. Takes no memory.
-    pub fn offer<R: Wait>(&mut self, rt: &R, item: Item) -> Result<(), Full>
+    /// Appends an item to the inbox. `OfferFault` hands it back if the inbox was full at some moment of the call; then
+    /// nothing changed. The item's moment is in microseconds, below 2^62. Doesn't allocate.
+    pub fn offer<R: Wait>(&mut self, rt: &R, item: Item) -> Result<(), OfferFault>
         requires timely { moment_of (told item) < 2 ^ 62 }
         ensures ok { OnOk result (self.new ≡ producer self.old.queue self.old.capacity (self.old.offered ++ item ∷ [])) }
         ensures full { IfErr result (λ full. (full.item ≡ item) × (self.new ≡ self.old) × Held self.old.capacity (StoodAsTicked self.old.offered)) }
         ensures evidence { IfErr result (λ full. (full.evidence.queue ≡ self.old.queue) × (full.evidence.ticked ≡ self.old.offered)) }
     {
-        let marked = Marked::new(self.alloc, false, item);
-        match push::<Ticks, _, _, _, R>(&self.queue, rt, &mut self.pass, marked) {
+        let entry = InboxEntry::new(self.alloc, false, item);
+        match push::<Ticks, _, _, _, R>(&self.queue, rt, &mut self.pass, entry) {
             Ok(()) => Ok(()),
-            Err((back, full)) => Err(Full {
+            Err((back, full)) => Err(OfferFault {
                 item: back.into_item(),
                 evidence: InboxFull::new(full),
             }),
@@ -169,9 +170,9 @@ impl ClockEnd {
     }
 }
 
-impl Taker {
-    /// Takes the oldest item. The error is evidence that the inbox was empty at some moment of the call. Takes no memory.
-    pub fn take<R: Wait>(&mut self, rt: &R) -> Result<Marked, WasEmpty<Marked, InboxView>>
+impl InboxReceiver {
+    /// Takes the oldest item. The error is evidence that the inbox was empty at some moment of the call. Doesn't allocate.
+    pub fn take<R: Wait>(&mut self, rt: &R) -> Result<InboxEntry, WasEmpty<InboxEntry, InboxView>>
         ensures took { MatchResult result
             (λ x. self.new ≡ consumer self.old.queue self.old.capacity (self.old.taken ++ x ∷ []))
             (λ _. (self.new ≡ self.old) × Held 0 (StoodAsTaken self.old.taken)) }
@@ -190,7 +191,7 @@ impl Taker {
         requires { (ingress.queue ≡ self.queue) × (clock.queue ≡ self.queue) }
         ensures { AreLeft result self.taken ingress clock }
     {
-        let Taker { queue, mut pass } = self;
+        let InboxReceiver { queue, mut pass } = self;
         let Ingress {
             queue: _,
             pass: polls,
@@ -201,9 +202,9 @@ impl Taker {
             pass: ticks,
             alloc: _,
         } = clock;
-        queue.absorb::<Poller>(&mut pass, polls);
-        queue.absorb::<Clock>(&mut pass, ticks);
-        queue.len_as::<Left, R>(rt, &mut pass)
+        queue.absorb::<Polling>(&mut pass, polls);
+        queue.absorb::<Ticking>(&mut pass, ticks);
+        queue.len_as::<ItemsLeft, R>(rt, &mut pass)
     }
 
     /// Another handle of this end's queue.
@@ -214,15 +215,18 @@ impl Taker {
     }
 }
 
-/// The three ends of a new, empty inbox for at most `capacity` items, 1 or more. Takes memory for all of them; an error
-/// means that it was refused.
-pub fn open_inbox(alloc: Global, capacity: usize) -> Result<(Ingress, ClockEnd, Taker), AllocError>
+/// The three ends of a new, empty inbox for at most `capacity` items, 1 or more. Allocates all of them; an error
+/// means that memory was refused.
+pub fn open_inbox(
+    alloc: Global,
+    capacity: usize,
+) -> Result<(Ingress, ClockEnd, InboxReceiver), AllocError>
     requires { 0 < capacity }
     ensures { IfOk result (λ r. AreNew capacity r.0 r.1 r.2) }
 {
     let (queue, mut pass) = Inbox::ruled(alloc, capacity)?;
-    let poller = queue.another::<Poller>(&mut pass);
-    let clock = queue.another::<Clock>(&mut pass);
+    let poller = queue.another::<Polling>(&mut pass);
+    let clock = queue.another::<Ticking>(&mut pass);
     let ours = Arc::new(alloc, queue)?;
     let polls = Arc::try_clone(&ours)?;
     let ticks = Arc::try_clone(&ours)?;
@@ -236,6 +240,6 @@ pub fn open_inbox(alloc: Global, capacity: usize) -> Result<(Ingress, ClockEnd, 
         pass: clock,
         alloc,
     };
-    let taker = Taker { queue: ours, pass };
-    Ok((ingress, end, taker))
+    let receiver = InboxReceiver { queue: ours, pass };
+    Ok((ingress, end, receiver))
 }

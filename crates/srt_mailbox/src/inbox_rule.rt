@@ -4,7 +4,7 @@
 ghost use Rattle.std.specs.Prelude.{◌≡◌, ◌<◌, ◌^◌};
 ghost use Rattle.srt_seq.specs.Items.{told, moment_of};
 ghost use Rattle.srt_seq.specs.declared.shared.Item.TheVariants.{Datagram};
-ghost use Rattle.srt_mailbox.specs.Marks.{marked_item};
+ghost use Rattle.srt_mailbox.specs.inside.Entries.{offered_item};
 
 use crossbeam_queue::protocol::{Join, Lesson, Outcome, Protocol, Split};
 use crossbeam_queue::{Pass, RuledArrayQueue};
@@ -13,35 +13,43 @@ use std::alloc::Global;
 use std::collections::LinkedList;
 use std::marker::Model;
 
-/// An item in the inbox, marked with the end that offered it. Contracts see it as a `MarkedItem`. Its fields lie side by
-/// side with neither an enum's tag nor padding before or between them, since those make each copy slow.
+/// Which item an entry is.
+#[derive(Clone, Copy)]
+pub enum EntryKind {
+    /// A datagram.
+    Datagram,
+    /// A tick of the clock.
+    Tick,
+    /// The end of the route.
+    Close,
+}
+
+/// An item in the inbox, with the end that offered it. Contracts see it as an `OfferedItem`. The fields of all kinds lie
+/// side by side, and not each kind's in a variant of an enum: that one's tag and padding would make each copy slow.
 #[derive(Drop)]
-pub struct Marked {
-    // a datagram's header and sender; without meaning if it is none
+pub struct InboxEntry {
+    // a datagram's header and sender; without meaning for another kind
     head: [u8; 16],
     peer: Peer,
     // true if the poller offered it, false if the clock did
     polled: bool,
-    // true if it is a tick
-    tick: bool,
-    // true if it is a Close; if it is neither, it is a datagram
-    close: bool,
+    kind: EntryKind,
     // fills the eight bytes that end with this field
-    _apart: [u8; 3],
+    _apart: [u8; 4],
     // microseconds, below 2^62
     moment: u64,
-    // a datagram's bytes after the header; empty if it is none
+    // a datagram's bytes after the header; empty for another kind
     body: Vec<u8>,
 }
 
-impl Model for Marked {
-    ghost use Rattle.std.specs.Prelude.{◌<◌, ◌^◌, if◌then◌else◌};
+impl Model for InboxEntry {
+    ghost use Rattle.std.specs.Prelude.{◌<◌, ◌^◌};
     ghost use Rattle.srt_seq.specs.declared.shared.Item.TheVariants.{Datagram, Tick, Close};
-    ghost use Rattle.srt_mailbox.specs.Marks.{MarkedItem, marked_item};
+    ghost use Rattle.srt_mailbox.specs.inside.Entries.{OfferedItem, offered_item, by_kind};
 
-    ghost Value = { MarkedItem };
+    ghost Value = { OfferedItem };
 
-    ghost view = { λ s. marked_item s.polled (if s.tick then Tick s.moment else if s.close then Close s.moment else Datagram s.peer s.moment s.head s.body) };
+    ghost view = { λ s. offered_item s.polled (by_kind s.kind (Datagram s.peer s.moment s.head s.body) (Tick s.moment) (Close s.moment)) };
 
     ghost invariant = { λ s. s.moment < 2 ^ 62 };
 }
@@ -51,12 +59,12 @@ const NOWHERE: Peer = Peer {
     port: 0,
 };
 
-impl Marked {
-    /// Marks an item. Its moment is in microseconds, below 2^62. Takes no memory; `alloc` is that of the empty body of
+impl InboxEntry {
+    /// An entry of an item. Its moment is in microseconds, below 2^62. Doesn't allocate; `alloc` is that of the empty body of
     /// what is no datagram.
-    pub fn new(alloc: Global, polled: bool, item: Item) -> Marked
+    pub fn new(alloc: Global, polled: bool, item: Item) -> InboxEntry
         requires timely { moment_of (told item) < 2 ^ 62 }
-        ensures { result ≡ marked_item polled item }
+        ensures { result ≡ offered_item polled item }
     {
         match item {
             Item::Datagram {
@@ -64,43 +72,46 @@ impl Marked {
                 moment,
                 head,
                 body,
-            } => Marked::datagram(polled, peer, moment, head, body),
-            Item::Tick { moment } => Marked {
+            } => InboxEntry::datagram(polled, peer, moment, head, body),
+            Item::Tick { moment } => InboxEntry {
                 head: [0; 16],
                 peer: NOWHERE,
                 polled,
-                tick: true,
-                close: false,
-                _apart: [0; 3],
+                kind: EntryKind::Tick,
+                _apart: [0; 4],
                 moment,
                 body: Vec::new(alloc),
             },
-            Item::Close { moment } => Marked {
+            Item::Close { moment } => InboxEntry {
                 head: [0; 16],
                 peer: NOWHERE,
                 polled,
-                tick: false,
-                close: true,
-                _apart: [0; 3],
+                kind: EntryKind::Close,
+                _apart: [0; 4],
                 moment,
                 body: Vec::new(alloc),
             },
         }
     }
 
-    /// Marks a datagram. Its moment is in microseconds, below 2^62. No `Item` is made of it, whose copies would be slow.
+    /// An entry of a datagram. Its moment is in microseconds, below 2^62. No `Item` is made of it, whose copies would be slow.
     #[inline(always)]
-    pub fn datagram(polled: bool, peer: Peer, moment: u64, head: [u8; 16], body: Vec<u8>) -> Marked
+    pub fn datagram(
+        polled: bool,
+        peer: Peer,
+        moment: u64,
+        head: [u8; 16],
+        body: Vec<u8>,
+    ) -> InboxEntry
         requires timely { moment < 2 ^ 62 }
-        ensures { result ≡ marked_item polled (Datagram peer moment head body) }
+        ensures { result ≡ offered_item polled (Datagram peer moment head body) }
     {
-        Marked {
+        InboxEntry {
             head,
             peer,
             polled,
-            tick: false,
-            close: false,
-            _apart: [0; 3],
+            kind: EntryKind::Datagram,
+            _apart: [0; 4],
             moment,
             body,
         }
@@ -112,27 +123,24 @@ impl Marked {
         ensures item { result ≡ self.item }
         ensures timely { moment_of (told result) < 2 ^ 62 }
     {
-        let Marked {
+        let InboxEntry {
             head,
             peer,
             polled: _,
-            tick,
-            close,
+            kind,
             _apart: _,
             moment,
             body,
         } = self;
-        if tick {
-            Item::Tick { moment }
-        } else if close {
-            Item::Close { moment }
-        } else {
-            Item::Datagram {
+        match kind {
+            EntryKind::Datagram => Item::Datagram {
                 peer,
                 moment,
                 head,
                 body,
-            }
+            },
+            EntryKind::Tick => Item::Tick { moment },
+            EntryKind::Close => Item::Close { moment },
         }
     }
 }
@@ -150,13 +158,13 @@ pub struct InboxView {
     /// The items that it offered as the clock.
     pub ticked: LinkedList<Item>,
     /// The items that it took.
-    pub taken: LinkedList<Marked>,
+    pub taken: LinkedList<InboxEntry>,
 }
 
 /// The rule: the items taken, followed by those held, are what the poller and the clock offered, each in order.
 pub struct InboxRule;
 
-impl Protocol<Marked, InboxView> for InboxRule {
+impl Protocol<InboxEntry, InboxView> for InboxRule {
     ghost use Rattle.srt_mailbox.specs.Inbox.{Kept, fresh};
 
     ghost holds = { Kept };
@@ -165,9 +173,9 @@ impl Protocol<Marked, InboxView> for InboxRule {
 }
 
 /// Splits off the poller's pass, and joins it again.
-pub struct Poller;
+pub struct Polling;
 
-impl Split<InboxView> for Poller {
+impl Split<InboxView> for Polling {
     ghost use Rattle.srt_mailbox.specs.Inbox.{without_poller, poller};
 
     ghost left = { without_poller };
@@ -175,7 +183,7 @@ impl Split<InboxView> for Poller {
     ghost right = { poller };
 }
 
-impl Join<InboxView> for Poller {
+impl Join<InboxView> for Polling {
     ghost use Rattle.srt_mailbox.specs.Inbox.{with_poller, nobody};
 
     ghost both = { with_poller };
@@ -184,9 +192,9 @@ impl Join<InboxView> for Poller {
 }
 
 /// Splits off the clock's pass, and joins it again.
-pub struct Clock;
+pub struct Ticking;
 
-impl Split<InboxView> for Clock {
+impl Split<InboxView> for Ticking {
     ghost use Rattle.srt_mailbox.specs.Inbox.{without_clock, clock};
 
     ghost left = { without_clock };
@@ -194,7 +202,7 @@ impl Split<InboxView> for Clock {
     ghost right = { clock };
 }
 
-impl Join<InboxView> for Clock {
+impl Join<InboxView> for Ticking {
     ghost use Rattle.srt_mailbox.specs.Inbox.{with_clock, nobody};
 
     ghost both = { with_clock };
@@ -205,13 +213,13 @@ impl Join<InboxView> for Clock {
 /// The poller offers an item.
 pub struct Polls;
 
-impl Outcome<Marked, InboxView> for Polls {
+impl Outcome<InboxEntry, InboxView> for Polls {
     ghost use Rattle.srt_mailbox.specs.Inbox.{Polled};
 
     ghost then = { Polled };
 }
 
-impl Lesson<Marked, InboxView> for Polls {
+impl Lesson<InboxEntry, InboxView> for Polls {
     ghost use Rattle.srt_mailbox.specs.Inbox.{StoodAsPolled};
 
     ghost fact = { λ v items. StoodAsPolled v.polled items };
@@ -221,13 +229,13 @@ impl Lesson<Marked, InboxView> for Polls {
 /// caller alone, so that the compiler moves it into the poller's loop.
 pub struct PollsDatagram;
 
-impl Outcome<Marked, InboxView> for PollsDatagram {
+impl Outcome<InboxEntry, InboxView> for PollsDatagram {
     ghost use Rattle.srt_mailbox.specs.Inbox.{Polled};
 
     ghost then = { Polled };
 }
 
-impl Lesson<Marked, InboxView> for PollsDatagram {
+impl Lesson<InboxEntry, InboxView> for PollsDatagram {
     ghost use Rattle.srt_mailbox.specs.Inbox.{StoodAsPolled};
 
     ghost fact = { λ v items. StoodAsPolled v.polled items };
@@ -236,13 +244,13 @@ impl Lesson<Marked, InboxView> for PollsDatagram {
 /// The clock offers a tick.
 pub struct Ticks;
 
-impl Outcome<Marked, InboxView> for Ticks {
+impl Outcome<InboxEntry, InboxView> for Ticks {
     ghost use Rattle.srt_mailbox.specs.Inbox.{Ticked};
 
     ghost then = { Ticked };
 }
 
-impl Lesson<Marked, InboxView> for Ticks {
+impl Lesson<InboxEntry, InboxView> for Ticks {
     ghost use Rattle.srt_mailbox.specs.Inbox.{StoodAsTicked};
 
     ghost fact = { λ v items. StoodAsTicked v.ticked items };
@@ -251,29 +259,29 @@ impl Lesson<Marked, InboxView> for Ticks {
 /// The route takes an item.
 pub struct Takes;
 
-impl Outcome<Marked, InboxView> for Takes {
+impl Outcome<InboxEntry, InboxView> for Takes {
     ghost use Rattle.srt_mailbox.specs.Inbox.{Took};
 
     ghost then = { Took };
 }
 
-impl Lesson<Marked, InboxView> for Takes {
+impl Lesson<InboxEntry, InboxView> for Takes {
     ghost use Rattle.srt_mailbox.specs.Inbox.{StoodAsTaken};
 
     ghost fact = { λ v items. StoodAsTaken v.taken items };
 }
 
 /// The pass that has all three rights looks at the items left.
-pub struct Left;
+pub struct ItemsLeft;
 
-impl Lesson<Marked, InboxView> for Left {
+impl Lesson<InboxEntry, InboxView> for ItemsLeft {
     ghost use Rattle.srt_mailbox.specs.Inbox.{KnowsAll};
 
     ghost fact = { KnowsAll };
 }
 
 /// The queue of an inbox: bounded, first in, first out.
-pub type Inbox = RuledArrayQueue<Marked, InboxView, InboxRule>;
+pub type Inbox = RuledArrayQueue<InboxEntry, InboxView, InboxRule>;
 
 /// A pass of an inbox.
-pub type InboxPass = Pass<Marked, InboxView>;
+pub type InboxPass = Pass<InboxEntry, InboxView>;

@@ -1,23 +1,28 @@
 //! A route that threads share: behind a claim word, between a bounded inbox and a bounded outbox.
 //!
 //! It starts no thread (`srt_serve` does), uses no socket (`srt_poller` does), and doesn't define what a route replies
-//! (`srt_route` does). After `open_route` no call takes memory: replies travel in boxes that come back (`spares.rt`).
-//! With a reply the body of a datagram that was applied comes back to the poller, to be filled again.
+//! (`srt_route` does). After `open_route` no call allocates: replies travel in boxes that are used again (`spares.rt`).
+//! With a reply the body of a datagram that was applied goes back to the poller, to be filled again.
 //!
 //! Types: the four ends of a route, which are `Ingress` (the poller offers datagrams), `ClockEnd` (the ticking thread
 //! offers ticks), `RouteCell` (workers serve the route) and `Drain` (the poller takes replies). A `Gate` may refuse a
 //! turn (`Ungated` never does), `Served` is the outcome of a turn that was asked for, `Visit` that of several, and
 //! `Account` has the counts of a route that has ended. A `Look` is shown a route under its claim. `InboxFull` and
-//! `OutboxEmpty` are evidence of a refusal.
+//! `OutboxEmpty` are evidence of a refusal. For routes that come while threads run: a `Seat` has a route and its ends
+//! until their owners take them (`PollerEnds` with a `Companion`, `ClockHand`), a `Place` has a seat or is empty, and
+//! each owner has a `SeatReader`.
 //!
 //! Calls: `open_route`; then, each from its own thread, `offer` on `Ingress` (for a datagram also `offer_datagram`) and
 //! on `ClockEnd`, `RouteCell::visit` or `RouteCell::serve` (any number of workers; `RouteCell::show` makes no turn), and
-//! `Drain::take` with `Drain::reply` and `Drain::take_body`; last `settle`, which takes all four ends.
+//! `Drain::take` with `Drain::reply` and `Drain::take_buffer`; last `settle`, which takes all four ends. With seats
+//! `open_seat` and `Place::put`; then, each owner, `SeatReader::next_poller` or `next_clock`; last `SeatReader::agree`,
+//! `seat` and `Seat::settle`.
 //!
 //! Files: the claim word is in `cells.rt`, one turn of a route in `running.rt`, what a look is given in `looks.rt`, the queues in `inbox.rt` and
 //! `outbox.rt`, what passes through them in `inbox_rule.rt` and `outbox_rule.rt` (`specs/Inbox.antt`,
 //! `specs/Outbox.antt`), and the evidence that one of them was full or empty in `evidence.rt`. That the replies don't
-//! depend on which worker serves is `Replays` in `specs/Runs.antt`.
+//! depend on which worker serves is `Replays` in `specs/Runs.antt`. Seats are in `seats.rt`, their places in `places.rt`
+//! and what reads these in `readers.rt` (`specs/Places.antt`).
 #![tactic(auto)]
 
 mod accounts;
@@ -30,18 +35,24 @@ mod looks;
 mod openings;
 mod outbox;
 mod outbox_rule;
+mod places;
+mod readers;
 mod running;
+mod seats;
 mod spares;
 
 pub use accounts::{Account, Unsettled, settle};
 pub use cells::{RouteCell, Serve};
 pub use evidence::{InboxFull, OutboxEmpty};
 pub use gates::{Gate, Served, Ungated, Visit};
-pub use inbox::{ClockEnd, Full, Ingress};
+pub use inbox::{ClockEnd, Ingress, OfferFault};
 pub use looks::Look;
 pub use openings::open_route;
 pub use outbox::Drain;
-pub use running::{BODY_ROOM, Running};
+pub use places::Place;
+pub use readers::SeatReader;
+pub use running::{BUFFER_ROOM, Running};
+pub use seats::{ClockHand, Companion, PollerEnds, Seat, SeatTag, open_seat};
 
 #[cfg(test)]
 mod tests;

@@ -6,12 +6,12 @@ ghost use Rattle.srt_seq.specs.Terms.{Terms, terms_of};
 ghost use Rattle.srt_route.specs.Opening.{fault_of};
 ghost use Rattle.srt_route.specs.Stands.{stands, waiting};
 ghost use Rattle.srt_mailbox.specs.Ends.{producer, drained};
-ghost use Rattle.srt_mailbox.specs.Names.{name_in};
+ghost use Rattle.srt_mailbox.specs.Identities.{identity_in};
 
-use crate::cells::{Boxed, Label, RouteCell};
+use crate::cells::{Boxed, CellTag, RouteCell};
 use crate::inbox::{ClockEnd, Ingress, open_inbox};
 use crate::outbox::{Drain, open_outbox};
-use crate::running::{Ends, Running};
+use crate::running::{RouteEnds, Running};
 use srt_route::Route;
 use srt_seq::{Entry, OpenFault};
 use std::alloc::{AllocError, Global};
@@ -27,22 +27,22 @@ fn joined(
     requires sound { fault_of (terms_of entry.now) index ≡ None }
     requires stands { stands route (terms_of entry.now) index [] }
     requires none_waits { waiting route ≡ [] }
-    ensures name { IfOk result (λ r. ((name_in r.2).terms ≡ terms_of entry.now) × ((name_in r.2).index ≡ index)) }
-    ensures ingress { IfOk result (λ r. r.0 ≡ producer (name_in r.2).inbox entry.now.inbox []) }
-    ensures clock { IfOk result (λ r. r.1 ≡ producer (name_in r.2).inbox entry.now.inbox []) }
-    ensures drain { IfOk result (λ r. r.3 ≡ drained (name_in r.2).outbox entry.now.outbox [] r.3.hand) }
+    ensures name { IfOk result (λ r. ((identity_in r.2).terms ≡ terms_of entry.now) × ((identity_in r.2).index ≡ index)) }
+    ensures ingress { IfOk result (λ r. r.0 ≡ producer (identity_in r.2).inbox entry.now.inbox []) }
+    ensures clock { IfOk result (λ r. r.1 ≡ producer (identity_in r.2).inbox entry.now.inbox []) }
+    ensures drain { IfOk result (λ r. r.3 ≡ drained (identity_in r.2).outbox entry.now.outbox [] r.3.hand) }
 {
-    let (ingress, clock, taker) = open_inbox(alloc, entry.inbox as usize)?;
-    let (putter, drain, boxes) = open_outbox(alloc, entry.outbox as usize)?;
-    let label = Label {
-        inbox: taker.share()?,
-        outbox: putter.share()?,
+    let (ingress, clock, receiver) = open_inbox(alloc, entry.inbox as usize)?;
+    let (sender, drain, boxes) = open_outbox(alloc, entry.outbox as usize)?;
+    let label = CellTag {
+        inbox: receiver.share()?,
+        outbox: sender.share()?,
         entry: Snapshot::of(entry),
         index: Snapshot::of(&index),
     };
-    let ends = Ends {
-        taker,
-        putter,
+    let ends = RouteEnds {
+        receiver,
+        sender,
         boxes,
     };
     let boxed = Boxed {
@@ -62,10 +62,10 @@ pub fn open_route(
     entry: &Entry,
     index: usize,
 ) -> Result<(Ingress, ClockEnd, RouteCell, Drain), OpenFault>
-    ensures name { IfOk result (λ r. ((name_in r.2).terms ≡ terms_of entry.now) × ((name_in r.2).index ≡ index)) }
-    ensures ingress { IfOk result (λ r. r.0 ≡ producer (name_in r.2).inbox entry.now.inbox []) }
-    ensures clock { IfOk result (λ r. r.1 ≡ producer (name_in r.2).inbox entry.now.inbox []) }
-    ensures drain { IfOk result (λ r. r.3 ≡ drained (name_in r.2).outbox entry.now.outbox [] r.3.hand) }
+    ensures name { IfOk result (λ r. ((identity_in r.2).terms ≡ terms_of entry.now) × ((identity_in r.2).index ≡ index)) }
+    ensures ingress { IfOk result (λ r. r.0 ≡ producer (identity_in r.2).inbox entry.now.inbox []) }
+    ensures clock { IfOk result (λ r. r.1 ≡ producer (identity_in r.2).inbox entry.now.inbox []) }
+    ensures drain { IfOk result (λ r. r.3 ≡ drained (identity_in r.2).outbox entry.now.outbox [] r.3.hand) }
     ensures sound { IfOk result (λ _. fault_of (terms_of entry.now) index ≡ None) }
     ensures fault { (fault : TheFault) → fault_of (terms_of entry.now) index ≡ Some fault → result ≡ Err fault }
     ensures memory { fault_of (terms_of entry.now) index ≡ None → IfErr result (λ fault. fault ≡ OpenFault.OutOfMemory) }

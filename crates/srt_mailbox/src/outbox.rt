@@ -9,7 +9,9 @@ ghost use Rattle.srt_mailbox.specs.Ends.{pipe, drained};
 ghost use Rattle.srt_mailbox.specs.Outbox.{StoodAsPut, StoodAsDrained, replies_in};
 
 use crate::evidence::{OutboxEmpty, WasFull, find_empty, pop, push};
-use crate::outbox_rule::{Draining, Drains, Left, Outbox, OutboxPass, OutboxView, Parcel, Puts};
+use crate::outbox_rule::{
+    Draining, Drains, Outbox, OutboxPass, OutboxView, Parcel, Puts, RepliesLeft,
+};
 use crate::spares::{Boxes, Spent, open_boxes};
 use srt_route::Reply;
 use std::alloc::{AllocError, Global};
@@ -19,12 +21,12 @@ use std::sync::{Arc, Wait};
 
 /// The route's own end of its outbox. Contracts see which outbox it is, its capacity, and the replies that were put.
 #[derive(Drop)]
-pub struct Putter {
+pub struct OutboxSender {
     queue: Arc<Outbox>,
     pass: OutboxPass,
 }
 
-impl Model for Putter {
+impl Model for OutboxSender {
     ghost use Rattle.std.specs.Prelude.{◌≡◌, true};
     ghost use Rattle.std.specs.Arc.{arc_value};
     ghost use Rattle.crossbeam_queue.specs.Passes.{IsPassOf, ruled_capacity};
@@ -46,8 +48,8 @@ pub struct Drain {
     pass: OutboxPass,
     spent: Spent,
     hand: Box<Reply>,
-    // the body that came with it
-    body: Option<Vec<u8>>,
+    // the buffer that came with it
+    buffer: Option<Vec<u8>>,
     // the number of replies drained; saturates at 2^64 - 1
     count: u64,
 }
@@ -64,12 +66,13 @@ impl Model for Drain {
 
     ghost view = { λ s. drained s.pass.table_id (ruled_capacity (arc_value s.queue)) (replies_in s.pass.me.0.client.drained) s.hand.value };
 
-    ghost invariant = { λ s. IsPassOf (arc_value s.queue) s.pass × (s.pass.me.0.client.drains ≡ true) × (s.count ≡ counted (length (replies_in s.pass.me.0.client.drained))) };
+    ghost invariant = { λ s. IsPassOf (arc_value s.queue) s.pass × (s.pass.me.0.client.drains ≡ true) ×
+        (s.count ≡ counted (length (replies_in s.pass.me.0.client.drained))) };
 }
 
-impl Putter {
+impl OutboxSender {
     /// Appends a reply to the outbox. The error hands it back, with evidence that the outbox was full at some moment of
-    /// the call. Takes no memory.
+    /// the call. Doesn't allocate.
     pub fn put<R: Wait>(
         &mut self,
         rt: &R,
@@ -77,7 +80,8 @@ impl Putter {
     ) -> Result<(), (Parcel, WasFull<Parcel, OutboxView>)>
         ensures ok { OnOk result (self.new ≡ pipe self.old.queue self.old.capacity (self.old.put ++ parcel.value ∷ [])) }
         ensures full { IfErr result (λ back. (back.0 ≡ parcel) × (self.new ≡ self.old) × Held self.old.capacity (StoodAsPut self.old.put)) }
-        ensures evidence { IfErr result (λ back. (back.1.asked.value.table_id ≡ self.old.queue) × (replies_in back.1.asked.value.me.0.client.put ≡ self.old.put)) }
+        ensures evidence { IfErr result
+            (λ back. (back.1.asked.value.table_id ≡ self.old.queue) × (replies_in back.1.asked.value.me.0.client.put ≡ self.old.put)) }
     {
         push::<Puts, _, _, _, R>(&self.queue, rt, &mut self.pass, parcel)
     }
@@ -89,17 +93,17 @@ impl Putter {
         ensures left { (left : List TheReply) × (length left ≡ result.0) × (self.put ≡ drain.through ++ left) }
         ensures drained { result.1 ≡ counted (length drain.through) }
     {
-        let Putter { queue, mut pass } = self;
+        let OutboxSender { queue, mut pass } = self;
         let Drain {
             queue: _,
             pass: drains,
             spent: _,
             hand: _,
-            body: _,
+            buffer: _,
             count,
         } = drain;
         queue.absorb::<Draining>(&mut pass, drains);
-        (queue.len_as::<Left, R>(rt, &mut pass), count)
+        (queue.len_as::<RepliesLeft, R>(rt, &mut pass), count)
     }
 
     /// Another handle of this end's queue.
@@ -112,7 +116,7 @@ impl Putter {
 
 impl Drain {
     /// Takes the oldest reply out of the outbox, to be read by `reply`. The error is evidence that the outbox was empty
-    /// at some moment of the call; then nothing changed. Takes no memory: the box of the reply before goes back to the
+    /// at some moment of the call; then nothing changed. Doesn't allocate: the box of the reply before goes back to the
     /// route.
     #[inline(always)]
     pub fn take<R: Wait>(&mut self, rt: &R) -> Result<(), OutboxEmpty>
@@ -122,8 +126,8 @@ impl Drain {
     {
         match pop::<Drains, _, _, _, R>(&self.queue, rt, &mut self.pass) {
             Ok(parcel) => {
-                let (reply, body) = parcel.into_parts();
-                self.body = body;
+                let (reply, buffer) = parcel.into_parts();
+                self.buffer = buffer;
                 let empty = mem::replace(&mut self.hand, reply);
                 self.spent.give(empty);
                 self.count = self.count.saturating_add(1);
@@ -151,13 +155,13 @@ impl Drain {
         }
     }
 
-    /// The body of some datagram that the route has applied, if one came with the reply that `take` took last. It has
-    /// room for any packet's (`BODY_ROOM`), and its bytes mean nothing.
+    /// The buffer of some datagram that the route has applied, if one came with the reply that `take` took last. It has
+    /// room for any packet's (`BUFFER_ROOM`), and its bytes mean nothing.
     #[inline(always)]
-    pub fn take_body(&mut self) -> Option<Vec<u8>>
+    pub fn take_buffer(&mut self) -> Option<Vec<u8>>
         ensures { self.new ≡ self.old }
     {
-        self.body.take()
+        self.buffer.take()
     }
 
     /// The reply that `take` took last, lent where the route wrote it: no reply is moved between writing and sending.
@@ -170,10 +174,13 @@ impl Drain {
     }
 }
 
-/// The two ends of a new, empty outbox for at most `capacity` replies (1 to 4096), and the empty boxes that go round
-/// between them. Takes memory for the queue and for more than `capacity` boxes (`open_boxes`); an error means that it
+/// The two ends of a new, empty outbox for at most `capacity` replies (1 to 4096), and the empty boxes that
+/// circulate between them. Allocates the queue and more than `capacity` boxes (`open_boxes`); an error means that memory
 /// was refused.
-pub fn open_outbox(alloc: Global, capacity: usize) -> Result<(Putter, Drain, Boxes), AllocError>
+pub fn open_outbox(
+    alloc: Global,
+    capacity: usize,
+) -> Result<(OutboxSender, Drain, Boxes), AllocError>
     requires { (0 < capacity) × (capacity ≤ 4096) }
     ensures { IfOk result (λ r. (r.0 ≡ pipe r.0.queue capacity []) × (r.1 ≡ drained r.0.queue capacity [] r.1.hand)) }
 {
@@ -183,14 +190,14 @@ pub fn open_outbox(alloc: Global, capacity: usize) -> Result<(Putter, Drain, Box
     let theirs = Arc::try_clone(&ours)?;
     let (boxes, spent) = open_boxes(alloc, capacity)?;
     let hand = Box::new(alloc, Reply::blank())?;
-    let putter = Putter { queue: ours, pass };
+    let sender = OutboxSender { queue: ours, pass };
     let drain = Drain {
         queue: theirs,
         pass: drains,
         spent,
         hand,
-        body: None,
+        buffer: None,
         count: 0,
     };
-    Ok((putter, drain, boxes))
+    Ok((sender, drain, boxes))
 }

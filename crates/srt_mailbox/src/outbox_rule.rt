@@ -14,8 +14,8 @@ use std::marker::Model;
 #[derive(Drop)]
 pub struct Parcel {
     reply: Box<Reply>,
-    // the datagram's body, whose bytes mean nothing any more
-    body: Option<Vec<u8>>,
+    // the datagram's buffer, whose bytes mean nothing any more
+    buffer: Option<Vec<u8>>,
 }
 
 impl Model for Parcel {
@@ -28,21 +28,21 @@ impl Model for Parcel {
 }
 
 impl Parcel {
-    /// A reply, and a body to be filled again if there is one.
+    /// A reply, and a buffer to be filled again if there is one.
     #[inline(always)]
-    pub fn new(reply: Box<Reply>, body: Option<Vec<u8>>) -> Parcel
+    pub fn new(reply: Box<Reply>, buffer: Option<Vec<u8>>) -> Parcel
         ensures { result ≡ reply }
     {
-        Parcel { reply, body }
+        Parcel { reply, buffer }
     }
 
-    /// The reply and the body.
+    /// The reply and the buffer.
     #[inline(always)]
     pub fn into_parts(self) -> (Box<Reply>, Option<Vec<u8>>)
         ensures { result.0 ≡ self }
     {
-        let Parcel { reply, body } = self;
-        (reply, body)
+        let Parcel { reply, buffer } = self;
+        (reply, buffer)
     }
 }
 
@@ -119,9 +119,9 @@ impl Lesson<Parcel, OutboxView> for Drains {
 }
 
 /// The pass that has both rights looks at the replies left.
-pub struct Left;
+pub struct RepliesLeft;
 
-impl Lesson<Parcel, OutboxView> for Left {
+impl Lesson<Parcel, OutboxView> for RepliesLeft {
     ghost use Rattle.srt_mailbox.specs.Outbox.{KnowsAll};
 
     ghost fact = { KnowsAll };

@@ -8,16 +8,16 @@ ghost use Rattle.srt_route.specs.Written.{written};
 ghost use Rattle.srt_mailbox.specs.Counts.{counted, Grew};
 ghost use Rattle.srt_mailbox.specs.Evidence.{refused};
 ghost use Rattle.srt_mailbox.specs.Runs.{run, waiting_at, Replays, TurnedAs};
-ghost use Rattle.srt_mailbox.specs.Cells.{Name, Bears};
+ghost use Rattle.srt_mailbox.specs.Cells.{CellIdentity, Bears};
 ghost use Rattle.srt_mailbox.specs.Looks.{WasShown};
 ghost use Rattle.srt_mailbox.specs.Visits.{asked_in, asked_last, turns_of, EndedAs, ServedAs};
-ghost use Rattle.srt_mailbox.specs.declared.gates.Served.TheVariants.{Held, Busy};
+ghost use Rattle.srt_mailbox.specs.declared.gates.Served.TheVariants.{GateRefused, ClaimedElsewhere};
 
-use crate::evidence::Refusals;
+use crate::evidence::QueueRefusals;
 use crate::gates::{Gate, Served, Visit};
-use crate::inbox::Taker;
+use crate::inbox::InboxReceiver;
 use crate::looks::Look;
-use crate::outbox::Putter;
+use crate::outbox::OutboxSender;
 use crate::outbox_rule::Parcel;
 use crate::spares::Boxes;
 use srt_route::{Reply, Route};
@@ -29,11 +29,11 @@ use std::sync::Wait;
 
 /// A route's own ends of its two queues, and its empty boxes.
 #[derive(Drop)]
-pub(crate) struct Ends {
+pub(crate) struct RouteEnds {
     /// The end of the inbox.
-    pub taker: Taker,
+    pub receiver: InboxReceiver,
     /// The end of the outbox.
-    pub putter: Putter,
+    pub sender: OutboxSender,
     /// The free boxes for replies.
     pub boxes: Boxes,
 }
@@ -41,22 +41,22 @@ pub(crate) struct Ends {
 /// A route with its own ends of the inbox and of the outbox, and its empty boxes.
 #[derive(Drop)]
 pub struct Running {
-    taker: Taker,
-    putter: Putter,
+    receiver: InboxReceiver,
+    sender: OutboxSender,
     boxes: Boxes,
     // a reply that a full outbox handed back; it is the oldest that waits
     held: Option<Box<Reply>>,
     // the body of a datagram that was applied, which goes back to the poller with the next reply
-    body: Option<Vec<u8>>,
+    buffer: Option<Vec<u8>>,
     // the number of replies that wait, `held` included; kept here so that a turn needn't ask the route
     waiting: usize,
     // the number of items taken; saturates at 2^64 - 1
     taken: u64,
     // how often the inbox was found empty and the outbox full
-    refusals: Refusals,
-    // the route's clock and its publishers when the inbox was last looked at; see `apply_item`
-    clock: u64,
-    publishers: usize,
+    refusals: QueueRefusals,
+    // written and never read: what makes the compiler keep two reads of the route; see `apply_item`
+    _clock: u64,
+    _publishers: usize,
     // not in a box of its own, whose address an event would have to read first
     route: Route,
     // the entry and the index that the route was opened with, for contracts alone: no bytes at run time
@@ -74,18 +74,20 @@ impl Model for Running {
 
     ghost Value = { Run };
 
-    ghost view = { λ s. run (terms_of s.entry.value) s.index.value s.taker s.putter (waiting_at s.held s.route) s.refusals };
+    ghost view = { λ s. run (terms_of s.entry.value) s.index.value s.receiver s.sender (waiting_at s.held s.route) s.refusals };
 
     // The route is in the state that the taken items lead to, and what it replied is what it would reply alone.
-    ghost invariant = { λ s. stands s.route (terms_of s.entry.value) s.index.value (applied s.taker.taken) × Replays (run (terms_of s.entry.value) s.index.value s.taker s.putter (waiting_at s.held s.route) s.refusals) × (s.waiting ≡ length (waiting_at s.held s.route)) × (s.taken ≡ counted (length s.taker.taken)) };
+    ghost invariant = { λ s. stands s.route (terms_of s.entry.value) s.index.value (applied s.receiver.taken) ×
+        Replays (run (terms_of s.entry.value) s.index.value s.receiver s.sender (waiting_at s.held s.route) s.refusals) ×
+        (s.waiting ≡ length (waiting_at s.held s.route)) × (s.taken ≡ counted (length s.receiver.taken)) };
 }
 
 /// The length of the longest body of a packet, in bytes: that of a data packet's payload.
-pub const BODY_ROOM: usize = MAX_PAYLOAD;
+pub const BUFFER_ROOM: usize = MAX_PAYLOAD;
 
 // Keeps the body of an item that was applied, if it has room for any packet's. It goes back to the thread that took its
 // memory: what one thread takes and another one gives back costs both of them a lock of the allocator.
-fn keep_body(kept: &mut Option<Vec<u8>>, item: Item) {
+fn keep_buffer(kept: &mut Option<Vec<u8>>, item: Item) {
     if let Item::Datagram {
         peer: _,
         moment: _,
@@ -93,7 +95,7 @@ fn keep_body(kept: &mut Option<Vec<u8>>, item: Item) {
         body,
     } = item
     {
-        if body.capacity() >= BODY_ROOM {
+        if body.capacity() >= BUFFER_ROOM {
             *kept = Some(body);
         }
     }
@@ -121,29 +123,29 @@ fn next_waiting<R: Wait>(
 
 impl Running {
     /// A route that has applied no item, with ends that nothing has passed through.
-    pub(crate) fn new(ends: Ends, route: Route, entry: &Entry, index: usize) -> Running
+    pub(crate) fn new(ends: RouteEnds, route: Route, entry: &Entry, index: usize) -> Running
         requires fresh { stands route (terms_of entry.now) index [] }
         requires none_waits { waiting route ≡ [] }
-        requires empty { (ends.taker.taken ≡ []) × (ends.putter.put ≡ []) }
-        ensures { result ≡ run (terms_of entry.now) index ends.taker ends.putter [] (refused 0 0) }
+        requires empty { (ends.receiver.taken ≡ []) × (ends.sender.put ≡ []) }
+        ensures { result ≡ run (terms_of entry.now) index ends.receiver ends.sender [] (refused 0 0) }
     {
-        let Ends {
-            taker,
-            putter,
+        let RouteEnds {
+            receiver,
+            sender,
             boxes,
         } = ends;
         Running {
-            taker,
-            putter,
+            receiver,
+            sender,
             boxes,
             route,
             held: None,
-            body: None,
+            buffer: None,
             waiting: 0,
             taken: 0,
-            refusals: Refusals::new(),
-            clock: 0,
-            publishers: 0,
+            refusals: QueueRefusals::new(),
+            _clock: 0,
+            _publishers: 0,
             entry: Snapshot::of(entry),
             index: Snapshot::of(&index),
         }
@@ -155,16 +157,16 @@ impl Running {
         ensures { TurnedAs result self.old self.new }
     {
         let reply = next_waiting(rt, &mut self.held, &mut self.route, &mut self.boxes);
-        let parcel = Parcel::new(reply, self.body.take());
-        match self.putter.put(rt, parcel) {
+        let parcel = Parcel::new(reply, self.buffer.take());
+        match self.sender.put(rt, parcel) {
             Ok(()) => {
                 self.waiting -= 1;
                 Turned::Moved
             }
             Err((back, full)) => {
-                let (reply, body) = back.into_parts();
+                let (reply, buffer) = back.into_parts();
                 self.held = Some(reply);
-                self.body = body;
+                self.buffer = buffer;
                 self.refusals.note_full(full);
                 Turned::Blocked
             }
@@ -178,15 +180,16 @@ impl Running {
     {
         // What an item reads first of its route is read here already, so that the processor fetches it from memory while
         // it fetches the inbox: a take makes locked operations, and no read behind one begins before it is over. The two
-        // values are kept so that the reads are made; nothing uses them.
-        self.clock = self.route.clock();
-        self.publishers = self.route.publishers();
-        match self.taker.take(rt) {
-            Ok(marked) => {
-                let item = marked.into_item();
+        // values are stored because the compiler leaves out a read whose value goes nowhere (there is no `black_box` that
+        // keeps it); nothing reads them.
+        self._clock = self.route.clock();
+        self._publishers = self.route.publishers();
+        match self.receiver.take(rt) {
+            Ok(entry) => {
+                let item = entry.into_item();
                 self.waiting = self.route.step(&item);
                 self.taken = self.taken.saturating_add(1);
-                keep_body(&mut self.body, item);
+                keep_buffer(&mut self.buffer, item);
                 Turned::Applied
             }
             Err(empty) => {
@@ -209,22 +212,22 @@ impl Running {
         }
     }
 
-    /// Makes one turn if the gate lets it pass, and none if it refuses (`Held`). `route` is the index that the gate is
-    /// asked about. Never answers `Busy`. Takes no memory.
+    /// Makes one turn if the gate lets it pass, and none if it refuses (`GateRefused`). `route` is the index that the
+    /// gate is asked about. Never answers `ClaimedElsewhere`. Doesn't allocate.
     pub fn serve<R: Wait, G: Gate>(&mut self, rt: &R, route: usize, gate: &mut G) -> Served
         ensures turned { ServedAs result self.old self.new }
-        ensures held { result ≡ Held → Grew (G.held gate.old) (G.held gate.new) }
+        ensures held { result ≡ GateRefused → Grew (G.held gate.old) (G.held gate.new) }
         ensures asked { G.asked gate.new ≡ option_map (asked_last route result) (G.asked gate.old) }
     {
-        if gate.pass(route) {
+        if gate.allows(route) {
             Served::Turned(self.turn(rt))
         } else {
-            Served::Held
+            Served::GateRefused
         }
     }
 
     /// Makes turns, at most `most`, until one finds nothing to do or a full outbox, or the gate refuses one; it is asked
-    /// before each. `route` is the index that the gate is asked about. Takes no memory.
+    /// before each. `route` is the index that the gate is asked about. Doesn't allocate.
     pub fn visit<R: Wait, G: Gate>(
         &mut self,
         rt: &R,
@@ -232,25 +235,25 @@ impl Running {
         gate: &mut G,
         most: u32,
     ) -> Visit
-        ensures bears { (n : Name) → Bears n self.old → Bears n self.new }
+        ensures bears { (n : CellIdentity) → Bears n self.old → Bears n self.new }
         ensures most { result.turns ≤ most }
         ensures part { result.moved ≤ result.turns }
         ensures moved { length self.new.outbox.put ≡ length self.old.outbox.put + result.moved }
         ensures turns { turns_of self.new ≡ turns_of self.old + result.turns }
         ensures all { result.end ≡ None → result.turns ≡ most }
-        ensures held { result.end ≡ Some Held → Grew (G.held gate.old) (G.held gate.new) }
-        ensures passed { result.end ≢ Some Held → G.held gate.new ≡ G.held gate.old }
-        ensures claimed { result.end ≢ Some Busy }
+        ensures held { result.end ≡ Some GateRefused → Grew (G.held gate.old) (G.held gate.new) }
+        ensures passed { result.end ≢ Some GateRefused → G.held gate.new ≡ G.held gate.old }
+        ensures claimed { result.end ≢ Some ClaimedElsewhere }
         ensures ended { EndedAs result.end self.old self.new }
         ensures asked { G.asked gate.new ≡ option_map (asked_in route result) (G.asked gate.old) }
     {
         let mut moved = 0;
         for turns in 0..most {
-            if !gate.pass(route) {
+            if !gate.allows(route) {
                 return Visit {
                     turns,
                     moved,
-                    end: Some(Served::Held),
+                    end: Some(Served::GateRefused),
                 };
             }
             match self.turn(rt) {
@@ -295,30 +298,30 @@ impl Running {
     }
 
     /// Ends the route: its two ends, the number of items taken, and the number of replies that wait.
-    pub(crate) fn into_parts(self) -> Parts
-        ensures ends { (result.taker ≡ self.inbox) × (result.putter ≡ self.outbox) }
+    pub(crate) fn into_parts(self) -> EndedRoute
+        ensures ends { (result.receiver ≡ self.inbox) × (result.sender ≡ self.outbox) }
         ensures taken { result.taken ≡ counted (length self.inbox.taken) }
         ensures waiting { result.waiting ≡ length self.waiting }
         ensures replays { Replays self }
     {
         let Running {
-            taker,
-            putter,
+            receiver,
+            sender,
             boxes: _,
             route: _,
             held: _,
-            body: _,
+            buffer: _,
             waiting,
             taken,
             refusals: _,
-            clock: _,
-            publishers: _,
+            _clock: _,
+            _publishers: _,
             entry: _,
             index: _,
         } = self;
-        Parts {
-            taker,
-            putter,
+        EndedRoute {
+            receiver,
+            sender,
             taken,
             waiting,
         }
@@ -327,11 +330,11 @@ impl Running {
 
 /// What is left of a route that has ended.
 #[derive(Drop)]
-pub(crate) struct Parts {
+pub(crate) struct EndedRoute {
     /// The end of the inbox.
-    pub taker: Taker,
+    pub receiver: InboxReceiver,
     /// The end of the outbox.
-    pub putter: Putter,
+    pub sender: OutboxSender,
     /// The number of items taken, saturated at 2^64 - 1.
     pub taken: u64,
     /// The number of replies that wait.

@@ -28,8 +28,8 @@ pub struct Spent {
     batch: usize,
 }
 
-/// The route's part: a stack of free boxes. The box that came back last is used first, so that only as many boxes go
-/// round as there are replies under way and in two batches, and they stay in the processor's caches.
+/// The route's part: a stack of free boxes. The box that was returned last is used first, so that only as many boxes
+/// circulate as there are replies under way and in two batches, and they stay in the processor's caches.
 #[derive(Drop)]
 pub struct Boxes {
     returned: Arc<Returned>,
@@ -37,7 +37,7 @@ pub struct Boxes {
 }
 
 /// Both parts for an outbox of this capacity, with all free boxes in the stock: as many as the outbox holds, a batch,
-/// and two. Takes memory for them and for three lists that have room for all; an error means that it was refused.
+/// and two. Allocates them and three lists that have room for all; an error means that memory was refused.
 pub fn open_boxes(alloc: Global, capacity: usize) -> Result<(Boxes, Spent), AllocError> {
     let batch = (capacity / 16).clamp(1, BATCH);
     let count = capacity.saturating_add(batch + 2);
@@ -68,7 +68,7 @@ pub fn open_boxes(alloc: Global, capacity: usize) -> Result<(Boxes, Spent), Allo
 }
 
 impl Spent {
-    /// Sends a box back to the route, with those before it once they are a batch. Takes no memory.
+    /// Sends a box back to the route, with those before it once they are a batch. Doesn't allocate.
     #[inline(always)]
     pub fn give(&mut self, empty: Box<Reply>) {
         let _ = self.boxes.push(empty);
@@ -76,7 +76,7 @@ impl Spent {
     }
 
     /// Leaves all boxes for the route if they are a batch or more. If the route has the lock they stay, until the next
-    /// call of this or of `give`. Takes no memory.
+    /// call of this or of `give`. Doesn't allocate.
     #[inline(always)]
     pub fn flush(&mut self) {
         if self.boxes.len() < self.batch {
@@ -90,7 +90,7 @@ impl Spent {
 }
 
 impl Boxes {
-    // Moves the boxes that came back to the stock, if there are any and the drain hasn't got the lock.
+    // Moves the boxes that were returned to the stock, if there are any and the drain hasn't got the lock.
     fn collect(&mut self) {
         if !self.returned.any.load(Ordering::SeqCst) {
             return;

@@ -1,22 +1,30 @@
 //! A route between its queues: turns of one thread, a full inbox, a full outbox, the account, and several workers at
-//! once. The expected bytes were worked out from the rules by hand.
+//! once. What is expected was worked out from the rules by hand.
 
 mod boxes;
+mod datagrams;
 mod looks;
 mod queues;
+mod seats;
 mod visits;
 
 ghost use Rattle.std.specs.Prelude.{◌≡◌, ◌<◌, ◌^◌, IfOk};
 ghost use Rattle.srt_seq.specs.Items.{told, moment_of};
 ghost use Rattle.srt_mailbox.specs.Cells.{AreEndsOf};
-ghost use Rattle.srt_mailbox.specs.Names.{name_in};
+ghost use Rattle.srt_mailbox.specs.Identities.{identity_in};
 
 use crate::gates::{Gate, Served, Visit};
+use crate::tests::datagrams::{
+    Coming, DELIVERY, Expected, publisher_answer, publisher_conclusion, publisher_data, replies,
+    subscriber_conclusion,
+};
 use crate::{
-    Account, BODY_ROOM, ClockEnd, Drain, Full, Ingress, RouteCell, Serve, open_route, settle,
+    Account, BUFFER_ROOM, ClockEnd, Drain, Ingress, OfferFault, RouteCell, Serve, open_route,
+    settle,
 };
 use srt_route::{Reply, Route};
-use srt_seq::{Entry, Item, MOMENT_END, Mode, OpenFault, Peer, Turned};
+use srt_samples::first_difference;
+use srt_seq::{Access, Entry, Item, Mode, OpenFault, Peer, Rules, Turned};
 use std::alloc::Global;
 use std::process::Abort;
 use std::sync::Wait;
@@ -25,90 +33,10 @@ use std::test::Fail;
 use std::thread;
 use std::thread::{Threads, join};
 
-/// Where a datagram comes from, when, and its bytes.
-#[derive(Clone, Copy)]
-struct Coming {
-    port: u16,
-    moment: u64,
-    text: &'static str,
-}
-
-/// A conclusion with caller ID 1 and initial number 5 that asks to publish.
-const PUBLISHER: Coming = Coming {
-    port: 5000,
-    moment: 1_000_000,
-    text: "80000000000000000000000000000000000000050000000500000005000005dc00002000ffffffff00000001ecc958a6000000000000000000000000000000000001000300010500000000bf00780078000500063a3a212374733d726f696475703d6d2c696c627500006873",
-};
-
-/// A data packet of it.
-const DATA: Coming = Coming {
-    port: 5000,
-    moment: 1_002_000,
-    text: "00000005e0000001000003e8001000006869",
-};
-
-/// A conclusion with caller ID 2 and initial number 9 that asks for the stream.
-const SUBSCRIBER: Coming = Coming {
-    port: 5001,
-    moment: 1_010_000,
-    text: "80000000000000000000000000000000000000050000000500000009000005dc00002000ffffffff00000002ecc958a6000000000000000000000000000000000001000300010500000000bf00780078000500026475747300006f69",
-};
-
-/// When the data packet is delivered.
-const DELIVERY: u64 = 1_121_000;
-
-/// A reply: the peer's port, and the bytes.
-type Expected = (u16, &'static str);
-
-/// The answer to the publisher's conclusion.
-const ANSWER: Expected = (
-    5000,
-    "80000000000000000000000000000001000000050000000100000005000005dc00000400ffffffff00100000000000000000000000000000000000000000000000020003000105000000003f00780078",
-);
-
-/// The replies to the publisher's conclusion, the data packet, the subscriber's conclusion and the tick at the
-/// delivery: two answers, a Full ACK, another one at the delivery, and the data packet to the subscriber.
-const REPLIES: [Expected; 5] = [
-    ANSWER,
-    (
-        5001,
-        "80000000000000000000000000000002000000050000000100000009000005dc00000400ffffffff00100001000000000000000000000000000000000000000000020003000105000000003f00780078",
-    ),
-    (
-        5000,
-        "8002000000000001000027100000000100000006000186a00000c350000003ff000000000000000000000000",
-    ),
-    (
-        5000,
-        "80020000000000020001d8a80000000100000006000186a00000c35000000400000000000000000000000000",
-    ),
-    (5001, "00000009e00000010001b198000000026869"),
-];
-
 fn peer(port: u16) -> Peer {
     Peer {
         ip: [0, 0, 0, 0, 0, 0, 0, 0, 0, 0, 0xff, 0xff, 127, 0, 0, 1],
         port,
-    }
-}
-
-impl Coming {
-    fn item(&self, alloc: Global) -> Result<Item, Fail>
-        ensures timely { IfOk result (λ item. moment_of (told item) < 2 ^ 62) }
-    {
-        let bytes = hex::decode(alloc, self.text)?;
-        let moment = self.moment;
-        if bytes.len() < 16 || moment >= MOMENT_END {
-            return Err(Fail::from("a header and an early moment"));
-        }
-        let mut head = [0u8; 16];
-        head.copy_from_slice(&bytes[..16]);
-        Ok(Item::Datagram {
-            peer: peer(self.port),
-            moment,
-            head,
-            body: Vec::from_slice(alloc, &bytes[16..])?,
-        })
     }
 }
 
@@ -127,11 +55,13 @@ fn entry(alloc: Global) -> Result<Entry, Fail> {
         sessions: 5,
         inbox: PLACES,
         outbox: PLACES,
+        access: Access::anyone(),
+        rules: Rules::DRAFT,
     })
 }
 
 fn studio(alloc: Global) -> Result<Ends, Fail>
-    ensures { IfOk result (λ r. AreEndsOf (name_in r.2) r.0 r.1 r.3) }
+    ensures { IfOk result (λ r. AreEndsOf (identity_in r.2) r.0 r.1 r.3) }
 {
     match open_route(alloc, &entry(alloc)?, 0) {
         Ok(ends) => Ok(ends),
@@ -169,7 +99,7 @@ impl Gate for Fixed {
 
     ghost asked = { λ _. None };
 
-    fn pass(&mut self, _route: usize) -> bool {
+    fn allows(&mut self, _route: usize) -> bool {
         if !self.passes {
             self.held = self.held.saturating_add(1);
         }
@@ -201,7 +131,7 @@ fn assert_served<C: Serve>(rt: &(impl Wait + Abort), cell: &C, wanted: &[Served]
 fn assert_drained(
     rt: &(impl AllocGlobal + Wait + Abort),
     drain: &mut Drain,
-    wanted: Expected,
+    wanted: Expected<'_>,
 ) -> Result<(), Fail>
     ensures { drain.new.queue ≡ drain.old.queue }
 {
@@ -214,12 +144,12 @@ fn assert_drained(
 fn assert_at_hand(
     rt: &(impl AllocGlobal + Abort),
     drain: &Drain,
-    wanted: Expected,
+    wanted: Expected<'_>,
 ) -> Result<(), Fail> {
+    let bytes = wanted.sample.bytes(rt.alloc())?;
     let reply = drain.reply();
-    let bytes = reply.packet.bytes();
-    assert!(rt; reply.peer == peer(wanted.0));
-    assert_eq!(rt; bytes, hex::decode(rt.alloc(), wanted.1)?.as_slice());
+    assert!(rt; reply.peer == peer(wanted.port));
+    assert_eq!(rt; first_difference(reply.packet.bytes(), &bytes), None);
     Ok(())
 }
 
@@ -234,7 +164,7 @@ fn tick<R: Wait>(rt: &R, clock: &mut ClockEnd, moment: u64) -> bool
 fn offer_times(
     rt: &(impl AllocGlobal + Wait + Abort),
     ingress: &mut Ingress,
-    coming: Coming,
+    coming: Coming<'_>,
     n: usize,
 ) -> Result<(), Fail>
     ensures { ingress.new.queue ≡ ingress.old.queue }
@@ -252,7 +182,7 @@ fn offer_times(
 fn drain_times(
     rt: &(impl AllocGlobal + Wait + Abort),
     drain: &mut Drain,
-    wanted: Expected,
+    wanted: Expected<'_>,
     n: usize,
 ) -> Result<(), Fail>
     ensures { drain.new.queue ≡ drain.old.queue }
@@ -267,7 +197,7 @@ fn drain_times(
 fn drain_each(
     rt: &(impl AllocGlobal + Wait + Abort),
     drain: &mut Drain,
-    rows: &[Expected],
+    rows: &[Expected<'_>],
 ) -> Result<(), Fail> {
     for wanted in rows {
         assert_drained(rt, drain, *wanted)?;
@@ -283,7 +213,7 @@ fn settled<R: Wait>(
     cell: RouteCell,
     drain: Drain,
 ) -> Result<Account, Fail>
-    requires { AreEndsOf (name_in cell) ingress clock drain }
+    requires { AreEndsOf (identity_in cell) ingress clock drain }
 {
     match settle(rt, ingress, clock, cell, drain) {
         Ok(account) => Ok(account),
@@ -296,7 +226,7 @@ fn a_held_route_makes_no_turn(rt: HostRuntime) -> Result<(), Fail> {
     let (_ingress, mut clock, cell, mut drain) = studio(rt.alloc())?;
     let mut shut = Fixed::shut();
     assert!(rt; tick(&rt, &mut clock, 5));
-    assert_eq!(rt; cell.serve(&rt, &mut shut), Served::Held);
+    assert_eq!(rt; cell.serve(&rt, &mut shut), Served::GateRefused);
     assert_eq!(rt; shut.held(), 1);
     assert_served(&rt, &cell, &[APPLIED, IDLE]);
     assert!(rt; drain.take(&rt).is_err());
@@ -321,20 +251,20 @@ fn assert_visited<C: Serve>(
 fn a_visit_makes_the_turns_that_it_may(rt: HostRuntime) -> Result<(), Fail> {
     let (mut ingress, _clock, cell, mut drain) = studio(rt.alloc())?;
     let mut shut = Fixed::shut();
-    offer_times(&rt, &mut ingress, PUBLISHER, 2)?;
+    offer_times(&rt, &mut ingress, publisher_conclusion(), 2)?;
     let held = cell.visit(&rt, &mut shut, 64);
-    assert!(rt; held.turns == 0 && held.end == Some(Served::Held) && shut.held() == 1);
+    assert!(rt; held.turns == 0 && held.end == Some(Served::GateRefused) && shut.held() == 1);
     assert_visited(&rt, &cell, 0, (0, 0, None));
     assert_visited(&rt, &cell, 3, (3, 1, None));
     assert_visited(&rt, &cell, 64, (1, 1, Some(IDLE)));
-    drain_times(&rt, &mut drain, ANSWER, 2)?;
-    offer_times(&rt, &mut ingress, PUBLISHER, 16)?;
+    drain_times(&rt, &mut drain, publisher_answer(), 2)?;
+    offer_times(&rt, &mut ingress, publisher_conclusion(), 16)?;
     assert_visited(&rt, &cell, 64, (32, 16, Some(IDLE)));
-    offer_times(&rt, &mut ingress, PUBLISHER, 1)?;
+    offer_times(&rt, &mut ingress, publisher_conclusion(), 1)?;
     assert_visited(&rt, &cell, 64, (1, 0, Some(BLOCKED)));
-    drain_times(&rt, &mut drain, ANSWER, 16)?;
+    drain_times(&rt, &mut drain, publisher_answer(), 16)?;
     assert_visited(&rt, &cell, 1, (1, 1, None));
-    drain_times(&rt, &mut drain, ANSWER, 1)?;
+    drain_times(&rt, &mut drain, publisher_answer(), 1)?;
     assert!(rt; drain.is_empty().is_some());
     assert!(rt; drain.take(&rt).is_err());
     Ok(())
@@ -358,9 +288,9 @@ fn go_round(
     drain: &mut Drain,
     counts: (usize, usize),
 ) -> Result<(), Fail> {
-    offer_times(rt, ingress, PUBLISHER, counts.0)?;
+    offer_times(rt, ingress, publisher_conclusion(), counts.0)?;
     cell.visit(rt, &mut Fixed::open(), 64);
-    drain_times(rt, drain, ANSWER, counts.1)
+    drain_times(rt, drain, publisher_answer(), counts.1)
 }
 
 /// 300 replies are drained five at a time; then 64 fill the outbox before the first of them is drained.
@@ -383,33 +313,34 @@ fn answer_with_room(
     cell: &RouteCell,
     drain: &mut Drain,
 ) -> Result<(), Fail> {
-    let bytes = hex::decode(rt.alloc(), PUBLISHER.text)?;
+    let coming = publisher_conclusion();
+    let bytes = coming.sample.bytes(rt.alloc())?;
     if bytes.len() < 16 {
         return Err(Fail::from("a header"));
     }
     let mut head = [0u8; 16];
     head.copy_from_slice(&bytes[..16]);
-    let mut body = Vec::with_capacity(rt.alloc(), BODY_ROOM)?;
+    let mut body = Vec::with_capacity(rt.alloc(), BUFFER_ROOM)?;
     body.extend_from_slice(&bytes[16..])?;
-    let offered = ingress.offer_datagram(rt, peer(PUBLISHER.port), 1_000_000, head, body);
+    let offered = ingress.offer_datagram(rt, peer(coming.port), 1_000_000, head, body);
     assert!(rt; offered.is_ok());
     cell.visit(rt, &mut Fixed::open(), 64);
-    assert_drained(rt, drain, ANSWER)
+    assert_drained(rt, drain, publisher_answer())
 }
 
 #[test]
 fn a_body_with_room_comes_back_with_a_reply(rt: HostRuntime) -> Result<(), Fail> {
     let (mut ingress, _clock, cell, mut drain) = studio(rt.alloc())?;
     answer_with_room(&rt, &mut ingress, &cell, &mut drain)?;
-    let Some(body) = drain.take_body() else {
+    let Some(body) = drain.take_buffer() else {
         return Err(Fail::from("a body"));
     };
-    assert!(rt; body.capacity() >= BODY_ROOM);
-    assert!(rt; drain.take_body().is_none());
-    offer_times(&rt, &mut ingress, PUBLISHER, 1)?;
+    assert!(rt; body.capacity() >= BUFFER_ROOM);
+    assert!(rt; drain.take_buffer().is_none());
+    offer_times(&rt, &mut ingress, publisher_conclusion(), 1)?;
     cell.visit(&rt, &mut Fixed::open(), 64);
-    assert_drained(&rt, &mut drain, ANSWER)?;
-    assert!(rt; drain.take_body().is_none());
+    assert_drained(&rt, &mut drain, publisher_answer())?;
+    assert!(rt; drain.take_buffer().is_none());
     Ok(())
 }
 
@@ -433,7 +364,8 @@ fn an_entry_out_of_its_limits_is_refused(rt: HostRuntime) -> Result<(), Fail> {
 
 /// Whether this is the data packet, with its sender and its moment.
 fn is_data(alloc: Global, item: &Item) -> Result<bool, Fail> {
-    let bytes = hex::decode(alloc, DATA.text)?;
+    let offered = publisher_data();
+    let bytes = offered.sample.bytes(alloc)?;
     match item {
         Item::Datagram {
             peer: from,
@@ -444,7 +376,7 @@ fn is_data(alloc: Global, item: &Item) -> Result<bool, Fail> {
             let is_whole = bytes.len() == 18
                 && &head[..] == &bytes[..16]
                 && body.as_slice() == &bytes[16..];
-            Ok(is_whole && *from == peer(DATA.port) && *moment == DATA.moment)
+            Ok(is_whole && *from == peer(offered.port) && *moment == offered.moment)
         }
         _ => Ok(false),
     }
@@ -458,9 +390,9 @@ fn assert_goes_in_after_a_turn(
     cell: &RouteCell,
 ) -> Result<(), Fail> {
     let alloc = rt.alloc();
-    let item = DATA.item(alloc)?;
+    let item = publisher_data().item(alloc)?;
     let back = match ingress.offer(rt, item) {
-        Err(Full { item, evidence: _ }) => item,
+        Err(OfferFault { item, evidence: _ }) => item,
         Ok(()) => return Err(Fail::from("the inbox is full")),
     };
     assert!(rt; is_data(alloc, &back)?);
@@ -477,9 +409,9 @@ fn assert_full_inbox(
     clock: &mut ClockEnd,
     cell: &RouteCell,
 ) -> Result<(), Fail> {
-    offer_times(rt, ingress, PUBLISHER, 1)?;
-    offer_times(rt, ingress, DATA, 1)?;
-    offer_times(rt, ingress, SUBSCRIBER, 1)?;
+    offer_times(rt, ingress, publisher_conclusion(), 1)?;
+    offer_times(rt, ingress, publisher_data(), 1)?;
+    offer_times(rt, ingress, subscriber_conclusion(), 1)?;
     for _ in 0..13 {
         assert!(rt; tick(rt, clock, DELIVERY));
     }
@@ -500,7 +432,7 @@ fn assert_stream(
         cell,
         &[MOVED, APPLIED, APPLIED, MOVED, MOVED, APPLIED, MOVED, MOVED],
     );
-    drain_each(rt, drain, &REPLIES)?;
+    drain_each(rt, drain, &replies())?;
     assert_served(rt, cell, &[APPLIED; 13]);
     assert_served(rt, cell, &[IDLE]);
     assert!(rt; drain.take(rt).is_err());
@@ -526,16 +458,16 @@ fn assert_full_outbox(
     ensures clock { clock.new.queue ≡ clock.old.queue }
     ensures drain { drain.new.queue ≡ drain.old.queue }
 {
-    offer_times(rt, ingress, PUBLISHER, 16)?;
+    offer_times(rt, ingress, publisher_conclusion(), 16)?;
     for _ in 0..16 {
         assert_served(rt, cell, &[APPLIED, MOVED]);
     }
-    offer_times(rt, ingress, PUBLISHER, 2)?;
+    offer_times(rt, ingress, publisher_conclusion(), 2)?;
     assert_served(rt, cell, &[APPLIED, BLOCKED, BLOCKED]);
     assert!(rt; tick(rt, clock, 1_000_000));
-    drain_times(rt, drain, ANSWER, 16)?;
+    drain_times(rt, drain, publisher_answer(), 16)?;
     assert_served(rt, cell, &[MOVED, APPLIED, MOVED, APPLIED, IDLE]);
-    drain_times(rt, drain, ANSWER, 2)
+    drain_times(rt, drain, publisher_answer(), 2)
 }
 
 #[test]
@@ -564,11 +496,11 @@ fn account_after(
     n: usize,
 ) -> Result<Account, Fail> {
     let (mut ingress, clock, cell, mut drain) = studio(rt.alloc())?;
-    offer_times(rt, &mut ingress, PUBLISHER, 1)?;
+    offer_times(rt, &mut ingress, publisher_conclusion(), 1)?;
     for _ in 0..turns {
         cell.serve(rt, &mut Fixed::open());
     }
-    drain_times(rt, &mut drain, ANSWER, n)?;
+    drain_times(rt, &mut drain, publisher_answer(), n)?;
     settled(rt, ingress, clock, cell, drain)
 }
 
@@ -746,7 +678,7 @@ fn offer_and_compare(
     ingress: &mut Ingress,
     drain: &mut Drain,
     alone: &mut Alone,
-    coming: Coming,
+    coming: Coming<'_>,
     counts: (usize, usize),
 ) -> Result<(), Fail> {
     let (n, replies) = counts;
@@ -766,14 +698,35 @@ fn offer_and_await(
     drain: &mut Drain,
 ) -> Result<(), Fail> {
     let mut alone = Alone::open(rt.alloc())?;
-    offer_and_compare(rt, ingress, drain, &mut alone, PUBLISHER, (1, 1))?;
-    offer_and_compare(rt, ingress, drain, &mut alone, DATA, (1, 0))?;
-    offer_and_compare(rt, ingress, drain, &mut alone, SUBSCRIBER, (1, 2))?;
+    offer_and_compare(
+        rt,
+        ingress,
+        drain,
+        &mut alone,
+        publisher_conclusion(),
+        (1, 1),
+    )?;
+    offer_and_compare(rt, ingress, drain, &mut alone, publisher_data(), (1, 0))?;
+    offer_and_compare(
+        rt,
+        ingress,
+        drain,
+        &mut alone,
+        subscriber_conclusion(),
+        (1, 2),
+    )?;
     let late = Item::Tick { moment: DELIVERY };
     assert!(rt; ingress.offer(rt, Item::Tick { moment: DELIVERY }).is_ok());
     assert_eq!(rt; await_the_same(rt, &mut alone, drain, &late)?, 2);
     for _ in 0..100 {
-        offer_and_compare(rt, ingress, drain, &mut alone, PUBLISHER, (8, 1))?;
+        offer_and_compare(
+            rt,
+            ingress,
+            drain,
+            &mut alone,
+            publisher_conclusion(),
+            (8, 1),
+        )?;
     }
     Ok(())
 }
@@ -838,7 +791,7 @@ impl Gate for Staying<'_> {
 
     ghost asked = { λ _. None };
 
-    fn pass(&mut self, _route: usize) -> bool {
+    fn allows(&mut self, _route: usize) -> bool {
         self.entered.store(true, Ordering::SeqCst);
         wait_for(self.answered);
         true
@@ -890,9 +843,9 @@ fn nobody_waits_for_a_route(rt: HostRuntime) -> Result<(), Fail> {
     let passed_over = Visit {
         turns: 0,
         moved: 0,
-        end: Some(Served::Busy),
+        end: Some(Served::ClaimedElsewhere),
     };
-    assert!(rt; served == (APPLIED, Served::Busy, passed_over, APPLIED));
+    assert!(rt; served == (APPLIED, Served::ClaimedElsewhere, passed_over, APPLIED));
     assert_served(&rt, &cell, &[IDLE]);
     assert_served(&rt, &other, &[IDLE]);
     Ok(())

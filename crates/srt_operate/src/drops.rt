@@ -4,7 +4,7 @@ ghost use Rattle.std.specs.Prelude.{◌≡◌, ◌%◌};
 ghost use Rattle.srt_operate.specs.Drops.{hex_digit, local_text, is_at, drops_of, drops_in};
 
 use crate::numbers::number_in;
-use crate::parts::{Split, split_at, word_at};
+use crate::parts::{SplitText, split_at, word_at};
 use std::fs::File;
 use std::io::Read;
 use std::rt::Files;
@@ -13,7 +13,7 @@ use std::rt::Files;
 const TABLE: &str = "/proc/net/udp";
 
 /// As much of the table as is read, in bytes: some 30,000 sockets.
-const TABLE_MAX: u64 = 4_194_304;
+const MAX_TABLE: u64 = 4_194_304;
 
 /// The column of the local address and port, counted from 0.
 const LOCAL: usize = 1;
@@ -87,7 +87,7 @@ pub fn drops_in(text: &[u8], ip: [u8; 4], port: u16) -> Option<u64>
     let local = local_text(ip, port);
     let mut left = text;
     loop {
-        let Split { part, rest } = split_at(b'\n', left);
+        let SplitText { part, rest } = split_at(b'\n', left);
         if is_at(&local, part) {
             return drops_of(part);
         }
@@ -99,10 +99,10 @@ pub fn drops_in(text: &[u8], ip: [u8; 4], port: u16) -> Option<u64>
 }
 
 /// How many datagrams the kernel has dropped at this process's UDP socket, bound to this IPv4 address and port, since
-/// it was opened. None if that can't be read. It takes memory for the kernel's table, and gives it back.
+/// it was opened. None if that can't be read. Allocates a copy of the kernel's table while it reads it.
 pub fn kernel_drops(rt: &(impl Files + AllocGlobal), ip: [u8; 4], port: u16) -> Option<u64> {
     let file = File::open(rt, TABLE).ok()?;
     let mut bytes = Vec::new(rt.alloc());
-    file.take(TABLE_MAX).read_to_end(&mut bytes).ok()?;
+    file.take(MAX_TABLE).read_to_end(&mut bytes).ok()?;
     drops_in(&bytes, ip, port)
 }

@@ -6,10 +6,10 @@ ghost use Rattle.srt_operate.specs.Durations.{unit_of, duration_in};
 use crate::numbers::number_in;
 
 /// The least duration, in microseconds: 1 second.
-const DURATION_MIN: u64 = 1_000_000;
+const MIN_DURATION: u64 = 1_000_000;
 
 /// The greatest duration, in microseconds: 365 days.
-const DURATION_MAX: u64 = 31_536_000_000_000;
+const MAX_DURATION: u64 = 31_536_000_000_000;
 
 /// The microseconds of a unit: `s`, `m`, `h` and `d`. None for any other letter.
 fn unit_of(letter: u8) -> Option<u64>
@@ -35,7 +35,7 @@ pub fn duration_in(text: &[u8]) -> Option<u64>
     let unit = unit_of(*letter)?;
     let count = number_in(10, digits)?;
     let duration = count.checked_mul(unit)?;
-    if duration >= DURATION_MIN && duration <= DURATION_MAX {
+    if duration >= MIN_DURATION && duration <= MAX_DURATION {
         Some(duration)
     } else {
         None

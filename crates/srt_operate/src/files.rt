@@ -7,14 +7,14 @@ use std::io::Read;
 use std::rt::Files;
 
 /// The greatest number of reads for one file.
-const READS_MAX: u32 = 4096;
+const MAX_READS: u32 = 4096;
 
 /// Reads until the place is full, the reader is at its end, or a read fails. Returns the number of bytes.
 fn fill<R: Read>(reader: &mut R, place: &mut [u8]) -> usize
     ensures { result ≤ length place.new }
 {
     let mut len = 0;
-    for _ in 0..READS_MAX {
+    for _ in 0..MAX_READS {
         if len >= place.len() {
             return len;
         }

@@ -1,7 +1,7 @@
 //! What a gateway that runs until it is told to stop asks of its machine: whether a signal to stop is pending, how many
 //! datagrams the kernel dropped, how much memory it has, what day it is; and how it goes on to its end.
 //!
-//! It knows nothing of SRT. It keeps nothing between calls and takes no memory but for the kernel's table of sockets.
+//! It knows nothing of SRT. It keeps nothing between calls and allocates only to read the kernel's table of sockets.
 //!
 //! Calls: [`stop_asked`] and [`signals_are_blocked`] (`signals.rt`) read the process's status, [`kernel_drops`]
 //! (`drops.rt`) the table of UDP sockets; each stands on a function of the text that was read. [`duration_in`]

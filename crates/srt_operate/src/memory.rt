@@ -6,7 +6,7 @@ ghost use Rattle.srt_operate.specs.Memory.{memory_in};
 use crate::files::read_front;
 use crate::numbers::number_in;
 use crate::parts::{behind_key, word_at};
-use crate::signals::{STATUS, STATUS_MAX};
+use crate::signals::{MAX_STATUS, STATUS};
 use std::rt::Files;
 
 /// The key of the memory that is in the machine's memory at present.
@@ -23,7 +23,7 @@ pub fn memory_in(status: &[u8]) -> Option<u64>
 
 /// The resident memory of this process, in bytes. None if it can't be read.
 pub fn resident_memory(rt: &impl Files) -> Option<u64> {
-    let mut place = [0u8; STATUS_MAX];
+    let mut place = [0u8; MAX_STATUS];
     let len = read_front(rt, STATUS, &mut place);
     memory_in(&place[..len])
 }

@@ -8,7 +8,7 @@ use memchr::memchr;
 
 /// A text split at the first byte of a kind.
 #[derive(Clone, Copy)]
-pub(crate) struct Split<'a> {
+pub(crate) struct SplitText<'a> {
     /// The bytes before that byte.
     pub(crate) part: &'a [u8],
     /// The bytes after it, if there is one.
@@ -16,16 +16,16 @@ pub(crate) struct Split<'a> {
 }
 
 /// Splits a text at the first byte of this value. Linear in the length of the part before it.
-pub(crate) fn split_at(separator: u8, text: &[u8]) -> Split<'_>
+pub(crate) fn split_at(separator: u8, text: &[u8]) -> SplitText<'_>
     ensures parts { parts_of separator text.now ≡ result.part.now ∷ parts_behind separator (option_copied result.rest) }
     ensures shorter { IfSome result.rest (λ t. length t.now < length text.now) }
 {
     match memchr(separator, text) {
-        Some(at) => Split {
+        Some(at) => SplitText {
             part: &text[..at],
             rest: Some(&text[at + 1..]),
         },
-        None => Split {
+        None => SplitText {
             part: text,
             rest: None,
         },
@@ -39,7 +39,7 @@ pub(crate) fn behind_key<'a>(key: &[u8], text: &'a [u8]) -> Option<&'a [u8]>
 {
     let mut left = text;
     loop {
-        let Split { part, rest } = split_at(b'\n', left);
+        let SplitText { part, rest } = split_at(b'\n', left);
         if let Some(value) = part.strip_prefix(key) {
             return Some(value);
         }
@@ -72,7 +72,7 @@ pub(crate) fn word_at(index: usize, line: &[u8]) -> Option<&[u8]>
     let mut left = line;
     let mut before = index;
     loop {
-        let Split { part, rest } = split_at(b' ', left);
+        let SplitText { part, rest } = split_at(b' ', left);
         match passed(before, part) {
             Some(fewer) => before = fewer,
             None => return Some(part),

@@ -14,9 +14,9 @@ use std::rt::Files;
 /// The process's status, as proc(5) describes it.
 pub(crate) const STATUS: &str = "/proc/self/status";
 
-/// As much of the status as is read, in bytes: more than the kernel writes before the masks of signals, which follow the
-/// memory.
-pub(crate) const STATUS_MAX: usize = 16_384;
+/// As much of the status as is read, in bytes: more than the kernel writes before the masks of signals, which follow
+/// the memory.
+pub(crate) const MAX_STATUS: usize = 16_384;
 
 /// The key of the signals that are pending for the process.
 const PROCESS_PENDING: &[u8] = b"ShdPnd:\t";
@@ -70,9 +70,9 @@ pub fn blocks_signals(status: &[u8]) -> bool
 }
 
 /// Whether SIGINT or SIGTERM is pending for this process. False if that can't be read. It reads a file of the kernel's,
-/// some 50 microseconds, and takes no memory.
+/// some 50 microseconds, and doesn't allocate.
 pub fn stop_asked(rt: &impl Files) -> bool {
-    let mut place = [0u8; STATUS_MAX];
+    let mut place = [0u8; MAX_STATUS];
     let len = read_front(rt, STATUS, &mut place);
     asks_to_stop(&place[..len])
 }
@@ -80,7 +80,7 @@ pub fn stop_asked(rt: &impl Files) -> bool {
 /// Whether SIGINT and SIGTERM are both blocked, so that [`stop_asked`] can see them. If they aren't, either ends the
 /// process at once. False if that can't be read.
 pub fn signals_are_blocked(rt: &impl Files) -> bool {
-    let mut place = [0u8; STATUS_MAX];
+    let mut place = [0u8; MAX_STATUS];
     let len = read_front(rt, STATUS, &mut place);
     blocks_signals(&place[..len])
 }

@@ -4,10 +4,10 @@ ghost use Rattle.std.specs.Prelude.{◌≡◌};
 ghost use Rattle.srt_operate.specs.Stopping.{is_over, stop_step};
 
 /// The longest time between the wish to stop and the end, in microseconds: a second.
-const STOP_MAX: u64 = 1_000_000;
+const MAX_STOP: u64 = 1_000_000;
 
 /// The least such time, in microseconds: what is on its way to a route's queues arrives there meanwhile.
-const STOP_MIN: u64 = 50_000;
+const MIN_STOP: u64 = 50_000;
 
 /// What a gateway does next.
 #[derive(Clone, Copy, Debug, PartialEq, Eq)]
@@ -24,14 +24,14 @@ pub enum StopStep {
 fn is_over(asked_at: u64, now: u64, is_quiet: bool) -> bool
     ensures { result ≡ is_over asked_at now is_quiet }
 {
-    let most = u128::from(asked_at) + u128::from(STOP_MAX);
-    let least = u128::from(asked_at) + u128::from(STOP_MIN);
+    let most = u128::from(asked_at) + u128::from(MAX_STOP);
+    let least = u128::from(asked_at) + u128::from(MIN_STOP);
     most <= u128::from(now) || (is_quiet && least <= u128::from(now))
 }
 
-/// What a gateway does at a moment `now`, where a stop was asked for at the moment `asked_at`, if at all. Moments are in
-/// microseconds of one clock. `is_quiet`: no session is open, and nothing is left to send. It ends a second after the
-/// wish at the latest, and a twentieth of a second after it at the earliest.
+/// What a gateway does at a moment `now`, where a stop was asked for at the moment `asked_at`, if at all. Moments are
+/// in microseconds of one clock. `is_quiet`: no session is open, and nothing is left to send. It ends a second after
+/// the wish at the latest, and a twentieth of a second after it at the earliest.
 pub fn stop_step(asked_at: Option<u64>, now: u64, is_quiet: bool) -> StopStep
     ensures { result ≡ stop_step asked_at now is_quiet }
 {

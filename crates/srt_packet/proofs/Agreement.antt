@@ -1,7 +1,8 @@
 -- The function packet_in and the relation Spells agree.
 use Rattle.std.proofs.Common.{◌≡◌, ℕ, ◌<◌, ◌≤◌, ◌/◌, ◌^◌, List, Result, Ok, Err, IfOk, IfErr, length, length-drop, drop, arith}
 use Rattle.std.proofs.lemmas.Bool.Decides.{nat_tests}
-use Rattle.srt_packet.specs.Grammar.{Body, Data, Handshake, KeepAlive, Ack, Nak, CongestionWarning, Shutdown, AckAck, DropRequest, PeerError, UserDefined, Packet, Spells, SpellsBody}
+use Rattle.srt_packet.specs.Grammar.{Body, Data, Handshake, KeepAlive, Ack, Nak, CongestionWarning, Shutdown, AckAck, DropRequest}
+use Rattle.srt_packet.specs.Grammar.{PeerError, UserDefined, Packet, Spells, SpellsBody}
 use Rattle.srt_seq.specs.Words.{word_at}
 use Rattle.srt_packet.specs.declared.reading.PacketFault.{PacketFault}
 use Rattle.srt_packet.specs.declared.reading.PacketFault.TheVariants.{Short, Long, NoPayload, UnknownType, ShortControl}
@@ -38,9 +39,13 @@ pub packet_found : (bytes : List ℕ) → IfOk (packet_in bytes) (λ packet. Spe
 packet_found bytes = let f = body_found (word_at bytes 0) (word_at bytes 4) (drop 16 bytes) in grind (arith, nat_tests, f)
 
 pub packet_only : (bytes : List ℕ) (packet : Packet) → Spells bytes packet → packet_in bytes ≡ Ok packet
-packet_only bytes packet s = let f = body_only (word_at bytes 0) (word_at bytes 4) (drop 16 bytes) packet.body s.body in grind (arith, nat_tests, f, s.header, s.limit, s.stamp, s.dest)
+packet_only bytes packet s =
+    let f = body_only (word_at bytes 0) (word_at bytes 4) (drop 16 bytes) packet.body s.body in
+    grind (arith, nat_tests, f, s.header, s.limit, s.stamp, s.dest)
 
-first_of : (bytes : List ℕ) (fault other : PacketFault) → 16 ≤ length bytes → length bytes ≤ 1472 → HasBodyFault (word_at bytes 0) (drop 16 bytes) fault → HasFault bytes other → rank fault ≤ rank other
+first_of : (bytes : List ℕ) (fault other : PacketFault) → 16 ≤ length bytes → length bytes ≤ 1472
+    → HasBodyFault (word_at bytes 0) (drop 16 bytes) fault → HasFault bytes other
+    → rank fault ≤ rank other
 first_of bytes Short other header limit h k = absurd h
 first_of bytes Long other header limit h k = absurd h
 first_of bytes fault Short header limit h k = absurd (omega (arith, header, k))
@@ -62,7 +67,8 @@ applies_to bytes NoPayload header h = (omega (arith, h.0, length-drop 16 bytes),
 applies_to bytes UnknownType header h = (header, h.0, h.1)
 applies_to bytes ShortControl header h = (header, h)
 
-is_first : (bytes : List ℕ) (fault : PacketFault) → 16 ≤ length bytes → length bytes ≤ 1472 → HasBodyFault (word_at bytes 0) (drop 16 bytes) fault → IsFirstFault bytes fault
+is_first : (bytes : List ℕ) (fault : PacketFault)
+    → 16 ≤ length bytes → length bytes ≤ 1472 → HasBodyFault (word_at bytes 0) (drop 16 bytes) fault → IsFirstFault bytes fault
 is_first bytes fault header limit h = record { applies = applies_to bytes fault header h; first = λ other k. first_of bytes fault other header limit h k }
 
 short_first : (bytes : List ℕ) → length bytes < 16 → IsFirstFault bytes Short
@@ -86,7 +92,9 @@ long_first bytes long = record { applies = long; first = above_two }
     above_two ShortControl k = omega arith
 
 -- the fault of a body is the fault of its packet
-with_header : (bytes : List ℕ) (stamp dest : ℕ) (r : Result Body PacketFault) → 16 ≤ length bytes → length bytes ≤ 1472 → IfErr r (λ fault. HasBodyFault (word_at bytes 0) (drop 16 bytes) fault) → IfErr (packet_with stamp dest r) (λ fault. IsFirstFault bytes fault)
+with_header : (bytes : List ℕ) (stamp dest : ℕ) (r : Result Body PacketFault) → 16 ≤ length bytes → length bytes ≤ 1472
+    → IfErr r (λ fault. HasBodyFault (word_at bytes 0) (drop 16 bytes) fault)
+    → IfErr (packet_with stamp dest r) (λ fault. IsFirstFault bytes fault)
 with_header bytes stamp dest (Ok body) header limit h = tt
 with_header bytes stamp dest (Err fault) header limit h = is_first bytes fault header limit h
 
@@ -135,7 +143,8 @@ no_body_fault word0 word1 rest (DropRequest message first last) ShortControl s h
 no_body_fault word0 word1 rest PeerError ShortControl s h = grind (arith, s, h)
 no_body_fault word0 word1 rest UserDefined ShortControl s h = grind (arith, s, h)
 
-body_of_fault : (bytes : List ℕ) (fault : PacketFault) → 16 ≤ length bytes → length bytes ≤ 1472 → HasFault bytes fault → HasBodyFault (word_at bytes 0) (drop 16 bytes) fault
+body_of_fault : (bytes : List ℕ) (fault : PacketFault)
+    → 16 ≤ length bytes → length bytes ≤ 1472 → HasFault bytes fault → HasBodyFault (word_at bytes 0) (drop 16 bytes) fault
 body_of_fault bytes Short header limit h = omega (arith, header, h)
 body_of_fault bytes Long header limit h = omega (arith, limit, h)
 body_of_fault bytes NoPayload header limit h = (omega (arith, h.0, length-drop 16 bytes), h.1)

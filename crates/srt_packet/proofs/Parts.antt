@@ -1,5 +1,6 @@
 -- What follows for a result that equals packet_in's.
-use Rattle.std.proofs.Common.{◌≡◌, ℕ, ◌+◌, ◌-◌, ◌<◌, ◌≤◌, List, Result, Ok, Err, IfOk, IfErr, IsOkAnd, length, length-append, length-drop, take, drop, ◌++◌, refl, ◌∙◌, arith}
+use Rattle.std.proofs.Common.{◌≡◌, ℕ, ◌+◌, ◌-◌, ◌<◌, ◌≤◌, List, Result, Ok, Err, IfOk, IfErr, IsOkAnd, length, length-append, length-drop}
+use Rattle.std.proofs.Common.{take, drop, ◌++◌, refl, ◌∙◌, arith}
 use Rattle.std.proofs.lemmas.Bool.Decides.{nat_tests}
 use Rattle.std.proofs.lemmas.List.{get_or_append_left, take_all}
 use Rattle.std.proofs.Math.Seq.{drop-append_seam}
@@ -16,7 +17,8 @@ pub found_by : (bytes : List ℕ) (r : Result PacketRef PacketFault) → packet_
 found_by bytes (Ok p) e = let f = packet_found bytes in rw (← e) at f
 found_by bytes (Err fault) e = tt
 
-pub only_by : (bytes : List ℕ) (r : Result PacketRef PacketFault) → packet_read r ≡ packet_in bytes → (packet : Packet) → Spells bytes packet → IsOkAnd r (λ p. packet_of p ≡ packet)
+pub only_by : (bytes : List ℕ) (r : Result PacketRef PacketFault)
+    → packet_read r ≡ packet_in bytes → (packet : Packet) → Spells bytes packet → IsOkAnd r (λ p. packet_of p ≡ packet)
 only_by bytes (Ok p) e packet s = let k = e ∙ packet_only bytes packet s in cc
 only_by bytes (Err fault) e packet s = let k = e ∙ packet_only bytes packet s in cc
 
@@ -28,23 +30,38 @@ whole_is : (bytes : List ℕ) → 16 ≤ length bytes → length bytes ≤ 1472 
 whole_is bytes header limit = grind (arith, nat_tests)
 
 -- the bytes of a slice from the 17th byte on
-pub whole_by : (bytes : List ℕ) (r : Result Packet PacketFault) → 16 ≤ length bytes → length bytes ≤ 1472 → r ≡ packet_after bytes (take (length bytes - 16) (drop 16 bytes)) → r ≡ packet_in bytes
+pub whole_by : (bytes : List ℕ) (r : Result Packet PacketFault)
+    → 16 ≤ length bytes → length bytes ≤ 1472 → r ≡ packet_after bytes (take (length bytes - 16) (drop 16 bytes)) → r ≡ packet_in bytes
 whole_by bytes r header limit e =
     let all = take_all (length bytes - 16) (drop 16 bytes) (omega (arith, length-drop 16 bytes)) in
     (rw all at e) ∙ whole_is bytes header limit
 
 word_of_head : (head body : List ℕ) (at : ℕ) → at + 4 ≤ length head → word_at (head ++ body) at ≡ word_at head at
 word_of_head head body at h =
-    rw (get_or_append_left head body 0 at (omega (arith, h)), get_or_append_left head body 0 (at + 1) (omega (arith, h)), get_or_append_left head body 0 (at + 2) (omega (arith, h)), get_or_append_left head body 0 (at + 3) (omega (arith, h))) refl
+    rw (
+      get_or_append_left head body 0 at (omega (arith, h)),
+      get_or_append_left head body 0 (at + 1) (omega (arith, h)),
+      get_or_append_left head body 0 (at + 2) (omega (arith, h)),
+      get_or_append_left head body 0 (at + 3) (omega (arith, h)),
+    )
+    refl
 
 after_head : (head body : List ℕ) → length head ≡ 16 → drop 16 (head ++ body) ≡ body
 after_head head body h = rw h at (drop-append_seam head body)
 
 parts_are : (head body : List ℕ) → length head ≡ 16 → packet_after head body ≡ packet_after (head ++ body) (drop 16 (head ++ body))
 parts_are head body h =
-    rw (after_head head body h, word_of_head head body 0 (omega (arith, h)), word_of_head head body 4 (omega (arith, h)), word_of_head head body 8 (omega (arith, h)), word_of_head head body 12 (omega (arith, h))) refl
+    rw (
+      after_head head body h,
+      word_of_head head body 0 (omega (arith, h)),
+      word_of_head head body 4 (omega (arith, h)),
+      word_of_head head body 8 (omega (arith, h)),
+      word_of_head head body 12 (omega (arith, h)),
+    )
+    refl
 
-pub parts_by : (head body : List ℕ) (r : Result Packet PacketFault) → length head ≡ 16 → length body ≤ 1456 → r ≡ packet_after head body → r ≡ packet_in (head ++ body)
+pub parts_by : (head body : List ℕ) (r : Result Packet PacketFault)
+    → length head ≡ 16 → length body ≤ 1456 → r ≡ packet_after head body → r ≡ packet_in (head ++ body)
 parts_by head body r h limit e =
     e ∙ parts_are head body h ∙ whole_is (head ++ body) (omega (arith, length-append head body)) (omega (arith, length-append head body))
 

@@ -13,7 +13,7 @@ word0_fits : (b : Body) → word0_of b < 2 ^ 32
 word0_fits (out.Media number message again payload) = omega (arith, number.small)
 word0_fits (out.Handshake info) = omega arith
 word0_fits out.KeepAlive = omega arith
-word0_fits (out.FullAck number point round_trip variance available) = omega arith
+word0_fits (out.FullAck number point round_trip variance available rates) = omega arith
 word0_fits (out.LightAck point) = omega arith
 word0_fits (out.Nak losses) = omega arith
 word0_fits out.Shutdown = omega arith
@@ -25,13 +25,18 @@ body_spelled (out.Media number message true payload) w = (number.small, refl, om
 body_spelled (out.Media number message false payload) w = (number.small, refl, omega (arith, message.small), w.0, refl)
 body_spelled (out.Handshake info) w = (refl, refl)
 body_spelled out.KeepAlive w = refl
-body_spelled (out.FullAck number point round_trip variance available) w = (refl, refl, omega arith, refl)
+body_spelled (out.FullAck number point round_trip variance available rates) w = (refl, refl, omega arith, refl)
 body_spelled (out.LightAck point) w = (refl, refl, omega arith, refl)
 body_spelled (out.Nak losses) w = (refl, omega (arith, w, length_of_words losses.items), refl)
 body_spelled out.Shutdown w = refl
 body_spelled (out.AckAck number) w = (refl, refl)
-body_spelled (out.DropRequest message first last) w =
-    (refl, refl, omega arith, sym (from_be_bytes-to_be_bytes_4 first.word (omega (arith, first.small))), sym (from_be_bytes-to_be_bytes_4 last.word (omega (arith, last.small))))
+body_spelled (out.DropRequest message first last) w = (
+  refl,
+  refl,
+  omega arith,
+  sym (from_be_bytes-to_be_bytes_4 first.word (omega (arith, first.small))),
+  sym (from_be_bytes-to_be_bytes_4 last.word (omega (arith, last.small))),
+)
 
 pub sent_is_spelled : WhatIsSentIsSpelled
 sent_is_spelled p h =

@@ -7,7 +7,7 @@ use Rattle.srt_packet.specs.Sent.{CanBeSent}
 
 -- the first `len` bytes of its array
 abbrev pub bytes_of : EncodedPacket → List ℕ
-bytes_of p = take p.len p.block.bytes
+bytes_of p = take p.len p.array.bytes
 
 -- these bytes are the text of a packet that can be sent
 abbrev pub IsPacketText : List ℕ → Type 0

@@ -29,7 +29,7 @@ SpellsBody word0 word1 rest (Data number encryption payload) =
 -- top bit 1, the type in 15 bits, and a subtype of 16 bits, which is free (section 3.2, table 1)
 SpellsBody word0 word1 rest (Handshake info) = (word0 / 2 ^ 16 ≡ 0x8000) × (info ≡ rest)
 -- bytes after the header of a keep-alive, a shutdown or an ACKACK are free, and so are those after the first two words
--- of a drop request (this profile)
+-- of a drop request (our choice)
 SpellsBody word0 word1 rest KeepAlive = word0 / 2 ^ 16 ≡ 0x8001
 SpellsBody word0 word1 rest (Ack number info) = (word0 / 2 ^ 16 ≡ 0x8002) × (number ≡ word1) × (4 ≤ length rest) × (info ≡ rest)
 SpellsBody word0 word1 rest (Nak info) = (word0 / 2 ^ 16 ≡ 0x8003) × (4 ≤ length rest) × (info ≡ rest)

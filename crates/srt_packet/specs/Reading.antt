@@ -3,7 +3,8 @@ use Rattle.std.specs.Prelude.{◌≡◌, ℕ, ◌/◌, ◌%◌, ◌^◌, ◌<◌
 use Rattle.srt_seq.specs.Words.{word_at}
 use Rattle.srt_packet.specs.declared.reading.PacketFault.{PacketFault}
 use Rattle.srt_packet.specs.declared.reading.PacketFault.TheVariants.{Short, Long, NoPayload, UnknownType, ShortControl}
-use Rattle.srt_packet.specs.Grammar.{Body, Data, Handshake, KeepAlive, Ack, Nak, CongestionWarning, Shutdown, AckAck, DropRequest, PeerError, UserDefined, Packet, Spells}
+use Rattle.srt_packet.specs.Grammar.{Body, Data, Handshake, KeepAlive, Ack, Nak, CongestionWarning, Shutdown, AckAck, DropRequest}
+use Rattle.srt_packet.specs.Grammar.{PeerError, UserDefined, Packet, Spells}
 
 -- the body, if at least that many bytes follow the header
 abbrev pub of_at_least : ℕ → List ℕ → Body → Result Body PacketFault

@@ -14,7 +14,8 @@ abbrev pub sent_body : Body → grammar.Body
 sent_body (out.Media number message again payload) = grammar.Data (word_of number) 0 payload.bytes.now
 sent_body (out.Handshake info) = grammar.Handshake info.items
 sent_body out.KeepAlive = grammar.KeepAlive
-sent_body (out.FullAck number point round_trip variance available) = grammar.Ack number (rest_of (out.FullAck number point round_trip variance available))
+sent_body (out.FullAck number point round_trip variance available rates) =
+    grammar.Ack number (rest_of (out.FullAck number point round_trip variance available rates))
 sent_body (out.LightAck point) = grammar.Ack 0 (rest_of (out.LightAck point))
 sent_body (out.Nak losses) = grammar.Nak (rest_of (out.Nak losses))
 sent_body out.Shutdown = grammar.Shutdown

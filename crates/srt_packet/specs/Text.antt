@@ -1,4 +1,4 @@
--- The bytes that are written for each packet (section 3; this profile if section 3 leaves a choice).
+-- The bytes that are written for each packet (section 3; our choice where section 3 leaves one).
 use Rattle.std.specs.Prelude.{ℕ, ◌+◌, ◌<◌, ◌≤◌, List, [], ◌∷◌, ◌++◌, length, if◌then◌else◌}
 use Rattle.srt_seq.specs.Words.{word, words}
 use Rattle.srt_seq.specs.Window.{word_of}
@@ -12,7 +12,7 @@ abbrev pub word0_of : Body → ℕ
 word0_of (Media number message again payload) = word_of number
 word0_of (Handshake info) = 0x8000_0000
 word0_of KeepAlive = 0x8001_0000
-word0_of (FullAck number point round_trip variance available) = 0x8002_0000
+word0_of (FullAck number point round_trip variance available rates) = 0x8002_0000
 word0_of (LightAck point) = 0x8002_0000
 word0_of (Nak losses) = 0x8003_0000
 word0_of Shutdown = 0x8005_0000
@@ -25,19 +25,21 @@ abbrev pub word1_of : Body → ℕ
 word1_of (Media number message again payload) = (if again then 0xe400_0000 else 0xe000_0000) + message_of message
 word1_of (Handshake info) = 0
 word1_of KeepAlive = 0
-word1_of (FullAck number point round_trip variance available) = number
+word1_of (FullAck number point round_trip variance available rates) = number
 word1_of (LightAck point) = 0
 word1_of (Nak losses) = 0
 word1_of Shutdown = 0
 word1_of (AckAck number) = number
 word1_of (DropRequest message first last) = message_of message
 
--- what follows the header. The last three words of a Full ACK are 0 (section 3.2.4; the value 0 is this profile's)
+-- what follows the header. A Full ACK ends with the packets receiving rate, the link capacity and the receiving rate
+-- (section 3.2.4)
 abbrev pub rest_of : Body → List ℕ
 rest_of (Media number message again payload) = payload.bytes.now
 rest_of (Handshake info) = info.items
 rest_of KeepAlive = []
-rest_of (FullAck number point round_trip variance available) = words (word_of point ∷ round_trip ∷ variance ∷ available ∷ 0 ∷ 0 ∷ 0 ∷ [])
+rest_of (FullAck number point round_trip variance available rates) =
+    words (word_of point ∷ round_trip ∷ variance ∷ available ∷ rates.packets ∷ rates.capacity ∷ rates.bytes ∷ [])
 rest_of (LightAck point) = word (word_of point)
 rest_of (Nak losses) = words losses.items
 rest_of Shutdown = []

@@ -4,7 +4,8 @@ use Rattle.srt_packet.specs.declared.reading.Kind.{Kind}
 use Rattle.srt_packet.specs.declared.reading.Kind.TheVariants as kinds
 use Rattle.srt_packet.specs.declared.reading.PacketRef.{PacketRef}
 use Rattle.srt_packet.specs.declared.reading.PacketFault.{PacketFault}
-use Rattle.srt_packet.specs.Grammar.{Body, Data, Handshake, KeepAlive, Ack, Nak, CongestionWarning, Shutdown, AckAck, DropRequest, PeerError, UserDefined, Packet}
+use Rattle.srt_packet.specs.Grammar.{Body, Data, Handshake, KeepAlive, Ack, Nak, CongestionWarning, Shutdown, AckAck, DropRequest}
+use Rattle.srt_packet.specs.Grammar.{PeerError, UserDefined, Packet}
 
 abbrev pub body_of : Kind → Body
 body_of (kinds.Data number encryption payload) = Data number encryption payload.bytes.now

@@ -9,7 +9,7 @@ use srt_seq::write_at;
 
 // An array with a length of its own, so that writing a packet costs its bytes alone.
 #[derive(Drop)]
-struct Block {
+struct PacketArray {
     bytes: [u8; 1472],
 }
 
@@ -19,33 +19,34 @@ struct Block {
 #[derive(Drop)]
 pub struct EncodedPacket {
     len: usize,
-    block: Block,
+    array: PacketArray,
     pub ghost fits: { len ≤ 1472 },
-    pub ghost holds: { IsPacketOrNothing (take len block.bytes) },
+    pub ghost holds: { IsPacketOrNothing (take len array.bytes) },
 }
 
 impl EncodedPacket {
     ghost use Rattle.srt_packet.specs.Encoded.{bytes_of, IsPacketText};
 
-    /// No bytes. Takes no memory beyond the value itself, of fixed size.
+    /// No bytes. Doesn't allocate: the value itself has a fixed size.
     #[tactic(auto, unfolding(crate::specs::Held::is_packet_or_nothing))]
     pub fn new() -> EncodedPacket
         ensures { bytes_of result ≡ [] }
     {
         EncodedPacket {
             len: 0,
-            block: Block { bytes: [0; 1472] },
+            array: PacketArray { bytes: [0; 1472] },
         }
     }
 
-    /// Encodes a packet over what stood here. One copy of a payload; takes no memory.
+    /// Encodes a packet over what stood here. One copy of a payload; doesn't allocate.
     #[tactic(auto, unfolding(crate::specs::Held::is_packet_or_nothing))]
+    #[inline(always)]
     pub fn write(&mut self, packet: &Packet<'_>)
         requires { IsWritable packet.now.body }
         ensures written { bytes_of self.new ≡ text packet.now }
         ensures packet { IsPacketText (bytes_of self.new) }
     {
-        self.len = encode(packet, &mut self.block.bytes);
+        self.len = encode(packet, &mut self.array.bytes);
     }
 
     /// The bytes.
@@ -55,7 +56,7 @@ impl EncodedPacket {
         ensures fits { length result.now ≤ 1472 }
         ensures packet { IsPacketOrNothing result.now }
     {
-        &self.block.bytes[..self.len]
+        &self.array.bytes[..self.len]
     }
 
     /// Copies the bytes to the front of `out`, and returns their number. The rest of `out` doesn't change.

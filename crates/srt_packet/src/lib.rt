@@ -1,7 +1,7 @@
 //! SRT packets: read from borrowed bytes, and written to a buffer (draft-sharabayko-srt-01, section 3).
 //!
 //! It knows the form of a packet, and no session: it doesn't look into handshakes (`srt_hs`) or loss lists
-//! (`srt_loss`), and it reads sequence numbers as plain words. It takes no memory.
+//! (`srt_loss`), and it reads sequence numbers as plain words. It doesn't allocate.
 //!
 //! Reading, in `reading.rt`: [`decode`] takes the bytes of a datagram, [`decode_parts`] its first 16 bytes and the
 //! bytes after them. Both return a [`PacketRef`], whose [`Kind`] borrows the bytes, or the first [`PacketFault`].
@@ -21,7 +21,7 @@ mod writing;
 
 pub use encoded::EncodedPacket;
 pub use reading::{Kind, PacketFault, PacketRef, decode, decode_parts};
-pub use writing::{Body, Packet, encode};
+pub use writing::{Body, Packet, Rates, encode};
 
 #[cfg(test)]
 mod tests;

@@ -8,7 +8,7 @@ ghost use Rattle.srt_packet.specs.View.{body_read, packet_of, packet_read};
 use srt_seq::limits::{MAX_DATAGRAM, MAX_PAYLOAD};
 use srt_seq::{PayloadRef, read_word};
 
-/// Why bytes are no packet. If several apply, the first of this list is returned (this profile's order).
+/// Why bytes are no packet. If several apply, the first of this list is returned (the order is our choice).
 #[derive(Clone, Copy, Debug, PartialEq, Eq)]
 pub enum PacketFault {
     /// Fewer than 16 bytes: no whole header.

@@ -3,7 +3,7 @@
 ghost use Rattle.std.specs.Prelude.{◌≡◌};
 ghost use Rattle.srt_packet.specs.Text.{IsWritable};
 
-use crate::{Body, EncodedPacket, Kind, Packet, PacketFault, decode, decode_parts, encode};
+use crate::{Body, EncodedPacket, Kind, Packet, PacketFault, Rates, decode, decode_parts, encode};
 use arrayvec::ArrayVec;
 use srt_seq::{Msg26, PayloadRef, Seq31};
 use std::process::Abort;
@@ -16,8 +16,8 @@ fn number(word: u32) -> Result<Seq31, Fail> {
     }
 }
 
-/// Asserts that `encode` writes these bytes, and an `EncodedPacket` likewise, which is longer before; what it then holds
-/// is read as a packet.
+/// Asserts that `encode` writes these bytes, and an `EncodedPacket` likewise, which is longer before; what it then
+/// holds is read as a packet.
 fn assert_written(
     rt: &(impl AllocGlobal + Abort),
     packet: &Packet<'_>,
@@ -108,12 +108,17 @@ fn acknowledgements_are_written(rt: HostRuntime) -> Result<(), Fail> {
         round_trip: 100_000,
         variance: 50_000,
         available: 1023,
+        rates: Rates {
+            packets: 16_000,
+            capacity: 100_000,
+            bytes: 23_296_000,
+        },
     };
     assert_written(
         &rt,
         &to(10_000, 1, full),
         "80020000000000010000271000000001\
-        00000006000186a00000c350000003ff000000000000000000000000",
+        00000006000186a00000c350000003ff00003e80000186a001637800",
     )?;
     let light = Body::LightAck { point: number(64)? };
     assert_written(

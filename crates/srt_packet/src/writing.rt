@@ -9,6 +9,17 @@ ghost use Rattle.srt_packet.specs.Text.{text, word0_of, word1_of, rest_of, IsWri
 use arrayvec::ArrayVec;
 use srt_seq::{Msg26, PayloadRef, Seq31, write_at, write_words};
 
+/// What a Full ACK tells of the rates at which packets come (section 3.2.4).
+#[derive(Clone, Copy, Debug, PartialEq, Eq)]
+pub struct Rates {
+    /// The packets receiving rate, in packets per second.
+    pub packets: u32,
+    /// The estimated link capacity, in packets per second.
+    pub capacity: u32,
+    /// The receiving rate, in bytes per second.
+    pub bytes: u32,
+}
+
 /// The kind of a packet to be sent, and its content apart from timestamp and destination. It borrows a payload, so that
 /// making one copies no payload.
 #[derive(Drop)]
@@ -28,7 +39,7 @@ pub enum Body<'a> {
     Handshake(ArrayVec<u8, 84>),
     /// A keep-alive (section 3.2.3).
     KeepAlive,
-    /// A Full ACK (section 3.2.4): seven words, of which the last three (receiving rates and link capacity) are 0.
+    /// A Full ACK (section 3.2.4): seven words.
     FullAck {
         /// The acknowledgement number, which its ACKACK repeats. It should be 1 or more, since Light ACKs have 0.
         number: u32,
@@ -40,6 +51,8 @@ pub enum Body<'a> {
         variance: u32,
         /// The free space of the receiver's buffer, in packets.
         available: u32,
+        /// The last three words.
+        rates: Rates,
     },
     /// A Light ACK, of one word (section 3.2.4).
     LightAck {
@@ -69,7 +82,7 @@ pub enum Body<'a> {
     Shutdown,
 }
 
-/// A packet to be sent. It takes no memory.
+/// A packet to be sent. It doesn't allocate.
 #[derive(Drop)]
 pub struct Packet<'a> {
     /// The timestamp, in microseconds modulo 2^32.
@@ -80,6 +93,7 @@ pub struct Packet<'a> {
     pub body: Body<'a>,
 }
 
+#[inline(always)]
 fn first_words(body: &Body<'_>) -> (u32, u32)
     ensures first { result.0 ≡ word0_of body.now }
     ensures second { result.1 ≡ word1_of body.now }
@@ -107,6 +121,7 @@ fn first_words(body: &Body<'_>) -> (u32, u32)
 
 /// Writes what follows the header from the offset `at` on, and returns the offset of its end.
 #[tactic(auto, using(srt_seq::proofs::WordBytes::length_of_words))]
+#[inline(always)]
 fn write_rest(body: &Body<'_>, out: &mut [u8], at: usize) -> usize
     requires room { at + 1456 ≤ length out.old }
     ensures fits { length (rest_of body.now) ≤ 1456 }
@@ -123,10 +138,19 @@ fn write_rest(body: &Body<'_>, out: &mut [u8], at: usize) -> usize
             round_trip,
             variance,
             available,
+            rates,
         } => write_words(
             out,
             at,
-            &[point.get(), *round_trip, *variance, *available, 0, 0, 0],
+            &[
+                point.get(),
+                *round_trip,
+                *variance,
+                *available,
+                rates.packets,
+                rates.capacity,
+                rates.bytes,
+            ],
         ),
         Body::LightAck { point } => write_words(out, at, &[point.get()]),
         Body::Nak { losses } => write_words(out, at, losses.as_slice()),
@@ -140,7 +164,8 @@ fn write_rest(body: &Body<'_>, out: &mut [u8], at: usize) -> usize
 }
 
 /// Writes a packet to the front of the buffer, and returns its length in bytes: 16 to 1472. The rest of the buffer
-/// doesn't change. Linear in the length; it takes no memory. The subtype of a control packet is written as 0.
+/// doesn't change. Linear in the length; it doesn't allocate. The subtype of a control packet is written as 0.
+#[inline(always)]
 pub fn encode(packet: &Packet<'_>, out: &mut [u8; 1472]) -> usize
     requires { IsWritable packet.now.body }
     ensures within { result ≤ 1472 }

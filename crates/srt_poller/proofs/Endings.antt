@@ -9,17 +9,23 @@ use Rattle.srt_poller.specs.declared.report.Report.{Report}
 use Rattle.srt_poller.specs.Devices.{Heard, Carried}
 use Rattle.srt_poller.specs.History.{Sorting, State, Phase, Kept, IsOver, kept_after, at_first}
 use Rattle.srt_poller.specs.Reports.{nothing, counted, with_kept, total}
-use Rattle.srt_poller.specs.Rounds.{WentClosing, world}
-use Rattle.srt_poller.specs.Pollers.{kept_in, turn, world_of}
+use Rattle.srt_poller.specs.Rounds.{World, WentClosing, Went, world}
+use Rattle.srt_poller.specs.Pollers.{kept_in, round_state, world_of, Rounds}
 use Rattle.srt_poller.specs.Pumped.{Before, After, PumpedUnder, before, after}
+use Rattle.srt_poller.proofs.Steps.{went_then, went_more, went_as, rounds_more}
 use Rattle.srt_poller.proofs.Sums.{all_summed}
 use Rattle.srt_poller.proofs.Tallies.{tallied}
 use Rattle.srt_poller.proofs.Origins.{have_origins, kept_is}
 
-pub ended : {goes closes : Type 0} (class : Sorting) (schedules : List Schedule) (names names' : List RouteName) (source source' : Heard) (wire wire' : Carried) (ends ends' : List Ends) (latest : ℕ) (phase : Phase) (p : Poller) (made closing : ℕ) (report : Report) →
+pub ended : {goes closes : Type 0} (class : Sorting) (schedules : List Schedule) (names names' : List RouteName) (source source' : Heard)
+    (wire wire' : Carried) (ends ends' : List Ends) (latest : ℕ) (phase : Phase) (p : Poller) (made closing : ℕ) (report : Report)
+    →
     made ≤ 2 ^ 48 → IsOver phase → (closing ≡ made) ⊎ goes → (closing ≡ 0) ⊎ closes →
-    WentClosing class schedules closing (made * (259 + 64 * length ends)) made made (world source wire ends (at_first names) nothing) (world_of source' wire' ends' (turn names' made latest) phase p) →
-    report ≡ with_kept p.report (kept_in p) → PumpedUnder goes closes class schedules made (before names source wire ends) (after names' source' wire' ends' report)
+    WentClosing class schedules closing (made * (259 + 64 * length ends)) made made (world source wire ends (at_first names) nothing)
+    (world_of source' wire' ends' (round_state names' made latest) phase p)
+    →
+    report ≡ with_kept p.report (kept_in p)
+    → PumpedUnder goes closes class schedules made (before names source wire ends) (after names' source' wire' ends' report)
 ended {goes} {closes} class schedules names names' source source' wire wire' ends ends' latest phase p made closing report small over go close went is =
     let events = went.0 in
     let h = went.1 in
@@ -27,7 +33,8 @@ ended {goes} {closes} class schedules names names' source source' wire wire' end
     let kept : kept_in p ≡ kept_after None events = ap (λ (s : State). s.kept) h.state ∙ kept_is schedules first events in
     let report_is : report ≡ with_kept (counted nothing events) (kept_after None events) =
     is ∙ ap (λ (n : Report). with_kept n (kept_in p)) h.report ∙ ap (λ (k : Option Kept). with_kept (counted nothing events) k) kept in
-    let sums : length ends ≤ 511 → report ≡ total events (kept_after None events) = λ routes. report_is ∙ all_summed events (kept_after None events) made (length ends) small h.few routes in (
+    let sums : length ends ≤ 511 → report ≡ total events (kept_after None events) =
+    λ routes. report_is ∙ all_summed events (kept_after None events) made (length ends) small h.few routes in (
       events,
       record {
         follow = h.follow;
@@ -51,16 +58,37 @@ ended {goes} {closes} class schedules names names' source source' wire wire' end
     )
 
 -- the number of rounds under another name
-pub as_told : {goes closes : Type 0} {class : Sorting} {schedules : List Schedule} {made told : ℕ} {x : Before} {y : After} → made ≡ told → PumpedUnder goes closes class schedules made x y → PumpedUnder goes closes class schedules told x y
+pub as_told : {goes closes : Type 0} {class : Sorting} {schedules : List Schedule} {made told : ℕ} {x : Before} {y : After}
+    → made ≡ told → PumpedUnder goes closes class schedules made x y → PumpedUnder goes closes class schedules told x y
 as_told {goes} {closes} {class} {schedules} {made} {told} {x} {y} same h = subst (λ (n : ℕ). PumpedUnder goes closes class schedules n x y) same h
 
 -- one round more, which closes all or doesn't
-pub go_more : {goes : Type 0} (closing made : ℕ) (closes_all : Bool) → (closing ≡ made) ⊎ goes → (closes_all ≡ false → goes) → (closing + (if closes_all then 1 else 0) ≡ made + 1) ⊎ goes
+pub go_more : {goes : Type 0} (closing made : ℕ) (closes_all : Bool)
+    → (closing ≡ made) ⊎ goes → (closes_all ≡ false → goes) → (closing + (if closes_all then 1 else 0) ≡ made + 1) ⊎ goes
 go_more closing made true (inl e) g = inl (ap (λ n. n + 1) e)
 go_more closing made true (inr x) g = inr x
 go_more closing made false h g = inr (g refl)
 
-pub close_more : {closes : Type 0} (closing : ℕ) (closes_all : Bool) → (closing ≡ 0) ⊎ closes → (closes_all ≡ true → closes) → (closing + (if closes_all then 1 else 0) ≡ 0) ⊎ closes
+pub close_more : {closes : Type 0} (closing : ℕ) (closes_all : Bool)
+    → (closing ≡ 0) ⊎ closes → (closes_all ≡ true → closes) → (closing + (if closes_all then 1 else 0) ≡ 0) ⊎ closes
 close_more closing true h g = inr (g refl)
 close_more closing false (inl e) g = inl (omega (arith, e))
 close_more closing false (inr x) g = inr x
+
+-- one round more, which began and was made to its end
+pub rounds_next : {goes closes : Type 0} (class : Sorting) (schedules : List Schedule) (made routes many : ℕ) (closes_all : Bool)
+    (old now new : Phase → World) (begun : World)
+    → Rounds goes closes class schedules made routes old now
+    → ((phase : Phase) → IsOver phase → WentClosing class schedules (if closes_all then 1 else 0) 1 0 0 (now phase) begun)
+    → (next : Phase) × IsOver next × Went class schedules (258 + 64 * many) 1 1 begun (new next)
+    → many ≡ routes → (closes_all ≡ false → goes) → (closes_all ≡ true → closes) → Rounds goes closes class schedules (made + 1) routes old new
+rounds_next class schedules made routes many closes_all old now new begun sofar began rest same go close phase over =
+    let b = sofar phase over in (
+      rest.0,
+      rest.1,
+      b.2 + (if closes_all then 1 else 0),
+      go_more b.2 made closes_all b.3 go,
+      close_more b.2 closes_all b.4 close,
+      went_more (let fits = rounds_more made routes many same in omega (arith, fits)) (omega arith)
+          (went_as (omega arith) (went_then b.5 (went_then (began b.0 b.1) rest.2))),
+    )

@@ -1,7 +1,14 @@
+pub mod Joined
 pub mod Steps
 pub mod Origins
 pub mod Sums
 pub mod Tallies
 pub mod Endings
 pub mod Scripted
-pub mod Openings
+pub mod ShownInRound
+pub mod Beforehand
+pub mod Extending
+pub mod Replanning
+pub mod Beginning
+pub mod Coming
+pub mod Remaking

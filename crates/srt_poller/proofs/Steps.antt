@@ -1,8 +1,9 @@
 -- One event, and one after the other.
-use Rattle.std.proofs.Common.{◌≡◌, ◌≢◌, ◌⊎◌, inl, inr, ℕ, zero, suc, ◌+◌, ◌*◌, ◌<◌, ◌≤◌, ◌==◌, Bool, true, false, Option, None, Some, List, [], ◌∷◌, ◌++◌, length, map, slice_index_or, slice_set, refl, sym, ap, ◌∙◌, subst, append_assoc, append-nil, arith, add-mul}
+use Rattle.std.proofs.Common.{◌≡◌, ◌≢◌, ◌⊎◌, inl, inr, ℕ, zero, suc, ◌+◌, ◌*◌, ◌<◌, ◌≤◌, ◌==◌, Bool, true, false, Option, List}
+use Rattle.std.proofs.Common.{[], ◌∷◌, ◌++◌, length, map, slice_index_or, slice_set, refl, sym, ap, ◌∙◌, subst, append_assoc, append-nil}
+use Rattle.std.proofs.Common.{arith, add-mul}
 use Rattle.std.specs.Prelude.{if◌then◌else◌}
 use Rattle.srt_seq.specs.declared.shared.Schedule.{Schedule}
-use Rattle.std.specs.Option.{is_some}
 use Rattle.std.proofs.lemmas.Grind.{flat_map-append, fold-append}
 use Rattle.std.proofs.lemmas.List.Sums.{sum_by-append}
 use Rattle.std.proofs.lemmas.Bool.Decides.{nat_tests}
@@ -15,19 +16,16 @@ use Rattle.srt_poller.specs.declared.devices.Sent.{Sent}
 use Rattle.srt_poller.specs.declared.ends.Ends.{Ends}
 use Rattle.srt_poller.specs.declared.devices.Sent.TheVariants.{Taken, Later, Failed}
 use Rattle.srt_poller.specs.Devices.{Arrival, Heard, heard, Carried, Call, heard_more, handed_by_send, joined}
-use Rattle.srt_poller.specs.Pollers.{Turn, IsUpTo, Replies, ClosedAs}
+use Rattle.srt_poller.specs.Pollers.{RoundState, IsUpTo, Replies, ClosedAs}
 use Rattle.srt_poller.specs.Schedules.{CloseOffer, offered}
-use Rattle.srt_poller.specs.History.{Sorting, Event, State, Fits, Follow, state_by, state_after, Begins, closing_by, closings, given_by, given, calls_by, calls, attempts_by, attempts, Phase, Reading, Sending, reading, sent_on, IsOver, MaySend, Handed, handed_by, handed, datagrams, accepted_by, accepted, drained_by, drained, at_route, closes_all_by, waits_by, ready_by, reads_by, Waits, WaitFails, ReadsNothing, ReadFails, Answers, Accepts, Overflows, Refuses, Drops, Sends, Resends}
+use Rattle.srt_poller.specs.History.{Sorting, Event, State, Fits, Follow, state_by, state_after, Begins, closing_by, closings, given_by}
+use Rattle.srt_poller.specs.History.{given, calls_by, calls, attempts_by, attempts, Phase, Reading, Sending, reading, sent_on, IsOver}
+use Rattle.srt_poller.specs.History.{MaySend, Handed, handed_by, handed, datagrams, accepted_by, accepted, drained_by, drained, at_route}
+use Rattle.srt_poller.specs.History.{closes_all_by, waits_by, ready_by, reads_by, Waits, WaitFails, ReadsNothing, ReadFails, Answers}
+use Rattle.srt_poller.specs.History.{Accepts, Overflows, Refuses, Drops, Sends, Resends}
 use Rattle.srt_poller.specs.Reports.{counted_by, counted}
 use Rattle.srt_poller.specs.Rounds.{World, IsLater, AreLater, Happened, WentClosing, Went}
-
-pub joined_none : {A : Type 0} (o : Option (List A)) → joined o [] ≡ o
-joined_none None = refl
-joined_none (Some xs) = ap Some (append-nil xs)
-
-pub joined_twice : {A : Type 0} (o : Option (List A)) (xs ys : List A) → joined (joined o xs) ys ≡ joined o (xs ++ ys)
-joined_twice None xs ys = refl
-joined_twice (Some zs) xs ys = ap Some (append_assoc zs xs ys)
+use Rattle.srt_poller.proofs.Joined.{joined_none, joined_twice}
 
 -- ends
 pub later_none : (e : Ends) → IsLater [] [] e e
@@ -47,6 +45,7 @@ pub are_later_none : (events : List Event) (es : List Ends) → ((r : ℕ) → a
 are_later_none events es a d = record {
   as_many = refl;
   each = λ r e below. rw (a r, d r) (later_none (slice_index_or es r e));
+  others = λ r past. (a r, d r);
 }
 
 pub are_later_then : (us vs : List Event) (x y z : List Ends) → AreLater us x y → AreLater vs y z → AreLater (us ++ vs) x z
@@ -54,18 +53,29 @@ are_later_then us vs x y z h k = record {
   as_many = k.as_many ∙ h.as_many;
   each = λ r e below.
       let there : r < length y = omega (arith, h.as_many) in
-      rw (flat_map-append (accepted_by r) us vs, flat_map-append (drained_by r) us vs) (later_then (accepted r us) (accepted r vs) (drained r us) (drained r vs) _ _ _ (h.each r e below) (k.each r e there));
+      rw (flat_map-append (accepted_by r) us vs, flat_map-append (drained_by r) us vs)
+      (later_then (accepted r us) (accepted r vs) (drained r us) (drained r vs) _ _ _ (h.each r e below) (k.each r e there));
+  others = λ r past.
+      let beyond : length y ≤ r = omega (arith, h.as_many, past) in (
+        flat_map-append (accepted_by r) us vs ∙ ap (λ xs. xs ++ accepted r vs) (h.others r past).0 ∙ (k.others r beyond).0,
+        flat_map-append (drained_by r) us vs ∙ ap (λ xs. xs ++ drained r vs) (h.others r past).1 ∙ (k.others r beyond).1,
+      );
 }
 
 -- no event, one event, and events after others
-pub happened_then : {class : Sorting} {schedules : List Schedule} {b c m n w v r s : ℕ} (us vs : List Event) (x y z : World) → Happened class schedules b m w r us x y → Happened class schedules c n v s vs y z → Happened class schedules (b + c) (m + n) (w + v) (r + s) (us ++ vs) x z
+pub happened_then : {class : Sorting} {schedules : List Schedule} {b c m n w v r s : ℕ} (us vs : List Event) (x y z : World)
+    → Happened class schedules b m w r us x y → Happened class schedules c n v s vs y z
+    → Happened class schedules (b + c) (m + n) (w + v) (r + s) (us ++ vs) x z
 happened_then {class} {schedules} {b} {c} {m} {n} {w} {v} {r} {s} us vs x y z h k = record {
   follow = follow_then x.state us (subst (λ (o : State). Follow class schedules o vs) h.state k.follow) h.follow;
-  gave = k.gave ∙ ap (λ o. joined o (given vs)) h.gave ∙ joined_twice x.source.gave (given us) (given vs) ∙ ap (joined x.source.gave) (sym (flat_map-append given_by us vs));
-  called = k.called ∙ ap (λ o. joined o (calls vs)) h.called ∙ joined_twice x.source.calls (calls us) (calls vs) ∙ ap (joined x.source.calls) (sym (flat_map-append calls_by us vs));
+  gave = k.gave ∙ ap (λ o. joined o (given vs)) h.gave ∙ joined_twice x.source.gave (given us) (given vs)
+      ∙ ap (joined x.source.gave) (sym (flat_map-append given_by us vs));
+  called = k.called ∙ ap (λ o. joined o (calls vs)) h.called ∙ joined_twice x.source.calls (calls us) (calls vs)
+      ∙ ap (joined x.source.calls) (sym (flat_map-append calls_by us vs));
   handed = k.handed ∙ ap (λ o. joined o (datagrams (handed vs))) h.handed ∙ joined_twice x.wire.handed (datagrams (handed us)) (datagrams (handed vs))
       ∙ ap (joined x.wire.handed) (sym (ap datagrams (flat_map-append handed_by us vs) ∙ map-append (λ (d : Handed). d.datagram) (handed us) (handed vs)));
-  attempted = k.attempted ∙ ap (λ o. joined o (attempts vs)) h.attempted ∙ joined_twice x.wire.attempts (attempts us) (attempts vs) ∙ ap (joined x.wire.attempts) (sym (flat_map-append attempts_by us vs));
+  attempted = k.attempted ∙ ap (λ o. joined o (attempts vs)) h.attempted ∙ joined_twice x.wire.attempts (attempts us) (attempts vs)
+      ∙ ap (joined x.wire.attempts) (sym (flat_map-append attempts_by us vs));
   ends = are_later_then us vs x.ends y.ends z.ends h.ends k.ends;
   state = k.state ∙ ap (λ o. state_after schedules o vs) h.state ∙ sym (fold-append (state_by schedules) x.state us vs);
   report = k.report ∙ ap (λ c. counted c vs) h.report ∙ sym (fold-append counted_by x.report us vs);
@@ -75,7 +85,8 @@ happened_then {class} {schedules} {b} {c} {m} {n} {w} {v} {r} {s} us vs x y z h 
   was_read = let a = h.was_read in let b = k.was_read in omega (arith, sum_by-append ready_by us vs, sum_by-append reads_by us vs);
 }
   where
-    follow_then : (o : State) (es : List Event) → Follow class schedules (state_after schedules o es) vs → Follow class schedules o es → Follow class schedules o (es ++ vs)
+    follow_then : (o : State) (es : List Event)
+        → Follow class schedules (state_after schedules o es) vs → Follow class schedules o es → Follow class schedules o (es ++ vs)
     follow_then o [] f g = f
     follow_then o (e ∷ es) f g = (g.0, follow_then (state_by schedules o e) es f g.1)
 
@@ -98,10 +109,13 @@ went_none class schedules most x = (
   },
 )
 
-pub went_then : {class : Sorting} {schedules : List Schedule} {b c m n w v r s : ℕ} {x y z : World} → WentClosing class schedules b m w r x y → WentClosing class schedules c n v s y z → WentClosing class schedules (b + c) (m + n) (w + v) (r + s) x z
+pub went_then : {class : Sorting} {schedules : List Schedule} {b c m n w v r s : ℕ} {x y z : World}
+    → WentClosing class schedules b m w r x y → WentClosing class schedules c n v s y z
+    → WentClosing class schedules (b + c) (m + n) (w + v) (r + s) x z
 went_then {class} {schedules} {b} {c} {m} {n} {w} {v} {r} {s} {x} {y} {z} h k = (h.0 ++ k.0, happened_then h.0 k.0 x y z h.1 k.1)
 
-pub went_more : {class : Sorting} {schedules : List Schedule} {b m n w r s : ℕ} {x y : World} → m ≤ n → s ≤ r → WentClosing class schedules b m w r x y → WentClosing class schedules b n w s x y
+pub went_more : {class : Sorting} {schedules : List Schedule} {b m n w r s : ℕ} {x y : World}
+    → m ≤ n → s ≤ r → WentClosing class schedules b m w r x y → WentClosing class schedules b n w s x y
 went_more le less h = (
   h.0,
   record {
@@ -121,7 +135,8 @@ went_more le less h = (
 )
 
 -- the number of rounds that close all, said otherwise
-pub went_as : {class : Sorting} {schedules : List Schedule} {b c m w r : ℕ} {x y : World} → b ≡ c → WentClosing class schedules b m w r x y → WentClosing class schedules c m w r x y
+pub went_as : {class : Sorting} {schedules : List Schedule} {b c m w r : ℕ} {x y : World}
+    → b ≡ c → WentClosing class schedules b m w r x y → WentClosing class schedules c m w r x y
 went_as {class} {schedules} {b} {c} {m} {w} {r} {x} {y} same h = subst (λ (n : ℕ). WentClosing class schedules n m w r x y) same h
 
 -- what one event makes of the records of the devices
@@ -131,8 +146,11 @@ pub record HasRecorded (event : Event) (source source' : Heard) (wire wire' : Ca
   pub handed : wire'.handed ≡ joined wire.handed (datagrams (handed_by event))
   pub attempted : wire'.attempts ≡ joined wire.attempts (attempts_by event)
 
-pub went_once : (class : Sorting) (schedules : List Schedule) (event : Event) (w r : ℕ) (x y : World) → waits_by event ≡ w → ready_by event + r ≤ reads_by event + w →
-    Fits class schedules x.state event → HasRecorded event x.source y.source x.wire y.wire → AreLater (event ∷ []) x.ends y.ends → y.state ≡ state_by schedules x.state event → y.report ≡ counted_by x.report event → WentClosing class schedules (closes_all_by event) 1 w r x y
+pub went_once : (class : Sorting) (schedules : List Schedule) (event : Event) (w r : ℕ) (x y : World)
+    → waits_by event ≡ w → ready_by event + r ≤ reads_by event + w →
+    Fits class schedules x.state event → HasRecorded event x.source y.source x.wire y.wire → AreLater (event ∷ []) x.ends y.ends
+    → y.state ≡ state_by schedules x.state event → y.report ≡ counted_by x.report event
+    → WentClosing class schedules (closes_all_by event) 1 w r x y
 went_once class schedules event w r x y waits reads fits recorded ends state report = (
   event ∷ [],
   record {
@@ -151,8 +169,12 @@ went_once class schedules event w r x y waits reads fits recorded ends state rep
   },
 )
 
-pub went_one : (class : Sorting) (schedules : List Schedule) (event : Event) (x y : World) → Fits class schedules x.state event → HasRecorded event x.source y.source x.wire y.wire → AreLater (event ∷ []) x.ends y.ends → y.state ≡ state_by schedules x.state event → y.report ≡ counted_by x.report event → WentClosing class schedules (closes_all_by event) 1 (waits_by event) (reads_by event) x y
-went_one class schedules event x y fits recorded ends state report = went_once class schedules event (waits_by event) (reads_by event) x y refl (owed event) fits recorded ends state report
+pub went_one : (class : Sorting) (schedules : List Schedule) (event : Event) (x y : World) → Fits class schedules x.state event
+    → HasRecorded event x.source y.source x.wire y.wire → AreLater (event ∷ []) x.ends y.ends → y.state ≡ state_by schedules x.state event
+    → y.report ≡ counted_by x.report event
+    → WentClosing class schedules (closes_all_by event) 1 (waits_by event) (reads_by event) x y
+went_one class schedules event x y fits recorded ends state report =
+    went_once class schedules event (waits_by event) (reads_by event) x y refl (owed event) fits recorded ends state report
   where
     owed : (e : Event) → ready_by e + reads_by e ≤ reads_by e + waits_by e
     owed (Begins b m os) = omega arith
@@ -169,7 +191,9 @@ went_one class schedules event x y fits recorded ends state report = went_once c
     owed (Resends r d s) = omega arith
 
 -- nothing was recorded by the source, or by the wire
-pub unheard : (event : Event) (source : Heard) (wire wire' : Carried) → given_by event ≡ [] → calls_by event ≡ [] → wire'.handed ≡ joined wire.handed (datagrams (handed_by event)) → wire'.attempts ≡ joined wire.attempts (attempts_by event) → HasRecorded event source source wire wire'
+pub unheard : (event : Event) (source : Heard) (wire wire' : Carried) → given_by event ≡ [] → calls_by event ≡ []
+    → wire'.handed ≡ joined wire.handed (datagrams (handed_by event)) → wire'.attempts ≡ joined wire.attempts (attempts_by event)
+    → HasRecorded event source source wire wire'
 unheard event source wire wire' gave calls handed attempted = record {
   gave = sym (joined_none source.gave) ∙ ap (joined source.gave) (sym gave);
   called = sym (joined_none source.calls) ∙ ap (joined source.calls) (sym calls);
@@ -177,7 +201,9 @@ unheard event source wire wire' gave calls handed attempted = record {
   attempted = attempted;
 }
 
-pub unsent : (event : Event) (source source' : Heard) (wire : Carried) → handed_by event ≡ [] → attempts_by event ≡ [] → source'.gave ≡ joined source.gave (given_by event) → source'.calls ≡ joined source.calls (calls_by event) → HasRecorded event source source' wire wire
+pub unsent : (event : Event) (source source' : Heard) (wire : Carried) → handed_by event ≡ [] → attempts_by event ≡ []
+    → source'.gave ≡ joined source.gave (given_by event) → source'.calls ≡ joined source.calls (calls_by event)
+    → HasRecorded event source source' wire wire
 unsent event source source' wire handed attempted gave called = record {
   gave = gave;
   called = called;
@@ -185,7 +211,8 @@ unsent event source source' wire handed attempted gave called = record {
   attempted = sym (joined_none wire.attempts) ∙ ap (joined wire.attempts) (sym attempted);
 }
 
-pub heard_as : (h : Heard) (arrivals : List Arrival) (call : Call) (gave : Option (List Arrival)) (calls : Option (List Call)) → gave ≡ joined h.gave arrivals → calls ≡ joined h.calls (call ∷ []) → heard_more h arrivals call ≡ heard gave calls
+pub heard_as : (h : Heard) (arrivals : List Arrival) (call : Call) (gave : Option (List Arrival)) (calls : Option (List Call))
+    → gave ≡ joined h.gave arrivals → calls ≡ joined h.calls (call ∷ []) → heard_more h arrivals call ≡ heard gave calls
 heard_as h arrivals call gave calls e k = ap (λ (g : Option (List Arrival)). heard g (joined h.calls (call ∷ []))) (sym e) ∙ ap (heard gave) (sym k)
 
 -- phases
@@ -226,18 +253,20 @@ up_to_sent {r} {n} up = (r, (if up.0 == r then up.1 + 1 else 1), ap (sent_on r) 
     by_test false e k = omega arith
 
 -- replies after others
-pub replies_then : {a b c d e f m n : ℕ} {x y z : Turn → Phase → Heard → World} → Replies a b c d m x y → Replies c d e f n y z → Replies a b e f (m + n) x z
+pub replies_then : {a b c d e f m n : ℕ} {x y z : RoundState → Phase → Heard → World}
+    → Replies a b c d m x y → Replies c d e f n y z → Replies a b e f (m + n) x z
 replies_then h k class schedules t phase source up =
     let first = h class schedules t phase source up in
     let second = k class schedules t first.0 source first.1 in
     (second.0, second.1, went_then first.2 second.2)
 
-pub replies_more : {a b c d e f m n : ℕ} {x y : Turn → Phase → Heard → World} → c ≤ e → (c ≡ e → d ≤ f) → m ≤ n → Replies a b c d m x y → Replies a b e f n x y
+pub replies_more : {a b c d e f m n : ℕ} {x y : RoundState → Phase → Heard → World}
+    → c ≤ e → (c ≡ e → d ≤ f) → m ≤ n → Replies a b c d m x y → Replies a b e f n x y
 replies_more le more few h class schedules t phase source up =
     let done = h class schedules t phase source up in
     (done.0, up_to_more le more done.1, went_more few (omega arith) done.2)
 
-pub replies_from : {a b c d e f m : ℕ} {x y : Turn → Phase → Heard → World} → a ≤ c → (a ≡ c → b ≤ d) → Replies c d e f m x y → Replies a b e f m x y
+pub replies_from : {a b c d e f m : ℕ} {x y : RoundState → Phase → Heard → World} → a ≤ c → (a ≡ c → b ≤ d) → Replies c d e f m x y → Replies a b e f m x y
 replies_from le more h class schedules t phase source up = h class schedules t phase source (up_to_more le more up)
 
 -- if one element of a list of ends changed
@@ -247,21 +276,31 @@ pub one_changed : (event : Event) (k : ℕ) (es : List Ends) (d z : Ends) → k 
 one_changed event k es d z below a b h = record {
   as_many = length-set es k z;
   each = λ r e there. by_place r e there (r == k) refl;
+  others = λ r past. let other : r ≢ k = λ same. apart r same past in (a r other, b r other);
 }
   where
     neq : (r : ℕ) → r ≡ k → (r == k) ≡ false → ⊥
     neq r same is = grind (arith, nat_tests)
+
+    apart : (r : ℕ) → r ≡ k → length es ≤ r → ⊥
+    apart r same past = omega (arith, same, past, below)
 
     same_default : (xs : List Ends) (r : ℕ) (p q : Ends) → r < length xs → slice_index_or xs r p ≡ slice_index_or xs r q
     same_default [] r p q lt = absurd (omega arith)
     same_default (x ∷ xs) zero p q lt = refl
     same_default (x ∷ xs) (suc r) p q lt = same_default xs r p q (omega arith)
 
-    by_place : (r : ℕ) (e : Ends) → r < length es → (b : Bool) → (r == k) ≡ b → IsLater (accepted r (event ∷ [])) (drained r (event ∷ [])) (slice_index_or es r e) (slice_index_or (slice_set es k z) r e)
+    by_place : (r : ℕ) (e : Ends) → r < length es → (b : Bool) → (r == k) ≡ b
+        → IsLater (accepted r (event ∷ [])) (drained r (event ∷ [])) (slice_index_or es r e) (slice_index_or (slice_set es k z) r e)
     by_place r e there true is =
         let same : r ≡ k = grind (arith, nat_tests) in
-        let here : IsLater (accepted k (event ∷ [])) (drained k (event ∷ [])) (slice_index_or es k e) (slice_index_or (slice_set es k z) k e) = rw (get_or-set_same es k z e below, same_default es k e d below) h in
-        subst (λ (n : ℕ). IsLater (accepted n (event ∷ [])) (drained n (event ∷ [])) (slice_index_or es n e) (slice_index_or (slice_set es k z) n e)) (sym same) here
+        let here : IsLater (accepted k (event ∷ [])) (drained k (event ∷ [])) (slice_index_or es k e)
+        (slice_index_or (slice_set es k z) k e) =
+        rw (get_or-set_same es k z e below, same_default es k e d below) h in
+        subst
+        (λ (n : ℕ).
+        IsLater (accepted n (event ∷ [])) (drained n (event ∷ [])) (slice_index_or es n e) (slice_index_or (slice_set es k z) n e))
+        (sym same) here
     by_place r e there false is =
         let other : r ≢ k = λ same. neq r same is in
         rw (a r other, b r other, get_or-set_other es k r z e other) (later_none (slice_index_or es r e))
@@ -287,24 +326,31 @@ accepted_here a k es d z below h =
     one_changed (Accepts a k) k es d z below (λ r other. append-nil _ ∙ at_other k r _ other) (λ r other. refl) (rw own h)
 
 -- events that give the inboxes and take from the outboxes the same
-pub are_later_as : (us vs : List Event) (x y : List Ends) → ((r : ℕ) → accepted r us ≡ accepted r vs) → ((r : ℕ) → drained r us ≡ drained r vs) → AreLater us x y → AreLater vs x y
+pub are_later_as : (us vs : List Event) (x y : List Ends)
+    → ((r : ℕ) → accepted r us ≡ accepted r vs) → ((r : ℕ) → drained r us ≡ drained r vs) → AreLater us x y → AreLater vs x y
 are_later_as us vs x y a d h = record {
   as_many = h.as_many;
   each = λ r e below. rw (sym (a r), sym (d r)) (h.each r e below);
+  others = λ r past. (sym (a r) ∙ (h.others r past).0, sym (d r) ∙ (h.others r past).1);
 }
 
 -- one offer after others
-pub closings_then : (b : Bool) (moment : ℕ) (us : List CloseOffer) (o : CloseOffer) (x y z : List Ends) → AreLater (Begins b moment us ∷ []) x y → AreLater (Begins false moment (o ∷ []) ∷ []) y z → AreLater (Begins b moment (us ++ o ∷ []) ∷ []) x z
+pub closings_then : (b : Bool) (moment : ℕ) (us : List CloseOffer) (o : CloseOffer) (x y z : List Ends)
+    → AreLater (Begins b moment us ∷ []) x y → AreLater (Begins false moment (o ∷ []) ∷ []) y z
+    → AreLater (Begins b moment (us ++ o ∷ []) ∷ []) x z
 closings_then b moment us o x y z h k =
     are_later_as (Begins b moment us ∷ Begins false moment (o ∷ []) ∷ []) (Begins b moment (us ++ o ∷ []) ∷ []) x z
-    (λ r. ap (λ (items : List Item). closings moment r us ++ items) (append-nil (closings moment r (o ∷ []))) ∙ sym (flat_map-append (closing_by moment r) us (o ∷ [])) ∙ sym (append-nil (closings moment r (us ++ o ∷ []))))
+    (λ r. ap (λ (items : List Item). closings moment r us ++ items) (append-nil (closings moment r (o ∷ [])))
+    ∙ sym (flat_map-append (closing_by moment r) us (o ∷ [])) ∙ sym (append-nil (closings moment r (us ++ o ∷ []))))
     (λ r. refl) (are_later_then (Begins b moment us ∷ []) (Begins false moment (o ∷ []) ∷ []) x y z h k)
 
 pub closed_here : (moment k : ℕ) (es : List Ends) (d z : Ends) → k < length es →
-    ClosedAs true moment (slice_index_or es k d).ingress z.ingress → z.drain ≡ (slice_index_or es k d).drain → AreLater (Begins false moment (offered k true ∷ []) ∷ []) es (slice_set es k z)
+    ClosedAs true moment (slice_index_or es k d).ingress z.ingress
+    → z.drain ≡ (slice_index_or es k d).drain → AreLater (Begins false moment (offered k true ∷ []) ∷ []) es (slice_set es k z)
 closed_here moment k es d z below h drain =
     let own : accepted k (Begins false moment (offered k true ∷ []) ∷ []) ≡ Close moment ∷ [] = append-nil _ ∙ append-nil _ ∙ at_own k _ in
-    one_changed (Begins false moment (offered k true ∷ [])) k es d z below (λ r other. append-nil _ ∙ append-nil _ ∙ at_other k r _ other) (λ r other. refl) (rw own (record {
+    one_changed (Begins false moment (offered k true ∷ [])) k es d z below (λ r other. append-nil _ ∙ append-nil _ ∙ at_other k r _ other)
+    (λ r other. refl) (rw own (record {
       inbox = h.0;
       inbox_capacity = h.1;
       offered = h.2;
@@ -333,7 +379,10 @@ nothing_here event k es d z below a b ingress drain =
     }))
 
 pub accepted_now : (a : Arrival) (x y : Ends) →
-    (y.ingress.queue ≡ x.ingress.queue) × (y.ingress.capacity ≡ x.ingress.capacity) × (map told y.ingress.offered ≡ map told x.ingress.offered ++ Received a.datagram a.moment ∷ []) → y.drain ≡ x.drain → IsLater (Received a.datagram a.moment ∷ []) [] x y
+    (y.ingress.queue ≡ x.ingress.queue) × (y.ingress.capacity ≡ x.ingress.capacity) ×
+    (map told y.ingress.offered ≡ map told x.ingress.offered ++ Received a.datagram a.moment ∷ [])
+    → y.drain ≡ x.drain
+    → IsLater (Received a.datagram a.moment ∷ []) [] x y
 accepted_now a x y h drain = record {
   inbox = h.0;
   inbox_capacity = h.1;
@@ -349,7 +398,8 @@ sent_as Taken h = refl
 sent_as Later h = refl
 sent_as Failed h = refl
 
-pub drained_now : (reply : Datagram) (hand : Reply) (x : Ends) (z : Drained) → z ≡ drained_to x.drain.queue x.drain.capacity (x.drain.through ++ hand ∷ []) hand → written hand ≡ reply →
+pub drained_now : (reply : Datagram) (hand : Reply) (x : Ends) (z : Drained)
+    → z ≡ drained_to x.drain.queue x.drain.capacity (x.drain.through ++ hand ∷ []) hand → written hand ≡ reply →
     IsLater [] (reply ∷ []) x (record { ingress = x.ingress; drain = z })
 drained_now reply hand x z h is = record {
   inbox = refl;
@@ -360,13 +410,9 @@ drained_now reply hand x z h is = record {
   through = ap (λ (d : Drained). map written d.through) h ∙ map-append written x.drain.through (hand ∷ []) ∙ ap (λ d. map written x.drain.through ++ d ∷ []) is;
 }
 
-pub unchanged_here : (es : List Ends) (k : ℕ) (d : Ends) (z : Drained) → z ≡ (slice_index_or es k d).drain → slice_set es k (record { ingress = (slice_index_or es k d).ingress; drain = z }) ≡ es
+pub unchanged_here : (es : List Ends) (k : ℕ) (d : Ends) (z : Drained)
+    → z ≡ (slice_index_or es k d).drain → slice_set es k (record { ingress = (slice_index_or es k d).ingress; drain = z }) ≡ es
 unchanged_here es k d z h = ap (λ (y : Drained). slice_set es k (record { ingress = (slice_index_or es k d).ingress; drain = y })) h ∙ set-get_or es k d
 
 pub rounds_more : (k a b : ℕ) → b ≡ a → k * (259 + 64 * a) + (259 + 64 * b) ≤ (k + 1) * (259 + 64 * a)
 rounds_more k a b e = rw (e, add-mul k 1 (259 + 64 * a)) (omega arith)
-
--- what isn't some is none
-pub none_is : {A : Type 0} (o : Option A) → is_some o ≡ false → o ≡ None
-none_is None e = refl
-none_is (Some x) e = absurd (let bad : true ≡ false = e in cc)

@@ -5,7 +5,9 @@ use Rattle.srt_lobby.specs.Names.{RouteName}
 use Rattle.srt_poller.specs.declared.ends.Ends.{Ends}
 use Rattle.srt_poller.specs.declared.report.Report.{Report}
 use Rattle.srt_poller.specs.Devices.{Heard, Carried, joined}
-use Rattle.srt_poller.specs.History.{Sorting, Event, Follow, at_first, state_after, IsOver, kept_after, kept_of, given, calls, handed, datagrams, attempts, of_lobby, of_route, answered, drained, closes_all_in, waits_in, ready_in, reads_in}
+use Rattle.srt_poller.specs.History.{Sorting, Event, Follow, at_first, state_after, IsOver, kept_after, kept_of, given, calls, handed}
+use Rattle.srt_poller.specs.History.{datagrams, attempts, of_lobby, of_route, answered, drained, closes_all_in, waits_in, ready_in}
+use Rattle.srt_poller.specs.History.{reads_in}
 use Rattle.srt_poller.specs.Reports.{nothing, counted, with_kept, total}
 use Rattle.srt_poller.specs.Tallies.{TalliesWith}
 use Rattle.srt_poller.specs.Rounds.{AreLater}
@@ -40,11 +42,13 @@ after names source wire ends report = record { names = names; source = source; w
 -- These events happened, the oldest first, in whole rounds (`Fits`): each round began once and showed and hid routes as its schedule says, waited
 -- once and read, and what happened to each datagram is what its class says, with the names then in force; `names` are those after the last round.
 -- The source gave the datagrams of the events, and its calls, with its answers, are just theirs. The wire was handed the datagrams of the
--- events, and its sends, with their outcomes, are just theirs. Each route's inbox accepted the items, and each outbox gave the replies, of the events. The report
+-- events, and its sends, with their outcomes, are just theirs. Each route's inbox accepted the items, and each outbox gave the replies, of
+-- the events. The report
 -- counts the events; with at most 511 routes no count reaches its limit, and then it has the numbers of the devices' records. The source waited once in each
 -- round, and was read at least as often as it waited without a failure. A round that closes all began only if `closes` is known, and another one
 -- only if `goes` is
-pub record PumpedBy (goes closes : Type 0) (class : Sorting) (schedules : List Schedule) (rounds : ℕ) (before : Before) (after : After) (events : List Event) : Type 0 where
+pub record PumpedBy (goes closes : Type 0) (class : Sorting) (schedules : List Schedule) (rounds : ℕ) (before : Before) (after : After)
+    (events : List Event) : Type 0 where
   pub follow : Follow class schedules (at_first before.names) events
   pub names : after.names ≡ (state_after schedules (at_first before.names) events).names
   pub over : IsOver (state_after schedules (at_first before.names) events).phase

@@ -1,17 +1,34 @@
 -- The counts of a report.
-use Rattle.std.specs.Prelude.{ℕ, ◌+◌, ◌-◌, ◌^◌, min, Option, None, Some, List, [], ◌∷◌}
+use Rattle.std.specs.Prelude.{ℕ, ◌+◌, ◌-◌, ◌^◌, min, Bool, true, false, Option, None, Some, List, [], ◌∷◌}
 use Rattle.std.specs.List.{fold}
+use Rattle.srt_lobby.specs.declared.classes.Cause.{Cause}
+use Rattle.srt_lobby.specs.declared.classes.Cause.TheVariants as causes
 use Rattle.srt_poller.specs.declared.devices.Sent.{Sent}
 use Rattle.srt_poller.specs.declared.devices.Sent.TheVariants.{Taken, Later, Failed}
 use Rattle.srt_poller.specs.declared.report.Report.{Report}
-use Rattle.srt_poller.specs.History.{Event, Begins, Waits, WaitFails, ReadsNothing, ReadFails, Answers, Accepts, Overflows, Refuses, Drops, Sends, Resends, Kept}
+use Rattle.srt_poller.specs.History.{Event, Begins, Waits, WaitFails, ReadsNothing, ReadFails, Answers, Accepts, Overflows, Refuses, Drops}
+use Rattle.srt_poller.specs.History.{Sends, Resends, Kept}
 
 -- one more, or 2^64 - 1 if that is the count already
 abbrev pub one_more : ℕ → ℕ
 one_more n = min (n + 1) (2 ^ 64 - 1)
 
 abbrev pub nothing : Report
-nothing = record { read = 0; answered = 0; accepted = 0; full = 0; dropped = 0; memory = 0; sent = 0; lost = 0; faults = 0 }
+nothing = record { read = 0; answered = 0; accepted = 0; full = 0; dropped = 0; not_allowed = 0; memory = 0; sent = 0; lost = 0; faults = 0 }
+
+-- whether a datagram is dropped since none of its route's lists has the sender's address
+abbrev pub is_not_allowed : Cause → Bool
+is_not_allowed causes.NotAllowed = true
+is_not_allowed _ = false
+
+-- one more if something is so
+abbrev pub one_more_if : Bool → ℕ → ℕ
+one_more_if true n = one_more n
+one_more_if false n = n
+
+abbrev pub one_if : Bool → ℕ
+one_if true = 1
+one_if false = 0
 
 -- a wait or a read failed
 abbrev pub with_fault : Report → Report
@@ -37,8 +54,9 @@ with_full n = record n { read = one_more n.read; full = one_more n.full }
 abbrev pub with_refused : Report → Report
 with_refused n = record n { read = one_more n.read; memory = one_more n.memory }
 
-abbrev pub with_dropped : Report → Report
-with_dropped n = record n { read = one_more n.read; dropped = one_more n.dropped }
+abbrev pub with_dropped : Report → Cause → Report
+with_dropped n cause =
+    record n { read = one_more n.read; dropped = one_more n.dropped; not_allowed = one_more_if (is_not_allowed cause) n.not_allowed }
 
 -- the counts after an event
 abbrev pub counted_by : Report → Event → Report
@@ -51,7 +69,7 @@ counted_by n (Answers arrival bytes sent) = with_answer n sent
 counted_by n (Accepts arrival route) = with_accepted n
 counted_by n (Overflows arrival route) = with_full n
 counted_by n (Refuses arrival route) = with_refused n
-counted_by n (Drops arrival cause) = with_dropped n
+counted_by n (Drops arrival cause) = with_dropped n cause
 counted_by n (Sends route reply sent) = with_reply n sent
 counted_by n (Resends route reply sent) = with_reply n sent
 
@@ -66,7 +84,19 @@ with_kept n (Some k) = record n { lost = one_more n.lost }
 -- the counts as sums without a limit
 
 abbrev pub plus : Report → Report → Report
-plus a b = record { read = a.read + b.read; answered = a.answered + b.answered; accepted = a.accepted + b.accepted; full = a.full + b.full; dropped = a.dropped + b.dropped; memory = a.memory + b.memory; sent = a.sent + b.sent; lost = a.lost + b.lost; faults = a.faults + b.faults }
+plus a b =
+    record {
+      read = a.read + b.read;
+      answered = a.answered + b.answered;
+      accepted = a.accepted + b.accepted;
+      full = a.full + b.full;
+      dropped = a.dropped + b.dropped;
+      not_allowed = a.not_allowed + b.not_allowed;
+      memory = a.memory + b.memory;
+      sent = a.sent + b.sent;
+      lost = a.lost + b.lost;
+      faults = a.faults + b.faults;
+    }
 
 abbrev pub part_of_answer : Sent → Report
 part_of_answer Taken = record nothing { read = 1; answered = 1; sent = 1 }
@@ -89,7 +119,7 @@ part (Answers arrival bytes sent) = part_of_answer sent
 part (Accepts arrival route) = record nothing { read = 1; accepted = 1 }
 part (Overflows arrival route) = record nothing { read = 1; full = 1 }
 part (Refuses arrival route) = record nothing { read = 1; memory = 1 }
-part (Drops arrival cause) = record nothing { read = 1; dropped = 1 }
+part (Drops arrival cause) = record nothing { read = 1; dropped = 1; not_allowed = one_if (is_not_allowed cause) }
 part (Sends route reply sent) = part_of_reply sent
 part (Resends route reply sent) = part_of_reply sent
 

@@ -1,12 +1,13 @@
 -- All that a poller touches, before and after some events.
-use Rattle.std.specs.Prelude.{◌≡◌, ℕ, ◌+◌, ◌<◌, ◌≤◌, List, ◌++◌, length, map, slice_index_or}
+use Rattle.std.specs.Prelude.{◌≡◌, ℕ, ◌+◌, ◌<◌, ◌≤◌, List, [], ◌++◌, length, map, slice_index_or}
 use Rattle.srt_seq.specs.declared.shared.Schedule.{Schedule}
 use Rattle.srt_seq.specs.Items.{Datagram, Item, told}
 use Rattle.srt_route.specs.Written.{written}
 use Rattle.srt_poller.specs.declared.ends.Ends.{Ends}
 use Rattle.srt_poller.specs.declared.report.Report.{Report}
 use Rattle.srt_poller.specs.Devices.{Heard, Carried, joined}
-use Rattle.srt_poller.specs.History.{Sorting, Event, State, Follow, state_after, given, calls, handed, datagrams, attempts, accepted, drained, closes_all_in, waits_in, ready_in, reads_in}
+use Rattle.srt_poller.specs.History.{Sorting, Event, State, Follow, state_after, given, calls, handed, datagrams, attempts, accepted}
+use Rattle.srt_poller.specs.History.{drained, closes_all_in, waits_in, ready_in, reads_in}
 use Rattle.srt_poller.specs.Reports.{counted}
 
 -- what the source and the wire have recorded, the ends of all routes, what the next event depends on, and the report
@@ -29,9 +30,11 @@ pub record IsLater (accepted : List Item) (drained : List Datagram) (old new : E
   pub outbox_capacity : new.drain.capacity ≡ old.drain.capacity
   pub through : map written new.drain.through ≡ map written old.drain.through ++ drained
 
+-- the same of all routes; these events gave nothing to, and took nothing from, a route that isn't among them
 pub record AreLater (events : List Event) (old new : List Ends) : Type 0 where
   pub as_many : length new ≡ length old
   pub each : (r : ℕ) (e : Ends) → r < length old → IsLater (accepted r events) (drained r events) (slice_index_or old r e) (slice_index_or new r e)
+  pub others : (r : ℕ) → length old ≤ r → (accepted r events ≡ []) × (drained r events ≡ [])
 
 -- These events lead from the old world to the new one. They are at most `most`, `waits` of them are waits, and `closing` of them begin a round
 -- that closes all. The number of reads plus `waits` is at least the number of waits without a failure plus `reads`

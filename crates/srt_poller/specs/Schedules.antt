@@ -2,14 +2,14 @@
 use Rattle.std.specs.Prelude.{ℕ, suc, Bool, false, Option, None, Some, List, [], ◌∷◌, nat_le, ◌==◌, ◌&&◌, ◌||◌, if◌then◌else◌, map}
 use Rattle.std.specs.List.{fold}
 use Rattle.srt_seq.specs.declared.shared.Schedule.{Schedule}
-use Rattle.srt_lobby.specs.Names.{RouteName, AreDistinct, shown}
+use Rattle.srt_lobby.specs.Names.{RouteName, AreDistinct, as_shown}
 use Rattle.srt_lobby.specs.Changing.{hidden_at}
 
 -- the names, with those of the routes that open in this round shown; there is a schedule for each name
 abbrev pub opened : (round : ℕ) → List Schedule → List RouteName → List RouteName
 opened round [] names = names
 opened round (s ∷ schedules) [] = []
-opened round (s ∷ schedules) (name ∷ names) = (if s.open_round == round then shown name.text else name) ∷ opened round schedules names
+opened round (s ∷ schedules) (name ∷ names) = (if s.open_round == round then as_shown name else name) ∷ opened round schedules names
 
 -- the names after those that open in a round are shown: none, in a round that closes all
 abbrev pub opened_if : (closes_all : Bool) (round : ℕ) → List Schedule → List RouteName → List RouteName
@@ -60,4 +60,4 @@ begun closes_all round schedules offers names = closed offers (opened_if closes_
 
 -- no two routes have the same name, whether they are shown or not
 abbrev pub AllDiffer : List RouteName → Type 0
-AllDiffer names = AreDistinct (map (λ name. shown name.text) names)
+AllDiffer names = AreDistinct (map (λ name. as_shown name) names)

@@ -5,7 +5,8 @@ use Rattle.srt_poller.specs.declared.devices.Sent.{Sent}
 use Rattle.srt_poller.specs.declared.devices.Sent.TheVariants.{Taken, Later, Failed}
 use Rattle.srt_poller.specs.declared.report.Report.{Report}
 use Rattle.srt_poller.specs.Devices.{Attempt, Call, WaitEnded, WaitFailed, ReadGave, ReadEmpty, ReadFailed}
-use Rattle.srt_poller.specs.History.{Event, Begins, Waits, WaitFails, ReadsNothing, ReadFails, Answers, Accepts, Overflows, Refuses, Drops, Sends, Resends, Kept, kept_after, calls, attempts}
+use Rattle.srt_poller.specs.History.{Event, Begins, Waits, WaitFails, ReadsNothing, ReadFails, Answers, Accepts, Overflows, Refuses, Drops}
+use Rattle.srt_poller.specs.History.{Sends, Resends, Kept, kept_after, calls, attempts}
 
 -- the number of datagrams that the source gave
 abbrev pub gives : Call → ℕ

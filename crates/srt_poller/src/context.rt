@@ -9,7 +9,7 @@ use std::alloc::Global;
 
 /// What the lobby sorts datagrams by.
 #[derive(Clone, Copy)]
-pub(crate) struct Lobby<'a, 'b> {
+pub(crate) struct Classifier<'a, 'b> {
     /// The secret of its cookies.
     pub(crate) secret: &'a Secret,
     /// The names of the routes, in the order of their indexes.
@@ -18,26 +18,26 @@ pub(crate) struct Lobby<'a, 'b> {
 
 /// What a round uses besides its devices and the ends of the routes.
 #[derive(Drop)]
-pub(crate) struct Context<'a, 'b, R, G> {
+pub(crate) struct RoundContext<'a, 'b, R, G> {
     /// The host, whose locks the queues use.
     pub(crate) rt: &'a R,
-    /// Gives the memory for copies of datagrams.
+    /// Allocates copies of datagrams.
     pub(crate) alloc: Global,
     /// Sorts datagrams.
-    pub(crate) lobby: Lobby<'a, 'b>,
+    pub(crate) lobby: Classifier<'a, 'b>,
     /// The hints.
     pub(crate) signals: &'a G,
     /// The round looks at all outboxes, whatever their hints are.
     pub(crate) all: bool,
 }
 
-impl<R, G: Signals> Context<'_, '_, R, G> {
+impl<R, G: Signals> RoundContext<'_, '_, R, G> {
     /// The first route from this one on with a hint that its outbox may have a reply.
     #[inline(always)]
     pub(crate) fn next_hinted(&self, route: usize) -> usize
         ensures { route ≤ result }
     {
-        self.signals.next_from(route).max(route)
+        self.signals.next_outbox_ready(route).max(route)
     }
 
     /// The first route from this one on to take replies from: this one if the round looks at all, else the first one

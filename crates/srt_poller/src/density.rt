@@ -1,7 +1,7 @@
 //! How densely datagrams come.
 
 ghost use Rattle.std.specs.Prelude.{◌≡◌};
-ghost use Rattle.srt_poller.specs.Pauses.{counted};
+ghost use Rattle.srt_poller.specs.inside.Pauses.{counted};
 
 // A millisecond, in microseconds.
 const MILLISECOND: u64 = 1000;
@@ -21,7 +21,7 @@ pub(crate) struct Density {
 }
 
 impl Density {
-    /// No datagram came yet.
+    /// No datagram has arrived yet.
     pub(crate) fn new() -> Density
         ensures { result.last ≡ 0 }
     {
@@ -32,7 +32,7 @@ impl Density {
         }
     }
 
-    /// A datagram came at this moment, in microseconds.
+    /// A datagram arrived at this moment, in microseconds.
     pub(crate) fn came(&mut self, moment: u64)
         ensures { self.new ≡ counted moment self.old }
     {

@@ -16,7 +16,7 @@ pub enum Polled {
 /// The outcome of a read.
 #[derive(Clone, Copy, Debug, PartialEq, Eq)]
 pub enum Read {
-    /// A datagram: its sender, the number of its bytes in the buffer (at most 2048), and the moment at which it came,
+    /// A datagram: its sender, the number of its bytes in the buffer (at most 2048), and the moment of its arrival,
     /// in microseconds, below 2^62.
     Datagram(Peer, usize, u64),
     /// There is none now.

@@ -2,9 +2,9 @@
 
 ghost use Rattle.std.specs.Prelude.{◌≡◌, ◌<◌, ◌≤◌, ◌^◌, true, false, OnOk, IfErr, drop, length};
 
-use crate::beginning::Latest;
-use crate::bodies::Bodies;
-use crate::context::Context;
+use crate::buffers::Buffers;
+use crate::context::RoundContext;
+use crate::schedule::Latest;
 use srt_mailbox::{Drain, InboxFull, Ingress};
 use srt_seq::{Item, Peer};
 use std::sync::Wait;
@@ -34,24 +34,24 @@ impl Ends {
     ghost use Rattle.srt_poller.specs.Pollers.{OfferedAs, ClosedAs, IsOf};
 
     /// Offers a copy of a datagram of 16 bytes or more to the route. The moment is in microseconds. The bytes after the
-    /// first 16 are copied into a body that came back, or into new memory, which is all that a poller takes.
+    /// first 16 are copied into a body that was returned, or into a new one, which is all that a poller allocates.
     #[inline(always)]
     pub(crate) fn offer<R: Wait, G>(
         &mut self,
-        context: &Context<R, G>,
-        bodies: &mut Bodies,
+        context: &RoundContext<R, G>,
+        buffers: &mut Buffers,
         peer: Peer,
         bytes: &[u8],
         moment: u64,
     ) -> Offered
         requires header { 16 ≤ length bytes.now }
         requires timely { moment < 2 ^ 62 }
-        ensures offered { OfferedAs result (arrival peer bytes.now moment) bodies.old (drop 16 bytes.now) self.old.ingress self.new.ingress }
+        ensures offered { OfferedAs result (arrival peer bytes.now moment) buffers.old (drop 16 bytes.now) self.old.ingress self.new.ingress }
         ensures drain { self.new.drain ≡ self.old.drain }
     {
         let mut head = [0; 16];
         head.copy_from_slice(&bytes[..16]);
-        let Some(body) = bodies.copy_of(context.alloc, &bytes[16..]) else {
+        let Some(body) = buffers.copy_of(context.alloc, &bytes[16..]) else {
             return Offered::Refused;
         };
         match self
@@ -63,7 +63,7 @@ impl Ends {
         }
     }
 
-    /// Offers Close to the route. An error is evidence that the inbox was full; then nothing changed. Takes no memory.
+    /// Offers Close to the route. An error is evidence that the inbox was full; then nothing changed. Doesn't allocate.
     pub(crate) fn offer_close<R: Wait>(&mut self, rt: &R, latest: Latest) -> Result<(), InboxFull>
         ensures ok { OnOk result (ClosedAs true latest.moment self.old.ingress self.new.ingress) }
         ensures full { IfErr result (λ full. ClosedAs false latest.moment self.old.ingress self.new.ingress × IsOf self.old.ingress full) }

@@ -5,36 +5,47 @@
 //!
 //! Types: a `Source` gives datagrams and a `Wire` takes them; `Ends` are the poller's ends of one route's queues; a
 //! `Report` has the counts; `Signals` are what is asked of a poller before a round (`Asked`), and hints that save looks
-//! at empty outboxes. Devices in memory are
-//! `SourceScript`, `WireScript` and `ClockScript`; `MioSource` and `MioWire` share one UDP socket.
+//! at empty outboxes. Devices in memory are `SourceScript`, `WireScript` and `ClockScript`; `MioSource` and `MioWire`
+//! share one UDP socket.
 //!
 //! Calls: open the routes (`srt_mailbox::open_route`), hide those that open later (`srt_lobby::Names::hide`), bind or
-//! make the devices, then `pump` once for n rounds; or `pump_under`, until it is asked to end. Routes are shown and closed at the
-//! beginning of the rounds that their `srt_seq::Schedule` names.
+//! make the devices, then `pump` once for n rounds; or `pump_under`, until it is asked to end. Routes are shown and
+//! closed at the beginning of the rounds that their `srt_seq::Schedule` names. With `pump_changing` routes come and go
+//! besides, as its `Openings` tell; it keeps their `Plans`.
 //!
-//! Files: the beginning of a round is in `beginning.rt`, its other steps are in `poller.rt` (limits, the reply that is
-//! kept), what they use in `context.rt`, the memory of copies in `bodies.rt`, the rounds in `pumping.rt`, what is
-//! counted in `report.rt`, what devices in memory tell of their calls in `journal.rt`, how a socket's source waits in `pace.rt` and `density.rt`. `specs/History.antt` has the
-//! events of a poller.
+//! Files: the beginning of a round is in `schedule.rt`, and while routes come and go in `changing.rt`; what both do with the
+//! plans of all routes is in `plans.rt`, what openings are in `openings.rt`. The other steps are in `poller.rt` (limits, the
+//! reply that is kept), what they use in `context.rt`, the memory of copies in `buffers.rt`, the rounds in `pumping.rt` and
+//! `changing_rounds.rt`, what is counted in `report.rt`, what devices in memory tell of their calls in `journal.rt`, how a
+//! socket's source waits in `pace.rt` and `density.rt`, what holds of the definitions in `laws.rt`. `specs/History.antt` has
+//! the events of a poller, `specs/Plans.antt` what becomes of the routes' schedules while routes come and go.
 #![tactic(auto)]
 
-mod beginning;
-mod bodies;
+mod buffers;
+mod changing;
+mod changing_rounds;
 mod context;
 mod density;
 mod devices;
 mod ends;
 mod journal;
+pub mod laws;
+mod openings;
 mod pace;
+mod plans;
 mod poller;
 mod pumping;
 mod report;
+mod schedule;
 mod scripts;
 mod signals;
 mod sockets;
 
+pub use changing::Plans;
+pub use changing_rounds::pump_changing;
 pub use devices::{Clock, Polled, Read, Sent, Source, Wire};
 pub use ends::Ends;
+pub use openings::{Newcomer, Openings, Unchanged};
 pub use pumping::{Pumping, pump, pump_under};
 pub use report::Report;
 pub use scripts::{

@@ -1,11 +1,11 @@
 //! How a socket's source waits.
 
 ghost use Rattle.std.specs.Prelude.{◌≡◌, true, false};
-ghost use Rattle.srt_poller.specs.Pauses.{pause, after_wait, after_datagram, after_end, after_put_off};
+ghost use Rattle.srt_poller.specs.inside.Pauses.{pause, after_wait, after_datagram, after_end, after_put_off};
 
 use crate::density::Density;
 
-// The number of short waits after a datagram came or a send returned Later.
+// The number of short waits after a datagram arrived or a send returned Later.
 const SHORT_WAITS: u32 = 100;
 
 // After a round that read or sent this many datagrams there may be more to do at once. A nap could then leave a route
@@ -28,7 +28,7 @@ pub(crate) enum Pause {
 }
 
 /// Which wait is next. One that ends with a datagram lasts at most 0 ms while there may be more to read, 1 ms for the
-/// 100 waits after a datagram came or a send returned Later, else 10 ms. In place of one of 1 ms the source naps, if 20
+/// 100 waits after a datagram arrived or a send returned Later, else 10 ms. In place of one of 1 ms the source naps, if 20
 /// to 99 datagrams come in a millisecond and the round before had some to read, but few to read and to send: then a nap
 /// costs less than the waits for each of the next datagrams.
 #[derive(Clone, Copy)]
@@ -37,7 +37,7 @@ pub(crate) struct Pace {
     pub(crate) more: bool,
     /// The number of short waits left.
     pub(crate) warm: u32,
-    /// The number of datagrams that came since the last wait; saturates at 64.
+    /// The number of datagrams that arrived since the last wait; saturates at 64.
     pub(crate) read: u32,
     /// How densely datagrams come.
     pub(crate) density: Density,
@@ -79,7 +79,7 @@ impl Pace {
         }
     }
 
-    /// A datagram came at this moment, in microseconds, so there may be more.
+    /// A datagram arrived at this moment, in microseconds, so there may be more.
     pub(crate) fn came(&mut self, moment: u64)
         ensures { self.new ≡ after_datagram moment self.old }
     {

@@ -5,12 +5,12 @@ ghost use Rattle.srt_lobby.specs.Names.{RouteName};
 ghost use Rattle.srt_poller.specs.Devices.{Carried, heard, carried};
 ghost use Rattle.srt_poller.specs.History.{Sorting};
 
-use crate::beginning::Latest;
-use crate::bodies::Bodies;
-use crate::context::{Context, Lobby};
+use crate::buffers::Buffers;
+use crate::context::{Classifier, RoundContext};
 use crate::devices::{Polled, Read, Sent, Source, Wire};
 use crate::ends::{Ends, Offered};
 use crate::report::Report;
+use crate::schedule::Latest;
 use crate::signals::Signals;
 use srt_lobby::{Class, classify};
 use srt_seq::Peer;
@@ -24,13 +24,13 @@ pub(crate) struct Incoming {
     pub(crate) peer: Peer,
     /// The number of its bytes, 2048 at most.
     pub(crate) len: usize,
-    /// When it came, in microseconds, below 2^62.
+    /// When it arrived, in microseconds, below 2^62.
     pub(crate) moment: u64,
     ghost within: { len ≤ 2048 },
     ghost timely: { moment < 2 ^ 62 },
 }
 
-/// A reply for which a send returned Later. Its bytes are in the poller's `text`, `len` of them.
+/// A reply for which a send returned Later. Its bytes are in the poller's `reply_bytes`, `len` of them.
 #[derive(Clone, Copy)]
 pub(crate) struct KeptReply {
     /// The index of the route that it is from.
@@ -59,10 +59,10 @@ pub(crate) struct Poller {
     // the last datagram that was read
     datagram: [u8; 2048],
     // a copy of the kept reply's bytes, if there is one, so that its box can go back; no other reply is copied
-    text: [u8; 1472],
+    reply_bytes: [u8; 1472],
     kept: Option<KeptReply>,
     // for copies of datagrams
-    bodies: Bodies,
+    buffers: Buffers,
     report: Report,
     // a drain stopped before it had found an outbox empty: the next round that drains checks every outbox
     left: bool,
@@ -90,18 +90,19 @@ impl Poller {
     ghost use Rattle.srt_poller.specs.declared.ends.Ends.{Ends as TheEnds};
     ghost use Rattle.srt_poller.specs.declared.poller.Drained.TheVariants.{Empty, Gone};
     ghost use Rattle.srt_poller.specs.Reports.{nothing, with_kept};
-    ghost use Rattle.srt_poller.specs.Pollers.{sorted_by, named_in, came, kept_in, begun_phase, waiting, sending, listening, Waited, WaitFailed, Came, Listened, Resent, Replies};
+    ghost use Rattle.srt_poller.specs.Pollers.{sorted_by, named_in, came, kept_in, begun_phase, waiting, sending, listening, Waited};
+    ghost use Rattle.srt_poller.specs.Pollers.{WaitFailed, Came, Listened, Resent, Replies};
 
-    /// A poller with no reply kept and all counts 0. Takes no memory.
+    /// A poller with no reply kept and all counts 0. Doesn't allocate.
     pub(crate) fn new(alloc: Global) -> Poller
         ensures kept { result.kept ≡ None }
         ensures report { result.report ≡ nothing }
     {
         Poller {
             datagram: [0; 2048],
-            text: [0; 1472],
+            reply_bytes: [0; 1472],
             kept: None,
-            bodies: Bodies::new(alloc),
+            buffers: Buffers::new(alloc),
             report: Report::NOTHING,
             left: false,
         }
@@ -110,6 +111,12 @@ impl Poller {
     /// Whether the next round that takes replies looks at all outboxes.
     pub(crate) fn looks_at_all(&self) -> bool {
         self.left
+    }
+
+    /// Tells the counts so far, in which a reply that is kept doesn't stand.
+    #[inline(always)]
+    pub(crate) fn tell_report<G: Signals>(&self, signals: &G) {
+        signals.reported(&self.report);
     }
 
     /// Sends the kept reply again, if there is one.
@@ -122,7 +129,7 @@ impl Poller {
         let Some(kept) = self.kept else {
             return;
         };
-        let sent = wire.send(kept.peer, &self.text[..kept.len]);
+        let sent = wire.send(kept.peer, &self.reply_bytes[..kept.len]);
         tell_failure(signals, sent);
         self.report.count_reply(sent);
         match sent {
@@ -153,7 +160,7 @@ impl Poller {
     #[inline(always)]
     fn offer<R: Wait, G: Signals>(
         &mut self,
-        context: &Context<R, G>,
+        context: &RoundContext<R, G>,
         ends: &mut [Ends],
         route: usize,
         incoming: Incoming,
@@ -166,10 +173,10 @@ impl Poller {
     {
         let bytes = &self.datagram[..incoming.len];
         let Incoming { peer, moment, .. } = incoming;
-        match ends[route].offer(context, &mut self.bodies, peer, bytes, moment) {
+        match ends[route].offer(context, &mut self.buffers, peer, bytes, moment) {
             Offered::Accepted => {
                 self.report.count_accepted();
-                context.signals.offered(route);
+                context.signals.polled(route);
             }
             Offered::Full(_) => self.report.count_full(),
             Offered::Refused => self.report.count_refused(),
@@ -180,7 +187,7 @@ impl Poller {
     #[inline(always)]
     fn arrive<R: Wait, W: Wire, G: Signals>(
         &mut self,
-        context: &Context<R, G>,
+        context: &RoundContext<R, G>,
         wire: &mut W,
         ends: &mut [Ends],
         incoming: Incoming,
@@ -190,16 +197,18 @@ impl Poller {
             (sending (carried (W.handed wire.old) (W.attempts wire.old)) ends.old self.old)
             (sending (carried (W.handed wire.new) (W.attempts wire.new)) ends.new self.new) }
     {
-        let Lobby { secret, names } = context.lobby;
+        let Classifier { secret, names } = context.lobby;
         let bytes = &self.datagram[..incoming.len];
         match classify(secret, names, incoming.peer, bytes, incoming.moment) {
             Class::Answer(answer) => {
                 let sent = wire.send(incoming.peer, &answer);
-                context.signals.answered(incoming.peer, bytes, &answer);
+                context
+                    .signals
+                    .answered(names, incoming.peer, bytes, &answer);
                 tell_failure(context.signals, sent);
                 self.report.count_answer(sent);
             }
-            Class::Dropped(_) => self.report.count_dropped(),
+            Class::Dropped(cause) => self.report.count_dropped(cause),
             Class::Route(route) => self.offer(context, ends, route, incoming),
         }
     }
@@ -209,7 +218,7 @@ impl Poller {
     #[inline(always)]
     pub(crate) fn listen<R: Wait, S: Source, W: Wire, G: Signals>(
         &mut self,
-        context: &Context<R, G>,
+        context: &RoundContext<R, G>,
         source: &mut S,
         wire: &mut W,
         ends: &mut [Ends],
@@ -250,7 +259,7 @@ impl Poller {
     #[inline(always)]
     fn drain_one<R: Wait, W: Wire, G: Signals>(
         &mut self,
-        context: &Context<R, G>,
+        context: &RoundContext<R, G>,
         wire: &mut W,
         ends: &mut [Ends],
         route: usize,
@@ -267,7 +276,7 @@ impl Poller {
         let Ok(()) = end.drain.take(context.rt) else {
             return Drained::Empty;
         };
-        self.bodies.keep(end.drain.take_body());
+        self.buffers.keep(end.drain.take_buffer());
         let reply = end.drain.reply();
         let peer = reply.peer;
         let sent = wire.send(peer, reply.packet.bytes());
@@ -277,7 +286,7 @@ impl Poller {
         match sent {
             Sent::Taken | Sent::Failed => Drained::Gone,
             Sent::Later => {
-                let len = reply.packet.copy_to(&mut self.text);
+                let len = reply.packet.copy_to(&mut self.reply_bytes);
                 self.kept = Some(KeptReply { route, peer, len });
                 Drained::Kept
             }
@@ -287,9 +296,9 @@ impl Poller {
     /// Sends at most 64 replies of a route, until one is kept, unless its hint says that its outbox has none and the
     /// round doesn't look at all. True if no reply is kept.
     #[inline(always)]
-    fn visit<R: Wait, W: Wire, G: Signals>(
+    fn drain_route<R: Wait, W: Wire, G: Signals>(
         &mut self,
-        context: &Context<R, G>,
+        context: &RoundContext<R, G>,
         wire: &mut W,
         ends: &mut [Ends],
         route: usize,
@@ -301,7 +310,7 @@ impl Poller {
             (sending (carried (W.handed wire.new) (W.attempts wire.new)) ends.new self.new) }
         ensures none { result ≡ true → self.new.kept ≡ None }
     {
-        if !context.signals.may_have(route) && !context.all {
+        if !context.signals.take_outbox_ready(route) && !context.all {
             return true;
         }
         for _ in 0..64u32 {
@@ -320,7 +329,7 @@ impl Poller {
 
     /// Looks at the outboxes of all routes with a hint. Those of many routes are mostly out of the caches, and here the
     /// processor fetches several at the same time; the drain then finds them.
-    fn look_ahead<R, G: Signals>(context: &Context<R, G>, ends: &mut [Ends])
+    fn look_ahead<R, G: Signals>(context: &RoundContext<R, G>, ends: &mut [Ends])
         ensures { ends.new ≡ ends.old }
     {
         if ends.len() < 2 {
@@ -341,7 +350,7 @@ impl Poller {
     #[inline(always)]
     pub(crate) fn drain<R: Wait, W: Wire, G: Signals>(
         &mut self,
-        context: &Context<R, G>,
+        context: &RoundContext<R, G>,
         wire: &mut W,
         ends: &mut [Ends],
     )
@@ -360,7 +369,7 @@ impl Poller {
             if at >= ends.len() {
                 return;
             }
-            if !self.visit(context, wire, ends, at) {
+            if !self.drain_route(context, wire, ends, at) {
                 return;
             }
             route = at + 1;

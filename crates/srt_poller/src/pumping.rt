@@ -3,17 +3,17 @@
 ghost use Rattle.std.specs.Prelude.{◌≡◌, ◌+◌, ◌^◌, ◌<◌, ◌≤◌, ◌⊎◌, true, false, IfSome, IfNone, length};
 ghost use Rattle.srt_lobby.specs.Names.{names_of};
 ghost use Rattle.srt_poller.specs.Schedules.{AllDiffer};
-ghost use Rattle.srt_poller.specs.Pollers.{sorting, turn, listening, Rounds};
+ghost use Rattle.srt_poller.specs.Pollers.{sorting, begun_phase, round_state, listening, RoundMade, Rounds};
 ghost use Rattle.srt_poller.specs.Devices.{heard, carried};
-ghost use Rattle.srt_poller.specs.Doors.{RestBetween};
+ghost use Rattle.srt_poller.specs.Beginnings.{RestBetween};
 ghost use Rattle.srt_poller.specs.Pumped.{Pumped, PumpedUnder, before, after};
 
-use crate::beginning::Doors;
-use crate::context::{Context, Lobby};
+use crate::context::{Classifier, RoundContext};
 use crate::devices::{Source, Wire};
 use crate::ends::Ends;
 use crate::poller::Poller;
 use crate::report::Report;
+use crate::schedule::{Latest, RouteSchedules};
 use crate::signals::{Asked, Signals, Unsignalled};
 use srt_cookie::Secret;
 use srt_lobby::Names;
@@ -44,8 +44,8 @@ pub struct Pumping {
 ///
 /// A reply for which the send returns Later is kept, and no other reply is taken until it went. An answer of the lobby
 /// is lost in that case. A datagram whose send fails is lost. After a failed wait the round reads nothing; a failed
-/// read ends the reads of its round. Memory is taken only for the copy of a datagram that is offered, if no body came
-/// back with a reply; if it is refused, the datagram is lost.
+/// read ends the reads of its round. Only the copy of a datagram that is offered allocates, if no body was
+/// returned with a reply; if memory is refused, the datagram is lost.
 pub fn pump<R: Wait, S: Source, W: Wire>(
     rt: &R,
     alloc: Global,
@@ -101,12 +101,13 @@ pub fn pump_under<R: Wait, S: Source, W: Wire, G: Signals>(
     requires few { rounds ≤ 2 ^ 48 }
     ensures pumped { PumpedUnder (G.goes signals.now) (G.closes signals.now) (sorting secret.now) schedules.now result.rounds
         (before (names_of names.old) (heard (S.gave source.old) (S.calls source.old)) (carried (W.handed wire.old) (W.attempts wire.old)) ends.old)
-        (after (names_of names.new) (heard (S.gave source.new) (S.calls source.new)) (carried (W.handed wire.new) (W.attempts wire.new)) ends.new result.report) }
+        (after (names_of names.new) (heard (S.gave source.new) (S.calls source.new)) (carried (W.handed wire.new) (W.attempts wire.new))
+        ends.new result.report) }
     ensures rounds { result.rounds ≤ rounds }
     ensures whole { (result.rounds ≡ rounds) ⊎ G.stops signals.now }
 {
     let mut poller = Poller::new(alloc);
-    let mut doors = Doors::new(schedules);
+    let mut route_schedules = RouteSchedules::new(schedules);
     let made = pump_from(
         rt,
         alloc,
@@ -115,7 +116,7 @@ pub fn pump_under<R: Wait, S: Source, W: Wire, G: Signals>(
         source,
         wire,
         ends,
-        &mut doors,
+        &mut route_schedules,
         &mut poller,
         0,
         rounds,
@@ -128,9 +129,9 @@ pub fn pump_under<R: Wait, S: Source, W: Wire, G: Signals>(
     }
 }
 
-// Whether the next round closes all. `None` if that is the end.
+/// Whether the next round closes all. `None` if that is the end.
 #[inline(always)]
-fn ask<G: Signals>(signals: &G) -> Option<bool>
+pub(crate) fn ask<G: Signals>(signals: &G) -> Option<bool>
     ensures round { IfSome result (λ closes_all. (closes_all ≡ false → G.goes signals.now) × (closes_all ≡ true → G.closes signals.now)) }
     ensures end { IfNone result (G.stops signals.now) }
 {
@@ -139,6 +140,40 @@ fn ask<G: Signals>(signals: &G) -> Option<bool>
         Asked::CloseAll => Some(true),
         Asked::End => None,
     }
+}
+
+/// Makes the rest of the round with this number, which has begun.
+#[inline(always)]
+pub(crate) fn make_round<R: Wait, S: Source, W: Wire, G: Signals>(
+    rt: &R,
+    alloc: Global,
+    secret: &Secret,
+    names: &Names,
+    source: &mut S,
+    wire: &mut W,
+    ends: &mut [Ends],
+    latest: &mut Latest,
+    poller: &mut Poller,
+    round: u64,
+    signals: &G,
+)
+    requires { length ends.old ≡ length (names_of names.now) }
+    ensures { RoundMade (sorting secret.now) (names_of names.now) (length ends.old) (begun_phase poller.old)
+        (listening (heard (S.gave source.old) (S.calls source.old)) (carried (W.handed wire.old) (W.attempts wire.old)) ends.old poller.old)
+        (listening (heard (S.gave source.new) (S.calls source.new)) (carried (W.handed wire.new) (W.attempts wire.new)) ends.new poller.new)
+        latest.old.moment latest.new.moment }
+{
+    let due = round % 64 == 0;
+    let context = RoundContext {
+        rt,
+        alloc,
+        lobby: Classifier { secret, names },
+        signals,
+        all: due | poller.looks_at_all(),
+    };
+    poller.resend(signals, wire);
+    poller.listen(&context, source, wire, ends, latest);
+    poller.drain(&context, wire, ends);
 }
 
 /// Makes at most `rounds` rounds, and returns how many were made. The first has the number `first`.
@@ -151,45 +186,45 @@ pub(crate) fn pump_from<R: Wait, S: Source, W: Wire, G: Signals>(
     source: &mut S,
     wire: &mut W,
     ends: &mut [Ends],
-    doors: &mut Doors,
+    route_schedules: &mut RouteSchedules,
     poller: &mut Poller,
     first: u64,
     rounds: u64,
     signals: &G,
 ) -> u64
     requires ends { length ends.old ≡ length (names_of names.old) }
-    requires schedules { length doors.old.schedules.now ≡ length (names_of names.old) }
+    requires schedules { length route_schedules.old.schedules.now ≡ length (names_of names.old) }
     requires differ { AllDiffer (names_of names.old) }
-    requires rest { RestBetween first doors.old.due doors.old.schedules.now (names_of names.old) }
+    requires rest { RestBetween first route_schedules.old.due route_schedules.old.schedules.now (names_of names.old) }
     requires fits { first + rounds < 2 ^ 64 }
-    ensures went { Rounds (G.goes signals.now) (G.closes signals.now) (sorting secret.now) doors.old.schedules.now result (length ends.old)
+    ensures went { Rounds (G.goes signals.now) (G.closes signals.now) (sorting secret.now) route_schedules.old.schedules.now result (length ends.old)
         (listening (heard (S.gave source.old) (S.calls source.old)) (carried (W.handed wire.old) (W.attempts wire.old)) ends.old poller.old
-        (turn (names_of names.old) first doors.old.latest.moment))
+        (round_state (names_of names.old) first route_schedules.old.latest.moment))
         (listening (heard (S.gave source.new) (S.calls source.new)) (carried (W.handed wire.new) (W.attempts wire.new)) ends.new poller.new
-        (turn (names_of names.new) (first + result) doors.new.latest.moment)) }
+        (round_state (names_of names.new) (first + result) route_schedules.new.latest.moment)) }
     ensures rounds { result ≤ rounds }
     ensures whole { (result ≡ rounds) ⊎ G.stops signals.now }
 {
     for made in 0..rounds {
+        poller.tell_report(signals);
         let Some(closes_all) = ask(signals) else {
             return made;
         };
         let round = first + made;
-        doors.begin(rt, signals, names, ends, round, closes_all);
-        let due = round % 64 == 0;
-        let context = Context {
+        route_schedules.begin(rt, signals, names, ends, round, closes_all);
+        make_round(
             rt,
             alloc,
-            lobby: Lobby {
-                secret,
-                names: &*names,
-            },
+            secret,
+            names,
+            source,
+            wire,
+            ends,
+            &mut route_schedules.latest,
+            poller,
+            round,
             signals,
-            all: due | poller.looks_at_all(),
-        };
-        poller.resend(signals, wire);
-        poller.listen(&context, source, wire, ends, &mut doors.latest);
-        poller.drain(&context, wire, ends);
+        );
     }
     rounds
 }

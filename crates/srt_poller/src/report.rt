@@ -4,9 +4,10 @@ ghost use Rattle.std.specs.Prelude.{◌≡◌};
 ghost use Rattle.srt_poller.specs.declared.devices.Sent.{Sent as TheSent};
 
 use crate::devices::Sent;
+use srt_lobby::Cause;
 
 /// The counts of a poller. Each saturates at 2^64 - 1. `read` is the sum of `answered`, `accepted`, `full`, `dropped`
-/// and `memory`, unless a count is saturated.
+/// and `memory`, unless a count is saturated; `not_allowed` is a part of `dropped`.
 #[derive(Clone, Copy, Debug, PartialEq, Eq)]
 pub struct Report {
     /// Datagrams that were read.
@@ -19,6 +20,9 @@ pub struct Report {
     pub full: u64,
     /// Of these, those that the lobby dropped (`srt_lobby::Cause`).
     pub dropped: u64,
+    /// Of those that the lobby dropped, those whose sender's address is in none of the lists of the route that they
+    /// were sent to (`srt_lobby::Cause::NotAllowed`).
+    pub not_allowed: u64,
     /// Of these, those for a route for whose copy memory was refused.
     pub memory: u64,
     /// Answers and replies that the wire took.
@@ -40,6 +44,7 @@ impl Report {
         accepted: 0,
         full: 0,
         dropped: 0,
+        not_allowed: 0,
         memory: 0,
         sent: 0,
         lost: 0,
@@ -53,7 +58,7 @@ impl Report {
         self.faults = self.faults.saturating_add(1);
     }
 
-    /// A datagram came, and its answer was sent with this outcome.
+    /// A datagram was read, and its answer was sent with this outcome.
     pub(crate) fn count_answer(&mut self, sent: Sent)
         ensures { self.new ≡ with_answer self.old sent }
     {
@@ -84,7 +89,7 @@ impl Report {
         }
     }
 
-    /// A datagram came, and its route's inbox accepted it.
+    /// A datagram was read, and its route's inbox accepted it.
     #[inline(always)]
     pub(crate) fn count_accepted(&mut self)
         ensures { self.new ≡ with_accepted self.old }
@@ -93,7 +98,7 @@ impl Report {
         self.accepted = self.accepted.saturating_add(1);
     }
 
-    /// A datagram came, and its route's inbox was full.
+    /// A datagram was read, and its route's inbox was full.
     pub(crate) fn count_full(&mut self)
         ensures { self.new ≡ with_full self.old }
     {
@@ -101,7 +106,7 @@ impl Report {
         self.full = self.full.saturating_add(1);
     }
 
-    /// A datagram came, and the memory for its copy was refused.
+    /// A datagram was read, and the memory for its copy was refused.
     pub(crate) fn count_refused(&mut self)
         ensures { self.new ≡ with_refused self.old }
     {
@@ -109,11 +114,15 @@ impl Report {
         self.memory = self.memory.saturating_add(1);
     }
 
-    /// A datagram came, and the lobby dropped it.
-    pub(crate) fn count_dropped(&mut self)
-        ensures { self.new ≡ with_dropped self.old }
+    /// A datagram was read, and the lobby dropped it for this cause.
+    pub(crate) fn count_dropped(&mut self, cause: Cause)
+        ensures { self.new ≡ with_dropped self.old cause }
     {
         self.read = self.read.saturating_add(1);
         self.dropped = self.dropped.saturating_add(1);
+        match cause {
+            Cause::NotAllowed => self.not_allowed = self.not_allowed.saturating_add(1),
+            _ => {}
+        }
     }
 }

@@ -193,7 +193,7 @@ pub struct SentDatagram {
 }
 
 /// A wire in memory. Its sends return the outcomes of its script in turn, and `Taken` after those. A datagram whose
-/// outcome is `Taken` or `Failed` is copied, which takes memory; if that is refused, the send returns `Later`.
+/// outcome is `Taken` or `Failed` is copied, which allocates; if memory is refused, the send returns `Later`.
 #[derive(Drop)]
 pub struct WireScript {
     alloc: Global,

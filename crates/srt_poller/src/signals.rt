@@ -2,6 +2,8 @@
 
 ghost use Rattle.std.specs.Prelude.{◌≡◌};
 
+use crate::report::Report;
+use srt_lobby::Names;
 use srt_seq::Peer;
 
 /// What a poller is asked before a round.
@@ -37,22 +39,26 @@ pub trait Signals {
         ensures closes { result ≡ CloseAll → closes self.now }
         ensures stops { result ≡ End → stops self.now };
 
-    /// The inbox of the route with this index accepted a datagram.
-    fn offered(&self, route: usize);
+    /// The counts so far; called each time before `asked`. A reply that is kept counts neither as sent nor as lost.
+    fn reported(&self, report: &Report);
+
+    /// The inbox of the route with this index accepted something from the poller: a datagram or Close.
+    fn polled(&self, route: usize);
 
     /// The reads of a round are over; they gave this many datagrams, 0 to 256. Not called in a round whose wait failed.
     fn read_ended(&self, datagrams: u32);
 
-    /// Whether the outbox of the route with this index may have a reply. It may clear the hint, since the poller then
+    /// Whether the outbox of the route with this index may have a reply. It may clear that mark, since the poller then
     /// drains the outbox, and remembers if it left before that was empty.
-    fn may_have(&self, route: usize) -> bool;
+    fn take_outbox_ready(&self, route: usize) -> bool;
 
-    /// The least index from this one on for which `may_have` may return true; the route count or more if there is none.
-    fn next_from(&self, route: usize) -> usize;
+    /// The least index from this one on for which `take_outbox_ready` may return true; the route count or more if there
+    /// is none.
+    fn next_outbox_ready(&self, route: usize) -> usize;
 
-    /// The lobby answered this datagram of this peer, and the answer was handed to the wire or lost. Called for every
-    /// answer.
-    fn answered(&self, peer: Peer, datagram: &[u8], answer: &[u8]);
+    /// The lobby, which has these names, answered this datagram of this peer, and the answer was handed to the wire or
+    /// lost. Called for every answer.
+    fn answered(&self, names: &Names, peer: Peer, datagram: &[u8], answer: &[u8]);
 
     /// A handshake, whose first word is 0x80000000, was taken from the outbox of the route with this index, for this
     /// peer, and was handed to the wire, lost or kept.
@@ -77,19 +83,21 @@ impl Signals for Unsignalled {
         Asked::GoOn
     }
 
-    fn offered(&self, _route: usize) {}
+    fn reported(&self, _report: &Report) {}
+
+    fn polled(&self, _route: usize) {}
 
     fn read_ended(&self, _datagrams: u32) {}
 
-    fn may_have(&self, _route: usize) -> bool {
+    fn take_outbox_ready(&self, _route: usize) -> bool {
         true
     }
 
-    fn next_from(&self, route: usize) -> usize {
+    fn next_outbox_ready(&self, route: usize) -> usize {
         route
     }
 
-    fn answered(&self, _peer: Peer, _datagram: &[u8], _answer: &[u8]) {}
+    fn answered(&self, _names: &Names, _peer: Peer, _datagram: &[u8], _answer: &[u8]) {}
 
     fn replied(&self, _route: usize, _peer: Peer, _handshake: &[u8]) {}
 

@@ -2,7 +2,7 @@
 
 ghost use Rattle.std.specs.Prelude.{◌≡◌, ◌++◌, IfOk};
 ghost use Rattle.std.specs.Net.Addr.{ipv4_octets};
-ghost use Rattle.srt_poller.specs.Sockets.{mapped};
+ghost use Rattle.srt_poller.specs.inside.Sockets.{mapped};
 
 use crate::devices::{Clock, Polled, Read, Sent, Source, Wire};
 use crate::pace::{Pace, Pause};
@@ -23,11 +23,11 @@ use thiserror::Error;
 #[cfg(test)]
 mod refused;
 
-// The receive buffer that is asked of the system, in bytes (SO_RCVBUF).
+// The size of the receive buffer that is requested from the system, in bytes (SO_RCVBUF).
 const RECEIVE_BUFFER: u32 = 4_194_304;
 
-// A nap, in nanoseconds.
-const NAP: i64 = 100_000;
+// A nap.
+const NAP_NS: i64 = 100_000;
 
 /// Why a socket could not be bound. Nothing is kept then. Its text is the line that the program prints.
 #[derive(Clone, Copy, Debug, Error, PartialEq, Eq)]
@@ -88,7 +88,7 @@ fn ask_for_room(socket: &UdpSocket) {
 fn nap() {
     let asked = timespec {
         tv_sec: 0,
-        tv_nsec: NAP,
+        tv_nsec: NAP_NS,
     };
     let mut left = timespec {
         tv_sec: 0,
@@ -162,7 +162,7 @@ impl<C: Clock> MioSource<C> {
 
     /// Binds a UDP socket at this address and returns a source and a wire over it. With port 0 the system chooses the
     /// port. The clock gives the moment of each datagram as it is read. The system is asked for a receive buffer of 4
-    /// MiB; whether it gives that isn't checked. Takes memory.
+    /// MiB; whether it gives that isn't checked. Allocates.
     pub fn bind<N: Net>(
         net: &N,
         alloc: Global,

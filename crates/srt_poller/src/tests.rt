@@ -1,21 +1,27 @@
-//! Rounds over devices in memory and over a socket. The cookie was computed by Python's hashlib; the other bytes are
-//! worked out from the rules by hand.
+//! Rounds over devices in memory and over a socket. What is expected was worked out from the rules by hand.
 
 ghost use Rattle.std.specs.Prelude.{◌≡◌, ◌<◌, ◌≤◌, ◌^◌, IfOk, length};
 ghost use Rattle.srt_lobby.specs.Names.{names_of};
 ghost use Rattle.srt_poller.specs.Schedules.{AllDiffer};
 
 mod asking;
+mod changing;
 mod copies;
+mod datagrams;
 mod faults;
 mod hints;
 mod late;
 mod limits;
 mod rounds;
 mod stops;
+mod strangers;
 mod telling;
 mod waits;
 
+use crate::tests::datagrams::{
+    CALLER, STUDIO, conclusion_of, induction_answer, induction_of, publisher_answer, refusal,
+    standby_answer, stray_shutdown,
+};
 use crate::{
     BindFault, ClockScript, Ends, MioSource, MioWire, Polled, Pumping, Read, Report,
     ScriptDatagram, Sent, Signals, Source, SourceScript, SourceStep, Wire, WireScript, pump,
@@ -25,43 +31,13 @@ use mio::net::UdpSocket;
 use srt_cookie::Secret;
 use srt_lobby::Names;
 use srt_mailbox::{RouteCell, Serve, Served, Ungated, open_route};
-use srt_seq::{Entry, Mode, Peer, Schedule, Turned};
+use srt_samples::{Block, Sample, first_difference};
+use srt_seq::{Access, Entry, Mode, Peer, Rules, Schedule, Turned};
 use std::alloc::Global;
 use std::net::{Ipv4Addr, Net, SocketAddr, SocketAddrV4};
 use std::process::Abort;
 use std::sync::Wait;
 use std::test::Fail;
-
-/// An INDUCTION with caller ID 12345678 and initial number 5.
-const INDUCTION: &str =
-    "80000000000000000000000000000000000000040000000200000005000005dc000020000000000100bc614e0000000000000000000000000000000000000000";
-
-/// Its answer to port 5000 in the first minute.
-const INDUCTION_ANSWER: &str =
-    "80000000000000000000000000bc614e0000000500004a1700000005000005dc000020000000000100000001ecc958a600000000000000000000000000000000";
-
-/// A CONCLUSION from port 5000 with caller ID 1 and initial number 5 that asks to publish on the first route.
-const CONCLUSION: &str =
-    "80000000000000000000000000000000000000050000000500000005000005dc00002000ffffffff00000001ecc958a6000000000000000000000000000000000001000300010500000000bf00780078000500063a3a212374733d726f696475703d6d2c696c627500006873";
-
-/// Its answer, also to the same conclusion again.
-const CONCLUSION_ANSWER: &str =
-    "80000000000000000000000000000001000000050000000100000005000005dc00000400ffffffff00100000000000000000000000000000000000000000000000020003000105000000003f00780078";
-
-/// The answer to the second publisher, which stands by in the second slot; as to the caller with ID 1.
-const STANDBY: &str =
-    "80000000000000000000000000000001000000050000000100000005000005dc00000400ffffffff00100001000000000000000000000000000000000000000000020003000105000000003f00780078";
-
-/// The same to the caller with ID 2.
-const STANDBY_OF_2: &str =
-    "80000000000000000000000000000002000000050000000100000005000005dc00000400ffffffff00100001000000000000000000000000000000000000000000020003000105000000003f00780078";
-
-/// The refusal of a third publisher, with reason 1002, to the caller with ID 0.
-const REFUSAL: &str =
-    "80000000000000000000000000000000000000050000000000000005000005dc00002000000003ea000000010000000000000000000000000000000000000000";
-
-/// A SHUTDOWN to a socket ID that is no route's.
-const STRAY: &str = "80050000000000000000000000400000";
 
 /// The report of rounds that read an induction.
 const ANSWERED: Report = Report {
@@ -84,10 +60,11 @@ fn peer(port: u16) -> Peer {
     }
 }
 
-fn comes(alloc: Global, text: &str) -> Result<SourceStep, Fail> {
+/// This datagram comes from port 5000.
+fn comes(alloc: Global, sample: Sample<'_>) -> Result<SourceStep, Fail> {
     Ok(SourceStep::Datagram(ScriptDatagram {
         peer: peer(5000),
-        bytes: hex::decode(alloc, text)?,
+        bytes: sample.bytes(alloc)?,
         moment: 1_000_000,
     }))
 }
@@ -104,6 +81,8 @@ fn entry(alloc: Global, route: &(&str, Mode, u32)) -> Result<Entry, Fail> {
         sessions: 5,
         inbox: 16,
         outbox: 16,
+        access: Access::anyone(),
+        rules: Rules::DRAFT,
     })
 }
 
@@ -252,34 +231,25 @@ fn serve(rt: &impl Wait, routes: &Routes, times: usize) {
     }
 }
 
-/// The bytes of these hex digits, with the byte at `at` replaced. The last byte of the caller's ID is byte 43 in a
-/// handshake, and byte 15 in its answer.
-fn with(alloc: Global, text: &str, at: usize, byte: u8) -> Result<Vec<u8>, Fail> {
-    let mut bytes = hex::decode(alloc, text)?;
-    if let Some(place) = bytes.as_mut_slice().get_mut(at) {
-        *place = byte;
-    }
-    Ok(bytes)
-}
-
-/// This handshake, from the caller whose ID ends with this byte.
-fn comes_of(alloc: Global, text: &str, caller: u8) -> Result<SourceStep, Fail> {
-    let mut step = comes(alloc, text)?;
-    if let SourceStep::Datagram(datagram) = &mut step {
-        datagram.bytes = with(alloc, text, 43, caller)?;
-    }
-    Ok(step)
-}
-
 /// The reply of the first route to the conclusion of the caller with this ID, if those with the IDs 1 and 2 came first,
 /// in this order: two publishers are let in.
-fn reply_to(alloc: Global, caller: u8) -> Result<Vec<u8>, Fail> {
-    let text = match caller {
-        1 => CONCLUSION_ANSWER,
-        2 => STANDBY,
-        _ => REFUSAL,
-    };
-    with(alloc, text, 15, caller)
+fn reply_to<'a>(caller: u32) -> Sample<'a> {
+    match caller {
+        1 => publisher_answer(1),
+        2 => standby_answer(2),
+        _ => refusal(caller, 1002),
+    }
+}
+
+/// Asserts the bytes of a datagram that was sent.
+fn assert_bytes(
+    rt: &(impl AllocGlobal + Abort),
+    bytes: &[u8],
+    wanted: Sample<'_>,
+) -> Result<(), Fail> {
+    let wanted = wanted.bytes(rt.alloc())?;
+    assert_eq!(rt; first_difference(bytes, &wanted), None);
+    Ok(())
 }
 
 /// Asserts that the wire was handed the replies of the first route to the callers with the IDs 1 to `last`, in order,
@@ -287,14 +257,14 @@ fn reply_to(alloc: Global, caller: u8) -> Result<Vec<u8>, Fail> {
 fn assert_replies(
     rt: &(impl AllocGlobal + Abort),
     wire: &WireScript,
-    last: u8,
+    last: u32,
 ) -> Result<(), Fail> {
     assert_eq!(rt; wire.handed().len(), last as usize);
     for caller in 1..=last {
         let Some(sent) = wire.handed().get(caller as usize - 1) else {
             return Err(Fail::from("a reply"));
         };
-        assert_eq!(rt; sent.bytes, reply_to(rt.alloc(), caller)?);
+        assert_bytes(rt, &sent.bytes, reply_to(caller))?;
     }
     Ok(())
 }
@@ -303,12 +273,12 @@ fn assert_replies(
 fn assert_handed(
     rt: &(impl AllocGlobal + Abort),
     wire: &WireScript,
-    wanted: &[&str],
+    wanted: &[Sample<'_>],
 ) -> Result<(), Fail> {
     assert_eq!(rt; wire.handed().len(), wanted.len());
-    for (sent, text) in wire.handed().iter().zip(wanted) {
+    for (sent, sample) in wire.handed().iter().zip(wanted) {
         assert!(rt; sent.to == peer(5000));
-        assert_eq!(rt; sent.bytes, hex::decode(rt.alloc(), text)?);
+        assert_bytes(rt, &sent.bytes, *sample)?;
     }
     Ok(())
 }
@@ -318,7 +288,7 @@ fn an_induction_is_answered_and_a_failed_read_is_counted(rt: HostRuntime) -> Res
     let alloc = rt.alloc();
     let mut routes = open_routes(alloc)?;
     let mut wire = WireScript::new(alloc, Vec::new(alloc));
-    let steps = vec![in alloc; comes(alloc, INDUCTION)?, SourceStep::ReadFails]?;
+    let steps = vec![in alloc; comes(alloc, induction_of(CALLER))?, SourceStep::ReadFails]?;
     let report = reported(&rt, &mut routes, steps, &mut wire, 2)?;
     assert_eq!(&rt;
         report,
@@ -327,7 +297,7 @@ fn an_induction_is_answered_and_a_failed_read_is_counted(rt: HostRuntime) -> Res
             ..ANSWERED
         }
     );
-    assert_handed(&rt, &wire, &[INDUCTION_ANSWER])
+    assert_handed(&rt, &wire, &[induction_answer(CALLER)])
 }
 
 /// The report of one round that reads an induction, if the wire's send returns `sent`.
@@ -339,7 +309,7 @@ fn induction_with(
     let alloc = rt.alloc();
     let mut routes = open_routes(alloc)?;
     let mut wire = WireScript::new(alloc, vec![in alloc; sent]?);
-    let steps = vec![in alloc; wait, comes(alloc, INDUCTION)?]?;
+    let steps = vec![in alloc; wait, comes(alloc, induction_of(CALLER))?]?;
     reported(rt, &mut routes, steps, &mut wire, 1)
 }
 
@@ -376,9 +346,12 @@ fn what_comes_is_answered_offered_or_dropped_and_a_full_inbox_loses_it(
     let alloc = rt.alloc();
     let mut routes = open_routes(alloc)?;
     let mut wire = WireScript::new(alloc, Vec::new(alloc));
-    let mut steps = vec![in alloc; comes(alloc, STRAY)?, comes(alloc, INDUCTION)?]?;
+    let mut steps = vec![in alloc;
+        comes(alloc, stray_shutdown())?,
+        comes(alloc, induction_of(CALLER))?,
+    ]?;
     for _ in 0..17 {
-        steps.push(comes(alloc, CONCLUSION)?)?;
+        steps.push(comes(alloc, conclusion_of(1, &STUDIO))?)?;
     }
     let report = reported(&rt, &mut routes, steps, &mut wire, 1)?;
     assert_eq!(&rt;
@@ -393,30 +366,30 @@ fn what_comes_is_answered_offered_or_dropped_and_a_full_inbox_loses_it(
             ..Report::NOTHING
         }
     );
-    assert_handed(&rt, &wire, &[INDUCTION_ANSWER])
+    assert_handed(&rt, &wire, &[induction_answer(CALLER)])
 }
 
 /// Routes with 16 places each, the first of which has the replies to the callers with the IDs 1 to `count` in its
 /// outbox.
-fn with_replies(rt: &(impl AllocGlobal + Wait), count: u8) -> Result<Routes, Fail> {
+fn with_replies(rt: &(impl AllocGlobal + Wait), count: u32) -> Result<Routes, Fail> {
     let mut routes = open_routes(rt.alloc())?;
-    conclude(rt, &mut routes, &[(CONCLUSION, count)])?;
+    conclude(rt, &mut routes, &[(STUDIO, count)])?;
     Ok(routes)
 }
 
-/// In one round, callers send these conclusions: each as many as its number says, with the IDs from 1 on. Then all routes
-/// are served. Nothing is sent.
+/// In one round, callers send conclusions with these blocks: each as many as its number says, with the IDs from 1 on.
+/// Then all routes are served. Nothing is sent.
 fn conclude(
     rt: &(impl AllocGlobal + Wait),
     routes: &mut Routes,
-    conclusions: &[(&str, u8)],
+    conclusions: &[([Block<'_>; 2], u32)],
 ) -> Result<(), Fail> {
     let alloc = rt.alloc();
     let mut wire = WireScript::new(alloc, Vec::new(alloc));
     let mut steps = Vec::new(alloc);
-    for (conclusion, count) in conclusions {
+    for (blocks, count) in conclusions {
         for caller in 1..=*count {
-            steps.push(comes_of(alloc, conclusion, caller)?)?;
+            steps.push(comes(alloc, conclusion_of(caller, blocks))?)?;
         }
     }
     let times = steps.len().saturating_mul(2);
@@ -485,7 +458,7 @@ fn a_reply_that_is_kept_at_the_end_is_lost(rt: HostRuntime) -> Result<(), Fail> 
             ..Report::NOTHING
         }
     );
-    assert_handed(&rt, &wire, &[STANDBY_OF_2])
+    assert_handed(&rt, &wire, &[standby_answer(2)])
 }
 
 #[test]
@@ -526,7 +499,7 @@ fn serve_all<R: Wait>(rt: &R, cell: &RouteCell, applied: &mut u32) -> bool {
 #[derive(Drop)]
 struct Serving<'a, R: Wait> {
     rt: &'a R,
-    cells: &'a [RouteCell; 2],
+    cells: &'a [RouteCell],
     script: SourceScript,
     // the number of waits before the first one that serves
     idle: u32,
@@ -537,7 +510,7 @@ struct Serving<'a, R: Wait> {
 
 impl<'a, R: Wait> Serving<'a, R> {
     /// A source that does these steps, and serves these routes.
-    fn new(rt: &'a R, cells: &'a [RouteCell; 2], steps: Vec<SourceStep>) -> Serving<'a, R> {
+    fn new(rt: &'a R, cells: &'a [RouteCell], steps: Vec<SourceStep>) -> Serving<'a, R> {
         Serving {
             rt,
             cells,
@@ -548,7 +521,7 @@ impl<'a, R: Wait> Serving<'a, R> {
         }
     }
 
-    /// Serves both routes, unless this wait is an idle one. Returns the number of routes that are blocked, and the number
+    /// Serves all routes, unless this wait is an idle one. Returns the number of routes that are blocked, and the number
     /// of items that were applied.
     fn serve(&self) -> (u32, u32) {
         let (mut blocked, mut applied) = (0u32, 0u32);
@@ -597,7 +570,7 @@ fn a_wire_that_puts_off_blocks_turns_and_fills_inboxes(rt: HostRuntime) -> Resul
     let mut wire = WireScript::new(alloc, vec![in alloc; Sent::Later; 10_000]?);
     let mut steps = Vec::new(alloc);
     for _ in 0..60 {
-        steps.push(comes(alloc, CONCLUSION)?)?;
+        steps.push(comes(alloc, conclusion_of(1, &STUDIO))?)?;
         steps.push(SourceStep::Empty)?;
     }
     let mut source = Serving::new(&rt, &routes.cells, steps);
@@ -621,7 +594,7 @@ fn a_wire_that_puts_off_blocks_turns_and_fills_inboxes(rt: HostRuntime) -> Resul
         }
     );
     for sent in wire.handed() {
-        assert_eq!(&rt; sent.bytes, hex::decode(alloc, CONCLUSION_ANSWER)?);
+        assert_bytes(&rt, &sent.bytes, publisher_answer(1))?;
     }
     Ok(())
 }
@@ -724,7 +697,7 @@ fn assert_answers(
 ) -> Result<(), Fail> {
     let target = address(source)?;
     let client = UdpSocket::bind(rt, SocketAddr::V4(local(0)))?;
-    client.send_to(&hex::decode(rt.alloc(), INDUCTION)?, target)?;
+    client.send_to(&induction_of(CALLER).bytes(rt.alloc())?, target)?;
     assert_eq!(rt; pumped(rt, [ALWAYS; 2], ends, source, wire, 10)?, ANSWERED);
     let mut answer = [0u8; 100];
     let (len, from) = client.recv_from(&mut answer)?;

@@ -17,13 +17,30 @@ same_delivery terms m None = refl
 same_delivery terms m (Some a) = refl
 
 -- the buffer is ahead of the rest
-pub ahead : (terms : Terms) (initial opening stamp caller time room : ℕ) (p : Publisher) (b : RecvBuf) (m : Publishing) → StandsFor terms initial opening stamp caller p m → buffers.StandsFor terms.width initial opening b (after_next terms.width (next_due time room m.receiving) m.receiving) → IsAhead terms initial opening stamp caller (record p { buffer = b }) m (after_next terms.width (next_due time room m.receiving) m.receiving)
+pub ahead : (terms : Terms) (initial opening stamp caller time room : ℕ) (p : Publisher) (b : RecvBuf) (m : Publishing)
+    → StandsFor terms initial opening stamp caller p m
+    → buffers.StandsFor terms.width initial opening b (after_next terms.width (next_due time room m.receiving) m.receiving)
+    → IsAhead terms initial opening stamp caller (record p { buffer = b }) m
+    (after_next terms.width (next_due time room m.receiving) m.receiving)
 ahead terms initial opening stamp caller time room p b m h after =
     let r = m.receiving in
     let width = terms.width in
-    let k = after_one terms.mode width time room r (next_due time room r) refl h.narrow (end_within width r (beyond width initial opening p.buffer r h.buffer)) h.orderly in
-    record { agreed = h.agreed; buffer = after; log = h.log; orderly = k.orderly; seen = h.seen; narrow = h.narrow; counts = subst (λ (xs : List Arrival). Counted p.counts xs (delivered_in r) r.front m.notes) (sym (none_arrive width (next_due time room r) r)) h.counts; goes_on = k.goes_on }
+    let k = after_one terms.mode width time room r (next_due time room r) refl h.narrow
+    (end_within width r (beyond width initial opening p.buffer r h.buffer)) h.orderly in
+    record {
+      agreed = h.agreed;
+      buffer = after;
+      log = h.log;
+      orderly = k.orderly;
+      seen = h.seen;
+      narrow = h.narrow;
+      counts = subst (λ (xs : List Arrival). Counted p.counts xs (delivered_in r) r.front m.notes)
+          (sym (none_arrive width (next_due time room r) r)) h.counts;
+      goes_on = k.goes_on;
+    }
 
 -- and the rest follows
-pub followed : (terms : Terms) (initial opening stamp caller : ℕ) (p : Publisher) (m : Publishing) (o : Option Arrival) → StandsFor terms initial opening stamp caller p (record m { receiving = after_next terms.width o m.receiving }) → StandsFor terms initial opening stamp caller p (after_delivery terms o m)
+pub followed : (terms : Terms) (initial opening stamp caller : ℕ) (p : Publisher) (m : Publishing) (o : Option Arrival)
+    → StandsFor terms initial opening stamp caller p (record m { receiving = after_next terms.width o m.receiving })
+    → StandsFor terms initial opening stamp caller p (after_delivery terms o m)
 followed terms initial opening stamp caller p m o h = subst (λ (x : Publishing). StandsFor terms initial opening stamp caller p x) (same_delivery terms m o) h

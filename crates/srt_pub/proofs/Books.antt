@@ -1,5 +1,6 @@
 -- The book of the Full ACKs in the notes.
-use Rattle.std.proofs.Common.{◌≡◌, ℕ, suc, zero, ◌+◌, ◌<◌, Bool, true, false, cond, not, if◌then◌else◌, ◌||◌, Option, Some, None, List, [], ◌∷◌, length, map, take, refl, sym, ap, ◌∙◌, arith}
+use Rattle.std.proofs.Common.{◌≡◌, ℕ, suc, zero, ◌+◌, ◌<◌, Bool, true, false, cond, not, if◌then◌else◌, ◌||◌, Option, Some, None, List, []}
+use Rattle.std.proofs.Common.{◌∷◌, length, map, take, refl, sym, ap, ◌∙◌, arith}
 use Rattle.std.specs.Prelude.{◌==◌, slice_get, option_map}
 use Rattle.std.specs.List.{find, position, position_or_len}
 use Rattle.std.proofs.lemmas.List.{length-map, take-map}
@@ -8,12 +9,16 @@ use Rattle.std.proofs.lemmas.Option.{slice_get-get_or}
 use Rattle.std.proofs.lemmas.Bool.Decides.{nat_tests}
 use Rattle.srt_rtt.specs.Book as book
 use Rattle.srt_rtt.proofs.Confirmed.{not_found}
-use Rattle.srt_pub.specs.Publishing.{Full, Note, Came, Sent, Confirmed, Report, FullAck, LightAck, fulls, is_confirmed, answers, confirmed_by, confirmed_notes, sample_of}
+use Rattle.srt_pub.specs.Publishing.{Full, Note, Came, Sent, Confirmed, Report, FullAck, LightAck, fulls, is_confirmed, answers}
+use Rattle.srt_pub.specs.Publishing.{confirmed_by, confirmed_notes, sample_of}
 use Rattle.srt_pub.specs.Kept.{noted_of, book_of}
+use Rattle.srt_pub.specs.declared.region.Region.{Region}
+use Rattle.srt_recvbuf.specs.declared.buffer.Put.{Put}
+use Rattle.srt_packet.specs.declared.writing.Rates.{Rates}
 
-pub book_came : (notes : List Note) → book_of (Came ∷ notes) ≡ book_of notes
+pub book_came : (time : ℕ) (region : Region) (put : Put) (notes : List Note) → book_of (Came time region put ∷ notes) ≡ book_of notes
 unfolding book_of
-book_came notes = refl
+book_came time region put notes = refl
 
 -- a report that isn't a Full ACK
 pub book_sent : (time : ℕ) (r : Report) (notes : List Note) → fulls (Sent time r ∷ notes) ≡ fulls notes → book_of (Sent time r ∷ notes) ≡ book_of notes
@@ -24,9 +29,10 @@ pub book_light : (time point : ℕ) (notes : List Note) → book_of (Sent time (
 unfolding book_of
 book_light time point notes = refl
 
-pub book_full : (time point rtt variance room : ℕ) (notes : List Note) → is_confirmed notes (length (fulls notes)) ≡ false → book_of (Sent time (FullAck (length (fulls notes)) point rtt variance room) ∷ notes) ≡ book.noted time (book_of notes)
+pub book_full : (time point rtt variance room : ℕ) (rates : Rates) (notes : List Note) → is_confirmed notes (length (fulls notes)) ≡ false
+    → book_of (Sent time (FullAck (length (fulls notes)) point rtt variance room rates) ∷ notes) ≡ book.noted time (book_of notes)
 unfolding book_of
-book_full time point rtt variance room notes none =
+book_full time point rtt variance room rates notes none =
     let n = length-map (fulls notes) (noted_of notes) in
     ap (λ (b : Bool). record { index = length (fulls notes); moment = time; is_confirmed = b } ∷ map (noted_of notes) (fulls notes)) none
     ∙ ap (λ (k : ℕ). record { index = k; moment = time; is_confirmed = false } ∷ map (noted_of notes) (fulls notes)) (sym n)
@@ -35,7 +41,8 @@ pub length_book : (notes : List Note) → length (book_of notes) ≡ length (ful
 unfolding book_of
 length_book notes = length-map (fulls notes) (noted_of notes)
 
-on_cond : (b : Bool) (g : Full → book.Noted) (x : Full) (o : Option book.Noted) (q : Option Full) → o ≡ option_map g q → cond b (Some (g x)) o ≡ option_map g (cond b (Some x) q)
+on_cond : (b : Bool) (g : Full → book.Noted) (x : Full) (o : Option book.Noted) (q : Option Full)
+    → o ≡ option_map g q → cond b (Some (g x)) o ≡ option_map g (cond b (Some x) q)
 on_cond true g x o q e = refl
 on_cond false g x o q e = e
 
@@ -81,7 +88,9 @@ pub record Confirms (number d : ℕ) (notes : List Note) : Type 0 where
   pub stands : slice_get (fulls notes) d ≡ Some full
   pub last : d < 64
 
-found_is : (number d : ℕ) (notes : List Note) → confirmed_by number notes ≡ slice_get (take 64 (fulls notes)) d → (o : Option Full) → slice_get (take 64 (fulls notes)) d ≡ o → d < length (take 64 (fulls notes)) → Confirms number d notes
+found_is : (number d : ℕ) (notes : List Note) → confirmed_by number notes ≡ slice_get (take 64 (fulls notes)) d → (o : Option Full)
+    → slice_get (take 64 (fulls notes)) d ≡ o → d < length (take 64 (fulls notes))
+    → Confirms number d notes
 found_is number d notes e None is lt = let some = slice_get-get_or (take 64 (fulls notes)) d (record { index = 0; time = 0; point = 0; available = 0 }) lt in cc
 found_is number d notes e (Some f) is lt = let k = slice_get_taken 64 (fulls notes) d f is in record { full = f; it_is = e ∙ is; stands = k.1; last = k.0 }
 
@@ -92,28 +101,37 @@ confirms_some number d notes e =
     let xs = take 64 (fulls notes) in
     let t = take-map g 64 (fulls notes) in
     let at = at_place (book.is_waiting number) (take 64 (book_of notes)) d e in
-    let same : position_or_len (answers number notes) xs ≡ d = sym (place_mapped g (book.is_waiting number) xs) ∙ ap (position_or_len (book.is_waiting number)) (sym t) ∙ at.1 in
+    let same : position_or_len (answers number notes) xs ≡ d =
+    sym (place_mapped g (book.is_waiting number) xs) ∙ ap (position_or_len (book.is_waiting number)) (sym t) ∙ at.1 in
     let len : length (take 64 (book_of notes)) ≡ length xs = ap length t ∙ length-map xs g in
     found_is number d notes (find_at (answers number notes) xs ∙ ap (slice_get xs) same) (slice_get xs d) refl (omega (arith, at.0, len))
 
 both : (a b : ℕ) (c : Bool) → (if b == a then true else c) ≡ ((a == b) || c)
 both a b c = grind (arith, nat_tests)
 
-marked_all : (notes : List Note) (full : Full) (sample : ℕ) (fs : List Full) → map (book.marked full.index) (map (noted_of notes) fs) ≡ map (noted_of (Confirmed full sample ∷ notes)) fs
+marked_all : (notes : List Note) (full : Full) (sample : ℕ) (fs : List Full)
+    → map (book.marked full.index) (map (noted_of notes) fs) ≡ map (noted_of (Confirmed full sample ∷ notes)) fs
 marked_all notes full sample [] = refl
 marked_all notes full sample (f ∷ fs) =
-    ap (λ (b : Bool). record { index = f.index; moment = f.time; is_confirmed = b } ∷ map (book.marked full.index) (map (noted_of notes) fs)) (both full.index f.index (is_confirmed notes f.index))
+    ap
+    (λ (b : Bool). record { index = f.index; moment = f.time; is_confirmed = b } ∷ map (book.marked full.index) (map (noted_of notes) fs))
+    (both full.index f.index (is_confirmed notes f.index))
     ∙ ap (λ (ns : List book.Noted). noted_of (Confirmed full sample ∷ notes) f ∷ ns) (marked_all notes full sample fs)
 
-by_option : (time : ℕ) (notes : List Note) (o : Option Full) → book.with_marked (option_map (noted_of notes) o) (book_of notes) ≡ book_of (confirmed_notes time o notes)
+by_option : (time : ℕ) (notes : List Note) (o : Option Full)
+    → book.with_marked (option_map (noted_of notes) o) (book_of notes) ≡ book_of (confirmed_notes time o notes)
 unfolding book_of
 by_option time notes None = refl
 by_option time notes (Some full) = marked_all notes full (sample_of time full) (fulls notes)
 
-pub book_confirmed : (number time : ℕ) (notes : List Note) → book.confirmed number (book_of notes) ≡ book_of (confirmed_notes time (confirmed_by number notes) notes)
-book_confirmed number time notes = ap (λ (o : Option book.Noted). book.with_marked o (book_of notes)) (same_waiting number notes) ∙ by_option time notes (confirmed_by number notes)
+pub book_confirmed : (number time : ℕ) (notes : List Note)
+    → book.confirmed number (book_of notes) ≡ book_of (confirmed_notes time (confirmed_by number notes) notes)
+book_confirmed number time notes =
+    ap (λ (o : Option book.Noted). book.with_marked o (book_of notes)) (same_waiting number notes)
+    ∙ by_option time notes (confirmed_by number notes)
 
-sample_option : (time : ℕ) (notes : List Note) (o : Option Full) → option_map (book.sample_at time) (option_map (noted_of notes) o) ≡ option_map (sample_of time) o
+sample_option : (time : ℕ) (notes : List Note) (o : Option Full)
+    → option_map (book.sample_at time) (option_map (noted_of notes) o) ≡ option_map (sample_of time) o
 sample_option time notes None = refl
 sample_option time notes (Some full) = refl
 

@@ -6,21 +6,29 @@ use Rattle.srt_seq.specs.Runs.{Range, Run}
 use Rattle.srt_seq.specs.declared.numbers.Seq31.{Seq31}
 use Rattle.srt_loss.specs.Text.{range_of, loss_words}
 use Rattle.srt_packet.specs.declared.writing.Body.TheVariants as out
+use Rattle.srt_packet.specs.declared.writing.Rates.{Rates}
 use Rattle.srt_seq.specs.Words.{words}
 use Rattle.arrayvec.specs.ArrayVec.{ArrayVec}
 use Rattle.srt_recvbuf.specs.Stands.{words_of, run_words}
 use Rattle.srt_pub.specs.Publishing.{FullAck, LightAck, KeepAlive, nak_report, nak_with}
 use Rattle.srt_pub.specs.Says.{says, body_bytes, range_said, losses_said}
 
-pub full_bytes : (caller initial time number index a rtt variance room rtt' variance' : ℕ) (point : Seq31) → number ≡ ack_number index → word_of point ≡ number_word initial a → rtt ≡ rtt' → variance ≡ variance' → body_bytes caller time (out.FullAck number point rtt variance room) ≡ says caller initial time (FullAck index a rtt' variance' room)
-unfolding body_bytes says
-full_bytes caller initial time number index a rtt variance room rtt' variance' point n p r v =
-    ap (λ k. words (0x8002_0000 ∷ k ∷ time % 2 ^ 32 ∷ caller ∷ word_of point ∷ rtt ∷ variance ∷ room ∷ 0 ∷ 0 ∷ 0 ∷ [])) n
-    ∙ ap (λ k. words (0x8002_0000 ∷ ack_number index ∷ time % 2 ^ 32 ∷ caller ∷ k ∷ rtt ∷ variance ∷ room ∷ 0 ∷ 0 ∷ 0 ∷ [])) p
-    ∙ ap (λ k. words (0x8002_0000 ∷ ack_number index ∷ time % 2 ^ 32 ∷ caller ∷ number_word initial a ∷ k ∷ variance ∷ room ∷ 0 ∷ 0 ∷ 0 ∷ [])) r
-    ∙ ap (λ k. words (0x8002_0000 ∷ ack_number index ∷ time % 2 ^ 32 ∷ caller ∷ number_word initial a ∷ rtt' ∷ k ∷ room ∷ 0 ∷ 0 ∷ 0 ∷ [])) v
+abbrev rate_words : Rates → List ℕ
+rate_words r = r.packets ∷ r.capacity ∷ r.bytes ∷ []
 
-pub light_bytes : (caller initial time a : ℕ) (point : Seq31) → word_of point ≡ number_word initial a → body_bytes caller time (out.LightAck point) ≡ says caller initial time (LightAck a)
+pub full_bytes : (caller initial time number index a rtt variance room rtt' variance' : ℕ) (rates rates' : Rates) (point : Seq31) → number ≡ ack_number index
+    → word_of point ≡ number_word initial a → rtt ≡ rtt' → variance ≡ variance' → rates ≡ rates'
+    → body_bytes caller time (out.FullAck number point rtt variance room rates) ≡ says caller initial time (FullAck index a rtt' variance' room rates')
+unfolding body_bytes says
+full_bytes caller initial time number index a rtt variance room rtt' variance' rates rates' point n p r v q =
+    ap (λ k. words (0x8002_0000 ∷ k ∷ time % 2 ^ 32 ∷ caller ∷ word_of point ∷ rtt ∷ variance ∷ room ∷ rate_words rates)) n
+    ∙ ap (λ k. words (0x8002_0000 ∷ ack_number index ∷ time % 2 ^ 32 ∷ caller ∷ k ∷ rtt ∷ variance ∷ room ∷ rate_words rates)) p
+    ∙ ap (λ k. words (0x8002_0000 ∷ ack_number index ∷ time % 2 ^ 32 ∷ caller ∷ number_word initial a ∷ k ∷ variance ∷ room ∷ rate_words rates)) r
+    ∙ ap (λ k. words (0x8002_0000 ∷ ack_number index ∷ time % 2 ^ 32 ∷ caller ∷ number_word initial a ∷ rtt' ∷ k ∷ room ∷ rate_words rates)) v
+    ∙ ap (λ k. words (0x8002_0000 ∷ ack_number index ∷ time % 2 ^ 32 ∷ caller ∷ number_word initial a ∷ rtt' ∷ variance' ∷ room ∷ rate_words k)) q
+
+pub light_bytes : (caller initial time a : ℕ) (point : Seq31)
+    → word_of point ≡ number_word initial a → body_bytes caller time (out.LightAck point) ≡ says caller initial time (LightAck a)
 unfolding body_bytes says
 light_bytes caller initial time a point p = ap (λ k. words (0x8002_0000 ∷ 0 ∷ time % 2 ^ 32 ∷ caller ∷ k ∷ [])) p
 
@@ -28,7 +36,8 @@ pub keep_alive_bytes : (caller initial time : ℕ) → body_bytes caller time ou
 unfolding body_bytes says
 keep_alive_bytes caller initial time = refl
 
-pub nak_bytes : (all : Bool) (caller initial time : ℕ) (losses : ArrayVec ℕ) (rs : List Run) → losses.items ≡ losses_said initial rs → body_bytes caller time (out.Nak losses) ≡ says caller initial time (nak_report all rs)
+pub nak_bytes : (all : Bool) (caller initial time : ℕ) (losses : ArrayVec ℕ) (rs : List Run)
+    → losses.items ≡ losses_said initial rs → body_bytes caller time (out.Nak losses) ≡ says caller initial time (nak_report all rs)
 unfolding body_bytes says
 nak_bytes true caller initial time losses rs e = ap (λ ns. words (0x8003_0000 ∷ 0 ∷ time % 2 ^ 32 ∷ caller ∷ ns)) e
 nak_bytes false caller initial time losses rs e = ap (λ ns. words (0x8003_0000 ∷ 0 ∷ time % 2 ^ 32 ∷ caller ∷ ns)) e
@@ -45,7 +54,8 @@ of_runs initial [] = refl
 of_runs initial (r ∷ rs) = ap (λ qs. range_said initial r ∷ qs) (of_runs initial rs)
 
 -- the sequence numbers of a buffer's runs
-pub same_losses : (initial : ℕ) (pairs : List (Seq31 × Seq31)) (rs : List Run) → words_of pairs ≡ map (run_words initial) rs → loss_words (map range_of pairs) ≡ losses_said initial rs
+pub same_losses : (initial : ℕ) (pairs : List (Seq31 × Seq31)) (rs : List Run)
+    → words_of pairs ≡ map (run_words initial) rs → loss_words (map range_of pairs) ≡ losses_said initial rs
 same_losses initial pairs rs e = ap loss_words (of_pairs pairs ∙ ap (map range_pair) e ∙ of_runs initial rs)
 
 some_words : (b : Bool) (x y z : ℕ) (more : List ℕ) → 0 < length (cond b (x ∷ []) (y ∷ z ∷ []) ++ more)

@@ -1,5 +1,6 @@
 -- Delivering payloads one by one is the same as delivering them together.
-use Rattle.std.proofs.Common.{◌≡◌, inl, inr, ℕ, suc, zero, ◌+◌, ◌-◌, ◌<◌, min, pos, Bool, true, false, cond, Option, Some, None, List, [], ◌∷◌, length, take, refl, sym, ap, subst, ◌∙◌, arith}
+use Rattle.std.proofs.Common.{◌≡◌, inl, inr, ℕ, suc, zero, ◌+◌, ◌-◌, ◌<◌, min, pos, Bool, true, false, cond, Option, Some, None, List, []}
+use Rattle.std.proofs.Common.{◌∷◌, length, take, refl, sym, ap, subst, ◌∙◌, arith}
 use Rattle.std.specs.Prelude.{int_le, filter_map}
 use Rattle.srt_seq.specs.Runs.{numbers_from}
 use Rattle.std.specs.List.{take_while, prefix_len}
@@ -24,16 +25,20 @@ pub record IsGood (terms : Terms) (m : Publishing) : Type 0 where
 -- one call, with this list of payloads left
 pub data Step (terms : Terms) (time room : ℕ) (m : Publishing) (left : List Arrival) (rest : Publishing → List Arrival) : Type 0 where
   Nothing : next_delivery terms time room m ≡ None → left ≡ [] → Step terms time room m left rest
-  One : (a : Arrival) (more : List Arrival) → next_delivery terms time room m ≡ Some a → waiting m.receiving ≡ a ∷ more → left ≡ a ∷ rest (after_delivery terms (Some a) m) → Step terms time room m left rest
+  One : (a : Arrival) (more : List Arrival) → next_delivery terms time room m ≡ Some a → waiting m.receiving ≡ a ∷ more
+      → left ≡ a ∷ rest (after_delivery terms (Some a) m)
+      → Step terms time room m left rest
 
-good_after : (terms : Terms) (m : Publishing) (a : Arrival) (more : List Arrival) → IsGood terms m → waiting m.receiving ≡ a ∷ more → IsGood terms (after_delivery terms (Some a) m)
+good_after : (terms : Terms) (m : Publishing) (a : Arrival) (more : List Arrival)
+    → IsGood terms m → waiting m.receiving ≡ a ∷ more → IsGood terms (after_delivery terms (Some a) m)
 good_after terms m a more g w =
     let r = m.receiving in
     let k = first_waiting (λ (x : Arrival). 0 < length x.payload) r a more g.orderly.filled w in
     let s = settles terms.width (record r { front = a.number + 1 }) in
     record { orderly = orderly_passed terms.mode terms.width r a k.low g.orderly; beyond = λ n le. g.beyond n (omega (arith, le, s.0, k.low)) }
 
-passed_more : (terms : Terms) (m : Publishing) (a : Arrival) (xs : List Arrival) → IsGood terms (after_delivery terms (Some a) m) → passed terms.width xs (passed terms.width (a ∷ []) m.receiving) ≡ passed terms.width (a ∷ xs) m.receiving
+passed_more : (terms : Terms) (m : Publishing) (a : Arrival) (xs : List Arrival) → IsGood terms (after_delivery terms (Some a) m)
+    → passed terms.width xs (passed terms.width (a ∷ []) m.receiving) ≡ passed terms.width (a ∷ xs) m.receiving
 passed_more terms m a [] g = settled_already terms.width (passed terms.width (a ∷ []) m.receiving) g.orderly.settled
 passed_more terms m a (b ∷ xs) g = passes_one_by_one terms.width m.receiving a b xs
 
@@ -48,7 +53,12 @@ nothing_passed : (terms : Terms) (m : Publishing) → IsGood terms m → m ≡ r
 nothing_passed terms m g = ap (λ (r : Receiving). record m { receiving = r }) (sym (settled_already terms.width m.receiving g.orderly.settled))
 
 -- n calls, if each is such a step
-by_steps : (terms : Terms) (time : ℕ) (left : (calls room : ℕ) → Publishing → List Arrival) → ((room : ℕ) (m : Publishing) → left 0 room m ≡ []) → ((calls room : ℕ) (m : Publishing) → IsGood terms m → Step terms time room m (left (suc calls) room m) (left calls (room_after terms.mode room))) → (calls room : ℕ) (m : Publishing) → IsGood terms m → GivesAll terms time room calls m (left calls room m)
+by_steps : (terms : Terms) (time : ℕ) (left : (calls room : ℕ) → Publishing → List Arrival)
+    → ((room : ℕ) (m : Publishing) → left 0 room m ≡ [])
+    → ((calls room : ℕ) (m : Publishing)
+    → IsGood terms m → Step terms time room m (left (suc calls) room m) (left calls (room_after terms.mode room)))
+    → (calls room : ℕ) (m : Publishing) → IsGood terms m
+    → GivesAll terms time room calls m (left calls room m)
 by_steps terms time left none step zero room m g = record {
   given = sym (none room m);
   left = nothing_passed terms m g ∙ ap (λ (xs : List Arrival). record m { receiving = passed terms.width xs m.receiving }) (sym (none room m));
@@ -56,12 +66,16 @@ by_steps terms time left none step zero room m g = record {
 by_steps terms time left none step (suc calls) room m g = by (step calls room m g) (by_steps terms time left none step calls (room_after terms.mode room))
   where
     given_by : Option Arrival → List Arrival
-    given_by o = elim o as (λ v. List Arrival) [ None ↦ [] | Some a ↦ a ∷ gives terms time (room_after terms.mode room) calls (after_delivery terms (Some a) m) ]
+    given_by o = elim o as (λ v. List Arrival)
+        [ None ↦ [] | Some a ↦ a ∷ gives terms time (room_after terms.mode room) calls (after_delivery terms (Some a) m) ]
 
     left_by : Option Arrival → Publishing
     left_by o = elim o as (λ v. Publishing) [ None ↦ m | Some a ↦ leaves terms time (room_after terms.mode room) calls (after_delivery terms (Some a) m) ]
 
-    by : Step terms time room m (left (suc calls) room m) (left calls (room_after terms.mode room)) → ((p : Publishing) → IsGood terms p → GivesAll terms time (room_after terms.mode room) calls p (left calls (room_after terms.mode room) p)) → GivesAll terms time room (suc calls) m (left (suc calls) room m)
+    by : Step terms time room m (left (suc calls) room m) (left calls (room_after terms.mode room))
+        → ((p : Publishing)
+        → IsGood terms p → GivesAll terms time (room_after terms.mode room) calls p (left calls (room_after terms.mode room) p))
+        → GivesAll terms time room (suc calls) m (left (suc calls) room m)
     by (Nothing next all) fewer = record {
       given = ap given_by next ∙ sym all;
       left = ap left_by next ∙ nothing_passed terms m g ∙ ap (λ (xs : List Arrival). record m { receiving = passed terms.width xs m.receiving }) (sym all);
@@ -73,7 +87,8 @@ by_steps terms time left none step (suc calls) room m g = by (step calls room m 
         let h = fewer m' g' in
         record {
           given = ap given_by next ∙ ap (λ (ys : List Arrival). a ∷ ys) h.given ∙ sym all;
-          left = ap left_by next ∙ h.left ∙ ap (λ (r : Receiving). record m { receiving = r }) (passed_more terms m a xs g') ∙ ap (λ (ys : List Arrival). record m { receiving = passed terms.width ys m.receiving }) (sym all);
+          left = ap left_by next ∙ h.left ∙ ap (λ (r : Receiving). record m { receiving = r }) (passed_more terms m a xs g')
+              ∙ ap (λ (ys : List Arrival). record m { receiving = passed terms.width ys m.receiving }) (sym all);
         }
 
 taken_more : (n k : ℕ) (a : Arrival) (xs : List Arrival) → n ≡ k + 1 → take n (a ∷ xs) ≡ a ∷ take k xs
@@ -88,7 +103,9 @@ taken_nothing : (n : ℕ) → take {A = Arrival} n [] ≡ []
 taken_nothing zero = refl
 taken_nothing (suc n) = refl
 
-pub live_step : (terms : Terms) (time : ℕ) → terms.mode ≡ Live → (calls room : ℕ) (m : Publishing) → IsGood terms m → Step terms time room m (take (suc calls) (take_while (λ (a : Arrival). int_le a.due (pos time)) (waiting m.receiving))) (λ p. take calls (take_while (λ (a : Arrival). int_le a.due (pos time)) (waiting p.receiving)))
+pub live_step : (terms : Terms) (time : ℕ) → terms.mode ≡ Live → (calls room : ℕ) (m : Publishing) → IsGood terms m
+    → Step terms time room m (take (suc calls) (take_while (λ (a : Arrival). int_le a.due (pos time)) (waiting m.receiving)))
+    (λ p. take calls (take_while (λ (a : Arrival). int_le a.due (pos time)) (waiting p.receiving)))
 live_step terms time live calls room m g = by (waiting m.receiving) refl
   where
     whole : List Arrival → List Arrival
@@ -100,12 +117,17 @@ live_step terms time live calls room m g = by (waiting m.receiving) refl
     next : next_delivery terms time room m ≡ first_due time (waiting m.receiving)
     next = live_next terms time room m live
 
-    by_due : (a : Arrival) (more : List Arrival) → waiting m.receiving ≡ a ∷ more → (b : Bool) → int_le a.due (pos time) ≡ b → Step terms time room m (whole (waiting m.receiving)) rest
+    by_due : (a : Arrival) (more : List Arrival) → waiting m.receiving ≡ a ∷ more → (b : Bool) → int_le a.due (pos time) ≡ b
+        → Step terms time room m (whole (waiting m.receiving)) rest
     by_due a more w true d =
         One a more (next ∙ ap (first_due time) w ∙ ap (λ (x : Bool). cond x (Some a) None) d) w
         (ap whole w ∙ ap (λ (x : Bool). take (suc calls) (take (cond x (1 + prefix_len (λ (x : Arrival). int_le x.due (pos time)) more) 0) (a ∷ more))) d
-        ∙ ap (take (suc calls)) (taken_more (1 + prefix_len (λ (x : Arrival). int_le x.due (pos time)) more) (prefix_len (λ (x : Arrival). int_le x.due (pos time)) more) a more (omega arith))
-        ∙ sym (ap (λ (ys : List Arrival). a ∷ take calls (take_while (λ (x : Arrival). int_le x.due (pos time)) ys)) (others_wait terms.width m.receiving a more w)))
+        ∙ ap (take (suc calls))
+        (taken_more (1 + prefix_len (λ (x : Arrival). int_le x.due (pos time)) more)
+        (prefix_len (λ (x : Arrival). int_le x.due (pos time)) more) a more (omega arith))
+        ∙ sym
+        (ap (λ (ys : List Arrival). a ∷ take calls (take_while (λ (x : Arrival). int_le x.due (pos time)) ys))
+        (others_wait terms.width m.receiving a more w)))
     by_due a more w false d =
         Nothing (next ∙ ap (first_due time) w ∙ ap (λ (x : Bool). cond x (Some a) None) d)
         (ap whole w ∙ ap (λ (x : Bool). take (suc calls) (take (cond x (1 + prefix_len (λ (x : Arrival). int_le x.due (pos time)) more) 0) (a ∷ more))) d)
@@ -115,7 +137,9 @@ live_step terms time live calls room m g = by (waiting m.receiving) refl
     by (a ∷ more) w = by_due a more w (int_le a.due (pos time)) refl
 
 -- buffer mode: the payloads without a gap, as long as there is room
-pub buffer_step : (terms : Terms) (time : ℕ) → terms.mode ≡ Buffer → (calls room : ℕ) (m : Publishing) → IsGood terms m → Step terms time room m (take (min (suc calls) room) (unbroken terms.width m.receiving)) (λ p. take (min calls (room_after terms.mode room)) (unbroken terms.width p.receiving))
+pub buffer_step : (terms : Terms) (time : ℕ) → terms.mode ≡ Buffer → (calls room : ℕ) (m : Publishing) → IsGood terms m
+    → Step terms time room m (take (min (suc calls) room) (unbroken terms.width m.receiving))
+    (λ p. take (min calls (room_after terms.mode room)) (unbroken terms.width p.receiving))
 buffer_step terms time buffer calls room m g = elim (cases_lt m.receiving.front (ack_point terms.width m.receiving)) [
   | inl lt ↦ by (unbroken_one_by_one terms.width m.receiving in_buffer.0 g.beyond lt)
   | inr ge ↦ Nothing (buffer_none terms time room m buffer (omega (arith, ge))) (nothing_unbroken (omega (arith, ge)))
@@ -125,15 +149,24 @@ buffer_step terms time buffer calls room m g = elim (cases_lt m.receiving.front 
     in_buffer = subst (λ (d : Mode). IsInMode d m.receiving) buffer g.orderly.in_mode
 
     nothing_unbroken : ack_point terms.width m.receiving - m.receiving.front ≡ 0 → take (min (suc calls) room) (unbroken terms.width m.receiving) ≡ []
-    nothing_unbroken e = ap (λ (k : ℕ). take (min (suc calls) room) (filter_map (arrival_of m.receiving.arrivals) (numbers_from m.receiving.front k))) e ∙ taken_nothing (min (suc calls) room)
+    nothing_unbroken e =
+        ap (λ (k : ℕ). take (min (suc calls) room) (filter_map (arrival_of m.receiving.arrivals) (numbers_from m.receiving.front k))) e
+        ∙ taken_nothing (min (suc calls) room)
 
-    by : (a : Arrival) × (more : List Arrival) × (waiting m.receiving ≡ a ∷ more) × (unbroken terms.width m.receiving ≡ a ∷ unbroken terms.width (passed terms.width (a ∷ []) m.receiving)) → Step terms time room m (take (min (suc calls) room) (unbroken terms.width m.receiving)) (λ p. take (min calls (room_after terms.mode room)) (unbroken terms.width p.receiving))
+    by : (a : Arrival) × (more : List Arrival) × (waiting m.receiving ≡ a ∷ more) ×
+        (unbroken terms.width m.receiving ≡ a ∷ unbroken terms.width (passed terms.width (a ∷ []) m.receiving))
+        → Step terms time room m (take (min (suc calls) room) (unbroken terms.width m.receiving))
+        (λ p. take (min calls (room_after terms.mode room)) (unbroken terms.width p.receiving))
     by u = elim (cases_eq room 0) [
-      | inl z ↦ Nothing (buffer_is terms time room m buffer ∙ ap first_of (taken_none (min most room) (unbroken terms.width m.receiving) (omega (arith, z)))) (taken_none (min (suc calls) room) (unbroken terms.width m.receiving) (omega (arith, z)))
+      | inl z ↦ Nothing
+          (buffer_is terms time room m buffer
+          ∙ ap first_of (taken_none (min most room) (unbroken terms.width m.receiving) (omega (arith, z))))
+          (taken_none (min (suc calls) room) (unbroken terms.width m.receiving) (omega (arith, z)))
       | inr s ↦
           let after : room_after terms.mode room ≡ room - 1 = ap (λ (d : Mode). room_after d room) buffer in
           One u.0 u.1
-          (buffer_is terms time room m buffer ∙ ap (λ (xs : List Arrival). first_of (take (min most room) xs)) u.3 ∙ ap first_of (taken_more (min most room) (min most room - 1) u.0 _ (omega (arith, s))))
+          (buffer_is terms time room m buffer ∙ ap (λ (xs : List Arrival). first_of (take (min most room) xs)) u.3
+          ∙ ap first_of (taken_more (min most room) (min most room - 1) u.0 _ (omega (arith, s))))
           u.2
           (ap (take (min (suc calls) room)) u.3 ∙ taken_more (min (suc calls) room) (min calls (room_after terms.mode room)) u.0 _ (omega (arith, s, after)))
     ]
@@ -142,12 +175,18 @@ pub delivers : (terms : Terms) (m : Publishing) → IsGood terms m → DeliversO
 unfolding deliveries
 delivers terms m g time room = by terms.mode refl
   where
-    by : (d : Mode) → terms.mode ≡ d → (gives terms time room 64 m ≡ deliveries terms.mode terms time (Some room) m) × (leaves terms time room 64 m ≡ delivered terms time (Some room) m)
+    by : (d : Mode) → terms.mode ≡ d
+        → (gives terms time room 64 m ≡ deliveries terms.mode terms time (Some room) m) ×
+        (leaves terms time room 64 m ≡ delivered terms time (Some room) m)
     by Live e =
-        let h = by_steps terms time (λ calls room p. take calls (take_while (λ (a : Arrival). int_le a.due (pos time)) (waiting p.receiving))) (λ room p. refl) (live_step terms time e) 64 room m g in
+        let h =
+        by_steps terms time (λ calls room p. take calls (take_while (λ (a : Arrival). int_le a.due (pos time)) (waiting p.receiving)))
+        (λ room p. refl) (live_step terms time e) 64 room m g in
         let same : deliveries terms.mode terms time (Some room) m ≡ deliverable time m.receiving = ap (λ (x : Mode). deliveries x terms time (Some room) m) e in
         (h.given ∙ sym same, h.left ∙ sym (ap (λ (xs : List Arrival). record m { receiving = passed terms.width xs m.receiving }) same))
     by Buffer e =
-        let h = by_steps terms time (λ calls room p. take (min calls room) (unbroken terms.width p.receiving)) (λ room p. taken_none (min 0 room) (unbroken terms.width p.receiving) (omega arith)) (buffer_step terms time e) 64 room m g in
-        let same : deliveries terms.mode terms time (Some room) m ≡ in_order terms.width room m.receiving = ap (λ (x : Mode). deliveries x terms time (Some room) m) e in
+        let h = by_steps terms time (λ calls room p. take (min calls room) (unbroken terms.width p.receiving))
+        (λ room p. taken_none (min 0 room) (unbroken terms.width p.receiving) (omega arith)) (buffer_step terms time e) 64 room m g in
+        let same : deliveries terms.mode terms time (Some room) m ≡ in_order terms.width room m.receiving =
+        ap (λ (x : Mode). deliveries x terms time (Some room) m) e in
         (h.given ∙ sym same, h.left ∙ sym (ap (λ (xs : List Arrival). record m { receiving = passed terms.width xs m.receiving }) same))

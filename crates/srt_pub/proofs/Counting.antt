@@ -1,17 +1,25 @@
 -- The counts of a session follow what it receives, delivers and sends.
-use Rattle.std.proofs.Common.{◌≡◌, ℕ, suc, zero, ◌+◌, ◌-◌, ◌^◌, ◌≤◌, Bool, true, false, not, cond, ◌&&◌, Option, Some, None, List, ◌∷◌, length, refl, sym, ap, subst, ◌∙◌, arith, ℤ}
-use Rattle.std.specs.Prelude.{◌==◌, is_some, filter_map, option_map, nat_lt}
+use Rattle.std.proofs.Common.{◌≡◌, ℕ, suc, zero, ◌+◌, ◌-◌, ◌^◌, ◌≤◌, Bool, true, false, not, cond, ◌&&◌, Option, Some, None, List, ◌∷◌}
+use Rattle.std.proofs.Common.{length, refl, sym, ap, subst, ◌∙◌, arith, ℤ}
+use Rattle.std.specs.Prelude.{◌==◌, is_some, filter_map, nat_lt}
 use Rattle.std.specs.List.{cons_option}
 use Rattle.std.proofs.lemmas.Bool.{ne_eqb}
-use Rattle.srt_seq.specs.Given.{given}
 use Rattle.srt_seq.specs.Window.{in_window, offset_of}
 use Rattle.srt_seq.specs.Runs.{Range, Run, span, least_from, numbers_from}
-use Rattle.srt_recvbuf.specs.Receiving.{Arrival, Receiving, arrival_of, is_received, is_requested, is_dropped, end_of, moved_to, settled, put_of, received, requested, with_number, next_due, after_next}
+use Rattle.srt_recvbuf.specs.Receiving.{Arrival, Receiving, arrival_of, is_received, is_requested, is_dropped, end_of, moved_to, settled}
+use Rattle.srt_recvbuf.specs.Receiving.{put_of, received, requested, with_number, next_due, after_next}
 use Rattle.srt_recvbuf.proofs.OneByOne.{found, found_number, number_or}
-use Rattle.srt_pub.specs.Publishing.{Note, Came, Sent, Report, LightAck, Full, ack_of, acks_at, is_full_due, is_light_due, full_ack, noted, nak_report, confirmed_notes}
-use Rattle.srt_pub.specs.Counting.{one_if, capped, bytes_in, received_below, came_in, is_nak, naks_in, AreCounts, Counted, Passes, with_one, with_put, with_steps, with_nak}
+use Rattle.srt_pub.specs.Publishing.{Terms, Note, Came, Sent, FullAck, LightAck, KeepAlive, Full, ack_of, acks_at, is_full_due, is_light_due}
+use Rattle.srt_pub.specs.Publishing.{full_ack, noted, nak_report, confirmed_notes}
+use Rattle.srt_pub.specs.Counting.{one_if, capped, bytes_in, received_below, came_in, late_in, ahead_in, naks_in, numbers_in}
+use Rattle.srt_pub.specs.Counting.{reported_lost_in, full_windows_in, counts_of, Counted, Passes, with_one, with_put, with_steps, with_nak}
+use Rattle.srt_pub.specs.Counting.{with_full_window}
 use Rattle.srt_pub.specs.declared.counts.Counts.{Counts}
+use Rattle.srt_pub.specs.declared.region.Region.{Region}
+use Rattle.srt_pub.specs.declared.region.Region.TheVariants.{Inside, Ahead, Late}
+use Rattle.srt_recvbuf.specs.declared.buffer.Put.{Put}
 use Rattle.srt_recvbuf.specs.declared.buffer.Put.TheVariants.{New, Repeat}
+use Rattle.srt_packet.specs.declared.writing.Rates.{Rates}
 use Rattle.srt_pub.proofs.Goings.{settles, next_waits}
 
 -- no more numbers are received than there are
@@ -41,34 +49,42 @@ gone true true e = cc
 gone true false e = refl
 gone false c e = cc
 
-pub settled_below : (width : ℕ) (r : Receiving) (places from : ℕ) → received_below r.arrivals (least_from (λ n. not (is_dropped width r n)) from places) ≡ received_below r.arrivals from
+pub settled_below : (width : ℕ) (r : Receiving) (places from : ℕ)
+    → received_below r.arrivals (least_from (λ n. not (is_dropped width r n)) from places) ≡ received_below r.arrivals from
 settled_below width r zero from = refl
 settled_below width r (suc places) from = by (not (is_dropped width r from)) refl (settled_below width r places (from + 1))
   where
-    by : (b : Bool) → not (is_dropped width r from) ≡ b → received_below r.arrivals (least_from (λ n. not (is_dropped width r n)) (from + 1) places) ≡ received_below r.arrivals (from + 1) → received_below r.arrivals (least_from (λ n. not (is_dropped width r n)) from (suc places)) ≡ received_below r.arrivals from
+    by : (b : Bool) → not (is_dropped width r from) ≡ b
+        → received_below r.arrivals (least_from (λ n. not (is_dropped width r n)) (from + 1) places) ≡ received_below r.arrivals (from + 1)
+        → received_below r.arrivals (least_from (λ n. not (is_dropped width r n)) from (suc places)) ≡ received_below r.arrivals from
     by true is next = ap (received_below r.arrivals) (found (λ n. not (is_dropped width r n)) from places true is)
     by false is next =
         let none = gone (is_requested width r.requests from) (is_received r from) is in
         let zero_more : received_below r.arrivals from + 0 ≡ received_below r.arrivals from = omega arith in
-        ap (received_below r.arrivals) (found (λ n. not (is_dropped width r n)) from places false is) ∙ next ∙ one_further r.arrivals from false none ∙ zero_more
+        ap (received_below r.arrivals) (found (λ n. not (is_dropped width r n)) from places false is) ∙ next
+        ∙ one_further r.arrivals from false none ∙ zero_more
 
 -- up to the first waiting packet and with it, one number more was received
 pub record IsFirst (xs : List Arrival) (from : ℕ) (a : Arrival) : Type 0 where
   pub low : from ≤ a.number
   pub one : received_below xs (a.number + 1) ≡ received_below xs from + 1
 
-pub first_below : (xs : List Arrival) (from count : ℕ) (a : Arrival) (more : List Arrival) → filter_map (arrival_of xs) (numbers_from from count) ≡ a ∷ more → IsFirst xs from a
+pub first_below : (xs : List Arrival) (from count : ℕ) (a : Arrival) (more : List Arrival)
+    → filter_map (arrival_of xs) (numbers_from from count) ≡ a ∷ more → IsFirst xs from a
 first_below xs from zero a more e = cc
 first_below xs from (suc count) a more e = by (arrival_of xs from) refl (first_below xs (from + 1) count a more)
   where
-    by : (o : Option Arrival) → arrival_of xs from ≡ o → (filter_map (arrival_of xs) (numbers_from (from + 1) count) ≡ a ∷ more → IsFirst xs (from + 1) a) → IsFirst xs from a
+    by : (o : Option Arrival) → arrival_of xs from ≡ o
+        → (filter_map (arrival_of xs) (numbers_from (from + 1) count) ≡ a ∷ more → IsFirst xs (from + 1) a)
+        → IsFirst xs from a
     by None is next =
         let h = next (sym (ap (λ o. cons_option o (filter_map (arrival_of xs) (numbers_from (from + 1) count))) is) ∙ e) in
         let step = one_further xs from false (ap is_some is) in
         let none : received_below xs from + one_if false ≡ received_below xs from = omega arith in
         record { low = omega (arith, h.low); one = h.one ∙ ap (λ x. x + 1) (step ∙ none) }
     by (Some x) is next =
-        let whole : x ∷ filter_map (arrival_of xs) (numbers_from (from + 1) count) ≡ a ∷ more = sym (ap (λ o. cons_option o (filter_map (arrival_of xs) (numbers_from (from + 1) count))) is) ∙ e in
+        let whole : x ∷ filter_map (arrival_of xs) (numbers_from (from + 1) count) ≡ a ∷ more =
+        sym (ap (λ o. cons_option o (filter_map (arrival_of xs) (numbers_from (from + 1) count))) is) ∙ e in
         let same : x ≡ a = cc in
         let n : x.number ≡ from = sym (ap (number_or from) is) ∙ found_number xs from in
         let m : a.number ≡ from = sym (ap (λ (y : Arrival). y.number) same) ∙ n in
@@ -85,14 +101,10 @@ passes_next width time room r (Some a) e =
     record { delivered = settled_below width s width (a.number + 1) ∙ h.one; far = omega (arith, k.0, h.low) }
 
 -- and that is so if the call says so
-pub said_due : (b : Bool) (xs : List ℕ) (o : Option Arrival) → given b xs ≡ option_map (λ (a : Arrival). a.payload) o → is_some o ≡ b
-said_due true xs None e = cc
-said_due true xs (Some a) e = refl
-said_due false xs None e = refl
-said_due false xs (Some a) e = cc
-
 pub passes_if : (width time room : ℕ) (r : Receiving) (b : Bool) → is_some (next_due time room r) ≡ b → Passes b r (after_next width (next_due time room r) r)
-passes_if width time room r b e = subst (λ (x : Bool). Passes x r (after_next width (next_due time room r) r)) e (passes_next width time room r (next_due time room r) refl)
+passes_if width time room r b e =
+    subst (λ (x : Bool). Passes x r (after_next width (next_due time room r) r)) e
+    (passes_next width time room r (next_due time room r) refl)
 
 -- numbers are dropped on request
 pub passes_request : (width : ℕ) (q : Range) (r : Receiving) → Passes false r (requested width q r)
@@ -128,71 +140,168 @@ low_number word front width n e = from_front front (offset_of word front) n (nat
 pub passes_data : (width word : ℕ) (payload : List ℕ) (due : ℤ) (r : Receiving) → Passes false r (received width word payload due r)
 passes_data width word payload due r = by (in_window word r.front width) (λ n e. low_number word r.front width n e)
   where
-    stored : (n : ℕ) (b : Bool) → r.front ≤ n → Passes false r (cond b r (record r { arrivals = record { number = n; payload = payload; due = due } ∷ r.arrivals }))
+    stored : (n : ℕ) (b : Bool)
+        → r.front ≤ n → Passes false r (cond b r (record r { arrivals = record { number = n; payload = payload; due = due } ∷ r.arrivals }))
     stored n true le = record { delivered = omega arith; far = omega arith }
-    stored n false le = let e = none_below (record { number = n; payload = payload; due = due }) r.arrivals r.front le in record { delivered = omega (arith, e); far = omega arith }
+    stored n false le =
+        let e = none_below (record { number = n; payload = payload; due = due }) r.arrivals r.front le in
+        record { delivered = omega (arith, e); far = omega arith }
 
     by : (o : Option ℕ) → ((n : ℕ) → o ≡ Some n → r.front ≤ n) → Passes false r (with_number o payload due r)
     by None low = record { delivered = omega arith; far = omega arith }
     by (Some n) low = stored n (is_received r n) (low n refl)
 
-one_more : (n count : ℕ) → n ≡ capped count → capped (n + 1) ≡ capped (count + 1)
-one_more n count e = omega (arith, e)
+-- a count that is kept, and some more
+some_more : (count more : ℕ) → capped (capped count + more) ≡ capped (count + more)
+some_more count more = omega arith
 
-some_more : (n count more : ℕ) → n ≡ capped count → capped (n + more) ≡ capped (count + more)
-some_more n count more e = omega (arith, e)
+both_more : (count more : ℕ) → capped (capped count + capped more) ≡ capped (count + more)
+both_more count more = omega arith
 
-pub counts_put : (o : Option ℕ) (payload : List ℕ) (due : ℤ) (r : Receiving) (c : Counts) (all delivered front asked : ℕ) → AreCounts c all (length r.arrivals) (bytes_in r.arrivals) delivered front asked → AreCounts (with_put (put_of o r) (length payload) c) all (length (with_number o payload due r).arrivals) (bytes_in (with_number o payload due r).arrivals) delivered front asked
-counts_put None payload due r c all delivered front asked h = h
-counts_put (Some n) payload due r c all delivered front asked h = by (is_received r n)
+none_more : (count : ℕ) → capped count ≡ capped (count + 0)
+none_more count = omega arith
+
+one_longer : (a : Arrival) (xs : List Arrival) → capped (capped (length xs) + 1) ≡ capped (length (a ∷ xs))
+one_longer a xs = omega arith
+
+pub counts_put : (o : Option ℕ) (payload : List ℕ) (due : ℤ) (r : Receiving) (c : Counts) (delivered front : ℕ) (notes : List Note)
+    → Counted c r.arrivals delivered front notes
+    → Counted (with_put (put_of o r) (length payload) c) (with_number o payload due r).arrivals delivered front notes
+counts_put None payload due r c delivered front notes h = h
+counts_put (Some n) payload due r c delivered front notes h = by (is_received r n)
   where
     a : Arrival
     a = record { number = n; payload = payload; due = due }
 
-    by : (b : Bool) → AreCounts (with_put (cond b Repeat New) (length payload) c) all (length (cond b r (record r { arrivals = a ∷ r.arrivals })).arrivals) (bytes_in (cond b r (record r { arrivals = a ∷ r.arrivals })).arrivals) delivered front asked
+    by : (b : Bool)
+        → Counted (with_put (cond b Repeat New) (length payload) c) (cond b r (record r { arrivals = a ∷ r.arrivals })).arrivals delivered
+        front notes
     by true = h
-    by false = record { came_is = h.came_is; received_is = omega (arith, h.received_is); bytes_is = some_more c.bytes (bytes_in r.arrivals) (length payload) h.bytes_is; delivered_is = h.delivered_is; given_up_is = h.given_up_is; naks_is = h.naks_is }
+    by false =
+        ap (with_put New (length payload)) h
+        ∙ (λ i. record (counts_of r.arrivals delivered front notes) {
+          received = one_longer a r.arrivals i;
+          bytes = some_more (bytes_in r.arrivals) (length payload) i;
+        })
 
 -- the front moves on
-pub counts_steps : (steps : ℕ) (b : Bool) (c : Counts) (all first bytes delivered front asked : ℕ) → delivered ≤ front → one_if b ≤ steps → AreCounts c all first bytes delivered front asked → AreCounts (with_steps steps b c) all first bytes (delivered + one_if b) (front + steps) asked
-counts_steps steps b c all first bytes delivered front asked le far h =
-    record {
-      came_is = h.came_is;
-      received_is = h.received_is;
-      bytes_is = h.bytes_is;
-      delivered_is = some_more c.delivered delivered (one_if b) h.delivered_is;
-      given_up_is = given_up (one_if b) far;
-      naks_is = h.naks_is;
-    }
+pub counts_steps : (steps : ℕ) (b : Bool) (c : Counts) (xs : List Arrival) (delivered front : ℕ) (notes : List Note) → delivered ≤ front
+    → one_if b ≤ steps → Counted c xs delivered front notes → Counted (with_steps steps b c) xs (delivered + one_if b) (front + steps) notes
+counts_steps steps b c xs delivered front notes le far h =
+    ap (with_steps steps b) h
+    ∙ (λ i. record (counts_of xs delivered front notes) {
+      delivered = some_more delivered (one_if b) i;
+      given_up = given_up (one_if b) far i;
+    })
   where
-    given_up : (d : ℕ) → d ≤ steps → capped (c.given_up + (steps - d)) ≡ capped ((front + steps) - (delivered + d))
-    given_up d d_far = omega (arith, le, d_far, h.given_up_is)
+    given_up : (d : ℕ) → d ≤ steps → capped (capped (front - delivered) + (steps - d)) ≡ capped ((front + steps) - (delivered + d))
+    given_up d d_far = omega (arith, le, d_far)
 
--- an ACK changes no count
-acks_count : (full light : Bool) (f l : Report) (time : ℕ) (notes : List Note) → is_nak f ≡ false → is_nak l ≡ false → (came_in (noted time (ack_of full light f l) notes) ≡ came_in notes) × (naks_in (noted time (ack_of full light f l) notes) ≡ naks_in notes)
-acks_count true light f l time notes first second = (refl, rw first refl)
-acks_count false true f l time notes first second = (refl, rw second refl)
-acks_count false false f l time notes first second = (refl, refl)
+-- an ACK changes at most the number of Full ACKs of a full window
+acks_count : (full light : Bool) (index point rtt variance room : ℕ) (rates : Rates) (a time : ℕ) (xs : List Arrival) (delivered front : ℕ)
+    (notes : List Note)
+    → record (counts_of xs delivered front notes) {
+      full_windows = capped (full_windows_in (noted time (ack_of full light (FullAck index point rtt variance room rates) (LightAck a)) notes));
+    }
+    ≡ counts_of xs delivered front (noted time (ack_of full light (FullAck index point rtt variance room rates) (LightAck a)) notes)
+acks_count true light index point rtt variance room rates a time xs delivered front notes =
+    λ i. record (counts_of xs delivered front (Sent time (FullAck index point rtt variance room rates) ∷ notes)) {
+      reported_lost = none_more (reported_lost_in notes) i;
+    }
+acks_count false true index point rtt variance room rates a time xs delivered front notes =
+    λ i. record (counts_of xs delivered front (Sent time (LightAck a) ∷ notes)) { reported_lost = none_more (reported_lost_in notes) i }
+acks_count false false index point rtt variance room rates a time xs delivered front notes = refl
 
-pub same_acks : (width point room time : ℕ) (notes : List Note) → (came_in (noted time (acks_at width point room time notes) notes) ≡ came_in notes) × (naks_in (noted time (acks_at width point room time notes) notes) ≡ naks_in notes)
+-- that changes by whether a Full ACK is due and says that no place is available
+pub full_window : (terms : Terms) (point room time : ℕ) (notes : List Note) (answer : Bool)
+    → answer ≡ (is_full_due terms.width point room time notes && (room == 0))
+    → full_windows_in (noted time (acks_at terms point room time notes) notes) ≡ full_windows_in notes + one_if answer
 unfolding acks_at
-same_acks width point room time notes = acks_count (is_full_due width point room time notes) (is_light_due notes) (full_ack point room notes) (LightAck point) time notes refl refl
+full_window terms point room time notes answer e =
+    by (is_full_due terms.width point room time notes) (is_light_due notes) ∙ ap (λ (b : Bool). full_windows_in notes + one_if b) (sym e)
+  where
+    by : (full light : Bool)
+        → full_windows_in (noted time (ack_of full light (full_ack terms point room notes) (LightAck point)) notes)
+        ≡ full_windows_in notes + one_if (full && (room == 0))
+    by true light = refl
+    by false true = refl
+    by false false = omega arith
 
--- nor does an ACKACK
-pub same_confirmed : (time : ℕ) (o : Option Full) (notes : List Note) → (came_in (confirmed_notes time o notes) ≡ came_in notes) × (naks_in (confirmed_notes time o notes) ≡ naks_in notes)
-same_confirmed time None notes = (refl, refl)
-same_confirmed time (Some full) notes = (refl, refl)
+pub counts_acks : (terms : Terms) (point room time : ℕ) (c : Counts) (xs : List Arrival) (delivered front : ℕ) (notes : List Note) (is_full : Bool)
+    → full_windows_in (noted time (acks_at terms point room time notes) notes) ≡ full_windows_in notes + one_if is_full
+    → Counted c xs delivered front notes
+    → Counted (with_full_window is_full c) xs delivered front (noted time (acks_at terms point room time notes) notes)
+unfolding acks_at
+counts_acks terms point room time c xs delivered front notes is_full full h =
+    ap (with_full_window is_full) h
+    ∙ (λ i. record (counts_of xs delivered front notes) {
+      full_windows = (some_more (full_windows_in notes) (one_if is_full) ∙ ap capped (sym full)) i;
+    })
+    ∙ acks_count (is_full_due terms.width point room time notes) (is_light_due notes) _ _ _ _ _ _ _ time xs delivered front notes
 
-pub renoted : (c : Counts) (xs : List Arrival) (delivered front : ℕ) (notes after : List Note) → (came_in after ≡ came_in notes) × (naks_in after ≡ naks_in notes) → Counted c xs delivered front notes → Counted c xs delivered front after
-renoted c xs delivered front notes after same h =
-    subst (λ (n : ℕ). AreCounts c (came_in after) (length xs) (bytes_in xs) delivered front n) (sym same.1)
-    (subst (λ (n : ℕ). AreCounts c n (length xs) (bytes_in xs) delivered front (naks_in notes)) (sym same.0) h)
+-- an ACKACK changes none
+pub same_confirmed : (c : Counts) (xs : List Arrival) (delivered front time : ℕ) (o : Option Full) (notes : List Note)
+    → Counted c xs delivered front notes → Counted c xs delivered front (confirmed_notes time o notes)
+same_confirmed c xs delivered front time None notes h = h
+same_confirmed c xs delivered front time (Some full) notes h = h
 
--- a NAK counts
-pub counts_nak : (time : ℕ) (all : Bool) (rs : List Run) (c : Counts) (xs : List Arrival) (delivered front : ℕ) (notes : List Note) → Counted c xs delivered front notes → Counted (with_nak c) xs delivered front (Sent time (nak_report all rs) ∷ notes)
-counts_nak time true rs c xs delivered front notes h = record { came_is = h.came_is; received_is = h.received_is; bytes_is = h.bytes_is; delivered_is = h.delivered_is; given_up_is = h.given_up_is; naks_is = one_more c.naks (naks_in notes) h.naks_is }
-counts_nak time false rs c xs delivered front notes h = record { came_is = h.came_is; received_is = h.received_is; bytes_is = h.bytes_is; delivered_is = h.delivered_is; given_up_is = h.given_up_is; naks_is = one_more c.naks (naks_in notes) h.naks_is }
+-- a NAK counts, and what it reports
+pub counts_nak : (time : ℕ) (all : Bool) (rs : List Run) (lost : ℕ) (c : Counts) (xs : List Arrival) (delivered front : ℕ)
+    (notes : List Note)
+    → lost ≡ capped (numbers_in rs) → Counted c xs delivered front notes
+    → Counted (with_nak lost c) xs delivered front (Sent time (nak_report all rs) ∷ notes)
+counts_nak time all rs lost c xs delivered front notes e h = by all
+  where
+    told : ℕ
+    told = reported_lost_in notes
+
+    reported : capped (capped told + lost) ≡ capped (told + numbers_in rs)
+    reported = ap (λ n. capped (capped told + n)) e ∙ both_more told (numbers_in rs)
+
+    one : with_nak lost c ≡ record (counts_of xs delivered front notes) {
+      naks = capped (naks_in notes + 1);
+      reported_lost = capped (told + numbers_in rs);
+      full_windows = capped (full_windows_in notes + 0);
+    }
+    one =
+        ap (with_nak lost) h
+        ∙ (λ i. record (counts_of xs delivered front notes) {
+          naks = some_more (naks_in notes) 1 i;
+          reported_lost = reported i;
+          full_windows = none_more (full_windows_in notes) i;
+        })
+
+    by : (all : Bool) → Counted (with_nak lost c) xs delivered front (Sent time (nak_report all rs) ∷ notes)
+    by true = one
+    by false = one
+
+-- nor does a KEEPALIVE change any
+pub counts_alive : (c : Counts) (xs : List Arrival) (delivered front time : ℕ) (notes : List Note)
+    → Counted c xs delivered front notes → Counted c xs delivered front (Sent time KeepAlive ∷ notes)
+counts_alive c xs delivered front time notes h =
+    h ∙ (λ i. record (counts_of xs delivered front notes) {
+      reported_lost = none_more (reported_lost_in notes) i;
+      full_windows = none_more (full_windows_in notes) i;
+    })
 
 -- a data packet counts, whatever becomes of it
-pub counts_one : (c : Counts) (xs : List Arrival) (delivered front : ℕ) (notes : List Note) → Counted c xs delivered front notes → Counted (with_one c) xs delivered front (Came ∷ notes)
-counts_one c xs delivered front notes h = record { came_is = one_more c.came (came_in notes) h.came_is; received_is = h.received_is; bytes_is = h.bytes_is; delivered_is = h.delivered_is; given_up_is = h.given_up_is; naks_is = h.naks_is }
+pub counts_one : (time : ℕ) (region : Region) (put : Put) (c : Counts) (xs : List Arrival) (delivered front : ℕ) (notes : List Note)
+    → Counted c xs delivered front notes → Counted (with_one region c) xs delivered front (Came time region put ∷ notes)
+counts_one time region put c xs delivered front notes h = ap (with_one region) h ∙ by region
+  where
+    by : (region : Region) → with_one region (counts_of xs delivered front notes) ≡ counts_of xs delivered front (Came time region put ∷ notes)
+    by Inside = λ i. record (counts_of xs delivered front notes) {
+      came = some_more (came_in notes) 1 i;
+      late = none_more (late_in notes) i;
+      ahead = none_more (ahead_in notes) i;
+    }
+    by Ahead = λ i. record (counts_of xs delivered front notes) {
+      came = some_more (came_in notes) 1 i;
+      late = none_more (late_in notes) i;
+      ahead = some_more (ahead_in notes) 1 i;
+    }
+    by Late = λ i. record (counts_of xs delivered front notes) {
+      came = some_more (came_in notes) 1 i;
+      late = some_more (late_in notes) 1 i;
+      ahead = none_more (ahead_in notes) i;
+    }

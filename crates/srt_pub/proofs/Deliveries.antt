@@ -1,5 +1,6 @@
 -- The payload that is delivered next.
-use Rattle.std.proofs.Common.{◌≡◌, ℕ, suc, zero, ◌+◌, ◌-◌, ◌<◌, min, ℤ, pos, Bool, true, false, cond, Some, None, List, [], ◌∷◌, take, refl, sym, ap, ◌∙◌, inl, inr, arith}
+use Rattle.std.proofs.Common.{◌≡◌, ℕ, suc, zero, ◌+◌, ◌-◌, ◌<◌, min, ℤ, pos, Bool, true, false, cond, Some, None, List, [], ◌∷◌, take, refl}
+use Rattle.std.proofs.Common.{sym, ap, ◌∙◌, inl, inr, arith}
 use Rattle.std.specs.Prelude.{int_le, filter_map}
 use Rattle.std.specs.List.{take_while, prefix_len}
 use Rattle.std.proofs.lemmas.Bool.{cases_eq, eq-eqb, ne_eqb}
@@ -31,7 +32,8 @@ pub live_next : (terms : Terms) (time room : ℕ) (m : Publishing) → terms.mod
 unfolding deliveries
 live_next terms time room m e = ap (λ (d : Mode). first_of (deliveries d terms time (Some room) m)) e ∙ first_live time (waiting m.receiving)
 
-pub buffer_is : (terms : Terms) (time room : ℕ) (m : Publishing) → terms.mode ≡ Buffer → next_delivery terms time room m ≡ first_of (take (min most room) (unbroken terms.width m.receiving))
+pub buffer_is : (terms : Terms) (time room : ℕ) (m : Publishing)
+    → terms.mode ≡ Buffer → next_delivery terms time room m ≡ first_of (take (min most room) (unbroken terms.width m.receiving))
 unfolding deliveries
 buffer_is terms time room m e = ap (λ (d : Mode). first_of (deliveries d terms time (Some room) m)) e
 
@@ -39,7 +41,8 @@ take_nothing : (n : ℕ) → first_of (take n []) ≡ None
 take_nothing zero = refl
 take_nothing (suc n) = refl
 
-pub buffer_none : (terms : Terms) (time room : ℕ) (m : Publishing) → terms.mode ≡ Buffer → ack_point terms.width m.receiving - m.receiving.front ≡ 0 → next_delivery terms time room m ≡ None
+pub buffer_none : (terms : Terms) (time room : ℕ) (m : Publishing)
+    → terms.mode ≡ Buffer → ack_point terms.width m.receiving - m.receiving.front ≡ 0 → next_delivery terms time room m ≡ None
 buffer_none terms time room m e none =
     buffer_is terms time room m e
     ∙ ap (λ (k : ℕ). first_of (take (min most room) (filter_map (arrival_of m.receiving.arrivals) (numbers_from m.receiving.front k)))) none
@@ -65,7 +68,9 @@ due_ones r h = h.1
 no_requests : (r : Receiving) → IsInMode Buffer r → r.requests ≡ []
 no_requests r h = h.0
 
-pub buffer_next : (terms : Terms) (time room : ℕ) (m : Publishing) → terms.mode ≡ Buffer → NothingBeyond terms.width m.receiving → IsOrderly Buffer terms.width m.receiving → m.receiving.front < ack_point terms.width m.receiving → next_delivery terms time room m ≡ next_due time room m.receiving
+pub buffer_next : (terms : Terms) (time room : ℕ) (m : Publishing) → terms.mode ≡ Buffer → NothingBeyond terms.width m.receiving
+    → IsOrderly Buffer terms.width m.receiving → m.receiving.front < ack_point terms.width m.receiving
+    → next_delivery terms time room m ≡ next_due time room m.receiving
 buffer_next terms time room m e beyond h lt =
     let r = m.receiving in
     let u = unbroken_one_by_one terms.width r (no_requests r h.in_mode) beyond lt in
@@ -80,7 +85,3 @@ buffer_next terms time room m e beyond h lt =
           ∙ sym (due_at_once time a u.1 k.holds) ∙ sym (ap (first_due time) u.2)
           ∙ sym (ap (λ (b : Bool). cond b None (first_due time (waiting r))) (ne_eqb room 0 s))
     ]
-
--- a publisher that stands by delivers nothing in buffer mode
-pub buffer_stands_by : (terms : Terms) (time : ℕ) (m : Publishing) → terms.mode ≡ Buffer → next_delivery terms time 0 m ≡ None
-buffer_stands_by terms time m e = buffer_is terms time 0 m e ∙ take_none (min most 0) (unbroken terms.width m.receiving) (omega arith)

@@ -1,10 +1,16 @@
 -- The fields of ACKs keep representing the notes.
-use Rattle.std.proofs.Common.{◌≡◌, ◌⊎◌, inl, inr, ℕ, suc, zero, ◌+◌, ◌-◌, ◌<◌, ◌≤◌, min, Bool, true, false, cond, not, ◌||◌, ◌&&◌, Option, Some, None, List, [], ◌∷◌, length, refl, sym, ap, subst, ◌∙◌, arith}
+use Rattle.std.proofs.Common.{◌≡◌, ◌⊎◌, inl, inr, ℕ, suc, zero, ◌+◌, ◌-◌, ◌<◌, ◌≤◌, min, Bool, true, false, cond, not, ◌||◌, ◌&&◌, Option}
+use Rattle.std.proofs.Common.{Some, None, List, [], ◌∷◌, length, refl, sym, ap, subst, ◌∙◌, arith}
 use Rattle.std.specs.Prelude.{nat_lt, nat_le, ◌==◌, slice_get}
 use Rattle.std.proofs.lemmas.Bool.{cases_lt, lt-ltb, le-ltb}
 use Rattle.std.proofs.lemmas.Bool.Decides.{nat_tests}
-use Rattle.srt_pub.specs.Publishing.{Full, Note, Came, Sent, Confirmed, Report, FullAck, LightAck, fulls, is_confirmed, later_of, latest_confirmed, says_pair, is_known, came_since_ack, time_of, is_full_due, is_light_due, full_ack, ack_of, acks_at}
+use Rattle.srt_pub.specs.Publishing.{Terms, Full, Note, Came, Sent, Confirmed, Report, FullAck, LightAck, fulls, is_confirmed, later_of}
+use Rattle.srt_pub.specs.Publishing.{latest_confirmed, says_pair, is_known, came_since_ack, time_of, is_full_due, is_light_due, full_ack}
+use Rattle.srt_pub.specs.Publishing.{ack_of, acks_at}
 use Rattle.srt_pub.specs.Kept.{IsNotPast, AreFulls, AreAcks}
+use Rattle.srt_pub.specs.declared.region.Region.{Region}
+use Rattle.srt_recvbuf.specs.declared.buffer.Put.{Put}
+use Rattle.srt_packet.specs.declared.writing.Rates.{Rates}
 
 same_full : (f g : Full) → Some f ≡ Some g → f ≡ g
 same_full f g e = cc
@@ -23,7 +29,12 @@ pub acks_first : (width : ℕ) → AreAcks width 0 0 [] true 0 0 0
 acks_first width =
     record {
       inside = omega arith;
-      sent = record { numbered = λ d f e. absurd (nothing_there d f e); rising = λ d e f g le a b. absurd (nothing_there d f a); low = λ d f e. absurd (nothing_there d f e); high = λ d f e. absurd (nothing_there d f e) };
+      sent = record {
+        numbered = λ d f e. absurd (nothing_there d f e);
+        rising = λ d e f g le a b. absurd (nothing_there d f a);
+        low = λ d f e. absurd (nothing_there d f e);
+        high = λ d f e. absurd (nothing_there d f e);
+      };
       confirmed = record { latest = λ f e. absurd (no_latest f _ refl e); below = λ index le. refl };
       known_is = known_first width;
       same_is = λ d f lt e. absurd (nothing_there d f e);
@@ -31,8 +42,10 @@ acks_first width =
       came_is = refl;
     }
 
-pub acks_came : (width front point came' : ℕ) (notes : List Note) (known : Bool) (same last came : ℕ) → came' ≡ min (came + 1) 64 → AreAcks width front point notes known same last came → AreAcks width front point (Came ∷ notes) known same last came'
-acks_came width front point came' notes known same last came more h =
+pub acks_came : (time : ℕ) (region : Region) (put : Put) (width front point came' : ℕ) (notes : List Note) (known : Bool) (same last came : ℕ)
+    → came' ≡ min (came + 1) 64 → AreAcks width front point notes known same last came
+    → AreAcks width front point (Came time region put ∷ notes) known same last came'
+acks_came time region put width front point came' notes known same last came more h =
     record {
       inside = h.inside;
       sent = h.sent;
@@ -44,7 +57,10 @@ acks_came width front point came' notes known same last came more h =
     }
 
 -- a report that isn't a Full ACK
-acks_said : (width front point time came' : ℕ) (r : Report) (notes : List Note) (known : Bool) (same last came : ℕ) → fulls (Sent time r ∷ notes) ≡ fulls notes → came' ≡ min (came_since_ack (Sent time r ∷ notes)) 64 → AreAcks width front point notes known same last came → AreAcks width front point (Sent time r ∷ notes) known same last came'
+acks_said : (width front point time came' : ℕ) (r : Report) (notes : List Note) (known : Bool) (same last came : ℕ)
+    → fulls (Sent time r ∷ notes) ≡ fulls notes → came' ≡ min (came_since_ack (Sent time r ∷ notes)) 64
+    → AreAcks width front point notes known same last came
+    → AreAcks width front point (Sent time r ∷ notes) known same last came'
 acks_said width front point time came' r notes known same last came fs_are came_is h =
     let F : List Full → Type 0 = λ fs. AreFulls width front point fs in
     record {
@@ -61,7 +77,8 @@ acks_said width front point time came' r notes known same last came fs_are came_
       came_is = came_is;
     }
 
-pub acks_light : (width front point time said : ℕ) (notes : List Note) (known : Bool) (same last came : ℕ) → AreAcks width front point notes known same last came → AreAcks width front point (Sent time (LightAck said) ∷ notes) known same last 0
+pub acks_light : (width front point time said : ℕ) (notes : List Note) (known : Bool) (same last came : ℕ)
+    → AreAcks width front point notes known same last came → AreAcks width front point (Sent time (LightAck said) ∷ notes) known same last 0
 acks_light width front point time said notes known same last came h = acks_said width front point time 0 (LightAck said) notes known same last came refl refl h
 
 -- a report that isn't an ACK
@@ -69,15 +86,21 @@ pub record IsNoAck (time : ℕ) (r : Report) (notes : List Note) : Type 0 where
   pub fulls_are : fulls (Sent time r ∷ notes) ≡ fulls notes
   pub came_is : came_since_ack (Sent time r ∷ notes) ≡ came_since_ack notes
 
-pub acks_other : (width front point time : ℕ) (r : Report) (notes : List Note) (known : Bool) (same last came : ℕ) → IsNoAck time r notes → AreAcks width front point notes known same last came → AreAcks width front point (Sent time r ∷ notes) known same last came
+pub acks_other : (width front point time : ℕ) (r : Report) (notes : List Note) (known : Bool) (same last came : ℕ) → IsNoAck time r notes
+    → AreAcks width front point notes known same last came
+    → AreAcks width front point (Sent time r ∷ notes) known same last came
 acks_other width front point time r notes known same last came n h =
     acks_said width front point time came r notes known same last came n.fulls_are (h.came_is ∙ sym (ap (λ k. min k 64) n.came_is)) h
 
 -- the front or the acknowledgement point moves on: none of the Full ACKs reported the new pair
-no_pair : (width front a front_steps point fp fa : ℕ) → 0 < front_steps + point → a + point ≤ front + front_steps + width → fp ≤ a → fp + fa ≤ front + width → ((a + point == fp) && (front + front_steps + width - (a + point) == fa)) ≡ false
+no_pair : (width front a front_steps point fp fa : ℕ) → 0 < front_steps + point → a + point ≤ front + front_steps + width → fp ≤ a
+    → fp + fa ≤ front + width
+    → ((a + point == fp) && (front + front_steps + width - (a + point) == fa)) ≡ false
 no_pair width front a front_steps point fp fa more inside le up = grind (arith, nat_tests)
 
-unknown : (width front a front_steps point : ℕ) (fs : List Full) (latest : Option Full) → 0 < front_steps + point → a + point ≤ front + front_steps + width → AreFulls width front a fs → ((f : Full) → latest ≡ Some f → (d : ℕ) × (slice_get fs d ≡ Some f)) → is_known width (a + point) (front + front_steps + width - (a + point)) latest ≡ false
+unknown : (width front a front_steps point : ℕ) (fs : List Full) (latest : Option Full) → 0 < front_steps + point
+    → a + point ≤ front + front_steps + width → AreFulls width front a fs → ((f : Full) → latest ≡ Some f → (d : ℕ) × (slice_get fs d ≡ Some f))
+    → is_known width (a + point) (front + front_steps + width - (a + point)) latest ≡ false
 unknown width front a front_steps point fs None more inside h among = no_pair width front a front_steps point 0 width more inside (omega arith) (omega arith)
 unknown width front a front_steps point fs (Some f) more inside h among =
     let k = among f refl in
@@ -87,7 +110,9 @@ unknown width front a front_steps point fs (Some f) more inside h among =
 none_below : (d : ℕ) (b : Bool) → b ≡ false → nat_lt d 0 ≡ b
 none_below d b e = grind (arith, nat_tests)
 
-pub acks_moved : (width front a front_steps point : ℕ) (notes : List Note) (known : Bool) (same last came : ℕ) → 0 < front_steps + point → a + point ≤ front + front_steps + width → AreAcks width front a notes known same last came → AreAcks width (front + front_steps) (a + point) notes false 0 last came
+pub acks_moved : (width front a front_steps point : ℕ) (notes : List Note) (known : Bool) (same last came : ℕ) → 0 < front_steps + point
+    → a + point ≤ front + front_steps + width → AreAcks width front a notes known same last came
+    → AreAcks width (front + front_steps) (a + point) notes false 0 last came
 acks_moved width front a front_steps point notes known same last came more inside h =
     record {
       inside = inside;
@@ -111,9 +136,14 @@ reads zero x f fs e = inl (refl, same_full x f e)
 reads (suc d) x f fs e = inr (d, omega arith, e)
 
 not_past_itself : (x y : Full) → x ≡ y → IsNotPast x y
-not_past_itself x y e = let p = ap (λ (f : Full). f.point) e in let a = ap (λ (f : Full). f.available) e in record { point = omega (arith, p); window = omega (arith, p, a) }
+not_past_itself x y e =
+    let p = ap (λ (f : Full). f.point) e in
+    let a = ap (λ (f : Full). f.available) e in
+    record { point = omega (arith, p); window = omega (arith, p, a) }
 
-fulls_more : (width front a : ℕ) (x : Full) (fs : List Full) → x.index ≡ length fs → x.point ≡ a → x.point + x.available ≡ front + width → a ≤ front + width → AreFulls width front a fs → AreFulls width front a (x ∷ fs)
+fulls_more : (width front a : ℕ) (x : Full) (fs : List Full) → x.index ≡ length fs → x.point ≡ a → x.point + x.available ≡ front + width
+    → a ≤ front + width → AreFulls width front a fs
+    → AreFulls width front a (x ∷ fs)
 fulls_more width front a x fs index point window inside h =
     record {
       numbered = λ d f e. elim (reads d x f fs e) [
@@ -153,8 +183,10 @@ one_more d e same b i lt h = grind (arith, nat_tests)
 at_first : (d same : ℕ) (b : Bool) → d ≡ 0 → b ≡ true → nat_lt d (min (same + 1) 64) ≡ b
 at_first d same b i h = grind (arith, nat_tests)
 
-pub acks_full : (width front a time rtt variance room same' : ℕ) (notes : List Note) (known : Bool) (same last came : ℕ) → room ≡ front + width - a → same' ≡ min (same + 1) 64 → AreAcks width front a notes known same last came → AreAcks width front a (Sent time (FullAck (length (fulls notes)) a rtt variance room) ∷ notes) known same' time 0
-acks_full width front a time rtt variance room same' notes known same last came is more h =
+pub acks_full : (width front a time rtt variance room same' : ℕ) (rates : Rates) (notes : List Note) (known : Bool) (same last came : ℕ)
+    → room ≡ front + width - a → same' ≡ min (same + 1) 64 → AreAcks width front a notes known same last came
+    → AreAcks width front a (Sent time (FullAck (length (fulls notes)) a rtt variance room rates) ∷ notes) known same' time 0
+acks_full width front a time rtt variance room same' rates notes known same last came is more h =
     let x : Full = record { index = length (fulls notes); time = time; point = a; available = room } in
     record {
       inside = h.inside;
@@ -177,16 +209,25 @@ acks_full width front a time rtt variance room same' notes known same last came 
     }
 
 -- a Full ACK is confirmed
-none_before : (k s : Bool) (width front a fp fa : ℕ) → k ≡ ((a == 0) && (front + width - a == width)) → s ≡ ((a == fp) && (front + width - a == fa)) → a ≤ front + width → fp ≤ a → fp + fa ≤ front + width → width ≤ fp + fa → (k || s) ≡ s
+none_before : (k s : Bool) (width front a fp fa : ℕ) → k ≡ ((a == 0) && (front + width - a == width))
+    → s ≡ ((a == fp) && (front + width - a == fa)) → a ≤ front + width → fp ≤ a → fp + fa ≤ front + width → width ≤ fp + fa
+    → (k || s) ≡ s
 none_before k s width front a fp fa ki si inside le up low = grind (arith, nat_tests)
 
-stays : (k s : Bool) (width front a fp fa gp ga : ℕ) → k ≡ ((a == gp) && (front + width - a == ga)) → s ≡ ((a == fp) && (front + width - a == fa)) → a ≤ front + width → fp ≤ gp → fp + fa ≤ gp + ga → gp ≤ a → gp + ga ≤ front + width → (k || s) ≡ k
+stays : (k s : Bool) (width front a fp fa gp ga : ℕ) → k ≡ ((a == gp) && (front + width - a == ga))
+    → s ≡ ((a == fp) && (front + width - a == fa)) → a ≤ front + width → fp ≤ gp → fp + fa ≤ gp + ga → gp ≤ a → gp + ga ≤ front + width
+    → (k || s) ≡ k
 stays k s width front a fp fa gp ga ki si inside p w le up = grind (arith, nat_tests)
 
-takes_over : (k s : Bool) (width front a fp fa gp ga : ℕ) → k ≡ ((a == gp) && (front + width - a == ga)) → s ≡ ((a == fp) && (front + width - a == fa)) → a ≤ front + width → gp ≤ fp → gp + ga ≤ fp + fa → fp ≤ a → fp + fa ≤ front + width → (k || s) ≡ s
+takes_over : (k s : Bool) (width front a fp fa gp ga : ℕ) → k ≡ ((a == gp) && (front + width - a == ga))
+    → s ≡ ((a == fp) && (front + width - a == fa)) → a ≤ front + width → gp ≤ fp → gp + ga ≤ fp + fa → fp ≤ a → fp + fa ≤ front + width
+    → (k || s) ≡ s
 takes_over k s width front a fp fa gp ga ki si inside p w le up = grind (arith, nat_tests)
 
-known_with : (width front a d : ℕ) (fs : List Full) (f : Full) (latest : Option Full) (k s : Bool) → AreFulls width front a fs → a ≤ front + width → slice_get fs d ≡ Some f → ((g : Full) → latest ≡ Some g → (e : ℕ) × (slice_get fs e ≡ Some g)) → k ≡ is_known width a (front + width - a) latest → s ≡ says_pair a (front + width - a) f → (k || s) ≡ is_known width a (front + width - a) (later_of f latest)
+known_with : (width front a d : ℕ) (fs : List Full) (f : Full) (latest : Option Full) (k s : Bool) → AreFulls width front a fs
+    → a ≤ front + width → slice_get fs d ≡ Some f → ((g : Full) → latest ≡ Some g → (e : ℕ) × (slice_get fs e ≡ Some g))
+    → k ≡ is_known width a (front + width - a) latest → s ≡ says_pair a (front + width - a) f
+    → (k || s) ≡ is_known width a (front + width - a) (later_of f latest)
 known_with width front a d fs f None k s h inside at among ki si =
     let high = h.high d f at in
     none_before k s width front a f.point f.available ki si inside high.0 high.1 (h.low d f at) ∙ si
@@ -207,7 +248,9 @@ known_with width front a d fs f (Some g) k s h inside at among ki si =
           ∙ sym (ap (λ (b : Bool). is_known width a (front + width - a) (cond b (Some g) (Some f))) (le-ltb _ _ ge))
     ]
 
-among_later : (f g : Full) (latest : Option Full) (fs : List Full) (d : ℕ) → slice_get fs d ≡ Some f → ((x : Full) → latest ≡ Some x → (e : ℕ) × (slice_get fs e ≡ Some x)) → later_of f latest ≡ Some g → (e : ℕ) × (slice_get fs e ≡ Some g)
+among_later : (f g : Full) (latest : Option Full) (fs : List Full) (d : ℕ) → slice_get fs d ≡ Some f
+    → ((x : Full) → latest ≡ Some x → (e : ℕ) × (slice_get fs e ≡ Some x)) → later_of f latest ≡ Some g
+    → (e : ℕ) × (slice_get fs e ≡ Some g)
 among_later f g None fs d at among is = (d, at ∙ is)
 among_later f g (Some x) fs d at among is = elim (cases_lt f.index x.index) [
   | inl lt ↦ let e = among x refl in (e.0, e.1 ∙ sym (ap (λ (b : Bool). cond b (Some x) (Some f)) (lt-ltb _ _ lt)) ∙ is)
@@ -217,7 +260,9 @@ among_later f g (Some x) fs d at among is = elim (cases_lt f.index x.index) [
 not_it : (a b : ℕ) (c : Bool) → a < b → c ≡ false → ((a == b) || c) ≡ false
 not_it a b c lt e = grind (arith, nat_tests)
 
-pub acks_confirmed : (width front a d sample : ℕ) (f : Full) (notes : List Note) (known known' : Bool) (same last came : ℕ) → d < 64 → slice_get (fulls notes) d ≡ Some f → known' ≡ (known || nat_lt d same) → AreAcks width front a notes known same last came → AreAcks width front a (Confirmed f sample ∷ notes) known' same last came
+pub acks_confirmed : (width front a d sample : ℕ) (f : Full) (notes : List Note) (known known' : Bool) (same last came : ℕ) → d < 64
+    → slice_get (fulls notes) d ≡ Some f → known' ≡ (known || nat_lt d same) → AreAcks width front a notes known same last came
+    → AreAcks width front a (Confirmed f sample ∷ notes) known' same last came
 acks_confirmed width front a d sample f notes known known' same last came lt at is h =
     record {
       inside = h.inside;
@@ -225,9 +270,13 @@ acks_confirmed width front a d sample f notes known known' same last came lt at 
       confirmed =
           record {
             latest = λ g e. among_later f g (latest_confirmed notes) (fulls notes) d at h.confirmed.latest e;
-            below = λ index le. let n = h.sent.numbered d f at in not_it f.index index (is_confirmed notes index) (omega (arith, n, le)) (h.confirmed.below index le);
+            below = λ index le.
+                let n = h.sent.numbered d f at in
+                not_it f.index index (is_confirmed notes index) (omega (arith, n, le)) (h.confirmed.below index le);
           };
-      known_is = is ∙ known_with width front a d (fulls notes) f (latest_confirmed notes) known (nat_lt d same) h.sent h.inside at h.confirmed.latest h.known_is (h.same_is d f lt at);
+      known_is = is
+          ∙ known_with width front a d (fulls notes) f (latest_confirmed notes) known (nat_lt d same) h.sent h.inside at h.confirmed.latest
+          h.known_is (h.same_is d f lt at);
       same_is = h.same_is;
       last_is = h.last_is;
       came_is = h.came_is;
@@ -248,23 +297,34 @@ due_when_unknown known b e = rw e (by b)
     by false = refl
 
 -- whether a Full ACK is due
-pub full_not_due : (width front point time : ℕ) (notes : List Note) (known : Bool) (same last came : ℕ) → known ≡ true → AreAcks width front point notes known same last came → false ≡ is_full_due width point (front + width - point) time notes
+pub full_not_due : (width front point time : ℕ) (notes : List Note) (known : Bool) (same last came : ℕ) → known ≡ true
+    → AreAcks width front point notes known same last came
+    → false ≡ is_full_due width point (front + width - point) time notes
 unfolding is_full_due
-full_not_due width front point time notes known same last came k h = due_when_known (is_known width point (front + width - point) (latest_confirmed notes)) _ (sym h.known_is ∙ k)
+full_not_due width front point time notes known same last came k h =
+    due_when_known (is_known width point (front + width - point) (latest_confirmed notes)) _ (sym h.known_is ∙ k)
 
-pub full_due : (width front point time since : ℕ) (notes : List Note) (known : Bool) (same last came : ℕ) → known ≡ false → since ≡ time - last → AreAcks width front point notes known same last came → nat_le 10_000 since ≡ is_full_due width point (front + width - point) time notes
+pub full_due : (width front point time since : ℕ) (notes : List Note) (known : Bool) (same last came : ℕ) → known ≡ false
+    → since ≡ time - last → AreAcks width front point notes known same last came
+    → nat_le 10_000 since ≡ is_full_due width point (front + width - point) time notes
 unfolding is_full_due
 full_due width front point time since notes known same last came k s h =
     ap (nat_le 10_000) (s ∙ ap (λ x. time - x) h.last_is)
     ∙ due_when_unknown (is_known width point (front + width - point) (latest_confirmed notes)) _ (sym h.known_is ∙ k)
 
-pub light_due : (width front point : ℕ) (notes : List Note) (known : Bool) (same last came : ℕ) → AreAcks width front point notes known same last came → nat_le 64 came ≡ is_light_due notes
+pub light_due : (width front point : ℕ) (notes : List Note) (known : Bool) (same last came : ℕ)
+    → AreAcks width front point notes known same last came → nat_le 64 came ≡ is_light_due notes
 light_due width front point notes known same last came h = let e = h.came_is in grind (arith, nat_tests)
 
-pub acks_by : (width a available time : ℕ) (notes : List Note) (full light : Bool) → is_full_due width a available time notes ≡ full → is_light_due notes ≡ light → acks_at width a available time notes ≡ ack_of full light (full_ack a available notes) (LightAck a)
+pub acks_by : (terms : Terms) (a available time : ℕ) (notes : List Note) (full light : Bool) → is_full_due terms.width a available time notes ≡ full
+    → is_light_due notes ≡ light
+    → acks_at terms a available time notes ≡ ack_of full light (full_ack terms a available notes) (LightAck a)
 unfolding acks_at
-acks_by width a available time notes full light f l = ap (λ b. ack_of b (is_light_due notes) (full_ack a available notes) (LightAck a)) f ∙ ap (λ b. ack_of full b (full_ack a available notes) (LightAck a)) l
+acks_by terms a available time notes full light f l =
+    ap (λ b. ack_of b (is_light_due notes) (full_ack terms a available notes) (LightAck a)) f
+    ∙ ap (λ b. ack_of full b (full_ack terms a available notes) (LightAck a)) l
 
-pub acks_still : (width front front' a a' : ℕ) (notes : List Note) (known : Bool) (same last came : ℕ) → front ≡ front' → a ≡ a' → AreAcks width front a notes known same last came → AreAcks width front' a' notes known same last came
+pub acks_still : (width front front' a a' : ℕ) (notes : List Note) (known : Bool) (same last came : ℕ)
+    → front ≡ front' → a ≡ a' → AreAcks width front a notes known same last came → AreAcks width front' a' notes known same last came
 acks_still width front front' a a' notes known same last came p q h =
     subst (λ (x : ℕ). AreAcks width front' x notes known same last came) q (subst (λ (x : ℕ). AreAcks width x a notes known same last came) p h)

@@ -1,15 +1,17 @@
 -- A receiver moves on, and stays orderly.
-use Rattle.std.proofs.Common.{◌≡◌, ◌⊎◌, inl, inr, ℕ, suc, zero, ◌+◌, ◌-◌, ◌*◌, ◌^◌, ◌<◌, ◌≤◌, max, Bool, true, false, not, cond, ◌||◌, ◌&&◌, Option, Some, None, List, [], ◌∷◌, length, refl, sym, ap, subst, ◌∙◌, arith, ℤ, pos}
-use Rattle.std.specs.Prelude.{nat_lt, nat_le, ◌==◌, is_some, filter_map, int_le, option_map}
+use Rattle.std.proofs.Common.{◌≡◌, ◌⊎◌, inl, inr, ℕ, suc, zero, ◌+◌, ◌-◌, ◌*◌, ◌^◌, ◌<◌, ◌≤◌, max, Bool, true, false, not, cond, ◌||◌, ◌&&◌}
+use Rattle.std.proofs.Common.{Option, Some, None, List, [], ◌∷◌, length, refl, sym, ap, subst, ◌∙◌, arith, ℤ, pos}
+use Rattle.std.specs.Prelude.{nat_lt, nat_le, ◌==◌, is_some, filter_map, int_le, option_map, IfSome}
 use Rattle.std.specs.List.{cons_option}
 use Rattle.std.proofs.lemmas.Bool.{cases_lt, cases_eq, cases_Bool, eq-eqb, ne_eqb, and_left, not-true, not-false, le-ltb}
 use Rattle.std.proofs.lemmas.Bool.Decides.{nat_tests}
 use Rattle.srt_seq.specs.declared.shared.Mode.{Mode}
 use Rattle.srt_seq.specs.declared.shared.Mode.TheVariants.{Live, Buffer}
-use Rattle.srt_seq.specs.Given.{given}
 use Rattle.srt_seq.specs.Window.{in_window}
 use Rattle.srt_seq.specs.Runs.{Range, span, least_from, numbers_from}
-use Rattle.srt_recvbuf.specs.Receiving.{Arrival, Request, Receiving, arrival_of, is_received, is_requested, is_dropped, is_missing, end_of, ack_point, moved_to, settled, passed, with_number, received, requested, waiting, nothing_yet, first_due, next_due, after_next}
+use Rattle.srt_recvbuf.specs.Receiving.{Arrival, Request, Receiving, arrival_of, is_received, is_requested, is_dropped, is_missing, end_of}
+use Rattle.srt_recvbuf.specs.Receiving.{ack_point, moved_to, settled, passed, with_number, received, requested, waiting, nothing_yet}
+use Rattle.srt_recvbuf.specs.Receiving.{first_due, next_due, after_next}
 use Rattle.srt_recvbuf.specs.OneByOne.{NothingBeyond}
 use Rattle.srt_recvbuf.proofs.OneByOne.{found}
 use Rattle.srt_recvbuf.proofs.Points.{ack_points}
@@ -28,12 +30,16 @@ pub least_of : (test : ℕ → Bool) (from places : ℕ) → IsLeast test from p
 least_of test from zero = record { low = omega arith; high = omega arith; here = λ lt. absurd (omega (arith, lt)) }
 least_of test from (suc places) = by (test from) refl (least_of test (from + 1) places)
   where
-    by : (b : Bool) → test from ≡ b → IsLeast test (from + 1) places (least_from test (from + 1) places) → IsLeast test from (suc places) (least_from test from (suc places))
+    by : (b : Bool) → test from ≡ b → IsLeast test (from + 1) places (least_from test (from + 1) places)
+        → IsLeast test from (suc places) (least_from test from (suc places))
     by true is h = is_least test from (suc places) _ from (found test from places true is) (record { low = omega arith; high = omega arith; here = λ lt. is })
-    by false is h = is_least test from (suc places) _ _ (found test from places false is) (record { low = omega (arith, h.low); high = omega (arith, h.high); here = λ lt. h.here (omega (arith, lt)) })
+    by false is h = is_least test from (suc places) _ _ (found test from places false is)
+        (record { low = omega (arith, h.low); high = omega (arith, h.high); here = λ lt. h.here (omega (arith, lt)) })
 
 -- a missing number can be received, and no number becomes missing
-pub goes : (width : ℕ) (r s : Receiving) → r.front ≤ s.front → s.front ≤ r.front + 2 ^ 30 → ((n : ℕ) → is_missing width r n ≡ false → is_missing width s n ≡ false) → end_of r.arrivals ≤ end_of s.arrivals → GoesOn width r s
+pub goes : (width : ℕ) (r s : Receiving) → r.front ≤ s.front → s.front ≤ r.front + 2 ^ 30
+    → ((n : ℕ) → is_missing width r n ≡ false → is_missing width s n ≡ false) → end_of r.arrivals ≤ end_of s.arrivals
+    → GoesOn width r s
 goes width r s on near kept ends =
     let h = ack_points width r in
     let k = ack_points width s in
@@ -57,7 +63,9 @@ stays_put width r = goes width r r (omega arith) (omega arith) (λ n e. e) (omeg
 pub settles : (width : ℕ) (r : Receiving) → (r.front ≤ (settled width r).front) × ((settled width r).front ≤ r.front + width)
 settles width r = let h = least_of (λ n. not (is_dropped width r n)) r.front width in (h.low, h.high)
 
-pub goes_settled : (width : ℕ) (r s : Receiving) → width ≤ 8192 → r.front ≤ s.front → s.front ≤ r.front + 3 * 8192 → ((n : ℕ) → is_missing width r n ≡ false → is_missing width s n ≡ false) → end_of r.arrivals ≤ end_of s.arrivals → GoesOn width r (settled width s)
+pub goes_settled : (width : ℕ) (r s : Receiving) → width ≤ 8192 → r.front ≤ s.front → s.front ≤ r.front + 3 * 8192
+    → ((n : ℕ) → is_missing width r n ≡ false → is_missing width s n ≡ false) → end_of r.arrivals ≤ end_of s.arrivals
+    → GoesOn width r (settled width s)
 goes_settled width r s narrow on near kept ends =
     let k = settles width s in
     goes width r (settled width s) (omega (arith, k.0, on)) (omega (arith, k.1, near, narrow)) kept ends
@@ -81,7 +89,8 @@ fronts_on a b [] le all = tt
 fronts_on a b (q ∷ qs) le all = (omega (arith, le, all.0), fronts_on a b qs le all.1)
 
 -- after settling, the number at the position isn't dropped
-pub settled_stays : (width : ℕ) (r : Receiving) → Each (λ (q : Request). q.front ≤ r.front) r.requests → is_dropped width (settled width r) (settled width r).front ≡ false
+pub settled_stays : (width : ℕ) (r : Receiving)
+    → Each (λ (q : Request). q.front ≤ r.front) r.requests → is_dropped width (settled width r) (settled width r).front ≡ false
 settled_stays width r fronts =
     let h = least_of (λ n. not (is_dropped width r n)) r.front width in
     let n = (settled width r).front in
@@ -99,7 +108,8 @@ in_mode_moved Live n r h = tt
 in_mode_moved Buffer n r h = h
 
 -- a payload is delivered
-pub orderly_passed : (mode : Mode) (width : ℕ) (r : Receiving) (a : Arrival) → r.front ≤ a.number → IsOrderly mode width r → IsOrderly mode width (passed width (a ∷ []) r)
+pub orderly_passed : (mode : Mode) (width : ℕ) (r : Receiving) (a : Arrival)
+    → r.front ≤ a.number → IsOrderly mode width r → IsOrderly mode width (passed width (a ∷ []) r)
 orderly_passed mode width r a le h =
     let s = moved_to (a.number + 1) r in
     let k = settles width s in
@@ -111,8 +121,10 @@ orderly_passed mode width r a le h =
       in_mode = in_mode_moved mode (settled width s).front s (in_mode_moved mode (a.number + 1) r h.in_mode);
     }
 
-pub goes_passed : (width : ℕ) (r : Receiving) (a : Arrival) → width ≤ 8192 → r.front ≤ a.number → a.number ≤ r.front + width → GoesOn width r (passed width (a ∷ []) r)
-goes_passed width r a narrow low high = goes_settled width r (moved_to (a.number + 1) r) narrow (omega (arith, low)) (omega (arith, high, narrow)) (λ n e. e) (omega arith)
+pub goes_passed : (width : ℕ) (r : Receiving) (a : Arrival)
+    → width ≤ 8192 → r.front ≤ a.number → a.number ≤ r.front + width → GoesOn width r (passed width (a ∷ []) r)
+goes_passed width r a narrow low high =
+    goes_settled width r (moved_to (a.number + 1) r) narrow (omega (arith, low)) (omega (arith, high, narrow)) (λ n e. e) (omega arith)
 
 -- numbers are dropped
 with_range : Range → Receiving → Receiving
@@ -121,14 +133,16 @@ with_range q r = record r { requests = record { front = r.front; range = q } ∷
 missing_range : (a b c : Bool) → not (a || b) ≡ false → not (a || (c || b)) ≡ false
 missing_range a b c e = grind (arith, nat_tests)
 
-orderly_range : (width : ℕ) (q : Range) (r : Receiving) → IsOrderly Live width r → IsOrderly Live width (settled width (record r { requests = record { front = r.front; range = q } ∷ r.requests }))
+orderly_range : (width : ℕ) (q : Range) (r : Receiving) → IsOrderly Live width r
+    → IsOrderly Live width (settled width (record r { requests = record { front = r.front; range = q } ∷ r.requests }))
 orderly_range width q r h =
     let s : Receiving = record r { requests = record { front = r.front; range = q } ∷ r.requests } in
     let k = settles width s in
     let fronts : Each (λ (q : Request). q.front ≤ r.front) s.requests = (omega arith, h.fronts) in
     record { fronts = fronts_on r.front (settled width s).front s.requests k.0 fronts; settled = settled_stays width s fronts; filled = h.filled; in_mode = tt }
 
-goes_range : (width : ℕ) (q : Range) (r : Receiving) → width ≤ 8192 → GoesOn width r (settled width (record r { requests = record { front = r.front; range = q } ∷ r.requests }))
+goes_range : (width : ℕ) (q : Range) (r : Receiving)
+    → width ≤ 8192 → GoesOn width r (settled width (record r { requests = record { front = r.front; range = q } ∷ r.requests }))
 goes_range width q r narrow =
     let s : Receiving = record r { requests = record { front = r.front; range = q } ∷ r.requests } in
     goes_settled width r s narrow (omega arith) (omega arith) (λ n e. missing_range (is_received r n) (is_requested width r.requests n) _ e) (omega arith)
@@ -137,7 +151,8 @@ pub record IsAfterRequest (width : ℕ) (r s : Receiving) : Type 0 where
   pub orderly : IsOrderly Live width s
   pub goes_on : GoesOn width r s
 
-by_test : (width : ℕ) (q : Range) (r : Receiving) (b : Bool) → width ≤ 8192 → IsOrderly Live width r → IsAfterRequest width r (cond b (settled width (record r { requests = record { front = r.front; range = q } ∷ r.requests })) r)
+by_test : (width : ℕ) (q : Range) (r : Receiving) (b : Bool) → width ≤ 8192 → IsOrderly Live width r
+    → IsAfterRequest width r (cond b (settled width (record r { requests = record { front = r.front; range = q } ∷ r.requests })) r)
 by_test width q r true narrow h = record { orderly = orderly_range width q r h; goes_on = goes_range width q r narrow }
 by_test width q r false narrow h = record { orderly = h; goes_on = stays_put width r }
 
@@ -146,10 +161,18 @@ after_request width q r narrow h = by_test width q r _ narrow h
 
 -- words with their top bit set drop nothing
 pub no_request : (width : ℕ) (q : Range) (r : Receiving) → (2 ^ 31 ≤ q.first) ⊎ (2 ^ 31 ≤ q.last) → requested width q r ≡ r
-no_request width q r (inl e) = ap (λ (b : Bool). cond (b && nat_lt q.last (2 ^ 31) && nat_lt (span q) (2 ^ 30)) (settled width (record r { requests = record { front = r.front; range = q } ∷ r.requests })) r) (le-ltb q.first (2 ^ 31) e)
+no_request width q r (inl e) =
+    ap
+    (λ (b : Bool). cond (b && nat_lt q.last (2 ^ 31) && nat_lt (span q) (2 ^ 30))
+    (settled width (record r { requests = record { front = r.front; range = q } ∷ r.requests })) r)
+    (le-ltb q.first (2 ^ 31) e)
 no_request width q r (inr e) =
-    ap (λ (b : Bool). cond (nat_lt q.first (2 ^ 31) && b && nat_lt (span q) (2 ^ 30)) (settled width (record r { requests = record { front = r.front; range = q } ∷ r.requests })) r) (le-ltb q.last (2 ^ 31) e)
-    ∙ ap (λ (b : Bool). cond b (settled width (record r { requests = record { front = r.front; range = q } ∷ r.requests })) r) (none_of_three (nat_lt q.first (2 ^ 31)) (nat_lt (span q) (2 ^ 30)))
+    ap
+    (λ (b : Bool). cond (nat_lt q.first (2 ^ 31) && b && nat_lt (span q) (2 ^ 30))
+    (settled width (record r { requests = record { front = r.front; range = q } ∷ r.requests })) r)
+    (le-ltb q.last (2 ^ 31) e)
+    ∙ ap (λ (b : Bool). cond b (settled width (record r { requests = record { front = r.front; range = q } ∷ r.requests })) r)
+    (none_of_three (nat_lt q.first (2 ^ 31)) (nat_lt (span q) (2 ^ 30)))
   where
     none_of_three : (a b : Bool) → (a && false && b) ≡ false
     none_of_three true b = refl
@@ -180,11 +203,14 @@ not_dropped true true c e f = let k = f refl in rw k refl
 not_dropped true false c e f = cc
 not_dropped false b c e f = refl
 
-in_mode_more : (mode : Mode) (a : Arrival) (r : Receiving) → (mode ≡ Buffer → a.due ≡ pos 0) → IsInMode mode r → IsInMode mode (record r { arrivals = a ∷ r.arrivals })
+in_mode_more : (mode : Mode) (a : Arrival) (r : Receiving)
+    → (mode ≡ Buffer → a.due ≡ pos 0) → IsInMode mode r → IsInMode mode (record r { arrivals = a ∷ r.arrivals })
 in_mode_more Live a r due h = tt
 in_mode_more Buffer a r due h = (h.0, (due refl, h.1))
 
-with_one : (mode : Mode) (width : ℕ) (a : Arrival) (r : Receiving) → 0 < length a.payload → (mode ≡ Buffer → a.due ≡ pos 0) → IsOrderly mode width r → IsAfterData mode width r (record r { arrivals = a ∷ r.arrivals })
+with_one : (mode : Mode) (width : ℕ) (a : Arrival) (r : Receiving) → 0 < length a.payload → (mode ≡ Buffer → a.due ≡ pos 0)
+    → IsOrderly mode width r
+    → IsAfterData mode width r (record r { arrivals = a ∷ r.arrivals })
 with_one mode width a r some due h =
     record {
       orderly =
@@ -194,18 +220,24 @@ with_one mode width a r some due h =
             filled = (some, h.filled);
             in_mode = in_mode_more mode a r due h.in_mode;
           };
-      goes_on = goes width r (record r { arrivals = a ∷ r.arrivals }) (omega arith) (omega arith) (λ n e. missing_more (is_received r n) (is_requested width r.requests n) _ e (still_received a r.arrivals n)) (omega arith);
+      goes_on = goes width r (record r { arrivals = a ∷ r.arrivals }) (omega arith) (omega arith)
+          (λ n e. missing_more (is_received r n) (is_requested width r.requests n) _ e (still_received a r.arrivals n)) (omega arith);
     }
 
-by_received : (mode : Mode) (width n : ℕ) (payload : List ℕ) (due : ℤ) (r : Receiving) (b : Bool) → 0 < length payload → (mode ≡ Buffer → due ≡ pos 0) → IsOrderly mode width r → IsAfterData mode width r (cond b r (record r { arrivals = record { number = n; payload = payload; due = due } ∷ r.arrivals }))
+by_received : (mode : Mode) (width n : ℕ) (payload : List ℕ) (due : ℤ) (r : Receiving) (b : Bool) → 0 < length payload
+    → (mode ≡ Buffer → due ≡ pos 0) → IsOrderly mode width r
+    → IsAfterData mode width r (cond b r (record r { arrivals = record { number = n; payload = payload; due = due } ∷ r.arrivals }))
 by_received mode width n payload due r true some d h = record { orderly = h; goes_on = stays_put width r }
 by_received mode width n payload due r false some d h = with_one mode width (record { number = n; payload = payload; due = due }) r some d h
 
-by_number : (mode : Mode) (width : ℕ) (n : Option ℕ) (payload : List ℕ) (due : ℤ) (r : Receiving) → 0 < length payload → (mode ≡ Buffer → due ≡ pos 0) → IsOrderly mode width r → IsAfterData mode width r (with_number n payload due r)
+by_number : (mode : Mode) (width : ℕ) (n : Option ℕ) (payload : List ℕ) (due : ℤ) (r : Receiving)
+    → 0 < length payload → (mode ≡ Buffer → due ≡ pos 0) → IsOrderly mode width r → IsAfterData mode width r (with_number n payload due r)
 by_number mode width None payload due r some d h = record { orderly = h; goes_on = stays_put width r }
 by_number mode width (Some n) payload due r some d h = by_received mode width n payload due r (is_received r n) some d h
 
-pub after_data : (mode : Mode) (width word : ℕ) (payload : List ℕ) (due : ℤ) (r : Receiving) → 0 < length payload → (mode ≡ Buffer → due ≡ pos 0) → IsOrderly mode width r → IsAfterData mode width r (received width word payload due r)
+pub after_data : (mode : Mode) (width word : ℕ) (payload : List ℕ) (due : ℤ) (r : Receiving) → 0 < length payload
+    → (mode ≡ Buffer → due ≡ pos 0) → IsOrderly mode width r
+    → IsAfterData mode width r (received width word payload due r)
 after_data mode width word payload due r some d h = by_number mode width (in_window word r.front width) payload due r some d h
 
 -- the received numbers end within the window
@@ -243,20 +275,28 @@ looked_up P (x ∷ xs) n a all e = elim (cases_eq x.number n) [
   | inr other ↦ looked_up P xs n a all.1 (sym (ap (λ (b : Bool). cond b (Some x) (arrival_of xs n)) (ne_eqb _ _ other)) ∙ e)
 ]
 
-pub first_is_one : (P : Arrival → Type 0) (xs : List Arrival) (from count end : ℕ) (a : Arrival) (more : List Arrival) → from + count ≤ end → Each P xs → filter_map (arrival_of xs) (numbers_from from count) ≡ a ∷ more → IsOneOf P from end a
+pub first_is_one : (P : Arrival → Type 0) (xs : List Arrival) (from count end : ℕ) (a : Arrival) (more : List Arrival)
+    → from + count ≤ end → Each P xs → filter_map (arrival_of xs) (numbers_from from count) ≡ a ∷ more → IsOneOf P from end a
 first_is_one P xs from zero end a more inside all e = cc
-first_is_one P xs from (suc count) end a more inside all e = by (arrival_of xs from) refl (first_is_one P xs (from + 1) count end a more (omega (arith, inside)) all)
+first_is_one P xs from (suc count) end a more inside all e =
+    by (arrival_of xs from) refl (first_is_one P xs (from + 1) count end a more (omega (arith, inside)) all)
   where
-    by : (o : Option Arrival) → arrival_of xs from ≡ o → (filter_map (arrival_of xs) (numbers_from (from + 1) count) ≡ a ∷ more → IsOneOf P (from + 1) end a) → IsOneOf P from end a
-    by None is next = let h = next (sym (ap (λ o. cons_option o (filter_map (arrival_of xs) (numbers_from (from + 1) count))) is) ∙ e) in record { low = omega (arith, h.low); high = h.high; holds = h.holds }
+    by : (o : Option Arrival) → arrival_of xs from ≡ o
+        → (filter_map (arrival_of xs) (numbers_from (from + 1) count) ≡ a ∷ more → IsOneOf P (from + 1) end a)
+        → IsOneOf P from end a
+    by None is next =
+        let h = next (sym (ap (λ o. cons_option o (filter_map (arrival_of xs) (numbers_from (from + 1) count))) is) ∙ e) in
+        record { low = omega (arith, h.low); high = h.high; holds = h.holds }
     by (Some x) is next =
-        let whole : x ∷ filter_map (arrival_of xs) (numbers_from (from + 1) count) ≡ a ∷ more = sym (ap (λ o. cons_option o (filter_map (arrival_of xs) (numbers_from (from + 1) count))) is) ∙ e in
+        let whole : x ∷ filter_map (arrival_of xs) (numbers_from (from + 1) count) ≡ a ∷ more =
+        sym (ap (λ o. cons_option o (filter_map (arrival_of xs) (numbers_from (from + 1) count))) is) ∙ e in
         let same : x ≡ a = cc in
         let k = looked_up P xs from x all is in
         let n : a.number ≡ from = sym (ap (λ (y : Arrival). y.number) same) ∙ k.0 in
         record { low = omega (arith, n); high = omega (arith, n, inside); holds = subst P same k.1 }
 
-pub first_waiting : (P : Arrival → Type 0) (r : Receiving) (a : Arrival) (more : List Arrival) → Each P r.arrivals → waiting r ≡ a ∷ more → IsOneOf P r.front (max r.front (end_of r.arrivals)) a
+pub first_waiting : (P : Arrival → Type 0) (r : Receiving) (a : Arrival) (more : List Arrival)
+    → Each P r.arrivals → waiting r ≡ a ∷ more → IsOneOf P r.front (max r.front (end_of r.arrivals)) a
 first_waiting P r a more all e = first_is_one P r.arrivals r.front (end_of r.arrivals - r.front) (max r.front (end_of r.arrivals)) a more (omega arith) all e
 
 pub first_point : (width : ℕ) → ack_point width nothing_yet ≡ 0
@@ -282,7 +322,9 @@ next_waits time room r a e = by (room == 0) e
     by true k = cc
     by false k = first_due_is time (waiting r) a k
 
-pub after_one : (mode : Mode) (width time room : ℕ) (r : Receiving) (o : Option Arrival) → next_due time room r ≡ o → width ≤ 8192 → end_of r.arrivals ≤ r.front + width → IsOrderly mode width r → IsAfterData mode width r (after_next width o r)
+pub after_one : (mode : Mode) (width time room : ℕ) (r : Receiving) (o : Option Arrival) → next_due time room r ≡ o → width ≤ 8192
+    → end_of r.arrivals ≤ r.front + width → IsOrderly mode width r
+    → IsAfterData mode width r (after_next width o r)
 after_one mode width time room r None e narrow ends h = record { orderly = h; goes_on = stays_put width r }
 after_one mode width time room r (Some a) e narrow ends h =
     let w = next_waits time room r a e in
@@ -290,9 +332,11 @@ after_one mode width time room r (Some a) e narrow ends h =
     record { orderly = orderly_passed mode width r a k.low h; goes_on = goes_passed width r a narrow k.low (omega (arith, k.high, ends)) }
 
 -- a delivered payload isn't empty
-pub given_some : (time room : ℕ) (r : Receiving) (is_due : Bool) (payload : List ℕ) → Each (λ (a : Arrival). 0 < length a.payload) r.arrivals → given is_due payload ≡ option_map (λ (a : Arrival). a.payload) (next_due time room r) → is_due ≡ true → 0 < length payload
-given_some time room r false payload filled e t = cc
-given_some time room r true payload filled e t = by (next_due time room r) refl e
+pub due_filled : (time room : ℕ) (r : Receiving) (given : Option (List ℕ)) → Each (λ (a : Arrival). 0 < length a.payload) r.arrivals
+    → given ≡ option_map (λ (a : Arrival). a.payload) (next_due time room r)
+    → IfSome given (λ payload. 0 < length payload)
+due_filled time room r None filled e = tt
+due_filled time room r (Some payload) filled e = by (next_due time room r) refl e
   where
     by : (q : Option Arrival) → next_due time room r ≡ q → Some payload ≡ option_map (λ (a : Arrival). a.payload) q → 0 < length payload
     by None is f = cc

@@ -8,5 +8,8 @@ pub mod Sendings
 pub mod Deliveries
 pub mod Calling
 pub mod Rows
+pub mod Intervals
 pub mod Advancing
 pub mod Counting
+pub mod Reported
+pub mod Draining

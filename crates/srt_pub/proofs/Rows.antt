@@ -1,7 +1,8 @@
 -- What a session delivers and sends, computed from the definitions.
-use Rattle.std.proofs.Common.{◌≡◌, ℕ, zero, suc, ◌+◌, true, false, Option, None, Some, List, [], ◌∷◌, length, refl}
+use Rattle.std.proofs.Common.{◌≡◌, ℕ, zero, suc, ◌+◌, true, false, Option, None, Some, List, [], ◌∷◌, length, ◌++◌, refl}
 use Rattle.std.specs.Prelude.{map, option_map}
 use Rattle.srt_seq.specs.declared.shared.Mode.TheVariants.{Live, Buffer}
+use Rattle.srt_seq.specs.declared.shared.Callers.TheVariants.{Draft}
 use Rattle.srt_seq.specs.Window.{in_window}
 use Rattle.srt_seq.specs.Lift.{lift, stamped_from}
 use Rattle.srt_packet.specs.Grammar.{Body, Data, KeepAlive, AckAck, DropRequest}
@@ -9,11 +10,13 @@ use Rattle.srt_recvbuf.specs.Receiving.{Arrival, gaps, is_dropped}
 use Rattle.srt_pub.specs.declared.ends.PubEnd.{PubEnd}
 use Rattle.srt_pub.specs.declared.ends.PubEnd.TheVariants as ends
 use Rattle.srt_pub.specs.Heard.{heard_from}
-use Rattle.srt_pub.specs.Publishing.{Terms, Publishing, opened, took, deliveries, delivered, reports, reported, Full, latest_confirmed, round_trip, confirmed_by, is_full_due, acks_at, naks}
+use Rattle.srt_pub.specs.Publishing.{Terms, Publishing, opened, took, deliveries, delivered, reports, reported, Full, latest_confirmed}
+use Rattle.srt_pub.specs.Publishing.{round_trip, confirmed_by, is_full_due, acks_at, naks}
+use Rattle.srt_pub.specs.Publishing.{shorter, longest_up_to_median, median_interval, packet_rate}
 use Rattle.srt_pub.specs.Calls.{ended}
 use Rattle.srt_pub.specs.Says.{says}
 
--- an event of a session that was opened with the timestamp 0: its time since the opening, what came, and the
+-- an event of a session that was opened with the timestamp 0: its time since the opening, what was received, and the
 -- subscribers' least room
 record Event : Type 0 where
   time : ℕ
@@ -42,10 +45,10 @@ sends terms initial [] = []
 sends terms initial (e ∷ events) = map (says 1 initial e.time) (reports terms e.time (before_reports terms initial e (after terms initial events)))
 
 abbrev live : (width delay : ℕ) → Terms
-live width delay = record { mode = Live; width = width; delay = delay }
+live width delay = record { mode = Live; width = width; delay = delay; callers = Draft }
 
 abbrev in_buffer : (width : ℕ) → Terms
-in_buffer width = record { mode = Buffer; width = width; delay = 0 }
+in_buffer width = record { mode = Buffer; width = width; delay = 0; callers = Draft }
 
 abbrev still : (time : ℕ) → Event
 still time = record { time = time; stamp = 0; body = KeepAlive; room = None }
@@ -76,14 +79,18 @@ gap : sends (live 1024 1_000_000) 7 two ≡ (0x80 ∷ 3 ∷ 0 ∷ 0 ∷ 0 ∷ 0 
 unfolding in_window lift confirmed_by is_full_due acks_at naks reports deliveries says
 gap = refl
 
-acknowledged : sends (live 1024 1_000_000) 7 (still 150_000 ∷ two) ≡ (0x80 ∷ 2 ∷ 0 ∷ 0 ∷ 0 ∷ 0 ∷ 0 ∷ 1 ∷ 0 ∷ 2 ∷ 0x49 ∷ 0xf0 ∷ 0 ∷ 0 ∷ 0 ∷ 1 ∷ 0 ∷ 0 ∷ 0 ∷ 8 ∷ 0 ∷ 1 ∷ 0x86 ∷ 0xa0 ∷ 0 ∷ 0 ∷ 0xc3 ∷ 0x50 ∷ 0 ∷ 0 ∷ 3 ∷ 0xff ∷ 0 ∷ 0 ∷ 0 ∷ 0 ∷ 0 ∷ 0 ∷ 0 ∷ 0 ∷ 0 ∷ 0 ∷ 0 ∷ 0 ∷ []) ∷ (0x80 ∷ 3 ∷ 0 ∷ 0 ∷ 0 ∷ 0 ∷ 0 ∷ 0 ∷ 0 ∷ 2 ∷ 0x49 ∷ 0xf0 ∷ 0 ∷ 0 ∷ 0 ∷ 1 ∷ 0 ∷ 0 ∷ 0 ∷ 8 ∷ []) ∷ []
+acknowledged : sends (live 1024 1_000_000) 7 (still 150_000 ∷ two)
+    ≡ (0x80 ∷ 2 ∷ 0 ∷ 0 ∷ 0 ∷ 0 ∷ 0 ∷ 1 ∷ 0 ∷ 2 ∷ 0x49 ∷ 0xf0 ∷ 0 ∷ 0 ∷ 0 ∷ 1 ∷ 0 ∷ 0 ∷ 0 ∷ 8 ∷ 0 ∷ 1 ∷ 0x86 ∷ 0xa0 ∷ 0 ∷ 0 ∷ 0xc3 ∷ 0x50
+    ∷ 0 ∷ 0 ∷ 3 ∷ 0xff ∷ 0 ∷ 0 ∷ 0 ∷ 0 ∷ 0 ∷ 0 ∷ 0 ∷ 0 ∷ 0 ∷ 0 ∷ 0 ∷ 0 ∷ [])
+    ∷ (0x80 ∷ 3 ∷ 0 ∷ 0 ∷ 0 ∷ 0 ∷ 0 ∷ 0 ∷ 0 ∷ 2 ∷ 0x49 ∷ 0xf0 ∷ 0 ∷ 0 ∷ 0 ∷ 1 ∷ 0 ∷ 0 ∷ 0 ∷ 8 ∷ []) ∷ []
 unfolding in_window lift confirmed_by is_full_due acks_at naks reports deliveries says
 acknowledged = refl
 
 abbrev confirmed : List Event
 confirmed = confirms 170_000 1 ∷ still 150_000 ∷ two
 
-confirmation : (sends (live 1024 1_000_000) 7 confirmed ≡ []) × (round_trip (after (live 1024 1_000_000) 7 confirmed).notes ≡ record { time = 90_000; variance = 57_500 })
+confirmation : (sends (live 1024 1_000_000) 7 confirmed ≡ []) ×
+    (round_trip Draft (after (live 1024 1_000_000) 7 confirmed).notes ≡ record { time = 90_000; variance = 57_500 })
 unfolding in_window lift confirmed_by is_full_due acks_at naks reports deliveries says
 confirmation = (refl, refl)
 
@@ -96,7 +103,8 @@ too_early : sends (live 1024 1_000_000) 7 (still 309_999 ∷ confirmed) ≡ []
 unfolding in_window lift confirmed_by is_full_due acks_at naks reports deliveries says
 too_early = refl
 
-in_time : sends (live 1024 1_000_000) 7 (still 310_000 ∷ still 309_999 ∷ confirmed) ≡ (0x80 ∷ 3 ∷ 0 ∷ 0 ∷ 0 ∷ 0 ∷ 0 ∷ 0 ∷ 0 ∷ 4 ∷ 0xba ∷ 0xf0 ∷ 0 ∷ 0 ∷ 0 ∷ 1 ∷ 0 ∷ 0 ∷ 0 ∷ 8 ∷ []) ∷ []
+in_time : sends (live 1024 1_000_000) 7 (still 310_000 ∷ still 309_999 ∷ confirmed)
+    ≡ (0x80 ∷ 3 ∷ 0 ∷ 0 ∷ 0 ∷ 0 ∷ 0 ∷ 0 ∷ 0 ∷ 4 ∷ 0xba ∷ 0xf0 ∷ 0 ∷ 0 ∷ 0 ∷ 1 ∷ 0 ∷ 0 ∷ 0 ∷ 8 ∷ []) ∷ []
 unfolding in_window lift confirmed_by is_full_due acks_at naks reports deliveries says
 in_time = refl
 
@@ -116,7 +124,8 @@ both_delivered : delivers (live 1024 100_000) 7 (still 101_000 ∷ waits) ≡ (0
 unfolding in_window lift confirmed_by is_full_due acks_at naks reports deliveries says
 both_delivered = refl
 
-passed_the_gap : ((after (live 1024 100_000) 7 (still 101_000 ∷ waits)).receiving.front ≡ 3) × (gaps 1024 (after (live 1024 100_000) 7 (still 101_000 ∷ waits)).receiving ≡ [])
+passed_the_gap : ((after (live 1024 100_000) 7 (still 101_000 ∷ waits)).receiving.front ≡ 3) ×
+    (gaps 1024 (after (live 1024 100_000) 7 (still 101_000 ∷ waits)).receiving ≡ [])
 unfolding in_window lift confirmed_by is_full_due acks_at naks reports deliveries says
 passed_the_gap = (refl, refl)
 
@@ -124,7 +133,8 @@ passed_the_gap = (refl, refl)
 abbrev comes_late : List Event
 comes_late = comes 3_000 900 8 0x63 ∷ gives_up 2_000 8 8 ∷ waits
 
-given_up : (is_dropped 1024 (after (live 1024 100_000) 7 (gives_up 2_000 8 8 ∷ waits)).receiving 1 ≡ true) × (is_dropped 1024 (after (live 1024 100_000) 7 comes_late).receiving 1 ≡ false)
+given_up : (is_dropped 1024 (after (live 1024 100_000) 7 (gives_up 2_000 8 8 ∷ waits)).receiving 1 ≡ true) ×
+    (is_dropped 1024 (after (live 1024 100_000) 7 comes_late).receiving 1 ≡ false)
 unfolding in_window lift confirmed_by is_full_due acks_at naks reports deliveries says
 given_up = (refl, refl)
 
@@ -142,7 +152,10 @@ unfolding in_window lift confirmed_by is_full_due acks_at naks reports deliverie
 light_ack = refl
 
 -- sequence numbers wrap
-round_ack : sends (live 32 120_000) 0x7fff_ffff (still 10_000 ∷ comes 1_000 1_000 0 0x61 ∷ comes 1_000 1_000 0x7fff_ffff 0x61 ∷ []) ≡ (0x80 ∷ 2 ∷ 0 ∷ 0 ∷ 0 ∷ 0 ∷ 0 ∷ 1 ∷ 0 ∷ 0 ∷ 0x27 ∷ 0x10 ∷ 0 ∷ 0 ∷ 0 ∷ 1 ∷ 0 ∷ 0 ∷ 0 ∷ 1 ∷ 0 ∷ 1 ∷ 0x86 ∷ 0xa0 ∷ 0 ∷ 0 ∷ 0xc3 ∷ 0x50 ∷ 0 ∷ 0 ∷ 0 ∷ 0x1e ∷ 0 ∷ 0 ∷ 0 ∷ 0 ∷ 0 ∷ 0 ∷ 0 ∷ 0 ∷ 0 ∷ 0 ∷ 0 ∷ 0 ∷ []) ∷ []
+round_ack : sends (live 32 120_000) 0x7fff_ffff (still 10_000 ∷ comes 1_000 1_000 0 0x61 ∷ comes 1_000 1_000 0x7fff_ffff 0x61 ∷ [])
+    ≡ (0x80 ∷ 2 ∷ 0 ∷ 0 ∷ 0 ∷ 0 ∷ 0 ∷ 1 ∷ 0 ∷ 0 ∷ 0x27 ∷ 0x10 ∷ 0 ∷ 0 ∷ 0 ∷ 1 ∷ 0 ∷ 0 ∷ 0 ∷ 1 ∷ 0 ∷ 1 ∷ 0x86 ∷ 0xa0 ∷ 0 ∷ 0 ∷ 0xc3 ∷ 0x50
+    ∷ 0 ∷ 0 ∷ 0 ∷ 0x1e ∷ 0 ∷ 0 ∷ 0 ∷ 0 ∷ 0 ∷ 0 ∷ 0 ∷ 0 ∷ 0 ∷ 0 ∷ 0 ∷ 0 ∷ [])
+    ∷ []
 unfolding in_window lift confirmed_by is_full_due acks_at naks reports deliveries says
 round_ack = refl
 
@@ -150,21 +163,29 @@ round_ack = refl
 abbrev past : List Event → Event → Option PubEnd
 past events e = ended (live 32 120_000) 0 e.body (after (live 32 120_000) 0 events)
 
-window_lost : (past [] (comes 0 0 31 0x61) ≡ None) × (past [] (comes 0 0 32 0x61) ≡ Some ends.WindowLost) × (past (comes 0 0 31 0x61 ∷ []) (comes 0 0 32 0x61) ≡ None)
+window_lost : (past [] (comes 0 0 31 0x61) ≡ None) × (past [] (comes 0 0 32 0x61) ≡ Some ends.WindowLost) ×
+    (past (comes 0 0 31 0x61 ∷ []) (comes 0 0 32 0x61) ≡ None)
 unfolding in_window lift confirmed_by is_full_due acks_at naks reports deliveries says
 window_lost = (refl, refl, refl)
 
-past_ignored : (after (live 32 120_000) 0 (comes 0 0 32 0x61 ∷ comes 0 0 31 0x61 ∷ [])).receiving ≡ (after (live 32 120_000) 0 (comes 0 0 31 0x61 ∷ [])).receiving
+past_ignored : (after (live 32 120_000) 0 (comes 0 0 32 0x61 ∷ comes 0 0 31 0x61 ∷ [])).receiving
+    ≡ (after (live 32 120_000) 0 (comes 0 0 31 0x61 ∷ [])).receiving
 unfolding in_window lift confirmed_by is_full_due acks_at naks reports deliveries says
 past_ignored = refl
 
 -- a window without a subscriber fills up
-full_window : (delivers (in_buffer 32) 100 (still 10_000 ∷ many 100 32) ≡ []) × (sends (in_buffer 32) 100 (still 10_000 ∷ many 100 32) ≡ (0x80 ∷ 2 ∷ 0 ∷ 0 ∷ 0 ∷ 0 ∷ 0 ∷ 1 ∷ 0 ∷ 0 ∷ 0x27 ∷ 0x10 ∷ 0 ∷ 0 ∷ 0 ∷ 1 ∷ 0 ∷ 0 ∷ 0 ∷ 0x84 ∷ 0 ∷ 1 ∷ 0x86 ∷ 0xa0 ∷ 0 ∷ 0 ∷ 0xc3 ∷ 0x50 ∷ 0 ∷ 0 ∷ 0 ∷ 0 ∷ 0 ∷ 0 ∷ 0 ∷ 0 ∷ 0 ∷ 0 ∷ 0 ∷ 0 ∷ 0 ∷ 0 ∷ 0 ∷ 0 ∷ []) ∷ [])
+full_window : (delivers (in_buffer 32) 100 (still 10_000 ∷ many 100 32) ≡ []) ×
+    (sends (in_buffer 32) 100 (still 10_000 ∷ many 100 32)
+    ≡ (0x80 ∷ 2 ∷ 0 ∷ 0 ∷ 0 ∷ 0 ∷ 0 ∷ 1 ∷ 0 ∷ 0 ∷ 0x27 ∷ 0x10 ∷ 0 ∷ 0 ∷ 0 ∷ 1 ∷ 0 ∷ 0 ∷ 0 ∷ 0x84 ∷ 0 ∷ 1 ∷ 0x86 ∷ 0xa0 ∷ 0 ∷ 0 ∷ 0xc3 ∷ 0x50
+    ∷ 0 ∷ 0 ∷ 0 ∷ 0 ∷ 0 ∷ 0 ∷ 0 ∷ 0 ∷ 0 ∷ 0 ∷ 0 ∷ 0 ∷ 0 ∷ 0 ∷ 0 ∷ 0 ∷ [])
+    ∷ [])
 unfolding in_window lift confirmed_by is_full_due acks_at naks reports deliveries says
 full_window = (refl, refl)
 
 -- a KEEPALIVE after a second
-alive : (sends (in_buffer 32) 0 (still 999_999 ∷ []) ≡ []) × (sends (in_buffer 32) 0 (still 1_000_000 ∷ still 999_999 ∷ []) ≡ (0x80 ∷ 1 ∷ 0 ∷ 0 ∷ 0 ∷ 0 ∷ 0 ∷ 0 ∷ 0 ∷ 0xf ∷ 0x42 ∷ 0x40 ∷ 0 ∷ 0 ∷ 0 ∷ 1 ∷ []) ∷ [])
+alive : (sends (in_buffer 32) 0 (still 999_999 ∷ []) ≡ []) ×
+    (sends (in_buffer 32) 0 (still 1_000_000 ∷ still 999_999 ∷ [])
+    ≡ (0x80 ∷ 1 ∷ 0 ∷ 0 ∷ 0 ∷ 0 ∷ 0 ∷ 0 ∷ 0 ∷ 0xf ∷ 0x42 ∷ 0x40 ∷ 0 ∷ 0 ∷ 0 ∷ 1 ∷ []) ∷ [])
 unfolding in_window lift confirmed_by is_full_due acks_at naks reports deliveries says
 alive = (refl, refl)
 
@@ -177,7 +198,8 @@ window_stays = refl
 abbrev takes : (time : ℕ) → Event
 takes time = record { time = time; stamp = 0; body = KeepAlive; room = Some 1000 }
 
-sixty_four : (length (delivers (in_buffer 128) 0 (takes 10_000 ∷ many 0 66)) ≡ 64) × (length (delivers (in_buffer 128) 0 (takes 10_001 ∷ takes 10_000 ∷ many 0 66)) ≡ 2)
+sixty_four : (length (delivers (in_buffer 128) 0 (takes 10_000 ∷ many 0 66)) ≡ 64) ×
+    (length (delivers (in_buffer 128) 0 (takes 10_001 ∷ takes 10_000 ∷ many 0 66)) ≡ 2)
 unfolding in_window lift confirmed_by is_full_due acks_at naks reports deliveries says
 sixty_four = (refl, refl)
 
@@ -185,10 +207,56 @@ sixty_four = (refl, refl)
 abbrev two_acked : List Event
 two_acked = still 170_000 ∷ comes 160_000 1_000 8 0x63 ∷ still 150_000 ∷ two
 
-last_confirmed : option_map (λ (f : Full). f.index) (latest_confirmed (after (live 1024 1_000_000) 7 (confirms 190_000 1 ∷ confirms 180_000 2 ∷ two_acked)).notes) ≡ Some 1
+last_confirmed : option_map (λ (f : Full). f.index)
+    (latest_confirmed (after (live 1024 1_000_000) 7 (confirms 190_000 1 ∷ confirms 180_000 2 ∷ two_acked)).notes)
+    ≡ Some 1
 unfolding in_window lift confirmed_by is_full_due acks_at naks reports deliveries says
 last_confirmed = refl
 
 first_confirmed : option_map (λ (f : Full). f.index) (latest_confirmed (after (live 1024 1_000_000) 7 (confirms 190_000 1 ∷ two_acked)).notes) ≡ Some 0
 unfolding in_window lift confirmed_by is_full_due acks_at naks reports deliveries says
 first_confirmed = refl
+
+abbrev then_after : (interval : ℕ) → List ℕ → List ℕ
+then_after interval [] = []
+then_after interval (time ∷ times) = (time + interval) ∷ time ∷ times
+
+-- the times of packets after the first one, at these intervals, the newest first
+abbrev times_after : (first : ℕ) → (intervals : List ℕ) → List ℕ
+times_after first [] = first ∷ []
+times_after first (interval ∷ earlier) = then_after interval (times_after first earlier)
+
+abbrev twice : List ℕ → List ℕ
+twice xs = xs ++ xs
+
+-- the pauses between bursts don't count
+bursts : packet_rate (times_after 0 (twice (10_000 ∷ 100 ∷ 100 ∷ 100 ∷ 100 ∷ 100 ∷ 100 ∷ 100 ∷ []))) ≡ 10_000
+unfolding shorter longest_up_to_median
+bursts = refl
+
+-- of eight short intervals and eight long ones the ninth by length is a long one, of nine short ones a short one
+as_many_short : packet_rate (times_after 0 (twice (twice (twice (400 ∷ 50 ∷ []))))) ≡ 2_500
+unfolding shorter longest_up_to_median
+as_many_short = refl
+
+more_short : packet_rate (times_after 0 (50 ∷ 50 ∷ (twice (twice (400 ∷ 50 ∷ [])) ++ twice (400 ∷ 50 ∷ []) ++ (400 ∷ 50 ∷ 400 ∷ 400 ∷ []))))
+    ≡ 20_000
+unfolding shorter longest_up_to_median
+more_short = refl
+
+-- sixteen different intervals, of 100 to 1600 in no order: the ninth is 900
+abbrev mixed : List ℕ
+mixed = 1_600 ∷ 300 ∷ 900 ∷ 100 ∷ 1_200 ∷ 800 ∷ 500 ∷ 1_100 ∷ 200 ∷ 1_400 ∷ 700 ∷ 1_000 ∷ 400 ∷ 1_500 ∷ 600 ∷ 1_300 ∷ []
+
+different : median_interval (times_after 7 mixed) ≡ 900
+unfolding shorter longest_up_to_median
+different = refl
+
+-- of nine packets the median interval is a missing one, and the least rate is told; of ten it is the longest of theirs
+too_few : packet_rate (times_after 0 (1 ∷ 1 ∷ 1 ∷ 1 ∷ 1 ∷ 1 ∷ 1 ∷ 1 ∷ [])) ≡ 1_000
+unfolding shorter longest_up_to_median
+too_few = refl
+
+just_enough : packet_rate (times_after 0 (40 ∷ 40 ∷ 40 ∷ 50 ∷ 40 ∷ 40 ∷ 40 ∷ 40 ∷ 40 ∷ [])) ≡ 20_000
+unfolding shorter longest_up_to_median
+just_enough = refl

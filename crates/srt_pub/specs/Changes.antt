@@ -1,22 +1,20 @@
 -- What clauses say of a publisher, whatever session it represents: how it changes, what holds of it, and which packets
 -- are written.
-use Rattle.std.specs.Prelude.{◌≡◌, ℕ, ◌+◌, ◌<◌, ◌≤◌, ℤ, pos, ◌+ℤ◌, Bool, true, false, Option, List, map, length}
-use Rattle.srt_seq.specs.Given.{given}
+use Rattle.std.specs.Prelude.{◌≡◌, ℕ, ◌+◌, ◌<◌, ◌≤◌, ℤ, pos, ◌+ℤ◌, Bool, true, false, Option, List, map, length, IfSome}
 use Rattle.srt_seq.specs.Window.{word_of, counted_from, number_word}
 use Rattle.srt_seq.specs.Lift.{stamped_from}
-use Rattle.srt_seq.specs.declared.shared.Mode.TheVariants.{Live, Buffer}
+use Rattle.srt_seq.specs.declared.shared.Mode.TheVariants.{Live}
 use Rattle.srt_seq.specs.declared.numbers.Seq31.{Seq31}
 use Rattle.srt_seq.specs.Runs.{Range, range_from}
 use Rattle.srt_packet.specs.declared.encoded.EncodedPacket.{EncodedPacket}
 use Rattle.srt_packet.specs.Encoded.{bytes_of, IsPacketText}
-use Rattle.srt_recvbuf.specs.Receiving.{Receiving, ack_point, requested}
-use Rattle.srt_recvbuf.specs.Changes.{payload_in}
+use Rattle.srt_recvbuf.specs.Receiving.{Receiving, ack_point, next_due, requested}
 use Rattle.srt_recvbuf.specs.Stands.{run_words}
 use Rattle.srt_pub.specs.Heard.{Heard}
 use Rattle.srt_pub.specs.Heard.Heard.{Data}
 use Rattle.srt_pub.specs.Publishing.{Terms, Publishing, Report, opened, noted, runs_said, gaps_told, due_in, took, with_data, loses_window}
 use Rattle.srt_pub.specs.Says.{says}
-use Rattle.srt_pub.specs.Calls.{lost_if, texts, next_delivery, after_delivery}
+use Rattle.srt_pub.specs.Calls.{lost_if, texts, next_delivery}
 use Rattle.srt_pub.specs.Counting.{Passes}
 use Rattle.srt_pub.specs.Stands.{StandsFor, IsAhead}
 use Rattle.srt_pub.specs.declared.due_times.Agreed.{Agreed}
@@ -26,7 +24,8 @@ use Rattle.srt_pub.specs.declared.session.Publisher.{Publisher}
 
 -- the publisher represents a session that has just begun, with this opening and this width of its window
 abbrev pub HasBegun : Opening → (width : ℕ) → Publisher → Type 0
-HasBegun o width p = StandsFor (record { mode = o.mode; width = width; delay = o.delay }) (word_of o.initial) o.now o.stamp.word o.caller p opened
+HasBegun o width p =
+    StandsFor (record { mode = o.mode; width = width; delay = o.delay; callers = o.callers }) (word_of o.initial) o.now o.stamp.word o.caller p opened
 
 -- if the old publisher represents a session, the new one represents it after the change
 abbrev pub Becomes : (old new : Publisher) → (change : (terms : Terms) (initial : ℕ) → Publishing → Publishing) → Type 0
@@ -75,22 +74,14 @@ WritesAt now p packets due =
     → texts packets ≡ map (says caller initial time) (due terms time m)
 
 -- a payload that is given isn't empty
-abbrev pub GivesNoneEmpty : (now : ℕ) → Publisher → (is_given : Bool) → (payload : List ℕ) → Type 0
-GivesNoneEmpty now p is_given payload =
+abbrev pub GivesNoneEmpty : (now : ℕ) → Publisher → (payload : Option (List ℕ)) → Type 0
+GivesNoneEmpty now p payload =
     (terms : Terms) (initial opening stamp caller : ℕ) (m : Publishing) → opening ≤ now → StandsFor terms initial opening stamp caller p m
-    → is_given ≡ true → 0 < length payload
+    → IfSome payload (λ bytes. 0 < length bytes)
 
--- in buffer mode the next payload is delivered, if there is room
-abbrev pub DeliversInOrder : (now room : ℕ) → (old new : Publisher) → Type 0
-DeliversInOrder now room old new =
-    (terms : Terms) (initial opening stamp caller time : ℕ) (m : Publishing) → terms.mode ≡ Buffer → now ≡ opening + time
-    → StandsFor terms initial opening stamp caller old m → StandsFor terms initial opening stamp caller new (after_delivery terms (next_delivery terms time room m) m)
-
--- and this is that payload
-abbrev pub GivesInOrder : (now room : ℕ) → Publisher → (is_given : Bool) → (payload : List ℕ) → Type 0
-GivesInOrder now room p is_given payload =
-    (terms : Terms) (initial opening stamp caller time : ℕ) (m : Publishing) → terms.mode ≡ Buffer → now ≡ opening + time
-    → StandsFor terms initial opening stamp caller p m → given is_given payload ≡ payload_in (next_delivery terms time room m)
+-- for this room the payload that is delivered next is that of the first packet that is due, with that many places
+abbrev pub CountsAs : Terms → (room counted : ℕ) → Publishing → Type 0
+CountsAs terms room counted m = (time : ℕ) → next_delivery terms time room m ≡ next_due time counted m.receiving
 
 -- the range between two numbers of a drop request, counted from the initial number
 abbrev pub range_between : (initial first last : ℕ) → Range

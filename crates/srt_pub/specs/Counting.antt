@@ -1,18 +1,17 @@
 -- What a publisher's session counts, as numbers of all that it received and sent.
-use Rattle.std.specs.Prelude.{◌≡◌, ℕ, zero, suc, ◌+◌, ◌-◌, ◌^◌, ◌≤◌, Bool, true, false, List, [], ◌∷◌, length, min, is_some, if◌then◌else◌}
+use Rattle.std.specs.Prelude.{◌≡◌, ℕ, zero, suc, ◌+◌, ◌-◌, ◌^◌, ◌≤◌, Bool, true, false, List, [], ◌∷◌, length, min, is_some, ◌==◌, if◌then◌else◌}
+use Rattle.std.specs.List.{sum_by}
+pub use Rattle.srt_seq.specs.Capped.{capped, one_if}
+use Rattle.srt_seq.specs.Window.{word_of, offset_of}
+use Rattle.srt_seq.specs.Runs.{Run}
+use Rattle.srt_seq.specs.declared.numbers.Seq31.{Seq31}
 use Rattle.srt_recvbuf.specs.Receiving.{Arrival, Receiving, arrival_of}
 use Rattle.srt_recvbuf.specs.declared.buffer.Put.{Put}
 use Rattle.srt_recvbuf.specs.declared.buffer.Put.TheVariants.{New, Repeat, Outside}
-use Rattle.srt_pub.specs.Publishing.{Note, Came, Sent, Confirmed, Report, NakOfAll, NakOfNew}
+use Rattle.srt_pub.specs.Publishing.{Note, Came, Sent, Confirmed, Report, FullAck, NakOfAll, NakOfNew}
 use Rattle.srt_pub.specs.declared.counts.Counts.{Counts}
-
-abbrev pub one_if : Bool → ℕ
-one_if true = 1
-one_if false = 0
-
--- a count as it is kept: it stops at 2^64 - 1
-abbrev pub capped : ℕ → ℕ
-capped n = min n (2 ^ 64 - 1)
+use Rattle.srt_pub.specs.declared.region.Region.{Region}
+use Rattle.srt_pub.specs.declared.region.Region.TheVariants.{Inside, Ahead, Late}
 
 -- the bytes of all received payloads
 abbrev pub bytes_in : List Arrival → ℕ
@@ -31,9 +30,32 @@ delivered_in r = received_below r.arrivals r.front
 -- the number of unencrypted data packets that came, of whatever number
 abbrev pub came_in : List Note → ℕ
 came_in [] = 0
-came_in (Came ∷ notes) = came_in notes + 1
+came_in (Came time region put ∷ notes) = came_in notes + 1
 came_in (Sent time report ∷ notes) = came_in notes
 came_in (Confirmed full sample ∷ notes) = came_in notes
+
+abbrev pub is_late : Region → Bool
+is_late Late = true
+is_late Inside = false
+is_late Ahead = false
+
+abbrev pub is_ahead : Region → Bool
+is_ahead Ahead = true
+is_ahead Inside = false
+is_ahead Late = false
+
+-- of these the number that came too late, and the number that came ahead of the window
+abbrev pub late_in : List Note → ℕ
+late_in [] = 0
+late_in (Came time region put ∷ notes) = late_in notes + one_if (is_late region)
+late_in (Sent time report ∷ notes) = late_in notes
+late_in (Confirmed full sample ∷ notes) = late_in notes
+
+abbrev pub ahead_in : List Note → ℕ
+ahead_in [] = 0
+ahead_in (Came time region put ∷ notes) = ahead_in notes + one_if (is_ahead region)
+ahead_in (Sent time report ∷ notes) = ahead_in notes
+ahead_in (Confirmed full sample ∷ notes) = ahead_in notes
 
 abbrev pub is_nak : Report → Bool
 is_nak (NakOfAll runs) = true
@@ -43,31 +65,76 @@ is_nak _ = false
 -- the number of NAKs that were sent
 abbrev pub naks_in : List Note → ℕ
 naks_in [] = 0
-naks_in (Came ∷ notes) = naks_in notes
+naks_in (Came time region put ∷ notes) = naks_in notes
 naks_in (Sent time report ∷ notes) = if is_nak report then naks_in notes + 1 else naks_in notes
 naks_in (Confirmed full sample ∷ notes) = naks_in notes
 
--- these numbers are counted. What was given up is the numbers below the front that weren't delivered
-pub record AreCounts (c : Counts) (all first bytes_of_first passed_on position asked : ℕ) : Type 0 where
-  pub came_is : c.came ≡ capped all
-  pub received_is : c.received ≡ capped first
-  pub bytes_is : c.bytes ≡ capped bytes_of_first
-  pub delivered_is : c.delivered ≡ capped passed_on
-  pub given_up_is : c.given_up ≡ capped (position - passed_on)
-  pub naks_is : c.naks ≡ capped asked
+-- how many numbers are in runs
+abbrev pub numbers_in : List Run → ℕ
+numbers_in runs = sum_by (λ r. r.high - r.low + 1) runs
 
--- these are the counts of a session that received this, delivered that many packets up to a front, and has these notes
+-- how many numbers are from a sequence number to another one, both included, and how many are in such pairs
+abbrev pub numbers_between : (first last : Seq31) → ℕ
+numbers_between first last = offset_of (word_of last) (word_of first) + 1
+
+abbrev pub numbers_in_pairs : List (Seq31 × Seq31) → ℕ
+numbers_in_pairs pairs = sum_by (λ p. numbers_between p.0 p.1) pairs
+
+-- how many numbers a packet reports as lost
+abbrev pub reported_by : Report → ℕ
+reported_by (NakOfAll runs) = numbers_in runs
+reported_by (NakOfNew runs) = numbers_in runs
+reported_by _ = 0
+
+-- the number of numbers that the NAKs reported as lost; a number counts once for each NAK that named it
+abbrev pub reported_lost_in : List Note → ℕ
+reported_lost_in [] = 0
+reported_lost_in (Came time region put ∷ notes) = reported_lost_in notes
+reported_lost_in (Sent time report ∷ notes) = reported_lost_in notes + reported_by report
+reported_lost_in (Confirmed full sample ∷ notes) = reported_lost_in notes
+
+-- whether a packet is a Full ACK that says that no place is available
+abbrev pub is_of_full_window : Report → Bool
+is_of_full_window (FullAck index point round_trip variance available rates) = available == 0
+is_of_full_window _ = false
+
+-- the number of those that were sent
+abbrev pub full_windows_in : List Note → ℕ
+full_windows_in [] = 0
+full_windows_in (Came time region put ∷ notes) = full_windows_in notes
+full_windows_in (Sent time report ∷ notes) = full_windows_in notes + one_if (is_of_full_window report)
+full_windows_in (Confirmed full sample ∷ notes) = full_windows_in notes
+
+-- the counts of a session that received this, delivered that many packets up to a front, and has these notes. What was
+-- given up is the numbers below the front that weren't delivered
+abbrev pub counts_of : List Arrival → (delivered front : ℕ) → List Note → Counts
+counts_of arrivals delivered front notes =
+    record {
+      came = capped (came_in notes);
+      late = capped (late_in notes);
+      ahead = capped (ahead_in notes);
+      received = capped (length arrivals);
+      bytes = capped (bytes_in arrivals);
+      delivered = capped delivered;
+      given_up = capped (front - delivered);
+      naks = capped (naks_in notes);
+      reported_lost = capped (reported_lost_in notes);
+      full_windows = capped (full_windows_in notes);
+    }
+
 abbrev pub Counted : Counts → List Arrival → (delivered front : ℕ) → List Note → Type 0
-Counted c arrivals delivered front notes = AreCounts c (came_in notes) (length arrivals) (bytes_in arrivals) delivered front (naks_in notes)
+Counted c arrivals delivered front notes = c ≡ counts_of arrivals delivered front notes
 
 -- the front moves on, past a packet that is delivered or none, and past numbers that are given up
 pub record Passes (is_due : Bool) (r s : Receiving) : Type 0 where
   pub delivered : delivered_in s ≡ delivered_in r + one_if is_due
   pub far : one_if is_due ≤ s.front - r.front
 
--- the counts after an unencrypted data packet came
-abbrev pub with_one : Counts → Counts
-with_one c = record c { came = capped (c.came + 1) }
+-- the counts after an unencrypted data packet came, whose number lies there
+abbrev pub with_one : Region → Counts → Counts
+with_one Inside c = record c { came = capped (c.came + 1) }
+with_one Ahead c = record c { came = capped (c.came + 1); ahead = capped (c.ahead + 1) }
+with_one Late c = record c { came = capped (c.came + 1); late = capped (c.late + 1) }
 
 -- after a packet of this length was put into the window
 abbrev pub with_put : Put → (length : ℕ) → Counts → Counts
@@ -79,6 +146,10 @@ with_put Outside length c = c
 abbrev pub with_steps : (steps : ℕ) → (is_due : Bool) → Counts → Counts
 with_steps steps is_due c = record c { delivered = capped (c.delivered + one_if is_due); given_up = capped (c.given_up + (steps - one_if is_due)) }
 
--- after a NAK was sent
-abbrev pub with_nak : Counts → Counts
-with_nak c = record c { naks = capped (c.naks + 1) }
+-- after a NAK was sent that reports this many numbers as lost
+abbrev pub with_nak : (lost : ℕ) → Counts → Counts
+with_nak lost c = record c { naks = capped (c.naks + 1); reported_lost = capped (c.reported_lost + lost) }
+
+-- after a Full ACK was sent, of a full window or not, or none
+abbrev pub with_full_window : (is_full : Bool) → Counts → Counts
+with_full_window is_full c = record c { full_windows = capped (c.full_windows + one_if is_full) }

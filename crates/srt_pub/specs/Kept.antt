@@ -1,10 +1,16 @@
 -- What a session's fields keep of its notes: of ACKs, of NAKs, and of the rest.
-use Rattle.std.specs.Prelude.{◌≡◌, ℕ, ◌+◌, ◌-◌, ◌<◌, ◌≤◌, min, Bool, false, nat_lt, Some, List, length, map, slice_get}
+use Rattle.std.specs.Prelude.{◌≡◌, ℕ, ◌+◌, ◌-◌, ◌%◌, ◌<◌, ◌≤◌, min, Bool, false, nat_lt, Option, None, Some, List, length, map, slice_get}
+use Rattle.std.specs.Prelude.{slice_index_or}
 use Rattle.srt_rtt.specs.Book as book
 use Rattle.srt_rtt.specs.RoundTrip as times
-use Rattle.srt_pub.specs.Publishing.{Full, Note, fulls, is_confirmed, latest_confirmed, says_pair, is_known, came_since_ack, time_of, samples, last_sent, last_nak_of_all}
+use Rattle.srt_rtt.specs.declared.round_trip.Rtt.{Rtt}
+use Rattle.srt_pub.specs.Publishing.{Terms, Full, Note, fulls, is_confirmed, latest_confirmed, says_pair, is_known, came_since_ack, time_of}
+use Rattle.srt_pub.specs.Publishing.{samples, last_sent, last_nak_of_all, last_came, received_at, rating, round_trip}
 use Rattle.srt_pub.specs.declared.acknowledgements.Acks.{Acks}
 use Rattle.srt_pub.specs.declared.log.Log.{Log}
+use Rattle.srt_pub.specs.declared.rates.Meter.{Meter}
+use Rattle.srt_pub.specs.declared.rates.Rating.{Rating}
+use Rattle.srt_pub.specs.declared.rates.Rating.TheVariants.{Measured}
 
 -- a Full ACK as an entry of the book of sent Full ACKs
 abbrev pub noted_of : List Note → Full → book.Noted
@@ -46,11 +52,31 @@ pub record AreAcks (width front point : ℕ) (notes : List Note) (known : Bool) 
 abbrev pub AcksStandFor : (width front point : ℕ) → Acks → List Note → Type 0
 AcksStandFor width front point a notes = book.StandsFor a.book (book_of notes) × AreAcks width front point notes a.known a.same a.last a.came
 
--- the fields represent these notes: the ACKs, the round trips, the times of the last NAK of all gaps and of the last
--- packet, and how far past the front the received numbers ended at the end of the event before this one
-pub record LogStandsFor (width front point : ℕ) (log : Log) (notes : List Note) (seen : ℕ) : Type 0 where
-  pub acks : AcksStandFor width front point log.acks notes
-  pub times : times.StandsFor log.rtt (samples notes)
+-- a ring keeps the last 17 of these times, the newest at the index before `at`
+pub record AreLatest (at : ℕ) (kept : List (Option ℕ)) (times : List ℕ) : Type 0 where
+  pub are : (place : ℕ) → place < 17 → slice_index_or kept ((at + (16 - place)) % 17) None ≡ slice_get times place
+
+-- a meter measures or doesn't; if it does, it keeps the last of these times
+pub record MeterStandsFor (rating : Rating) (m : Meter) (times : List ℕ) : Type 0 where
+  pub rating_is : m.rating ≡ rating
+  pub latest : rating ≡ Measured → AreLatest m.at m.times.items times
+
+-- a meter keeps what a session of these terms measures
+abbrev pub Measures : Terms → Meter → List Note → Type 0
+Measures terms meter notes = MeterStandsFor (rating terms.mode terms.callers) meter (received_at notes)
+
+-- a round-trip time and its variance are those of a session of these terms
+abbrev pub IsRoundTrip : Terms → Rtt → List Note → Type 0
+IsRoundTrip terms rtt notes = times.round_trip_of rtt ≡ round_trip terms.callers notes
+
+-- the fields represent these notes: the ACKs, the round trips, when data packets were received, the times of the last
+-- data packet, of the last NAK of all gaps and of the last packet sent, and how far past the front the received numbers
+-- ended at the end of the event before this one
+pub record LogStandsFor (terms : Terms) (front point : ℕ) (log : Log) (notes : List Note) (seen : ℕ) : Type 0 where
+  pub acks : AcksStandFor terms.width front point log.acks notes
+  pub times : times.StandsFor terms.callers log.rtt (samples notes)
+  pub rates : Measures terms log.meter notes
+  pub came_is : log.came ≡ last_came notes
   pub nak_is : log.nak ≡ last_nak_of_all notes
   pub sent_is : log.sent ≡ last_sent notes
   pub seen_is : log.seen ≡ seen - front

@@ -9,4 +9,4 @@ pub mod Viewing
 pub mod Laws
 pub mod Sent
 pub mod Changes
-pub mod Noting
+pub mod inside

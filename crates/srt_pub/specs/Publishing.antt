@@ -1,23 +1,37 @@
 -- A publisher's session, defined by all that it received and sent. It counts from its own beginning: times in
 -- microseconds from its opening, numbers from its initial number, timestamps from its conclusion's. Lists have the
 -- newest first.
-use Rattle.std.specs.Prelude.{ℕ, ◌+◌, ◌-◌, ◌^◌, ℤ, pos, Bool, true, false, Option, None, Some, List, [], ◌∷◌, ◌++◌, find, take, max, min, length, not, is_none, is_some, nat_lt, nat_le, ◌==◌, ◌&&◌, ◌||◌, if◌then◌else◌}
+use Rattle.std.specs.Prelude.{ℕ, zero, suc, ◌+◌, ◌-◌, ◌*◌, ◌/◌, ◌^◌, ℤ, pos, Bool, true, false, Option, None, Some, List, [], ◌∷◌, ◌++◌, find, take, max}
+use Rattle.std.specs.Prelude.{min, length, not, is_none, is_some, nat_lt, nat_le, slice_get, ◌==◌, ◌&&◌, ◌||◌, if◌then◌else◌}
 use Rattle.srt_seq.specs.Limits.{full_ack_interval_us, keep_alive_after_us, light_ack_packets}
 use Rattle.srt_seq.specs.declared.shared.Mode.{Mode}
 use Rattle.srt_seq.specs.declared.shared.Mode.TheVariants.{Live, Buffer}
+use Rattle.srt_seq.specs.declared.shared.Callers.{Callers}
+use Rattle.srt_seq.specs.declared.shared.Callers.TheVariants.{Draft, Libsrt}
 use Rattle.srt_seq.specs.Window.{in_window}
+use Rattle.srt_seq.specs.Capped.{one_if}
 use Rattle.srt_seq.specs.Runs.{Range, Run, runs}
 use Rattle.srt_seq.specs.Counts.{ack_number}
 use Rattle.srt_tsbpd.specs.Deadline.{due_time}
 use Rattle.srt_rtt.specs.RoundTrip.{RoundTrip, after_samples, nak_interval}
-use Rattle.srt_recvbuf.specs.Receiving.{Arrival, Receiving, nothing_yet, end_of, gaps, gaps_from, ack_point, available, is_waiting, deliverable, in_order, passed, received, requested}
+use Rattle.srt_recvbuf.specs.Receiving.{Arrival, Receiving, nothing_yet, end_of, gaps, gaps_from, ack_point, available, is_received, is_waiting}
+use Rattle.srt_recvbuf.specs.Receiving.{deliverable, in_order, passed, received, requested, put_of}
+use Rattle.srt_recvbuf.specs.declared.buffer.Put.{Put}
+use Rattle.srt_recvbuf.specs.declared.buffer.Put.TheVariants.{New, Repeat, Outside}
+use Rattle.srt_packet.specs.declared.writing.Rates.{Rates}
 use Rattle.srt_pub.specs.Heard.{Heard, Data, AckAck, DropRequest, Other}
+use Rattle.srt_pub.specs.declared.region.Region.{Region}
+use Rattle.srt_pub.specs.declared.region.Region.TheVariants.{Inside, Ahead, Late}
+use Rattle.srt_pub.specs.declared.rates.Rating.{Rating}
+use Rattle.srt_pub.specs.declared.rates.Rating.TheVariants.{Unmeasured, Measured}
 
--- what was agreed: the mode, the window's width in packets, and the delay in microseconds
+-- what was agreed: the mode, the window's width in packets, the delay in microseconds, and which rules the callers
+-- follow
 pub record Terms : Type 0 where
   pub mode : Mode
   pub width : ℕ
   pub delay : ℕ
+  pub callers : Callers
 
 -- a Full ACK: the number of Full ACKs before it, when it was sent, and the acknowledgement point and available buffer
 -- size that it reported
@@ -29,7 +43,7 @@ pub record Full : Type 0 where
 
 -- what a session sends
 pub data Report : Type 0 where
-  FullAck : (index point round_trip variance available : ℕ) → Report
+  FullAck : (index point round_trip variance available : ℕ) (rates : Rates) → Report
   LightAck : (point : ℕ) → Report
   -- a NAK of all gaps
   NakOfAll : List Run → Report
@@ -39,8 +53,8 @@ pub data Report : Type 0 where
 
 -- an event that the session remembers
 pub data Note : Type 0 where
-  -- an unencrypted data packet came, of whatever number
-  Came : Note
+  -- an unencrypted data packet came at this time; its number lies there, and this became of it
+  Came : (time : ℕ) (region : Region) (put : Put) → Note
   -- a packet was sent
   Sent : (time : ℕ) (report : Report) → Note
   -- a Full ACK was confirmed, with this sample of the round-trip time
@@ -65,29 +79,29 @@ due_in Buffer terms time stamp = pos 0
 -- the samples of confirmed Full ACKs (section 4.10)
 abbrev pub samples : List Note → List ℕ
 samples [] = []
-samples (Came ∷ notes) = samples notes
+samples (Came time region put ∷ notes) = samples notes
 samples (Sent time report ∷ notes) = samples notes
 samples (Confirmed full sample ∷ notes) = sample ∷ samples notes
 
 -- the smoothed round-trip time and its variance (section 4.10)
-abbrev pub round_trip : List Note → RoundTrip
-round_trip notes = after_samples (samples notes)
+abbrev pub round_trip : Callers → List Note → RoundTrip
+round_trip callers notes = after_samples callers (samples notes)
 
 abbrev pub full_of : (time : ℕ) → Report → List Full
-full_of time (FullAck index point rtt variance available) = record { index = index; time = time; point = point; available = available } ∷ []
+full_of time (FullAck index point rtt variance available rates) = record { index = index; time = time; point = point; available = available } ∷ []
 full_of time _ = []
 
 -- the Full ACKs that were sent
 abbrev pub fulls : List Note → List Full
 fulls [] = []
-fulls (Came ∷ notes) = fulls notes
+fulls (Came time region put ∷ notes) = fulls notes
 fulls (Sent time report ∷ notes) = full_of time report ++ fulls notes
 fulls (Confirmed full sample ∷ notes) = fulls notes
 
 -- whether the Full ACK with this index was confirmed
 abbrev pub is_confirmed : List Note → (index : ℕ) → Bool
 is_confirmed [] index = false
-is_confirmed (Came ∷ notes) index = is_confirmed notes index
+is_confirmed (Came time region put ∷ notes) index = is_confirmed notes index
 is_confirmed (Sent time report ∷ notes) index = is_confirmed notes index
 is_confirmed (Confirmed full sample ∷ notes) index = full.index == index || is_confirmed notes index
 
@@ -96,7 +110,7 @@ abbrev pub answers : (number : ℕ) → List Note → Full → Bool
 answers number notes f = (ack_number f.index == number) && not (is_confirmed notes f.index)
 
 -- the Full ACK that an ACKACK with this number confirms: one of the last 64, not confirmed yet (section 3.2.8; 64 is
--- this profile)
+-- our choice)
 unfoldable pub confirmed_by : (number : ℕ) → List Note → Option Full
 confirmed_by number notes = find (answers number notes) (take 64 (fulls notes))
 
@@ -108,7 +122,7 @@ later_of full (Some other) = if nat_lt full.index other.index then Some other el
 -- of all confirmed Full ACKs, the one that was sent last
 abbrev pub latest_confirmed : List Note → Option Full
 latest_confirmed [] = None
-latest_confirmed (Came ∷ notes) = latest_confirmed notes
+latest_confirmed (Came time region put ∷ notes) = latest_confirmed notes
 latest_confirmed (Sent time report ∷ notes) = latest_confirmed notes
 latest_confirmed (Confirmed full sample ∷ notes) = later_of full (latest_confirmed notes)
 
@@ -123,14 +137,14 @@ is_known width point room None = (point == 0) && (room == width)
 is_known width point room (Some full) = says_pair point room full
 
 abbrev pub is_ack : Report → Bool
-is_ack (FullAck index point rtt variance available) = true
+is_ack (FullAck index point rtt variance available rates) = true
 is_ack (LightAck point) = true
 is_ack _ = false
 
 -- the number of data packets since the last ACK of either kind (section 4.8.1)
 abbrev pub came_since_ack : List Note → ℕ
 came_since_ack [] = 0
-came_since_ack (Came ∷ notes) = came_since_ack notes + 1
+came_since_ack (Came time region put ∷ notes) = came_since_ack notes + 1
 came_since_ack (Sent time report ∷ notes) = if is_ack report then 0 else came_since_ack notes
 came_since_ack (Confirmed full sample ∷ notes) = came_since_ack notes
 
@@ -146,18 +160,97 @@ is_nak_of_all _ = false
 -- when the last packet was sent, and the last NAK of all gaps; the opening counts as both
 abbrev pub last_sent : List Note → ℕ
 last_sent [] = 0
-last_sent (Came ∷ notes) = last_sent notes
+last_sent (Came time region put ∷ notes) = last_sent notes
 last_sent (Sent time report ∷ notes) = time
 last_sent (Confirmed full sample ∷ notes) = last_sent notes
 
 abbrev pub last_nak_of_all : List Note → ℕ
 last_nak_of_all [] = 0
-last_nak_of_all (Came ∷ notes) = last_nak_of_all notes
+last_nak_of_all (Came time region put ∷ notes) = last_nak_of_all notes
 last_nak_of_all (Sent time report ∷ notes) = if is_nak_of_all report then time else last_nak_of_all notes
 last_nak_of_all (Confirmed full sample ∷ notes) = last_nak_of_all notes
 
+-- when an unencrypted data packet came last; the opening counts as one
+abbrev pub last_came : List Note → ℕ
+last_came [] = 0
+last_came (Came time region put ∷ notes) = time
+last_came (Sent time report ∷ notes) = last_came notes
+last_came (Confirmed full sample ∷ notes) = last_came notes
+
+-- with the time of a data packet, if it was the first copy of its number
+abbrev pub if_new : Put → (time : ℕ) → List ℕ → List ℕ
+if_new New time times = time ∷ times
+if_new Repeat time times = times
+if_new Outside time times = times
+
+-- the times at which data packets were received, each number's first copy alone
+abbrev pub received_at : List Note → List ℕ
+received_at [] = []
+received_at (Came time region put ∷ notes) = if_new put time (received_at notes)
+received_at (Sent time report ∷ notes) = received_at notes
+received_at (Confirmed full sample ∷ notes) = received_at notes
+
+-- the time between two packets; a second where one is missing (our choice, as in libsrt)
+abbrev pub time_between : (later earlier : Option ℕ) → ℕ
+time_between None earlier = 1_000_000
+time_between (Some later) None = 1_000_000
+time_between (Some later) (Some earlier) = later - earlier
+
+-- the interval from the packet before it to the packet of this place; the latest is at place 0
+abbrev pub interval : (times : List ℕ) → (place : ℕ) → ℕ
+interval times place = time_between (slice_get times place) (slice_get times (suc place))
+
+-- how many of this number of latest intervals are shorter than this time
+unfoldable pub shorter : (times : List ℕ) → (time : ℕ) → (number : ℕ) → ℕ
+shorter times time zero = 0
+shorter times time (suc n) = shorter times time n + one_if (nat_lt (interval times n) time)
+
+-- the interval of this place; 0 if it is longer than the median, as more than eight of the latest 16 are shorter
+abbrev pub up_to_median : (times : List ℕ) → (place : ℕ) → ℕ
+up_to_median times place = if nat_lt 8 (shorter times (interval times place) 16) then 0 else interval times place
+
+-- the longest of this number of latest intervals that isn't longer than the median
+unfoldable pub longest_up_to_median : (times : List ℕ) → (number : ℕ) → ℕ
+longest_up_to_median times zero = 0
+longest_up_to_median times (suc n) = max (longest_up_to_median times n) (up_to_median times n)
+
+-- the median of the latest 16 intervals: the ninth of them by length, as libsrt takes it (our choice)
+abbrev pub median_interval : (times : List ℕ) → ℕ
+median_interval times = longest_up_to_median times 16
+
+-- the packets receiving rate, in packets per second, where packets come at this interval: from 1000 to 1,000,000, rounded
+-- down (our choice)
+abbrev pub rate_at : (interval : ℕ) → ℕ
+rate_at interval = max 1000 (1_000_000 / max interval 1)
+
+-- the same, from the times of the packets: 1000 where fewer than ten came
+abbrev pub packet_rate : (times : List ℕ) → ℕ
+packet_rate times = rate_at (median_interval times)
+
+-- what a Full ACK says of this rate: the packets receiving rate, the link capacity, at least 100,000, and the receiving
+-- rate in bytes, of 1456 in each packet (section 3.2.4; the values are our choice)
+abbrev pub rates_with : (rate : ℕ) → Rates
+rates_with rate = record { packets = rate; capacity = max 100_000 rate; bytes = rate * 1456 }
+
+abbrev pub no_rates : Rates
+no_rates = record { packets = 0; capacity = 0; bytes = 0 }
+
+-- whether a session measures how fast packets come: in buffer mode, where the callers speak libsrt
+abbrev pub rating : Mode → Callers → Rating
+rating Live callers = Unmeasured
+rating Buffer Draft = Unmeasured
+rating Buffer Libsrt = Measured
+
+-- what its Full ACKs say of the rates
+abbrev pub rates_in : Rating → (times : List ℕ) → Rates
+rates_in Unmeasured times = no_rates
+rates_in Measured times = rates_with (packet_rate times)
+
+abbrev pub rates_of : Terms → List Note → Rates
+rates_of terms notes = rates_in (rating terms.mode terms.callers) (received_at notes)
+
 -- whether a Full ACK is due: 10 ms after the last one, as long as the current pair isn't confirmed (section 4.8.1;
--- that a confirmed pair isn't sent again is this profile)
+-- that a confirmed pair isn't sent again is our choice)
 unfoldable pub is_full_due : (width point room time : ℕ) → List Note → Bool
 is_full_due width point room time notes = nat_le full_ack_interval_us (time - time_of (fulls notes)) && not (is_known width point room (latest_confirmed notes))
 
@@ -166,8 +259,9 @@ abbrev pub is_light_due : List Note → Bool
 is_light_due notes = nat_le light_ack_packets (came_since_ack notes)
 
 -- the Full ACK of the current state
-abbrev pub full_ack : (point room : ℕ) → List Note → Report
-full_ack point room notes = FullAck (length (fulls notes)) point (round_trip notes).time (round_trip notes).variance room
+abbrev pub full_ack : Terms → (point room : ℕ) → List Note → Report
+full_ack terms point room notes =
+    FullAck (length (fulls notes)) point (round_trip terms.callers notes).time (round_trip terms.callers notes).variance room (rates_of terms notes)
 
 -- the ACK that is due: one at most, and a Full ACK before a Light one
 abbrev pub ack_of : (full light : Bool) → (full_one light_one : Report) → List Report
@@ -175,14 +269,15 @@ ack_of true light full_one light_one = full_one ∷ []
 ack_of false true full_one light_one = light_one ∷ []
 ack_of false false full_one light_one = []
 
-unfoldable pub acks_at : (width point room time : ℕ) → List Note → List Report
-acks_at width point room time notes = ack_of (is_full_due width point room time notes) (is_light_due notes) (full_ack point room notes) (LightAck point)
+unfoldable pub acks_at : Terms → (point room time : ℕ) → List Note → List Report
+acks_at terms point room time notes =
+    ack_of (is_full_due terms.width point room time notes) (is_light_due notes) (full_ack terms point room notes) (LightAck point)
 
 -- the ACK that is due in a session, if one is
 abbrev pub acks : Terms → (time : ℕ) → Publishing → List Report
-acks terms time p = acks_at terms.width (ack_point terms.width p.receiving) (available terms.width p.receiving) time p.notes
+acks terms time p = acks_at terms (ack_point terms.width p.receiving) (available terms.width p.receiving) time p.notes
 
--- the runs that a NAK reports: the first 32 (section 4.8.2; 32 is this profile)
+-- the runs that a NAK reports: the first 32 (section 4.8.2; 32 is our choice)
 abbrev pub runs_said : List ℕ → List Run
 runs_said ns = take 32 (runs ns)
 
@@ -195,8 +290,8 @@ nak_with all [] = []
 nak_with all (r ∷ rs) = nak_report all (r ∷ rs) ∷ []
 
 -- whether a NAK of all gaps is due (section 4.8.2)
-abbrev pub is_nak_due : (time : ℕ) → List Note → Bool
-is_nak_due time notes = nat_le (nak_interval (round_trip notes)) (time - last_nak_of_all notes)
+abbrev pub is_nak_due : Callers → (time : ℕ) → List Note → Bool
+is_nak_due callers time notes = nat_le (nak_interval (round_trip callers notes)) (time - last_nak_of_all notes)
 
 -- the gaps that a NAK reports: all of them at each interval, else those above the numbers received before this event
 -- (section 4.8.2)
@@ -209,7 +304,7 @@ naks_of all width seen r = nak_with all (runs_said (gaps_told all width seen r))
 
 -- the NAK that is due in a session, if one is
 unfoldable pub naks : Terms → (time : ℕ) → Publishing → List Report
-naks terms time p = naks_of (is_nak_due time p.notes) terms.width p.seen p.receiving
+naks terms time p = naks_of (is_nak_due terms.callers time p.notes) terms.width p.seen p.receiving
 
 -- a KEEPALIVE, 1 s after the last packet (section 3.2.3)
 abbrev pub keep_alive_if : Bool → List Report
@@ -247,7 +342,7 @@ deliveries Buffer terms time (Some room) p = in_order terms.width room p.receivi
 abbrev pub delivered : Terms → (time : ℕ) → (room : Option ℕ) → Publishing → Publishing
 delivered terms time room p = record p { receiving = passed terms.width (deliveries terms.mode terms time room p) p.receiving }
 
--- the sample of the round-trip time: the time since the Full ACK, at most 10 s (this profile)
+-- the sample of the round-trip time: the time since the Full ACK, at most 10 s (our choice)
 abbrev pub sample_of : (time : ℕ) → Full → ℕ
 sample_of time full = min (time - full.time) 10_000_000
 
@@ -259,12 +354,23 @@ confirmed_notes time (Some full) notes = Confirmed full (sample_of time full) �
 abbrev pub confirmed_at : (time : ℕ) → Option Full → Publishing → Publishing
 confirmed_at time full p = record p { notes = confirmed_notes time full p.notes }
 
+-- where a data packet's number lies, seen from the window: in it, ahead of it by fewer than 2^30, or neither
+unfoldable pub region_in : (width number : ℕ) → Receiving → Region
+region_in width number r =
+    if is_some (in_window number r.front width) then Inside
+    else if is_some (in_window number (r.front + width) (2 ^ 30)) then Ahead
+    else Late
+
 -- after an unencrypted data packet
 abbrev pub with_data : Terms → (time stamp number : ℕ) → List ℕ → Publishing → Publishing
 with_data terms time stamp number payload p =
-    record { receiving = received terms.width number payload (due_in terms.mode terms time stamp) p.receiving; notes = Came ∷ p.notes; seen = p.seen }
+    record {
+      receiving = received terms.width number payload (due_in terms.mode terms time stamp) p.receiving;
+      notes = Came time (region_in terms.width number p.receiving) (put_of (in_window number p.receiving.front terms.width) p.receiving) ∷ p.notes;
+      seen = p.seen;
+    }
 
--- after a drop request, which counts in live mode only (this profile)
+-- after a drop request, which counts in live mode only (our choice)
 abbrev pub with_request : Mode → Terms → Range → Publishing → Publishing
 with_request Live terms range p = record p { receiving = requested terms.width range p.receiving }
 with_request Buffer terms range p = p
@@ -276,11 +382,17 @@ took terms time stamp (AckAck number) p = confirmed_at time (confirmed_by number
 took terms time stamp (DropRequest range) p = with_request terms.mode terms range p
 took terms time stamp Other p = p
 
--- whether no received packet waits, and a number is past the window by fewer than 2^30 (this profile)
+-- whether something that was received is still to be delivered: in live mode a packet at or above the front, in buffer
+-- mode the front's own
+abbrev pub has_undelivered : Mode → Receiving → Bool
+has_undelivered Live r = is_waiting r
+has_undelivered Buffer r = is_received r r.front
+
+-- whether no received packet waits, and a number is past the window by fewer than 2^30 (our choice)
 abbrev pub is_past_window : (width number : ℕ) → Receiving → Bool
 is_past_window width number r = is_none (in_window number r.front width) && not (is_waiting r) && is_some (in_window number (r.front + width) (2 ^ 30))
 
--- whether a packet ends the session because the window is lost: in live mode only (this profile)
+-- whether a packet ends the session because the window is lost: in live mode only (our choice)
 abbrev pub loses_window : Mode → Terms → Heard → Publishing → Bool
 loses_window Live terms (Data number encryption payload) p = (encryption == 0) && is_past_window terms.width number p.receiving
 loses_window Live terms _ p = false

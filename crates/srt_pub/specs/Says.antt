@@ -19,7 +19,7 @@ losses_said initial rs = loss_words (map (range_said initial) rs)
 
 -- the first header word: the top bit of a control packet, and its type (section 3.2, table 1)
 abbrev pub first_word : Report → ℕ
-first_word (FullAck index point round_trip variance available) = 0x8002_0000
+first_word (FullAck index point round_trip variance available rates) = 0x8002_0000
 first_word (LightAck point) = 0x8002_0000
 first_word (NakOfAll rs) = 0x8003_0000
 first_word (NakOfNew rs) = 0x8003_0000
@@ -27,12 +27,13 @@ first_word KeepAlive = 0x8001_0000
 
 -- the second header word: the number of a Full ACK, else 0
 abbrev pub second_word : Report → ℕ
-second_word (FullAck index point round_trip variance available) = ack_number index
+second_word (FullAck index point round_trip variance available rates) = ack_number index
 second_word _ = 0
 
--- the body, in words. In a Full ACK the rates and the link capacity are 0 (this profile)
+-- the body, in words
 abbrev pub other_words : (initial : ℕ) → Report → List ℕ
-other_words initial (FullAck index point round_trip variance available) = number_word initial point ∷ round_trip ∷ variance ∷ available ∷ 0 ∷ 0 ∷ 0 ∷ []
+other_words initial (FullAck index point round_trip variance available rates) =
+    number_word initial point ∷ round_trip ∷ variance ∷ available ∷ rates.packets ∷ rates.capacity ∷ rates.bytes ∷ []
 other_words initial (LightAck point) = number_word initial point ∷ []
 other_words initial (NakOfAll rs) = losses_said initial rs
 other_words initial (NakOfNew rs) = losses_said initial rs

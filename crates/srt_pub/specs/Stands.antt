@@ -49,7 +49,7 @@ pub record IsOrderly (mode : Mode) (width : ℕ) (r : Receiving) : Type 0 where
 pub record StandsFor (terms : Terms) (initial opening stamp caller : ℕ) (p : Publisher) (m : Publishing) : Type 0 where
   pub agreed : AreTerms terms opening stamp caller p.agreed
   pub buffer : buffers.StandsFor terms.width initial opening p.buffer m.receiving
-  pub log : LogStandsFor terms.width m.receiving.front (ack_point terms.width m.receiving) p.log m.notes m.seen
+  pub log : LogStandsFor terms m.receiving.front (ack_point terms.width m.receiving) p.log m.notes m.seen
   pub orderly : IsOrderly terms.mode terms.width m.receiving
   pub seen : m.seen ≤ end_of m.receiving.arrivals
   pub narrow : terms.width ≤ 8192
@@ -66,7 +66,7 @@ pub record GoesOn (width : ℕ) (r s : Receiving) : Type 0 where
 pub record IsAhead (terms : Terms) (initial opening stamp caller : ℕ) (p : Publisher) (m : Publishing) (r : Receiving) : Type 0 where
   pub agreed : AreTerms terms opening stamp caller p.agreed
   pub buffer : buffers.StandsFor terms.width initial opening p.buffer r
-  pub log : LogStandsFor terms.width m.receiving.front (ack_point terms.width m.receiving) p.log m.notes m.seen
+  pub log : LogStandsFor terms m.receiving.front (ack_point terms.width m.receiving) p.log m.notes m.seen
   pub orderly : IsOrderly terms.mode terms.width r
   pub seen : m.seen ≤ end_of m.receiving.arrivals
   pub narrow : terms.width ≤ 8192

@@ -14,4 +14,4 @@ pub record AreStatistics (terms : Terms) (m : Publishing) (x : Statistics) : Typ
   pub counts_are : Counted x.counts m.receiving.arrivals (delivered_in m.receiving) m.receiving.front m.notes
   pub in_use_is : x.in_use ≡ end_of m.receiving.arrivals - m.receiving.front
   pub available_is : x.available ≡ available terms.width m.receiving
-  pub round_trip_is : shown_round_trip x ≡ round_trip m.notes
+  pub round_trip_is : shown_round_trip x ≡ round_trip terms.callers m.notes

@@ -5,9 +5,12 @@ ghost use Rattle.srt_seq.specs.Given.{given};
 ghost use Rattle.srt_packet.specs.Text.{IsWritable};
 ghost use Rattle.srt_pub.specs.Publishing.{Came, confirmed_by, confirmed_notes, sample_of, is_full_due, is_light_due, noted};
 ghost use Rattle.srt_pub.specs.Publishing.Report.{LightAck as TheLightAck};
+ghost use Rattle.srt_pub.specs.declared.region.Region.{Region};
+ghost use Rattle.srt_recvbuf.specs.declared.buffer.Put.{Put};
 ghost use Rattle.srt_pub.specs.Calls.{listed};
 
-use srt_packet::Body;
+use crate::rates::Meter;
+use srt_packet::{Body, Rates};
 use srt_rtt::{AckBook, Rtt};
 use srt_seq::Seq31;
 use srt_seq::limits::{FULL_ACK_INTERVAL_US, FULL_ACKS_KEPT, LIGHT_ACK_PACKETS};
@@ -44,9 +47,10 @@ pub struct Acks {
 
 impl Acks {
     ghost use Rattle.srt_pub.specs.Kept.{AcksStandFor};
-    ghost use Rattle.srt_pub.specs.Noting.{AcksBecome, AcksHoldOf, AcksMove, CountsAcks, NotesAck, NotesFullAck, WritesAck, WritesFullAck, WritesLightAck};
+    ghost use Rattle.srt_pub.specs.inside.Noting.{AcksBecome, AcksHoldOf, AcksMove, CountsAcks, NotesAck, NotesFullAck, WritesAck};
+    ghost use Rattle.srt_pub.specs.inside.Noting.{WritesFullAck, WritesLightAck};
 
-    /// No ACK was sent yet. The only call that takes memory; the error is a refused allocation.
+    /// No ACK was sent yet. The only call that allocates; the error is a refused allocation.
     pub fn open(alloc: Global) -> Result<Acks, AllocError>
         ensures { IfOk result (λ a. (width : ℕ) → AcksStandFor width 0 0 a []) }
     {
@@ -72,7 +76,7 @@ impl Acks {
 
     /// Counts an unencrypted data packet, whatever its number.
     pub fn came(&mut self)
-        ensures { AcksBecome self.old self.new (λ point notes. Came ∷ notes) }
+        ensures { (time : ℕ) (region : Region) (put : Put) → AcksBecome self.old self.new (λ point notes. Came time region put ∷ notes) }
     {
         self.came = self.came.saturating_add(1).min(LIGHT_ACK_PACKETS);
     }
@@ -103,7 +107,7 @@ impl Acks {
     }
 
     /// Whether a Full ACK is due: the current pair isn't confirmed, and the last Full ACK is at least 10 ms ago.
-    fn is_full_due(&self, time: u64) -> bool
+    pub fn is_full_due(&self, time: u64) -> bool
         ensures { AcksHoldOf self.now (λ width front point notes. result ≡ is_full_due width point (front + width - point) time notes) }
     {
         if self.known {
@@ -120,9 +124,9 @@ impl Acks {
     }
 
     /// Writes a Full ACK and notes that it is sent.
-    fn full(&mut self, time: u64, state: State, rtt: Rtt, body: &mut Body<'_>)
-        ensures stands { NotesFullAck time state.available rtt self.old self.new }
-        ensures bytes { WritesFullAck time state.point state.available rtt self.old body.new }
+    fn full(&mut self, time: u64, state: State, rtt: Rtt, rates: Rates, body: &mut Body<'_>)
+        ensures stands { NotesFullAck time state.available rtt rates self.old self.new }
+        ensures bytes { WritesFullAck time state.point state.available rtt rates self.old body.new }
         ensures writable { IsWritable body.new }
     {
         self.same = self.same.saturating_add(1).min(FULL_ACKS_KEPT);
@@ -134,6 +138,7 @@ impl Acks {
             round_trip: rtt.rtt(),
             variance: rtt.variance(),
             available: state.available,
+            rates,
         };
     }
 
@@ -149,15 +154,22 @@ impl Acks {
 
     /// Writes the body of the ACK that is due at a time in microseconds since the opening: a Full ACK, or else a
     /// Light one. Returns whether one is due; if not, `body` is unchanged and nothing is noted. O(1).
-    pub fn report(&mut self, time: u64, state: State, rtt: Rtt, body: &mut Body<'_>) -> bool
-        ensures stands { NotesAck time state.available rtt self.old self.new }
-        ensures bytes { WritesAck time state.point state.available rtt self.old (listed (given result body.new)) }
+    pub fn report(
+        &mut self,
+        time: u64,
+        state: State,
+        rtt: Rtt,
+        meter: &Meter,
+        body: &mut Body<'_>,
+    ) -> bool
+        ensures stands { NotesAck time state.available rtt meter.now self.old self.new }
+        ensures bytes { WritesAck time state.point state.available rtt meter.now self.old (listed (given result body.new)) }
         ensures count { CountsAcks time state.available self.old (listed (given result body.new)) }
         ensures writable { result ≡ true → IsWritable body.new }
         ensures kept { result ≡ false → body.new ≡ body.old }
     {
         if self.is_full_due(time) {
-            self.full(time, state, rtt, body);
+            self.full(time, state, rtt, meter.rates(), body);
             return true;
         }
         if self.is_light_due() {

@@ -1,17 +1,25 @@
-//! What a publisher's session counts: packets that come, are received, are delivered or are given up, and NAKs.
+//! What a publisher's session counts: packets that come, are received, are delivered or are given up, NAKs with what
+//! they report as lost, and Full ACKs of a full window.
 
-ghost use Rattle.std.specs.Prelude.{◌≡◌, ◌≤◌, length};
+ghost use Rattle.std.specs.Prelude.{◌≡◌, ◌≤◌, [], length};
 ghost use Rattle.srt_pub.specs.Counting.{one_if};
 
+use crate::region::Region;
 use srt_recvbuf::Put;
 use srt_seq::PayloadRef;
 
 /// Counts of a session since its opening. Each stops at 2^64 - 1.
 #[derive(Clone, Copy, Debug, PartialEq, Eq)]
 pub struct Counts {
-    /// Unencrypted data packets that came, of whatever number. Those that aren't counted in `received` were repeats of
-    /// a received number, or had a number outside the window: too late, or too far ahead.
+    /// Unencrypted data packets that came, of whatever number. Those that aren't counted in `received`, `late` or
+    /// `ahead` were repeats of a received number of the window.
     pub came: u64,
+    /// Of these, packets that came too late: their number is below the window's front, so it was delivered, given up or
+    /// dropped before.
+    pub late: u64,
+    /// Of these, packets that came ahead of the window: their number is at or past its end, by fewer than 2^30. They
+    /// aren't received, and the sender has to send them again.
+    pub ahead: u64,
     /// Packets that were received: each number once.
     pub received: u64,
     /// The bytes of the payloads of `received`.
@@ -23,30 +31,45 @@ pub struct Counts {
     pub given_up: u64,
     /// NAKs that were sent, of all gaps or of new ones.
     pub naks: u64,
+    /// Packet numbers that the loss lists of these NAKs reported as lost. A number counts once for each NAK that named
+    /// it.
+    pub reported_lost: u64,
+    /// Full ACKs that were sent while the available buffer size was 0: all places of the window were taken by received
+    /// packets that wait for delivery (section 3.2.4).
+    pub full_windows: u64,
 }
 
 impl Counts {
-    ghost use Rattle.srt_pub.specs.Counting.{AreCounts, with_one, with_put, with_steps, with_nak};
+    ghost use Rattle.srt_pub.specs.Counting.{counts_of, with_one, with_put, with_steps, with_nak, with_full_window};
 
     /// The counts of a session that has just begun.
     pub(crate) fn none() -> Counts
-        ensures { AreCounts result 0 0 0 0 0 0 }
+        ensures { result ≡ counts_of [] 0 0 [] }
     {
         Counts {
             came: 0,
+            late: 0,
+            ahead: 0,
             received: 0,
             bytes: 0,
             delivered: 0,
             given_up: 0,
             naks: 0,
+            reported_lost: 0,
+            full_windows: 0,
         }
     }
 
-    /// Counts an unencrypted data packet that came.
-    pub(crate) fn come(&mut self)
-        ensures { self.new ≡ with_one self.old }
+    /// Counts an unencrypted data packet that came, by where its number lies.
+    pub(crate) fn come(&mut self, region: Region)
+        ensures { self.new ≡ with_one region self.old }
     {
         self.came = self.came.saturating_add(1);
+        match region {
+            Region::Inside => {}
+            Region::Ahead => self.ahead = self.ahead.saturating_add(1),
+            Region::Late => self.late = self.late.saturating_add(1),
+        }
     }
 
     /// Counts a packet that was put into the window, by what became of it.
@@ -64,7 +87,7 @@ impl Counts {
     }
 
     /// Counts the packets that the front passes: `steps` in all, of which one is delivered if `is_due`.
-    pub(crate) fn pass(&mut self, steps: u32, is_due: bool)
+    pub(crate) fn count_passed(&mut self, steps: u32, is_due: bool)
         ensures { self.new ≡ with_steps steps is_due self.old }
     {
         let delivered = one_if(is_due);
@@ -74,11 +97,19 @@ impl Counts {
             .saturating_add(u64::from(steps).saturating_sub(delivered));
     }
 
-    /// Counts a NAK that is sent.
-    pub(crate) fn ask(&mut self)
-        ensures { self.new ≡ with_nak self.old }
+    /// Counts a NAK that is sent and reports this many numbers as lost.
+    pub(crate) fn ask(&mut self, lost: u64)
+        ensures { self.new ≡ with_nak lost self.old }
     {
         self.naks = self.naks.saturating_add(1);
+        self.reported_lost = self.reported_lost.saturating_add(lost);
+    }
+
+    /// Counts a Full ACK that is sent, if it `is_full`: of a window without an available place.
+    pub(crate) fn fill(&mut self, is_full: bool)
+        ensures { self.new ≡ with_full_window is_full self.old }
+    {
+        self.full_windows = self.full_windows.saturating_add(one_if(is_full));
     }
 }
 

@@ -7,6 +7,6 @@ pub enum PubEnd {
     /// The publisher sent a SHUTDOWN (section 3.2.7).
     Shutdown,
     /// Live mode only: a data packet's number is past the window, by fewer than 2^30, while no received packet waits
-    /// for delivery. The sender has moved on, and the window can't follow it (this profile).
+    /// for delivery. The sender has moved on, and the window can't follow it (our choice).
     WindowLost,
 }

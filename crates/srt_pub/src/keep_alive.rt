@@ -49,11 +49,11 @@ impl Publisher {
 }
 
 impl Log {
-    ghost use Rattle.srt_pub.specs.Noting.{LogBecomes, LogHoldsOf};
+    ghost use Rattle.srt_pub.specs.inside.Noting.{LogBecomes, LogHoldsOf};
 
     /// Whether nothing was sent for a second, so that a KEEPALIVE is due.
     pub fn keep_alive_due(&self, time: u64) -> bool
-        ensures { LogHoldsOf self.now (λ notes. result ≡ nat_le keep_alive_after_us (time - last_sent notes)) }
+        ensures { LogHoldsOf self.now (λ terms notes. result ≡ nat_le keep_alive_after_us (time - last_sent notes)) }
     {
         time.saturating_sub(self.sent) >= KEEP_ALIVE_AFTER_US
     }

@@ -8,15 +8,16 @@
 //! Types: [`Publisher`], the session; [`Opening`], what it begins with; [`Reports`], which packets an event sends;
 //! [`PubEnd`], why a packet ends the session; [`Statistics`], what a look at it shows, with its [`Counts`].
 //!
-//! Calls: `Publisher::open` once; `start` for each session; then for each event `datagram` if a packet came,
-//! `deliver` until it returns false (64 times at most), or `pass_over` if the publisher stands by, and `transmit`, which
-//! writes the ACK, NAK and KEEPALIVE that are due.
+//! Calls: `Publisher::open` once; `start` for each session; then for each event `datagram` if a packet arrived,
+//! `next_due`, which lends the payload that is to be delivered next, and `note_delivered` after it (64 times at most;
+//! alone if the publisher stands by), and `transmit`, which writes the ACK, NAK and KEEPALIVE that are due.
 //!
 //! Files: `session.rt` has the rules of data, drop requests and delivery, on `opening.rt`'s terms; `due_times.rt` of
 //! due times; `window_lost.rt` of the lost window that ends a live session; `transmit.rt` of what is sent at the end of
 //! an event; `acknowledgements.rt` of Full and Light ACKs and ACKACKs; `nak.rt` of NAKs and their interval;
-//! `keep_alive.rt` of KEEPALIVEs; `log.rt` keeps the times of the last packets; `counts.rt` has what is counted, and
-//! `statistics.rt` shows it. `specs/Publishing.antt` defines what a session sends, `specs/Says.antt` its bytes,
+//! `keep_alive.rt` of KEEPALIVEs; `log.rt` keeps the times of the last packets; `rates.rt` measures how fast packets
+//! come; `questions.rt` has what a route asks; `region.rt` says where a number lies; `counts.rt` has what is counted,
+//! and `statistics.rt` shows it. `specs/Publishing.antt` defines what a session sends, `specs/Says.antt` its bytes,
 //! `specs/Counting.antt` its counts; `laws.rt` has facts about these.
 #![tactic(auto)]
 
@@ -29,6 +30,9 @@ pub mod laws;
 mod log;
 mod nak;
 mod opening;
+mod questions;
+mod rates;
+mod region;
 mod reports;
 mod session;
 mod statistics;

@@ -7,6 +7,7 @@ ghost use Rattle.srt_packet.specs.Encoded.{bytes_of, IsPacketText};
 ghost use Rattle.srt_recvbuf.specs.Receiving.{end_of};
 ghost use Rattle.srt_recvbuf.specs.Stands.{words_of};
 ghost use Rattle.srt_seq.specs.Runs.{Run};
+ghost use Rattle.srt_pub.specs.Counting.{capped, numbers_between, numbers_in_pairs};
 ghost use Rattle.srt_pub.specs.Publishing.{naks, is_nak_due, nak_report};
 ghost use Rattle.srt_pub.specs.Calls.{listed};
 ghost use Rattle.srt_pub.specs.Publishing.Note.{Sent};
@@ -40,7 +41,7 @@ impl Publisher {
             return false;
         }
         self.log.nak(time, all);
-        self.counts.ask();
+        self.counts.ask(numbers_in(&runs));
         let body = Body::Nak {
             losses: write(&runs),
         };
@@ -71,13 +72,13 @@ impl Publisher {
 }
 
 impl Log {
-    ghost use Rattle.srt_pub.specs.Noting.{LogBecomes, LogHoldsOf};
+    ghost use Rattle.srt_pub.specs.inside.Noting.{LogBecomes, LogHoldsOf};
 
     /// Whether a NAK of all gaps is due: the last one is at least the NAK interval ago (section 4.8.2).
     pub fn is_nak_due(&self, time: u64) -> bool
-        ensures { LogHoldsOf self.now (λ notes. result ≡ is_nak_due time notes) }
+        ensures { LogHoldsOf self.now (λ terms notes. result ≡ is_nak_due terms.callers time notes) }
     {
-        time.saturating_sub(self.nak) >= self.rtt.nak_interval()
+        time.saturating_sub(self.nak) >= self.rtt.values().nak_interval()
     }
 
     /// Notes that a NAK is sent, of all gaps or of new ones only.
@@ -87,6 +88,25 @@ impl Log {
         self.nak = later_if(all, time, self.nak);
         self.sent = time;
     }
+}
+
+/// How many numbers are from `first` to `last`, both included.
+fn numbers_between(first: Seq31, last: Seq31) -> u64
+    ensures { result ≡ numbers_between first last }
+{
+    u64::from(steps(first, last)) + 1
+}
+
+/// How many numbers are in these runs, each given by its first and its last number. Stops at 2^64 - 1.
+fn numbers_in(runs: &ArrayVec<(Seq31, Seq31), 32>) -> u64
+    ensures { result ≡ capped (numbers_in_pairs runs.now.items) }
+{
+    let mut count = 0u64;
+    for run in runs.as_slice() {
+        let (first, last) = *run;
+        count = count.saturating_add(numbers_between(first, last));
+    }
+    count
 }
 
 /// `time` if `all`, else `before`.

@@ -1,6 +1,6 @@
 //! What a session begins with.
 
-use srt_seq::{Mode, Seq31, Stamp32};
+use srt_seq::{Callers, Mode, Seq31, Stamp32};
 
 /// What a session begins with: the moment of its opening, what the caller's conclusion says, and what the handshake
 /// agreed.
@@ -18,4 +18,6 @@ pub struct Opening {
     pub mode: Mode,
     /// The agreed receiver's delay, in microseconds (section 4.4). It counts in live mode only.
     pub delay: u32,
+    /// Which rules the callers follow: of the first sample of the round-trip time, and of the rates in a Full ACK.
+    pub callers: Callers,
 }

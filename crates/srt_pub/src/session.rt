@@ -1,11 +1,9 @@
 //! A publisher's session: its beginning, data, ACKACKs, drop requests and delivery (draft-sharabayko-srt-01, sections
 //! 3.1, 3.2.8, 3.2.9, 4.5 and 4.6).
 
-ghost use Rattle.std.specs.Prelude.{◌≡◌, ℕ, ◌+◌, ◌-◌, ◌%◌, ◌^◌, ◌<◌, ◌≤◌, false, is_some, IfOk};
-ghost use Rattle.srt_seq.specs.Given.{given};
+ghost use Rattle.std.specs.Prelude.{◌≡◌, ℕ, ◌+◌, ◌-◌, ◌%◌, ◌^◌, ◌<◌, ◌≤◌, is_some, length, option_copied, IfOk, IfSome};
 ghost use Rattle.srt_seq.specs.Window.{word_of};
 ghost use Rattle.srt_packet.specs.View.{body_of};
-ghost use Rattle.srt_recvbuf.specs.Receiving.{next_due};
 ghost use Rattle.srt_pub.specs.Heard.{heard_from};
 ghost use Rattle.srt_pub.specs.Heard.Heard.{Data};
 ghost use Rattle.srt_pub.specs.Publishing.{opened, with_request, confirmed_at, confirmed_by};
@@ -17,8 +15,8 @@ use crate::ends::PubEnd;
 use crate::log::Log;
 use crate::opening::Opening;
 use srt_packet::{Kind, PacketRef};
-use srt_recvbuf::RecvBuf;
-use srt_seq::{Mode, Payload, PayloadRef, Seq31, Stamp32};
+use srt_recvbuf::{Put, RecvBuf};
+use srt_seq::{Callers, Mode, PayloadRef, Seq31, Stamp32};
 use std::alloc::{AllocError, Global};
 
 /// A data packet without its timestamp.
@@ -46,15 +44,16 @@ pub struct Publisher {
 
 impl Publisher {
     ghost use Rattle.srt_pub.specs.Stands.{StandsFor, opening_of, width_of};
-    ghost use Rattle.srt_pub.specs.Changes.{Becomes, BecomesAt, CatchesUp, DeliversInOrder, DropsInLiveMode, GivesInOrder, GivesNoneEmpty, HasBegun, HoldsOf, HoldsOfAt, HearsAt, ReceivesAt, lost_by, data_from, range_between};
+    ghost use Rattle.srt_pub.specs.Changes.{Becomes, BecomesAt, CatchesUp, CountsAs, DropsInLiveMode, GivesNoneEmpty, HasBegun, HoldsOf};
+    ghost use Rattle.srt_pub.specs.Changes.{HoldsOfAt, HearsAt, ReceivesAt, lost_by, data_from, range_between};
     ghost use Rattle.srt_recvbuf.specs.Changes.{payload_in};
 
-    /// A session with a window of `width` packets, 32 to 8192; `start` begins it. The only call that takes memory;
+    /// A session with a window of `width` packets, 32 to 8192; `start` begins it. The only call that allocates;
     /// the error is a refused allocation. O(width).
     pub fn open(alloc: Global, width: u32) -> Result<Publisher, AllocError>
         requires least { 32 ≤ width }
         requires most { width ≤ 8192 }
-        ensures { IfOk result (λ p. StandsFor (record { mode = Mode.Live; width = width; delay = 0 }) 0 0 0 0 p opened) }
+        ensures { IfOk result (λ p. StandsFor (record { mode = Mode.Live; width = width; delay = 0; callers = Callers.Draft }) 0 0 0 0 p opened) }
     {
         Ok(Publisher {
             agreed: Agreed {
@@ -83,14 +82,14 @@ impl Publisher {
             caller: opening.caller,
         };
         self.buffer.start(opening.initial);
-        self.log.clear();
+        self.log.reset(opening.mode, opening.callers);
         self.counts = Counts::none();
     }
 
     /// Takes a packet from the caller that comes at `now`: a data packet, an ACKACK, a drop request or a SHUTDOWN;
-    /// other kinds change nothing here. Returns why it ends the session, or None if the session goes on. Takes no
-    /// memory; a payload is copied once. A drop request is linear in the numbers of the window that it names, other
-    /// kinds are O(1) on average.
+    /// other kinds change nothing here. Returns why it ends the session, or None if the session goes on.
+    /// Doesn't allocate; a payload is copied once. A drop request is linear in the numbers of the window that it names,
+    /// other kinds are O(1) on average.
     pub fn datagram(&mut self, packet: &PacketRef<'_>, now: u64) -> Option<PubEnd>
         requires { now < 2 ^ 62 }
         ensures stands { HearsAt now packet.now.stamp self.old self.new (λ initial. heard_from initial (body_of packet.now.kind)) }
@@ -127,12 +126,15 @@ impl Publisher {
         }
     }
 
-    /// Takes a data packet (section 3.1). An encrypted one changes nothing (this profile).
+    /// Takes a data packet (section 3.1). An encrypted one changes nothing (our choice).
     fn data(&mut self, packet: DataPacket<'_>, stamp: u32, now: u64) -> Option<PubEnd>
         requires { now < 2 ^ 62 }
-        ensures stands { HearsAt now stamp self.old self.new (λ initial. data_from initial packet.entry.word packet.entry.encryption packet.entry.payload.bytes.now) }
+        ensures stands { HearsAt now stamp self.old self.new
+            (λ initial. data_from initial packet.entry.word packet.entry.encryption packet.entry.payload.bytes.now) }
         ensures opening { opening_of self.new ≡ opening_of self.old }
-        ensures end { HoldsOf self.old (λ terms initial m. result ≡ lost_by terms (data_from initial packet.entry.word packet.entry.encryption packet.entry.payload.bytes.now) m) }
+        ensures end { HoldsOf self.old
+            (λ terms initial m.
+            result ≡ lost_by terms (data_from initial packet.entry.word packet.entry.encryption packet.entry.payload.bytes.now) m) }
     {
         if packet.encryption != 0 {
             return None;
@@ -148,15 +150,18 @@ impl Publisher {
         ensures stands { ReceivesAt now stamp word payload.entry.bytes.now self.old self.new }
         ensures opening { opening_of self.new ≡ opening_of self.old }
     {
-        self.log.came();
-        self.counts.come();
+        let region = self.region_of(word);
+        let time = now.saturating_sub(self.agreed.opening);
+        self.counts.come(region);
         let Some(number) = Seq31::new(word) else {
+            self.log.note_data(Put::Outside, time);
             return;
         };
         let due = self.agreed.due(stamp, now);
         let front = self.buffer.front();
         let point = self.buffer.ack_point();
         let put = self.buffer.put(number, due, payload);
+        self.log.note_data(put, time);
         self.counts.store(put, payload);
         self.follow(front, point, false);
     }
@@ -170,7 +175,7 @@ impl Publisher {
         let front_steps = steps(front, self.buffer.front());
         let point_steps = steps(point, self.buffer.ack_point());
         self.log.moves(front_steps, point_steps);
-        self.counts.pass(front_steps, is_due);
+        self.counts.count_passed(front_steps, is_due);
     }
 
     /// Takes an ACKACK (section 3.2.8).
@@ -182,7 +187,7 @@ impl Publisher {
             .confirm(number, now.saturating_sub(self.agreed.opening));
     }
 
-    /// Takes a drop request (section 3.2.9). In buffer mode it changes nothing (this profile).
+    /// Takes a drop request (section 3.2.9). In buffer mode it changes nothing (our choice).
     fn drop_request(&mut self, first: u32, last: u32)
         ensures stands { Becomes self.old self.new (λ terms initial m. with_request terms.mode terms (range_between initial first last) m) }
         ensures opening { opening_of self.new ≡ opening_of self.old }
@@ -210,86 +215,58 @@ impl Publisher {
         self.follow(front, point, false);
     }
 
-    /// Delivers the payload of the first packet, if it is due and `room` isn't 0.
-    fn advance(&mut self, now: u64, room: u32, payload: &mut Payload) -> bool
-        requires early { now < 2 ^ 62 }
-        ensures stands { BecomesAt now self.old self.new (λ terms time m. after_delivery terms (next_due time room m.receiving) m) }
-        ensures opening { opening_of self.new ≡ opening_of self.old }
-        ensures payload { HoldsOfAt now self.old (λ terms time m. given result payload.new.items ≡ payload_in (next_due time room m.receiving)) }
-        ensures some { GivesNoneEmpty now self.old result payload.new.items }
-        ensures kept { result ≡ false → payload.new ≡ payload.old }
-    {
-        let front = self.buffer.front();
-        let point = self.buffer.ack_point();
-        let is_due = self.buffer.advance(now, room, payload);
-        self.follow(front, point, is_due);
-        is_due
-    }
-
-    /// Delivers the payload of the front's number, if it is received and `room` isn't 0.
-    fn deliver_in_order(&mut self, now: u64, room: u32, payload: &mut Payload) -> bool
-        requires early { now < 2 ^ 62 }
-        ensures stands { DeliversInOrder now room self.old self.new }
-        ensures opening { opening_of self.new ≡ opening_of self.old }
-        ensures payload { GivesInOrder now room self.old result payload.new.items }
-        ensures some { GivesNoneEmpty now self.old result payload.new.items }
-        ensures kept { result ≡ false → payload.new ≡ payload.old }
-    {
-        if steps(self.buffer.front(), self.buffer.ack_point()) == 0 {
-            return false;
-        }
-        self.advance(now, room, payload)
-    }
-
-    /// Delivers the next payload, 1 to 1456 bytes, if one is due at `now` (sections 4.5 and 4.6). Returns whether
-    /// there is one; if so, `payload` is replaced by its bytes, one copy, and else unchanged. In live mode a missing
-    /// packet is given up once a later one is due, and `room` doesn't count. In buffer mode payloads come without
-    /// gaps, and none if `room` is 0: it is the number of payloads that every subscriber can still take, and 0
-    /// without a subscriber (section 4.2.2 and this profile).
+    /// The payload that is to be delivered next, 1 to 1456 bytes, if one is due at `now` (sections 4.5 and 4.6). O(1),
+    /// and no byte is copied. It counts as delivered once `note_delivered` is called. In live mode a missing packet is
+    /// given up once a later one is due, and `room` doesn't count. In buffer mode payloads come without gaps, and none
+    /// if `room` is 0: it is the number of payloads that every subscriber can still take, and 0 without a subscriber
+    /// (section 4.2.2; our choice).
     ///
-    /// An event delivers at most 64 payloads (this profile): that limit is the caller's, who calls until it returns
-    /// false or 64 are delivered.
-    pub fn deliver(&mut self, now: u64, room: u32, payload: &mut Payload) -> bool
+    /// An event delivers at most 64 payloads (our choice): that limit is the caller's, who looks and notes until there
+    /// is none or 64 are delivered.
+    pub fn next_due(&self, now: u64, room: u32) -> Option<&[u8]>
+        requires early { now < 2 ^ 62 }
+        ensures payload { HoldsOfAt now self.now (λ terms time m. option_copied result ≡ payload_in (next_delivery terms time room m)) }
+        ensures some { GivesNoneEmpty now self.now (option_copied result) }
+        ensures fits { IfSome result (λ p. length p.now ≤ 1456) }
+    {
+        self.buffer.next_due(now, self.room_that_counts(room))
+    }
+
+    /// Notes that the payload that `next_due` returns at this moment and for this room was delivered, or, of a
+    /// publisher that stands by, is passed over. Returns whether there was one; if not, nothing changes.
+    pub fn note_delivered(&mut self, now: u64, room: u32) -> bool
         requires early { now < 2 ^ 62 }
         ensures stands { BecomesAt now self.old self.new (λ terms time m. after_delivery terms (next_delivery terms time room m) m) }
         ensures opening { opening_of self.new ≡ opening_of self.old }
-        ensures payload { HoldsOfAt now self.old (λ terms time m. given result payload.new.items ≡ payload_in (next_delivery terms time room m)) }
-        ensures some { GivesNoneEmpty now self.old result payload.new.items }
-        ensures kept { result ≡ false → payload.new ≡ payload.old }
+        ensures answer { HoldsOfAt now self.old (λ terms time m. result ≡ is_some (next_delivery terms time room m)) }
     {
-        match self.agreed.mode {
-            Mode::Live => self.advance(now, 1, payload),
-            Mode::Buffer => self.deliver_in_order(now, room, payload),
-        }
-    }
-
-    /// What `deliver` does if `room` is 0, without a copy of the payload: for a publisher that stands by. In live mode
-    /// it passes over the next payload, if one is due at `now`; in buffer mode it does nothing. Returns whether one
-    /// was passed over.
-    pub fn pass_over(&mut self, now: u64) -> bool
-        requires early { now < 2 ^ 62 }
-        ensures stands { BecomesAt now self.old self.new (λ terms time m. after_delivery terms (next_delivery terms time 0 m) m) }
-        ensures opening { opening_of self.new ≡ opening_of self.old }
-        ensures answer { HoldsOfAt now self.old (λ terms time m. result ≡ is_some (next_delivery terms time 0 m)) }
-    {
-        match self.agreed.mode {
-            Mode::Live => self.pass_over_due(now),
-            Mode::Buffer => false,
-        }
-    }
-
-    /// Passes over the payload of the first packet, if it is due.
-    fn pass_over_due(&mut self, now: u64) -> bool
-        requires early { now < 2 ^ 62 }
-        ensures stands { BecomesAt now self.old self.new (λ terms time m. after_delivery terms (next_due time 1 m.receiving) m) }
-        ensures opening { opening_of self.new ≡ opening_of self.old }
-        ensures answer { HoldsOfAt now self.old (λ terms time m. result ≡ is_some (next_due time 1 m.receiving)) }
-    {
+        let counted = self.room_that_counts(room);
         let front = self.buffer.front();
         let point = self.buffer.ack_point();
-        let is_due = self.buffer.pass_over(now, 1);
+        let is_due = self.buffer.note_delivered(now, counted);
         self.follow(front, point, is_due);
         is_due
+    }
+
+    /// The room for which the first packet that is due is the next to be delivered: 1 in live mode, where the room
+    /// doesn't count; in buffer mode `room`, or 0 if the front's number is missing, since no gap is skipped there.
+    fn room_that_counts(&self, room: u32) -> u32
+        ensures { HoldsOf self.now (λ terms initial m. CountsAs terms room result m) }
+    {
+        match self.agreed.mode {
+            Mode::Live => 1,
+            Mode::Buffer => self.room_in_order(room),
+        }
+    }
+
+    /// The same in buffer mode.
+    fn room_in_order(&self, room: u32) -> u32
+        ensures { HoldsOf self.now (λ terms initial m. terms.mode ≡ Mode.Buffer → CountsAs terms room result m) }
+    {
+        if steps(self.buffer.front(), self.buffer.ack_point()) == 0 {
+            return 0;
+        }
+        room
     }
 }
 

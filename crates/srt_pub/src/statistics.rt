@@ -27,7 +27,7 @@ impl Publisher {
         ensures { HoldsOf self.now (λ terms initial m. AreStatistics terms m result) }
     {
         let counts = self.counts;
-        let rtt = self.log.rtt;
+        let rtt = self.log.rtt.values();
         Statistics {
             counts,
             in_use: steps(self.buffer.front(), self.buffer.top()),

@@ -4,13 +4,23 @@ ghost use Rattle.std.specs.Prelude.{◌≤◌};
 
 use crate::{Counts, Opening, PubEnd, Publisher, Statistics};
 use srt_packet::{EncodedPacket, decode};
-use srt_seq::{Mode, Payload, Seq31, Stamp32};
+use srt_samples::{
+    Acknowledged, Loss, Sample, ack, ack_ack, data_packet, drop_request, first_difference,
+    full_ack, keep_alive, light_ack, nak, shutdown,
+};
+use srt_seq::{Callers, Mode, Seq31, Stamp32};
 use std::alloc::Global;
 use std::process::Abort;
 use std::test::Fail;
 
 /// When each session was opened, in microseconds.
 const OPENING: u64 = 1_000_000;
+
+/// The socket ID of the session, which what comes is for.
+const SESSION: u32 = 0x10_0000;
+
+/// The socket ID of the caller, which what is sent is for.
+const CALLER: u32 = 1;
 
 fn session(
     alloc: Global,
@@ -30,26 +40,61 @@ fn session(
         now: OPENING,
         stamp: Stamp32::new(0),
         initial,
-        caller: 1,
+        caller: CALLER,
         mode,
         delay,
+        callers: Callers::Draft,
     });
     Ok(publisher)
 }
 
-/// An event and its expected result. The first field is its time, in microseconds since the opening.
+/// A data packet with this sequence number, message number, timestamp in microseconds and payload.
+fn media<'a>(number: u32, message: u32, stamp: u32, payload: &'a [u8]) -> Sample<'a> {
+    data_packet(number)
+        .flags(0xe000_0000 | message)
+        .stamp(stamp)
+        .to(SESSION)
+        .payload(payload)
+}
+
+/// The same, sent again.
+fn media_again<'a>(number: u32, message: u32, stamp: u32, payload: &'a [u8]) -> Sample<'a> {
+    media(number, message, stamp, payload).flags(0xe400_0000 | message)
+}
+
+/// A Full ACK with this number, acknowledgement point and available buffer size, while no round trip was measured.
+fn acknowledges<'a>(number: u32, point: u32, available: u32) -> Sample<'a> {
+    full_ack(
+        number,
+        Acknowledged {
+            point,
+            rtt: 100_000,
+            variance: 50_000,
+            available,
+        },
+    )
+}
+
+/// An event and its expected result. The first field is its time, in microseconds since the opening; what is sent has
+/// it as its timestamp, and the caller's socket ID.
 #[derive(Clone, Copy)]
-enum Event {
+enum Event<'a> {
     /// A packet comes and doesn't end the session.
-    Comes(u32, &'static str),
+    Comes(u32, Sample<'a>),
     /// A packet comes and ends the session.
-    Ends(u32, &'static str, PubEnd),
-    /// With this room, this payload is delivered; no digits if none is.
-    Delivers(u32, u32, &'static str),
+    Ends(u32, Sample<'a>, PubEnd),
+    /// With this room, this payload is delivered; no bytes if none is.
+    Delivers(u32, u32, &'a [u8]),
     /// Whether a payload is passed over.
     PassesOver(u32, bool),
-    /// An ACK, a NAK and a KEEPALIVE are sent; no digits for one that isn't.
-    Sends(u32, &'static str, &'static str, &'static str),
+    /// An ACK is sent and nothing else.
+    SendsAck(u32, Sample<'a>),
+    /// A NAK is sent and nothing else.
+    SendsNak(u32, Sample<'a>),
+    /// An ACK and a NAK are sent.
+    SendsBoth(u32, Sample<'a>, Sample<'a>),
+    /// A KEEPALIVE is sent and nothing else.
+    SendsKeepAlive(u32),
     /// Nothing is sent.
     SendsNothing(u32),
 }
@@ -61,28 +106,31 @@ fn hear(publisher: &mut Publisher, bytes: &[u8], time: u32) -> Result<Option<Pub
     Ok(publisher.datagram(&packet, OPENING + u64::from(time)))
 }
 
-/// Asserts the bytes of a packet that was written; no digits if it wasn't.
-fn assert_bytes(
+/// Asserts the packet that was written at this time, to the caller.
+fn assert_written(
     rt: &(impl AllocGlobal + Abort),
     written: bool,
     packet: &EncodedPacket,
-    digits: &str,
+    time: u32,
+    wanted: Option<Sample<'_>>,
 ) -> Result<(), Fail> {
-    let wanted = hex::decode(rt.alloc(), digits)?;
-    if written {
-        assert_eq!(rt; packet.bytes(), wanted.as_slice());
-    } else {
-        assert!(rt; packet.bytes().is_empty() && wanted.is_empty());
+    assert_eq!(rt; written, wanted.is_some());
+    match wanted {
+        Some(sample) => {
+            let bytes = sample.stamp(time).to(CALLER).bytes(rt.alloc())?;
+            assert_eq!(rt; first_difference(packet.bytes(), &bytes), None);
+        }
+        None => assert!(rt; packet.bytes().is_empty()),
     }
     Ok(())
 }
 
-/// Asserts the packets that an event sends at its end.
+/// Asserts the ACK, the NAK and the KEEPALIVE that an event sends at its end.
 fn assert_sent(
     rt: &(impl AllocGlobal + Abort),
     publisher: &mut Publisher,
     time: u32,
-    digits: [&str; 3],
+    wanted: [Option<Sample<'_>>; 3],
 ) -> Result<(), Fail> {
     let mut ack = EncodedPacket::new();
     let mut nak = EncodedPacket::new();
@@ -93,9 +141,9 @@ fn assert_sent(
         &mut nak,
         &mut keep_alive,
     );
-    assert_bytes(rt, sent.ack, &ack, digits[0])?;
-    assert_bytes(rt, sent.nak, &nak, digits[1])?;
-    assert_bytes(rt, sent.keep_alive, &keep_alive, digits[2])
+    assert_written(rt, sent.ack, &ack, time, wanted[0])?;
+    assert_written(rt, sent.nak, &nak, time, wanted[1])?;
+    assert_written(rt, sent.keep_alive, &keep_alive, time, wanted[2])
 }
 
 /// Asserts whether a packet ends the session, and why.
@@ -103,10 +151,10 @@ fn assert_heard(
     rt: &(impl AllocGlobal + Abort),
     publisher: &mut Publisher,
     time: u32,
-    digits: &str,
+    sample: Sample<'_>,
     end: Option<PubEnd>,
 ) -> Result<(), Fail> {
-    let bytes = hex::decode(rt.alloc(), digits)?;
+    let bytes = sample.bytes(rt.alloc())?;
     assert_eq!(rt; hear(publisher, bytes.as_slice(), time)?, end);
     Ok(())
 }
@@ -117,13 +165,14 @@ fn assert_delivered(
     publisher: &mut Publisher,
     time: u32,
     room: u32,
-    digits: &str,
+    wanted: &[u8],
 ) -> Result<(), Fail> {
-    let wanted = hex::decode(rt.alloc(), digits)?;
-    let mut payload = Payload::new();
-    let is_due = publisher.deliver(OPENING + u64::from(time), room, &mut payload);
-    assert_eq!(rt; is_due, !wanted.is_empty());
-    assert_eq!(rt; payload.as_slice(), wanted.as_slice());
+    let now = OPENING + u64::from(time);
+    match publisher.next_due(now, room) {
+        Some(payload) => assert_eq!(rt; payload, wanted),
+        None => assert!(rt; wanted.is_empty()),
+    }
+    assert_eq!(rt; publisher.note_delivered(now, room), !wanted.is_empty());
     Ok(())
 }
 
@@ -131,22 +180,30 @@ fn assert_delivered(
 fn assert_event(
     rt: &(impl AllocGlobal + Abort),
     publisher: &mut Publisher,
-    event: Event,
+    event: Event<'_>,
 ) -> Result<(), Fail> {
     match event {
-        Event::Comes(time, digits) => { assert_heard(rt, publisher, time, digits, None) }
-        Event::Ends(time, digits, end) => { assert_heard(rt, publisher, time, digits, Some(end)) }
-        Event::Delivers(time, room, digits) => {
-            assert_delivered(rt, publisher, time, room, digits)
+        Event::Comes(time, sample) => assert_heard(rt, publisher, time, sample, None),
+        Event::Ends(time, sample, end) => assert_heard(rt, publisher, time, sample, Some(end)),
+        Event::Delivers(time, room, payload) => {
+            assert_delivered(rt, publisher, time, room, payload)
         }
         Event::PassesOver(time, wanted) => {
-            assert_eq!(rt; publisher.pass_over(OPENING + u64::from(time)), wanted);
+            assert_eq!(rt;
+                publisher.note_delivered(OPENING + u64::from(time), 0),
+                wanted
+            );
             Ok(())
         }
-        Event::Sends(time, ack, nak, keep_alive) => {
-            assert_sent(rt, publisher, time, [ack, nak, keep_alive])
+        Event::SendsAck(time, ack) => assert_sent(rt, publisher, time, [Some(ack), None, None]),
+        Event::SendsNak(time, nak) => assert_sent(rt, publisher, time, [None, Some(nak), None]),
+        Event::SendsBoth(time, ack, nak) => {
+            assert_sent(rt, publisher, time, [Some(ack), Some(nak), None])
         }
-        Event::SendsNothing(time) => assert_sent(rt, publisher, time, ["", "", ""]),
+        Event::SendsKeepAlive(time) => {
+            assert_sent(rt, publisher, time, [None, None, Some(keep_alive())])
+        }
+        Event::SendsNothing(time) => assert_sent(rt, publisher, time, [None, None, None]),
     }
 }
 
@@ -154,7 +211,7 @@ fn assert_event(
 fn assert_events(
     rt: &(impl AllocGlobal + Abort),
     publisher: &mut Publisher,
-    events: &[Event],
+    events: &[Event<'_>],
 ) -> Result<(), Fail> {
     for event in events {
         assert_event(rt, publisher, *event)?;
@@ -162,17 +219,13 @@ fn assert_events(
     Ok(())
 }
 
-/// A data packet of one byte, with this number below 256, comes 9 ms after the opening. Its timestamp is 9 ms too.
+/// A data packet of one byte, with this number, comes 9 ms after the opening. Its timestamp is 9 ms too.
 fn hear_number(
     alloc: Global,
     publisher: &mut Publisher,
     number: u8,
 ) -> Result<Option<PubEnd>, Fail> {
-    let mut bytes = hex::decode(alloc, "00000000e0000001000023280010000061")?;
-    if bytes.len() < 4 {
-        return Err(Fail::from("a header"));
-    }
-    bytes[3] = number;
+    let bytes = media(u32::from(number), 1, 9_000, b"a").bytes(alloc)?;
     hear(publisher, bytes.as_slice(), 9_000)
 }
 
@@ -183,22 +236,17 @@ fn a_gap_an_acknowledgement_and_its_confirmation(rt: HostRuntime) -> Result<(), 
         &rt,
         &mut publisher,
         &[
-            Event::Comes(1_000, "00000007e0000001000003e80010000061"),
+            Event::Comes(1_000, media(7, 1, 1_000, b"a")),
             Event::SendsNothing(1_000),
-            Event::Comes(1_000, "00000009e0000003000003e80010000061"),
-            Event::Sends(1_000, "", "8003000000000000000003e80000000100000008", ""),
-            Event::Sends(
-                150_000,
-                "8002000000000001000249f00000000100000008000186a00000c350000003ff000000000000000000000000",
-                "8003000000000000000249f00000000100000008",
-                "",
-            ),
-            Event::Comes(170_000, "80060000000000010000000000100000"),
+            Event::Comes(1_000, media(9, 3, 1_000, b"a")),
+            Event::SendsNak(1_000, nak(&[Loss::Single(8)])),
+            Event::SendsBoth(150_000, acknowledges(1, 8, 1023), nak(&[Loss::Single(8)])),
+            Event::Comes(170_000, ack_ack(1).to(SESSION)),
             Event::SendsNothing(170_000),
             // a second confirmation changes nothing
-            Event::Comes(180_000, "80060000000000010000000000100000"),
+            Event::Comes(180_000, ack_ack(1).to(SESSION)),
             Event::SendsNothing(309_999),
-            Event::Sends(310_000, "", "80030000000000000004baf00000000100000008", ""),
+            Event::SendsNak(310_000, nak(&[Loss::Single(8)])),
         ],
     )
 }
@@ -215,13 +263,8 @@ fn a_light_ack_after_64_packets(rt: HostRuntime) -> Result<(), Fail> {
         &rt,
         &mut publisher,
         &[
-            Event::Sends(9_000, "8002000000000000000023280000000100000040", "", ""),
-            Event::Sends(
-                10_000,
-                "8002000000000001000027100000000100000040000186a00000c350000003c0000000000000000000000000",
-                "",
-                "",
-            ),
+            Event::SendsAck(9_000, light_ack(64)),
+            Event::SendsAck(10_000, acknowledges(1, 64, 960)),
         ],
     )
 }
@@ -236,16 +279,42 @@ fn a_nak_of_32_runs(rt: HostRuntime) -> Result<(), Fail> {
     assert_event(
         &rt,
         &mut publisher,
-        Event::Sends(
+        Event::SendsNak(
             150_000,
-            "",
-            "8003000000000000000249f000000001\
-                 8000000000000001000000030000000500000007000000090000000b0000000d\
-                 0000000f00000011000000130000001500000017000000190000001b0000001d\
-                 0000001f00000021000000230000002500000027000000290000002b0000002d\
-                 0000002f00000031000000330000003500000037000000390000003b0000003d\
-                 0000003f",
-            "",
+            nak(&[
+                Loss::Range(0, 1),
+                Loss::Single(3),
+                Loss::Single(5),
+                Loss::Single(7),
+                Loss::Single(9),
+                Loss::Single(11),
+                Loss::Single(13),
+                Loss::Single(15),
+                Loss::Single(17),
+                Loss::Single(19),
+                Loss::Single(21),
+                Loss::Single(23),
+                Loss::Single(25),
+                Loss::Single(27),
+                Loss::Single(29),
+                Loss::Single(31),
+                Loss::Single(33),
+                Loss::Single(35),
+                Loss::Single(37),
+                Loss::Single(39),
+                Loss::Single(41),
+                Loss::Single(43),
+                Loss::Single(45),
+                Loss::Single(47),
+                Loss::Single(49),
+                Loss::Single(51),
+                Loss::Single(53),
+                Loss::Single(55),
+                Loss::Single(57),
+                Loss::Single(59),
+                Loss::Single(61),
+                Loss::Single(63),
+            ]),
         ),
     )
 }
@@ -257,25 +326,23 @@ fn numbers_go_round(rt: HostRuntime) -> Result<(), Fail> {
         &rt,
         &mut publisher,
         &[
-            Event::Comes(1_000, "7fffffffe0000001000003e80010000061"),
-            Event::Comes(1_000, "00000000e0000002000003e80010000061"),
+            Event::Comes(1_000, media(0x7fff_ffff, 1, 1_000, b"a")),
+            Event::Comes(1_000, media(0, 2, 1_000, b"a")),
             // past the window
-            Event::Comes(1_000, "0000001fe0000021000003e80010000061"),
-            Event::Sends(
-                10_000,
-                "8002000000000001000027100000000100000001000186a00000c3500000001e000000000000000000000000",
-                "",
-                "",
-            ),
-            Event::Comes(11_000, "0000001ee0000020000003e80010000061"),
-            Event::Sends(
-                11_000,
-                "",
-                "800300000000000000002af800000001800000010000001d",
-                "",
-            ),
+            Event::Comes(1_000, media(31, 33, 1_000, b"a")),
+            Event::SendsAck(10_000, acknowledges(1, 1, 30)),
+            Event::Comes(11_000, media(30, 32, 1_000, b"a")),
+            Event::SendsNak(11_000, nak(&[Loss::Range(1, 29)])),
+            // below the window
+            Event::Comes(12_000, media_again(2_147_483_646, 0, 1_000, b"a")),
         ],
-    )
+    )?;
+    // The NAK names the numbers 1 to 29.
+    let counts = publisher.statistics().counts;
+    assert_eq!(rt; (counts.came, counts.received), (5, 3));
+    assert_eq!(rt; (counts.late, counts.ahead), (1, 1));
+    assert_eq!(rt; (counts.naks, counts.reported_lost), (1, 29));
+    Ok(())
 }
 
 #[test]
@@ -288,22 +355,37 @@ fn a_full_window_in_buffer_mode(rt: HostRuntime) -> Result<(), Fail> {
         &rt,
         &mut publisher,
         &[
-            Event::Delivers(10_000, 0, ""),
-            Event::Sends(
-                10_000,
-                "8002000000000001000027100000000100000084000186a00000c35000000000000000000000000000000000",
-                "",
-                "",
-            ),
-            Event::Delivers(20_000, 1, "61"),
-            Event::Sends(
-                20_000,
-                "800200000000000200004e200000000100000084000186a00000c35000000001000000000000000000000000",
-                "",
-                "",
-            ),
+            Event::Delivers(10_000, 0, b""),
+            Event::SendsAck(10_000, acknowledges(1, 132, 0)),
+            Event::Delivers(20_000, 1, b"a"),
+            Event::SendsAck(20_000, acknowledges(2, 132, 1)),
         ],
     )
+}
+
+/// Each of the 32 numbers comes twice, so that a Light ACK is due before the Full ACKs. It says nothing of the window.
+#[test]
+fn full_acks_of_a_full_window_are_counted(rt: HostRuntime) -> Result<(), Fail> {
+    let mut publisher = session(rt.alloc(), 32, 100, Mode::Buffer, 0)?;
+    for number in 100..132u8 {
+        hear_number(rt.alloc(), &mut publisher, number)?;
+        hear_number(rt.alloc(), &mut publisher, number)?;
+    }
+    assert_event(&rt, &mut publisher, Event::SendsAck(9_000, light_ack(132)))?;
+    assert_eq!(rt; publisher.statistics().counts.full_windows, 0);
+    assert_events(
+        &rt,
+        &mut publisher,
+        &[
+            Event::SendsAck(10_000, acknowledges(1, 132, 0)),
+            Event::SendsNothing(19_999),
+            Event::SendsAck(20_000, acknowledges(2, 132, 0)),
+            Event::Delivers(30_000, 1, b"a"),
+            Event::SendsAck(30_000, acknowledges(3, 132, 1)),
+        ],
+    )?;
+    assert_eq!(rt; publisher.statistics().counts.full_windows, 2);
+    Ok(())
 }
 
 #[test]
@@ -313,8 +395,8 @@ fn a_number_past_the_window_ends_it(rt: HostRuntime) -> Result<(), Fail> {
         &rt,
         &mut waiting,
         &[
-            Event::Comes(0, "0000001fe0000020000000000010000061"),
-            Event::Comes(0, "00000020e0000021000000000010000061"),
+            Event::Comes(0, media(31, 32, 0, b"a")),
+            Event::Comes(0, media(32, 33, 0, b"a")),
         ],
     )?;
     let mut empty = session(rt.alloc(), 32, 0, Mode::Live, 120_000)?;
@@ -322,8 +404,8 @@ fn a_number_past_the_window_ends_it(rt: HostRuntime) -> Result<(), Fail> {
         &rt,
         &mut empty,
         &[
-            Event::Ends(0, "00000020e0000021000000000010000061", PubEnd::WindowLost),
-            Event::Ends(0, "80050000000000000000000000100000", PubEnd::Shutdown),
+            Event::Ends(0, media(32, 33, 0, b"a"), PubEnd::WindowLost),
+            Event::Ends(0, shutdown().to(SESSION), PubEnd::Shutdown),
         ],
     )
 }
@@ -335,19 +417,14 @@ fn a_packet_behind_a_gap_is_delivered_at_its_moment(rt: HostRuntime) -> Result<(
         &rt,
         &mut publisher,
         &[
-            Event::Comes(1_000, "00000009e0000003000003e80010000062"),
-            Event::Comes(1_000, "00000007e0000001000001f40010000061"),
-            Event::Delivers(100_499, 1, ""),
-            Event::Delivers(100_500, 1, "61"),
-            Event::Delivers(100_999, 1, ""),
-            Event::Delivers(101_000, 0, "62"),
-            Event::Delivers(101_000, 1, ""),
-            Event::Sends(
-                101_000,
-                "800200000000000100018a88000000010000000a000186a00000c35000000400000000000000000000000000",
-                "",
-                "",
-            ),
+            Event::Comes(1_000, media(9, 3, 1_000, b"b")),
+            Event::Comes(1_000, media(7, 1, 500, b"a")),
+            Event::Delivers(100_499, 1, b""),
+            Event::Delivers(100_500, 1, b"a"),
+            Event::Delivers(100_999, 1, b""),
+            Event::Delivers(101_000, 0, b"b"),
+            Event::Delivers(101_000, 1, b""),
+            Event::SendsAck(101_000, acknowledges(1, 10, 1024)),
         ],
     )
 }
@@ -360,19 +437,14 @@ fn payloads_are_passed_over_as_they_are_delivered(rt: HostRuntime) -> Result<(),
         &rt,
         &mut publisher,
         &[
-            Event::Comes(1_000, "00000009e0000003000003e80010000062"),
-            Event::Comes(1_000, "00000007e0000001000001f40010000061"),
+            Event::Comes(1_000, media(9, 3, 1_000, b"b")),
+            Event::Comes(1_000, media(7, 1, 500, b"a")),
             Event::PassesOver(100_499, false),
             Event::PassesOver(100_500, true),
             Event::PassesOver(100_999, false),
             Event::PassesOver(101_000, true),
             Event::PassesOver(101_000, false),
-            Event::Sends(
-                101_000,
-                "800200000000000100018a88000000010000000a000186a00000c35000000400000000000000000000000000",
-                "",
-                "",
-            ),
+            Event::SendsAck(101_000, acknowledges(1, 10, 1024)),
         ],
     )?;
     let mut in_order = session(rt.alloc(), 32, 100, Mode::Buffer, 0)?;
@@ -382,7 +454,7 @@ fn payloads_are_passed_over_as_they_are_delivered(rt: HostRuntime) -> Result<(),
         &mut in_order,
         &[
             Event::PassesOver(10_000, false),
-            Event::Delivers(10_000, 1, "61"),
+            Event::Delivers(10_000, 1, b"a"),
         ],
     )
 }
@@ -394,21 +466,16 @@ fn a_dropped_number_may_still_come(rt: HostRuntime) -> Result<(), Fail> {
         &rt,
         &mut publisher,
         &[
-            Event::Comes(1_000, "00000009e0000003000003e80010000063"),
-            Event::Comes(2_000, "80070000000000000000000000100000000000080000000a"),
+            Event::Comes(1_000, media(9, 3, 1_000, b"c")),
+            Event::Comes(2_000, drop_request(0, 8, 10).to(SESSION)),
             // 7 is still missing
-            Event::Sends(2_000, "", "8003000000000000000007d00000000100000007", ""),
-            Event::Comes(3_000, "00000008e4000002000003840010000062"),
-            Event::Comes(3_000, "00000007e4000001000003200010000061"),
-            Event::Delivers(101_000, 0, "61"),
-            Event::Delivers(101_000, 0, "62"),
-            Event::Delivers(101_000, 0, "63"),
-            Event::Sends(
-                101_000,
-                "800200000000000100018a88000000010000000b000186a00000c35000000020000000000000000000000000",
-                "",
-                "",
-            ),
+            Event::SendsNak(2_000, nak(&[Loss::Single(7)])),
+            Event::Comes(3_000, media_again(8, 2, 900, b"b")),
+            Event::Comes(3_000, media_again(7, 1, 800, b"a")),
+            Event::Delivers(101_000, 0, b"a"),
+            Event::Delivers(101_000, 0, b"b"),
+            Event::Delivers(101_000, 0, b"c"),
+            Event::SendsAck(101_000, acknowledges(1, 11, 32)),
         ],
     )
 }
@@ -421,13 +488,13 @@ fn a_keep_alive_after_a_second(rt: HostRuntime) -> Result<(), Fail> {
         &mut publisher,
         &[
             Event::SendsNothing(999_999),
-            Event::Sends(1_000_000, "", "", "8001000000000000000f424000000001"),
+            Event::SendsKeepAlive(1_000_000),
         ],
     )
 }
 
-/// Number 9 comes twice, 6 is below the window, and the fourth packet is encrypted. The sender drops 8 to 10, and 7 never
-/// comes: so 7, 8 and 10 are given up once 9 is due.
+/// Number 9 comes twice, 6 is below the window, and the fourth packet is encrypted. The sender drops 8 to 10, and 7
+/// never comes: so 7, 8 and 10 are given up once 9 is due.
 #[test]
 fn what_a_session_counts(rt: HostRuntime) -> Result<(), Fail> {
     let mut publisher = session(rt.alloc(), 32, 7, Mode::Live, 100_000)?;
@@ -435,12 +502,12 @@ fn what_a_session_counts(rt: HostRuntime) -> Result<(), Fail> {
         &rt,
         &mut publisher,
         &[
-            Event::Comes(1_000, "00000009e0000003000003e8001000006362"),
-            Event::Comes(1_000, "00000009e4000003000003e8001000006362"),
-            Event::Comes(1_000, "00000006e0000003000003e80010000061"),
-            Event::Comes(1_000, "00000007e8000001000003e80010000061"),
-            Event::Comes(2_000, "80070000000000000000000000100000000000080000000a"),
-            Event::Sends(2_000, "", "8003000000000000000007d00000000100000007", ""),
+            Event::Comes(1_000, media(9, 3, 1_000, b"cb")),
+            Event::Comes(1_000, media_again(9, 3, 1_000, b"cb")),
+            Event::Comes(1_000, media(6, 3, 1_000, b"a")),
+            Event::Comes(1_000, media(7, 1, 1_000, b"a").flags(0xe800_0001)),
+            Event::Comes(2_000, drop_request(0, 8, 10).to(SESSION)),
+            Event::SendsNak(2_000, nak(&[Loss::Single(7)])),
         ],
     )?;
     assert_eq!(rt;
@@ -448,11 +515,15 @@ fn what_a_session_counts(rt: HostRuntime) -> Result<(), Fail> {
         Statistics {
             counts: Counts {
                 came: 3,
+                late: 1,
+                ahead: 0,
                 received: 1,
                 bytes: 2,
                 delivered: 0,
                 given_up: 0,
                 naks: 1,
+                reported_lost: 1,
+                full_windows: 0,
             },
             in_use: 3,
             available: 32,
@@ -460,9 +531,190 @@ fn what_a_session_counts(rt: HostRuntime) -> Result<(), Fail> {
             variance: 50_000,
         }
     );
-    assert_event(&rt, &mut publisher, Event::Delivers(101_000, 1, "6362"))?;
+    assert_event(&rt, &mut publisher, Event::Delivers(101_000, 1, b"cb"))?;
     let after = publisher.statistics();
     assert_eq!(rt; (after.counts.delivered, after.counts.given_up), (1, 3));
     assert_eq!(rt; (after.in_use, after.available), (0, 32));
+    Ok(())
+}
+
+/// A session of callers that speak libsrt, with 32 places and the initial number 7.
+fn libsrt_session(alloc: Global, mode: Mode) -> Result<Publisher, Fail> {
+    let Some(initial) = Seq31::new(7) else {
+        return Err(Fail::from("a word with its top bit set"));
+    };
+    let mut publisher = Publisher::open(alloc, 32)?;
+    publisher.start(Opening {
+        now: OPENING,
+        stamp: Stamp32::new(0),
+        initial,
+        caller: 1,
+        mode,
+        delay: 1_000_000,
+        callers: Callers::Libsrt,
+    });
+    Ok(publisher)
+}
+
+/// This number of packets, from number 7 on, arrive with this number of microseconds from one to the next.
+fn come(alloc: Global, publisher: &mut Publisher, packets: u32, apart: u32) -> Result<(), Fail> {
+    for at in 0..packets {
+        let bytes = media(at.saturating_add(7), 1, 0, b"a").bytes(alloc)?;
+        let end = hear(publisher, bytes.as_slice(), at.saturating_mul(apart))?;
+        assert_no_end(end)?;
+    }
+    Ok(())
+}
+
+fn assert_no_end(end: Option<PubEnd>) -> Result<(), Fail> {
+    match end {
+        None => Ok(()),
+        Some(_) => Err(Fail::from("the session goes on")),
+    }
+}
+
+/// 17 packets, 100 microseconds from one to the next, which is 10,000 in a second.
+#[test]
+fn rates_of_17_packets(rt: HostRuntime) -> Result<(), Fail> {
+    let mut publisher = libsrt_session(rt.alloc(), Mode::Buffer)?;
+    come(rt.alloc(), &mut publisher, 17, 100)?;
+    let told = ack(1, &[24, 100_000, 50_000, 15, 10_000, 100_000, 14_560_000]);
+    assert_sent(&rt, &mut publisher, 10_000, [Some(told), None, None])
+}
+
+/// Ten packets, and so nine intervals, are enough.
+#[test]
+fn rates_of_10_packets(rt: HostRuntime) -> Result<(), Fail> {
+    let mut publisher = libsrt_session(rt.alloc(), Mode::Buffer)?;
+    come(rt.alloc(), &mut publisher, 10, 100)?;
+    let told = ack(1, &[17, 100_000, 50_000, 22, 10_000, 100_000, 14_560_000]);
+    assert_sent(&rt, &mut publisher, 10_000, [Some(told), None, None])
+}
+
+/// Nine packets are too few, and the least rate is told.
+#[test]
+fn rates_of_9_packets(rt: HostRuntime) -> Result<(), Fail> {
+    let mut publisher = libsrt_session(rt.alloc(), Mode::Buffer)?;
+    come(rt.alloc(), &mut publisher, 9, 100)?;
+    let told = ack(1, &[16, 100_000, 50_000, 23, 1_000, 100_000, 1_456_000]);
+    assert_sent(&rt, &mut publisher, 10_000, [Some(told), None, None])
+}
+
+/// Packets from number 7 on arrive: the first at the opening, each other one this number of microseconds after the one
+/// before it.
+fn come_after(alloc: Global, publisher: &mut Publisher, intervals: &[u32]) -> Result<(), Fail> {
+    come(alloc, publisher, 1, 0)?;
+    let mut number = 7u32;
+    let mut moment = 0u32;
+    for interval in intervals {
+        number = number.saturating_add(1);
+        moment = moment.saturating_add(*interval);
+        let bytes = media(number, 1, 0, b"a").bytes(alloc)?;
+        let end = hear(publisher, bytes.as_slice(), moment)?;
+        assert_no_end(end)?;
+    }
+    Ok(())
+}
+
+/// Two bursts of packets 100 microseconds apart, a pause of 10 ms after each.
+const BURSTS: [u32; 16] = [
+    100, 100, 100, 100, 100, 100, 100, 10_000, 100, 100, 100, 100, 100, 100, 100, 10_000,
+];
+
+/// Fourteen of 16 intervals are of 100 microseconds, which is 10,000 packets in a second, whatever the pauses are.
+#[test]
+fn rates_of_bursts(rt: HostRuntime) -> Result<(), Fail> {
+    let mut publisher = libsrt_session(rt.alloc(), Mode::Buffer)?;
+    come_after(rt.alloc(), &mut publisher, &BURSTS)?;
+    let told = ack(1, &[24, 100_000, 50_000, 15, 10_000, 100_000, 14_560_000]);
+    assert_sent(&rt, &mut publisher, 30_000, [Some(told), None, None])
+}
+
+/// Eight intervals of 50 microseconds and eight of 400.
+const AS_MANY_SHORT: [u32; 16] = [
+    50, 400, 50, 400, 50, 400, 50, 400, 50, 400, 50, 400, 50, 400, 50, 400,
+];
+
+/// The ninth interval by length is one of 400 microseconds, which is 2500 packets in a second.
+#[test]
+fn rates_of_as_many_short_intervals(rt: HostRuntime) -> Result<(), Fail> {
+    let mut publisher = libsrt_session(rt.alloc(), Mode::Buffer)?;
+    come_after(rt.alloc(), &mut publisher, &AS_MANY_SHORT)?;
+    let told = ack(1, &[24, 100_000, 50_000, 15, 2_500, 100_000, 3_640_000]);
+    assert_sent(&rt, &mut publisher, 10_000, [Some(told), None, None])
+}
+
+/// Two long intervals, which are not among the last 16, and then nine of 50 microseconds among seven of 400.
+const MORE_SHORT: [u32; 18] = [
+    400, 400, 50, 400, 50, 400, 50, 400, 50, 400, 50, 400, 50, 400, 50, 400, 50, 50,
+];
+
+/// The ninth interval by length is one of 50 microseconds, which is 20,000 packets in a second.
+#[test]
+fn rates_of_more_short_intervals(rt: HostRuntime) -> Result<(), Fail> {
+    let mut publisher = libsrt_session(rt.alloc(), Mode::Buffer)?;
+    come_after(rt.alloc(), &mut publisher, &MORE_SHORT)?;
+    let told = ack(1, &[26, 100_000, 50_000, 13, 20_000, 100_000, 29_120_000]);
+    assert_sent(&rt, &mut publisher, 10_000, [Some(told), None, None])
+}
+
+/// 17 packets at once: the greatest rate is told, and the capacity is no less.
+#[test]
+fn rates_of_packets_at_once(rt: HostRuntime) -> Result<(), Fail> {
+    let mut publisher = libsrt_session(rt.alloc(), Mode::Buffer)?;
+    come(rt.alloc(), &mut publisher, 17, 0)?;
+    let told = ack(
+        1,
+        &[24, 100_000, 50_000, 15, 1_000_000, 1_000_000, 1_456_000_000],
+    );
+    assert_sent(&rt, &mut publisher, 10_000, [Some(told), None, None])
+}
+
+/// In live mode no rates are told. The first round trip, of 4 ms, replaces the values before it.
+#[test]
+fn first_round_trip(rt: HostRuntime) -> Result<(), Fail> {
+    let mut publisher = libsrt_session(rt.alloc(), Mode::Live)?;
+    come(rt.alloc(), &mut publisher, 17, 100)?;
+    let told = ack(1, &[24, 100_000, 50_000, 15, 0, 0, 0]);
+    assert_sent(&rt, &mut publisher, 10_000, [Some(told), None, None])?;
+    assert_heard(&rt, &mut publisher, 14_000, ack_ack(1).to(SESSION), None)?;
+    let seen = publisher.statistics();
+    assert_eq!(rt; (seen.rtt, seen.variance), (4_000, 2_000));
+    assert!(rt; publisher.has_undelivered());
+    // The last packet came 1.6 ms after the opening.
+    assert_eq!(rt; publisher.silent_for(OPENING + 10_000), 8_400);
+    Ok(())
+}
+
+/// Number 9 is left behind the gap of 7 and 8 until it is delivered. After that 8 is late, and 10 is dropped on request.
+#[test]
+fn what_is_left_to_deliver_in_live_mode(rt: HostRuntime) -> Result<(), Fail> {
+    let mut publisher = session(rt.alloc(), 32, 7, Mode::Live, 100_000)?;
+    assert!(rt; !publisher.has_undelivered());
+    let behind_a_gap = Event::Comes(1_000, media(9, 3, 1_000, b"c"));
+    assert_event(&rt, &mut publisher, behind_a_gap)?;
+    assert!(rt; publisher.has_undelivered());
+    assert_event(&rt, &mut publisher, Event::Delivers(101_000, 0, b"c"))?;
+    assert!(rt; !publisher.has_undelivered());
+    let late = Event::Comes(102_000, media_again(8, 2, 900, b"b"));
+    assert_event(&rt, &mut publisher, late)?;
+    let dropped = Event::Comes(102_000, drop_request(0, 10, 10).to(SESSION));
+    assert_event(&rt, &mut publisher, dropped)?;
+    assert!(rt; !publisher.has_undelivered());
+    Ok(())
+}
+
+/// Number 8 is left once 7 is there, and not before.
+#[test]
+fn what_is_left_to_deliver_in_buffer_mode(rt: HostRuntime) -> Result<(), Fail> {
+    let mut publisher = session(rt.alloc(), 32, 7, Mode::Buffer, 0)?;
+    hear_number(rt.alloc(), &mut publisher, 8)?;
+    assert!(rt; !publisher.has_undelivered());
+    hear_number(rt.alloc(), &mut publisher, 7)?;
+    assert!(rt; publisher.has_undelivered());
+    assert_event(&rt, &mut publisher, Event::Delivers(10_000, 1, b"a"))?;
+    assert!(rt; publisher.has_undelivered());
+    assert_event(&rt, &mut publisher, Event::Delivers(10_000, 1, b"a"))?;
+    assert!(rt; !publisher.has_undelivered());
     Ok(())
 }

@@ -22,7 +22,7 @@ impl Publisher {
 
     /// Ends an event. Writes the ACK, the NAK and the KEEPALIVE that are due at `now`, each into its place, and
     /// returns which were written. They are sent in this order, and the other places are unchanged. Linear in the
-    /// distance from the first missing to the highest received number at most; takes no memory.
+    /// distance from the first missing to the highest received number at most; doesn't allocate.
     pub fn transmit(
         &mut self,
         now: u64,
@@ -60,6 +60,8 @@ impl Publisher {
         let point = self.buffer.ack_point();
         let available = self.buffer.available();
         let state = State { point, available };
+        let is_full = self.log.is_window_full(time, available);
+        self.counts.fill(is_full);
         let mut body = Body::KeepAlive;
         if self.log.ack(time, state, &mut body) {
             self.encode(time, body, packet);

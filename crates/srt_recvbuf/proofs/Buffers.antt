@@ -1,5 +1,6 @@
 -- A window of cells and the record that it represents.
-use Rattle.std.proofs.Common.{◌≡◌, ◌≢◌, ℕ, zero, suc, ◌+◌, ◌-◌, ◌%◌, ◌^◌, ◌<◌, ◌≤◌, ◌==◌, ℤ, pos, ◌+ℤ◌, Bool, true, false, not, ◌||◌, ◌&&◌, if◌then◌else◌, Option, None, Some, List, [], ◌∷◌, refl, sym, ap, subst, ◌∙◌, inl, inr, ◌⊎◌, max, min, arith}
+use Rattle.std.proofs.Common.{◌≡◌, ◌≢◌, ℕ, zero, suc, ◌+◌, ◌-◌, ◌%◌, ◌^◌, ◌<◌, ◌≤◌, ◌==◌, ℤ, pos, ◌+ℤ◌, Bool, true, false, not, ◌||◌, ◌&&◌}
+use Rattle.std.proofs.Common.{if◌then◌else◌, Option, None, Some, List, [], ◌∷◌, refl, sym, ap, subst, ◌∙◌, inl, inr, ◌⊎◌, max, min, arith}
 use Rattle.std.specs.Prelude.{is_some, option_map, filter_map, int_le, nat_le, nat_lt}
 use Rattle.std.specs.List.{cons_option}
 use Rattle.std.proofs.lemmas.Bool.{cases_eq, cases_lt, eq-eqb, ne_eqb}
@@ -9,12 +10,14 @@ use Rattle.std.proofs.lemmas.Grind.{common_steps}
 use Rattle.std.proofs.lemmas.List.{get_or_past}
 use Rattle.srt_seq.specs.Window.{word_of, counted_from, in_window, offset_of, number_word}
 use Rattle.srt_seq.specs.declared.numbers.Seq31.{Seq31}
+use Rattle.srt_seq.proofs.Ranges.{counted_is}
 use Rattle.srt_ring.specs.Ring.{payload_at}
 use Rattle.srt_seq.specs.Runs.{least_from, numbers_from, Range, span}
-use Rattle.srt_recvbuf.specs.Receiving.{Arrival, Receiving, arrival_of, is_received, is_requested, is_missing, is_dropped, end_of, ack_point, with_number, put_of, moved_to, settled, waiting, first_due, next_due, requested, names}
+use Rattle.srt_recvbuf.specs.Receiving.{Arrival, Receiving, arrival_of, is_received, is_requested, is_missing, is_dropped, end_of}
+use Rattle.srt_recvbuf.specs.Receiving.{ack_point, with_number, put_of, moved_to, settled, waiting, first_due, next_due, requested, names}
 use Rattle.srt_recvbuf.specs.declared.buffer.Put.TheVariants.{New, Repeat}
 use Rattle.srt_recvbuf.specs.declared.buffer.RecvBuf.{RecvBuf}
-use Rattle.srt_recvbuf.specs.declared.window.Place.TheVariants.{Missing as MissingPlace}
+use Rattle.srt_recvbuf.specs.declared.window.NumberState.TheVariants.{Missing as MissingState}
 use Rattle.srt_recvbuf.specs.declared.window.Window.{Window}
 use Rattle.srt_recvbuf.specs.Cells.{cell_at, cell_of, Cell, Missing, Dropped, Received, cell_is_missing, cell_is_received, cell_is_dropped, after_drop}
 use Rattle.srt_recvbuf.specs.Stands.{StandsFor, cell_for, IsWindowOf, own_range}
@@ -22,7 +25,9 @@ use Rattle.srt_recvbuf.specs.OneByOne.{NothingBeyond, NothingDroppedBeyond}
 use Rattle.srt_recvbuf.proofs.OneByOne.{found, skipped, found_number, number_or}
 
 -- if none of the first n passes, and the next one does or is past the last place
-pub least_is : (test : ℕ → Bool) (from places steps : ℕ) → steps ≤ places → ((k : ℕ) → k < steps → test (from + k) ≡ false) → (steps < places → test (from + steps) ≡ true) → least_from test from places ≡ from + steps
+pub least_is : (test : ℕ → Bool) (from places steps : ℕ) → steps ≤ places → ((k : ℕ) → k < steps → test (from + k) ≡ false)
+    → (steps < places → test (from + steps) ≡ true)
+    → least_from test from places ≡ from + steps
 least_is test from zero steps le before at = omega (arith, le)
 least_is test from (suc places) zero le before at =
     let e : from + 0 ≡ from = omega arith in
@@ -33,7 +38,9 @@ least_is test from (suc places) (suc steps) le before at =
     let here : test from ≡ false = rw z at (before 0 (omega arith)) in
     let e : (from + 1) + steps ≡ from + suc steps = omega arith in
     found test from places false here
-    ∙ least_is test (from + 1) places steps (omega (arith, le)) (λ k lt. let m : (from + 1) + k ≡ from + suc k = omega arith in rw m (before (suc k) (omega (arith, lt)))) (λ lt. rw e (at (omega (arith, lt))))
+    ∙ least_is test (from + 1) places steps (omega (arith, le))
+    (λ k lt. let m : (from + 1) + k ≡ from + suc k = omega arith in rw m (before (suc k) (omega (arith, lt))))
+    (λ lt. rw e (at (omega (arith, lt))))
     ∙ e
 
 pub missing_cell : (origin : ℕ) (o : Option Arrival) (b : Bool) → cell_is_missing (cell_for origin o b) ≡ not (is_some o || b)
@@ -54,13 +61,16 @@ dropped_cell origin (Some a) false = refl
 
 module _ (width initial origin front end point : ℕ) (cells : ℕ → Cell) (r : Receiving) (h : IsWindowOf width initial origin front cells end point r) where
   pub cell_missing : (d : ℕ) → is_missing width r (r.front + d) ≡ cell_is_missing (cells d)
-  cell_missing d = sym (missing_cell origin (arrival_of r.arrivals (r.front + d)) (is_requested width r.requests (r.front + d))) ∙ ap cell_is_missing (sym (h.cells_are d))
+  cell_missing d = sym (missing_cell origin (arrival_of r.arrivals (r.front + d)) (is_requested width r.requests (r.front + d)))
+      ∙ ap cell_is_missing (sym (h.cells_are d))
 
   pub cell_received : (d : ℕ) → is_received r (r.front + d) ≡ cell_is_received (cells d)
-  cell_received d = sym (received_cell origin (arrival_of r.arrivals (r.front + d)) (is_requested width r.requests (r.front + d))) ∙ ap cell_is_received (sym (h.cells_are d))
+  cell_received d = sym (received_cell origin (arrival_of r.arrivals (r.front + d)) (is_requested width r.requests (r.front + d)))
+      ∙ ap cell_is_received (sym (h.cells_are d))
 
   pub cell_dropped : (d : ℕ) → is_dropped width r (r.front + d) ≡ cell_is_dropped (cells d)
-  cell_dropped d = sym (dropped_cell origin (arrival_of r.arrivals (r.front + d)) (is_requested width r.requests (r.front + d))) ∙ ap cell_is_dropped (sym (h.cells_are d))
+  cell_dropped d = sym (dropped_cell origin (arrival_of r.arrivals (r.front + d)) (is_requested width r.requests (r.front + d)))
+      ∙ ap cell_is_dropped (sym (h.cells_are d))
 
   pub point_is : point ≤ width → ack_point width r ≡ r.front + point
   point_is le = least_is (is_missing width r) r.front width point le (λ k lt. cell_missing k ∙ h.not_missing k lt) (λ lt. cell_missing point ∙ h.missing lt)
@@ -71,7 +81,7 @@ window_ends width initial origin b r h n le =
     let w = b.window in
     let d = n - r.front in
     let e : r.front + d ≡ n = omega (arith, le) in
-    let past = get_or_past w.places.items d MissingPlace (omega (arith, le, h.0)) in
+    let past = get_or_past w.places.items d MissingState (omega (arith, le, h.0)) in
     let none = ap (λ p. cell_is_received (cell_of p (payload_at w.payloads d))) past in
     ap (is_received r) (sym e) ∙ cell_received width initial origin _ _ _ _ r h.1 d ∙ none
 
@@ -80,21 +90,31 @@ drops_end width initial origin b r h n le =
     let w = b.window in
     let d = n - r.front in
     let e : r.front + d ≡ n = omega (arith, le) in
-    let past = get_or_past w.places.items d MissingPlace (omega (arith, le, h.0)) in
+    let past = get_or_past w.places.items d MissingState (omega (arith, le, h.0)) in
     let none = ap (λ p. cell_is_dropped (cell_of p (payload_at w.payloads d))) past in
     ap (is_dropped width r) (sym e) ∙ cell_dropped width initial origin _ _ _ _ r h.1 d ∙ none
 
 -- the number of a window that has this sequence number
-pub own_none : (initial position width word front : ℕ) → front ≡ number_word initial position → ((a : ℕ) → a % 2 ^ 31 ≡ front → option_map (λ d. a + d) None ≡ in_window word a width) → in_window (counted_from initial word) position width ≡ None
+pub own_none : (initial position width word front : ℕ) → front ≡ number_word initial position
+    → ((a : ℕ) → a % 2 ^ 31 ≡ front → option_map (λ d. a + d) None ≡ in_window word a width)
+    → in_window (counted_from initial word) position width ≡ None
 unfolding in_window
 own_none initial position width word front e h = let k = h (initial + position) (sym e) in grind (arith, nat_tests)
 
-pub own_some : (initial position width word front d : ℕ) → front ≡ number_word initial position → ((a : ℕ) → a % 2 ^ 31 ≡ front → option_map (λ d. a + d) (Some d) ≡ in_window word a width) → in_window (counted_from initial word) position width ≡ Some (position + d)
+pub own_some : (initial position width word front d : ℕ) → front ≡ number_word initial position
+    → ((a : ℕ) → a % 2 ^ 31 ≡ front → option_map (λ d. a + d) (Some d) ≡ in_window word a width)
+    → in_window (counted_from initial word) position width ≡ Some (position + d)
 unfolding in_window
 own_some initial position width word front d e h = let k = h (initial + position) (sym e) in grind (arith, nat_tests)
 
 -- a new packet at a place
-pub with_packet : (width initial origin front end point point' d : ℕ) (cells cells' : ℕ → Cell) (r : Receiving) (payload : List ℕ) (due time : ℤ) → IsWindowOf width initial origin front cells end point r → due ≡ pos origin +ℤ time → ((k : ℕ) → cells' k ≡ (if k == d then Received due payload else cells k)) → point ≤ point' → ((k : ℕ) → point ≤ k → k < point' → cell_is_missing (cells' k) ≡ false) → (point' < width → cell_is_missing (cells' point') ≡ true) → IsWindowOf width initial origin front cells' (max end (d + 1)) point' (record r { arrivals = record { number = r.front + d; payload = payload; due = time } ∷ r.arrivals })
+pub with_packet : (width initial origin front end point point' d : ℕ) (cells cells' : ℕ → Cell) (r : Receiving) (payload : List ℕ)
+    (due time : ℤ)
+    → IsWindowOf width initial origin front cells end point r → due ≡ pos origin +ℤ time
+    → ((k : ℕ) → cells' k ≡ (if k == d then Received due payload else cells k)) → point ≤ point'
+    → ((k : ℕ) → point ≤ k → k < point' → cell_is_missing (cells' k) ≡ false) → (point' < width → cell_is_missing (cells' point') ≡ true)
+    → IsWindowOf width initial origin front cells' (max end (d + 1)) point'
+    (record r { arrivals = record { number = r.front + d; payload = payload; due = time } ∷ r.arrivals })
 with_packet width initial origin front end point point' d cells cells' r payload due time h t c low before here = record {
   front_is = h.front_is;
   cells_are = λ k. at k (cases_eq k d);
@@ -123,7 +143,8 @@ with_packet width initial origin front end point point' d cells cells' r payload
 pub repeated : (r : Receiving) (n : ℕ) (payload : List ℕ) (time : ℤ) → is_received r n ≡ true → with_number (Some n) payload time r ≡ r
 repeated r n payload time e = rw e refl
 
-pub new_one : (r : Receiving) (n : ℕ) (payload : List ℕ) (time : ℤ) → is_received r n ≡ false → with_number (Some n) payload time r ≡ record r { arrivals = record { number = n; payload = payload; due = time } ∷ r.arrivals }
+pub new_one : (r : Receiving) (n : ℕ) (payload : List ℕ) (time : ℤ) → is_received r n ≡ false
+    → with_number (Some n) payload time r ≡ record r { arrivals = record { number = n; payload = payload; due = time } ∷ r.arrivals }
 new_one r n payload time e = rw e refl
 
 pub is_repeat : (r : Receiving) (n : ℕ) → is_received r n ≡ true → put_of (Some n) r ≡ Repeat
@@ -133,7 +154,9 @@ pub is_new : (r : Receiving) (n : ℕ) → is_received r n ≡ false → put_of 
 is_new r n e = rw e refl
 
 -- the same under equal fields
-pub with_fields : (width initial origin front front' end end' point : ℕ) (w w' : Window) (r r' : Receiving) → front' ≡ front → w' ≡ w → end' ≡ end → r' ≡ r → IsWindowOf width initial origin front (cell_at w) end point r → IsWindowOf width initial origin front' (cell_at w') end' point r'
+pub with_fields : (width initial origin front front' end end' point : ℕ) (w w' : Window) (r r' : Receiving) → front' ≡ front → w' ≡ w
+    → end' ≡ end → r' ≡ r → IsWindowOf width initial origin front (cell_at w) end point r
+    → IsWindowOf width initial origin front' (cell_at w') end' point r'
 with_fields width initial origin front front' end end' point w w' r r' ef ew ee er h =
     let P : ℕ → Type 0 = λ x. IsWindowOf width initial origin x (cell_at w') end' point r' in
     let Q : Window → Type 0 = λ x. IsWindowOf width initial origin front (cell_at x) end' point r' in
@@ -142,10 +165,16 @@ with_fields width initial origin front front' end end' point w w' r r' ef ew ee 
     subst P (sym ef) (subst Q (sym ew) (subst R (sym ee) (subst S (sym er) h)))
 
 -- the front moves on by n places
-pub shifted : (width initial origin front front' end point point' count : ℕ) (cells cells' : ℕ → Cell) (r : Receiving) → IsWindowOf width initial origin front cells end point r → front' ≡ number_word initial (r.front + count) → ((d : ℕ) → cells' d ≡ cells (d + count)) → ((d : ℕ) → point - count ≤ d → d < point' → cell_is_missing (cells' d) ≡ false) → (point' < width → cell_is_missing (cells' point') ≡ true) → IsWindowOf width initial origin front' cells' (end - count) point' (moved_to (r.front + count) r)
+pub shifted : (width initial origin front front' end point point' count : ℕ) (cells cells' : ℕ → Cell) (r : Receiving)
+    → IsWindowOf width initial origin front cells end point r → front' ≡ number_word initial (r.front + count)
+    → ((d : ℕ) → cells' d ≡ cells (d + count)) → ((d : ℕ) → point - count ≤ d → d < point' → cell_is_missing (cells' d) ≡ false)
+    → (point' < width → cell_is_missing (cells' point') ≡ true)
+    → IsWindowOf width initial origin front' cells' (end - count) point' (moved_to (r.front + count) r)
 shifted width initial origin front front' end point point' count cells cells' r h f c before here = record {
   front_is = f;
-  cells_are = λ d. let e : r.front + (d + count) ≡ (r.front + count) + d = omega arith in c d ∙ h.cells_are (d + count) ∙ ap (λ n. cell_for origin (arrival_of r.arrivals n) (is_requested width r.requests n)) e;
+  cells_are = λ d.
+      let e : r.front + (d + count) ≡ (r.front + count) + d = omega arith in
+      c d ∙ h.cells_are (d + count) ∙ ap (λ n. cell_for origin (arrival_of r.arrivals n) (is_requested width r.requests n)) e;
   end_is = omega (arith, h.end_is);
   not_missing = λ d lt. kept d lt (cases_lt d (point - count));
   missing = here;
@@ -156,7 +185,10 @@ shifted width initial origin front front' end point point' count cells cells' r 
     kept d lt (inl lo) = ap cell_is_missing (c d) ∙ h.not_missing (d + count) (omega (arith, lo))
 
 -- past dropped numbers
-pub settled_is : (width initial origin front end point steps : ℕ) (cells : ℕ → Cell) (r : Receiving) → IsWindowOf width initial origin front cells end point r → steps ≤ width → ((k : ℕ) → k < steps → not (cell_is_dropped (cells k)) ≡ false) → (steps < width → not (cell_is_dropped (cells steps)) ≡ true) → settled width r ≡ moved_to (r.front + steps) r
+pub settled_is : (width initial origin front end point steps : ℕ) (cells : ℕ → Cell) (r : Receiving)
+    → IsWindowOf width initial origin front cells end point r → steps ≤ width → ((k : ℕ) → k < steps → not (cell_is_dropped (cells k)) ≡ false)
+    → (steps < width → not (cell_is_dropped (cells steps)) ≡ true)
+    → settled width r ≡ moved_to (r.front + steps) r
 settled_is width initial origin front end point steps cells r h le before here =
     ap (λ n. moved_to n r) (least_is (λ n. not (is_dropped width r n)) r.front width steps le
     (λ k lt. ap not (cell_dropped width initial origin front end point cells r h k) ∙ before k lt)
@@ -167,10 +199,13 @@ none_there None e = refl
 none_there (Some a) e = cc
 
 -- nothing waits
-pub nothing_waits : (width initial origin front end point : ℕ) (cells : ℕ → Cell) (r : Receiving) → IsWindowOf width initial origin front cells end point r → ((k : ℕ) → k < end → cell_is_received (cells k) ≡ false) → waiting r ≡ []
+pub nothing_waits : (width initial origin front end point : ℕ) (cells : ℕ → Cell) (r : Receiving)
+    → IsWindowOf width initial origin front cells end point r → ((k : ℕ) → k < end → cell_is_received (cells k) ≡ false) → waiting r ≡ []
 nothing_waits width initial origin front end point cells r h none =
     let c = end_of r.arrivals - r.front in
-    let s = skipped r.arrivals r.front c c (λ i lt. none_there (arrival_of r.arrivals (r.front + i)) (cell_received width initial origin front end point cells r h i ∙ none i (omega (arith, lt, h.end_is)))) in
+    let s = skipped r.arrivals r.front c c
+    (λ i lt. none_there (arrival_of r.arrivals (r.front + i))
+    (cell_received width initial origin front end point cells r h i ∙ none i (omega (arith, lt, h.end_is)))) in
     let z : c - c ≡ 0 = omega arith in
     s ∙ ap (λ x. filter_map (arrival_of r.arrivals) (numbers_from (r.front + c) x)) z
 
@@ -182,17 +217,24 @@ pub record IsFirstWaiting (origin at : ℕ) (cells : ℕ → Cell) (r : Receivin
   pub number_is : first.number ≡ r.front + at
   pub cell_is : cells at ≡ Received (pos origin +ℤ first.due) first.payload
 
-pub first_waits : (width initial origin front end point at : ℕ) (cells : ℕ → Cell) (r : Receiving) → IsWindowOf width initial origin front cells end point r → ((k : ℕ) → k < at → cell_is_received (cells k) ≡ false) → at < end → cell_is_received (cells at) ≡ true → IsFirstWaiting origin at cells r
-first_waits width initial origin front end point at cells r h none lt got = by (arrival_of r.arrivals (r.front + at)) refl (cell_received width initial origin front end point cells r h at ∙ got)
+pub first_waits : (width initial origin front end point at : ℕ) (cells : ℕ → Cell) (r : Receiving)
+    → IsWindowOf width initial origin front cells end point r → ((k : ℕ) → k < at → cell_is_received (cells k) ≡ false) → at < end
+    → cell_is_received (cells at) ≡ true
+    → IsFirstWaiting origin at cells r
+first_waits width initial origin front end point at cells r h none lt got =
+    by (arrival_of r.arrivals (r.front + at)) refl (cell_received width initial origin front end point cells r h at ∙ got)
   where
     none_is : false ≡ true → IsFirstWaiting origin at cells r
     none_is e = cc
 
-    by : (o : Option Arrival) → arrival_of r.arrivals (r.front + at) ≡ o → is_some (arrival_of r.arrivals (r.front + at)) ≡ true → IsFirstWaiting origin at cells r
+    by : (o : Option Arrival) → arrival_of r.arrivals (r.front + at) ≡ o → is_some (arrival_of r.arrivals (r.front + at)) ≡ true
+        → IsFirstWaiting origin at cells r
     by None is some = none_is (sym (ap is_some is) ∙ some)
     by (Some a) is some =
         let c = end_of r.arrivals - r.front in
-        let s = skipped r.arrivals r.front c at (λ i less. none_there (arrival_of r.arrivals (r.front + i)) (cell_received width initial origin front end point cells r h i ∙ none i less)) in
+        let s = skipped r.arrivals r.front
+        c at (λ i less.
+        none_there (arrival_of r.arrivals (r.front + i)) (cell_received width initial origin front end point cells r h i ∙ none i less)) in
         let more = filter_map (arrival_of r.arrivals) (numbers_from (r.front + at + 1) (c - at - 1)) in
         let z : c - at ≡ suc (c - at - 1) = omega (arith, lt, h.end_is) in
         record {
@@ -225,14 +267,11 @@ pub offset_not_found : (word a width : ℕ) → word < 2 ^ 31 → option_map (λ
 unfolding in_window
 offset_not_found word a width lt e = grind (arith, nat_tests)
 
-own_word : (initial word : ℕ) → word < 2 ^ 31 → counted_from initial word ≡ offset_of word initial
-own_word initial word lt = grind (arith, nat_tests)
-
 -- a range counted from the initial number has the same length
 own_span : (initial first last : ℕ) → first < 2 ^ 31 → last < 2 ^ 31 → offset_of (counted_from initial last) (counted_from initial first) ≡ offset_of last first
 own_span initial first last f l =
-    let a = own_word initial first f in
-    let b = own_word initial last l in
+    let a = counted_is initial first f in
+    let b = counted_is initial last l in
     rw (a, b) (omega arith)
 
 tested : (a b c : ℕ) → a < 2 ^ 31 → b < 2 ^ 31 → c < 2 ^ 30 → (nat_lt a (2 ^ 31) && nat_lt b (2 ^ 31) && nat_lt c (2 ^ 30)) ≡ true
@@ -242,9 +281,11 @@ too_long : (a b c : ℕ) → 2 ^ 30 ≤ c → (nat_lt a (2 ^ 31) && nat_lt b (2 
 too_long a b c z = grind (arith, nat_tests)
 
 own_small : (initial word : ℕ) → word < 2 ^ 31 → counted_from initial word < 2 ^ 31
-own_small initial word lt = let e = own_word initial word lt in omega (arith, e)
+own_small initial word lt = let e = counted_is initial word lt in omega (arith, e)
 
-pub nothing_requested : (width initial : ℕ) (first last : Seq31) (r : Receiving) → word_of first < 2 ^ 31 → word_of last < 2 ^ 31 → 2 ^ 30 ≤ offset_of (word_of last) (word_of first) → requested width (own_range initial first last) r ≡ r
+pub nothing_requested : (width initial : ℕ) (first last : Seq31) (r : Receiving) → word_of first < 2 ^ 31 → word_of last < 2 ^ 31
+    → 2 ^ 30 ≤ offset_of (word_of last) (word_of first)
+    → requested width (own_range initial first last) r ≡ r
 nothing_requested width initial first last r f l long =
     let q = own_range initial first last in
     let s = own_span initial (word_of first) (word_of last) f l in
@@ -254,7 +295,9 @@ nothing_requested width initial first last r f l long =
 abbrev pub with_range : (width : ℕ) → Range → Receiving → Receiving
 with_range width q r = record r { requests = record { front = r.front; range = q } ∷ r.requests }
 
-pub range_requested : (width initial : ℕ) (first last : Seq31) (r : Receiving) → word_of first < 2 ^ 31 → word_of last < 2 ^ 31 → offset_of (word_of last) (word_of first) < 2 ^ 30 → requested width (own_range initial first last) r ≡ settled width (with_range width (own_range initial first last) r)
+pub range_requested : (width initial : ℕ) (first last : Seq31) (r : Receiving) → word_of first < 2 ^ 31 → word_of last < 2 ^ 31
+    → offset_of (word_of last) (word_of first) < 2 ^ 30
+    → requested width (own_range initial first last) r ≡ settled width (with_range width (own_range initial first last) r)
 range_requested width initial first last r f l short =
     let q = own_range initial first last in
     let s = own_span initial (word_of first) (word_of last) f l in
@@ -262,11 +305,14 @@ range_requested width initial first last r f l short =
     rw e refl
 
 -- the places that a range names
-pub taken : (width initial position front from end sp d : ℕ) (first last : Seq31) → word_of first < 2 ^ 31 → word_of last < 2 ^ 31 → front ≡ number_word initial position → sp ≡ offset_of (word_of last) (word_of first) → end ≤ width → (d < width → (nat_le from d && nat_lt d end) ≡ nat_le (offset_of (front + d) (word_of first)) sp) → (nat_le from d && nat_lt d end) ≡ names width (record { front = position; range = own_range initial first last }) (position + d)
+pub taken : (width initial position front from end sp d : ℕ) (first last : Seq31) → word_of first < 2 ^ 31 → word_of last < 2 ^ 31
+    → front ≡ number_word initial position → sp ≡ offset_of (word_of last) (word_of first) → end ≤ width
+    → (d < width → (nat_le from d && nat_lt d end) ≡ nat_le (offset_of (front + d) (word_of first)) sp)
+    → (nat_le from d && nat_lt d end) ≡ names width (record { front = position; range = own_range initial first last }) (position + d)
 taken width initial position front from end sp d first last f l is sp_is inside places = elim (cases_lt d width) [
   | inl lt ↦
       let s = own_span initial (word_of first) (word_of last) f l in
-      let w = own_word initial (word_of first) f in
+      let w = counted_is initial (word_of first) f in
       let o : offset_of (position + d) (counted_from initial (word_of first)) ≡ offset_of (front + d) (word_of first) = rw w (omega (arith, is)) in
       let b : (nat_le position (position + d) && nat_lt (position + d) (position + width)) ≡ true = both position d width lt in
       places lt ∙ rw (o, s, ← sp_is) (low position d width _ lt)
@@ -295,11 +341,26 @@ stays_known true Dropped e = refl
 stays_known true (Received due payload) e = refl
 stays_known false x e = e
 
+-- what is dropped counts as received if it did before
+pub received_still : (b : Bool) (x : Cell) → cell_is_received (if b then after_drop x else x) ≡ cell_is_received x
+received_still true Missing = refl
+received_still true Dropped = refl
+received_still true (Received due payload) = refl
+received_still false x = refl
+
 -- a range of numbers is dropped
-pub with_dropped : (width initial origin front end point point' : ℕ) (cells cells' : ℕ → Cell) (given : ℕ → Bool) (q : Range) (r : Receiving) → IsWindowOf width initial origin front cells end point r → ((d : ℕ) → given d ≡ names width (record { front = r.front; range = q }) (r.front + d)) → ((d : ℕ) → cells' d ≡ (if given d then after_drop (cells d) else cells d)) → ((d : ℕ) → point ≤ d → d < point' → cell_is_missing (cells' d) ≡ false) → (point' < width → cell_is_missing (cells' point') ≡ true) → IsWindowOf width initial origin front cells' end point' (with_range width q r)
+pub with_dropped : (width initial origin front end point point' : ℕ) (cells cells' : ℕ → Cell) (given : ℕ → Bool) (q : Range)
+    (r : Receiving)
+    → IsWindowOf width initial origin front cells end point r
+    → ((d : ℕ) → given d ≡ names width (record { front = r.front; range = q }) (r.front + d))
+    → ((d : ℕ) → cells' d ≡ (if given d then after_drop (cells d) else cells d))
+    → ((d : ℕ) → point ≤ d → d < point' → cell_is_missing (cells' d) ≡ false) → (point' < width → cell_is_missing (cells' point') ≡ true)
+    → IsWindowOf width initial origin front cells' end point' (with_range width q r)
 with_dropped width initial origin front end point point' cells cells' given q r h g c before here = record {
   front_is = h.front_is;
-  cells_are = λ d. c d ∙ ap (λ x. if given d then after_drop x else x) (h.cells_are d) ∙ drops origin (arrival_of r.arrivals (r.front + d)) (given d) (is_requested width r.requests (r.front + d)) ∙ ap (λ b. cell_for origin (arrival_of r.arrivals (r.front + d)) (b || is_requested width r.requests (r.front + d))) (g d);
+  cells_are = λ d. c d ∙ ap (λ x. if given d then after_drop x else x) (h.cells_are d)
+      ∙ drops origin (arrival_of r.arrivals (r.front + d)) (given d) (is_requested width r.requests (r.front + d))
+      ∙ ap (λ b. cell_for origin (arrival_of r.arrivals (r.front + d)) (b || is_requested width r.requests (r.front + d))) (g d);
   end_is = h.end_is;
   not_missing = λ d lt. kept d lt (cases_lt d point);
   missing = here;
@@ -310,7 +371,9 @@ with_dropped width initial origin front end point point' cells cells' given q r 
     kept d lt (inl lo) = ap cell_is_missing (c d) ∙ stays_known (given d) (cells d) (h.not_missing d lo)
 
 -- the places of a window that a range names, if it begins in the window
-pub begins_inside : (front first span width from end d : ℕ) → front < 2 ^ 31 → first < 2 ^ 31 → span < 2 ^ 30 → width ≤ 8192 → span + 1 ≤ offset_of front first → from ≡ offset_of first front → from < width → end ≡ min (from + span + 1) width → d < width → (nat_le from d && nat_lt d end) ≡ nat_le (offset_of (front + d) first) span
+pub begins_inside : (front first span width from end d : ℕ) → front < 2 ^ 31 → first < 2 ^ 31 → span < 2 ^ 30 → width ≤ 8192
+    → span + 1 ≤ offset_of front first → from ≡ offset_of first front → from < width → end ≡ min (from + span + 1) width → d < width
+    → (nat_le from d && nat_lt d end) ≡ nat_le (offset_of (front + d) first) span
 begins_inside front first span width from end d f g s w out from_is inside end_is lt = elim (cases_lt d from) [
   | inl below ↦
       let o : offset_of (front + d) first ≡ d + 2 ^ 31 - from = omega (arith, f, g, w, from_is, inside, lt, below) in
@@ -327,7 +390,9 @@ begins_inside front first span width from end d f g s w out from_is inside end_i
     right from d span width x y = grind (arith, nat_tests)
 
 -- none, if it neither has the front nor begins in the window
-pub stands_outside : (front first span width d : ℕ) → front < 2 ^ 31 → first < 2 ^ 31 → span < 2 ^ 30 → width ≤ 8192 → span + 1 ≤ offset_of front first → width ≤ offset_of first front → d < width → (nat_le 0 d && nat_lt d 0) ≡ nat_le (offset_of (front + d) first) span
+pub stands_outside : (front first span width d : ℕ) → front < 2 ^ 31 → first < 2 ^ 31 → span < 2 ^ 30 → width ≤ 8192
+    → span + 1 ≤ offset_of front first → width ≤ offset_of first front → d < width
+    → (nat_le 0 d && nat_lt d 0) ≡ nat_le (offset_of (front + d) first) span
 stands_outside front first span width d f g s w out far lt =
     let o : span < offset_of (front + d) first = omega (arith, f, g, s, w, out, far, lt) in
     none d span (offset_of (front + d) first) o

@@ -19,12 +19,26 @@ is_least : (test : ℕ → Bool) (from places a b : ℕ) → a ≡ b → IsLeast
 is_least test from places a b same h = let P : ℕ → Type 0 = λ x. IsLeastOf test from places x in subst P (sym same) h
 
 least_of : (test : ℕ → Bool) (from places : ℕ) → IsLeastOf test from places (least_from test from places)
-least_of test from zero = record { low = omega arith; high = omega arith; before = λ n low high. absurd (omega (arith, low, high)); here = λ lt. absurd (omega (arith, lt)) }
+least_of test from zero =
+    record {
+      low = omega arith;
+      high = omega arith;
+      before = λ n low high. absurd (omega (arith, low, high));
+      here = λ lt. absurd (omega (arith, lt));
+    }
 least_of test from (suc places) = by (test from) refl (least_of test (from + 1) places)
   where
-    by : (b : Bool) → test from ≡ b → IsLeastOf test (from + 1) places (least_from test (from + 1) places) → IsLeastOf test from (suc places) (least_from test from (suc places))
-    by true is h = is_least test from (suc places) _ from (found test from places true is) (record { low = omega arith; high = omega arith; before = λ n low high. absurd (omega (arith, low, high)); here = λ lt. is })
-    by false is h = is_least test from (suc places) _ _ (found test from places false is) (record { low = omega (arith, h.low); high = omega (arith, h.high); before = λ n low high. at n (cases_eq n from) low high; here = λ lt. h.here (omega (arith, lt)) })
+    by : (b : Bool) → test from ≡ b → IsLeastOf test (from + 1) places (least_from test (from + 1) places)
+        → IsLeastOf test from (suc places) (least_from test from (suc places))
+    by true is h = is_least test from (suc places) _ from (found test from places true is)
+        (record { low = omega arith; high = omega arith; before = λ n low high. absurd (omega (arith, low, high)); here = λ lt. is })
+    by false is h = is_least test from (suc places) _ _ (found test from places false is)
+        (record {
+          low = omega (arith, h.low);
+          high = omega (arith, h.high);
+          before = λ n low high. at n (cases_eq n from) low high;
+          here = λ lt. h.here (omega (arith, lt));
+        })
       where
         at : (n : ℕ) → (n ≡ from) ⊎ (n ≢ from) → from ≤ n → n < least_from test (from + 1) places → test n ≡ false
         at n (inl same) low high = rw same is

@@ -26,7 +26,8 @@ unfolding in_window
 width = (refl, refl, refl, refl)
 
 -- the second copy changes nothing
-repeats : (received 32 2 (7 ∷ []) (pos 1) two_received ≡ two_received) × (put_of (Some 2) two_received ≡ Repeat) × (put_of (Some 1) two_received ≡ New) × (put_of None two_received ≡ Outside)
+repeats : (received 32 2 (7 ∷ []) (pos 1) two_received ≡ two_received) × (put_of (Some 2) two_received ≡ Repeat) ×
+    (put_of (Some 1) two_received ≡ New) × (put_of None two_received ≡ Outside)
 unfolding in_window
 repeats = (refl, refl, refl, refl)
 
@@ -50,6 +51,7 @@ says = refl
 abbrev two_dropped : Receiving
 two_dropped = requested 32 (record { first = 1; last = 4 }) two_received
 
-drops : (gaps 32 two_dropped ≡ []) × (ack_point 32 two_dropped ≡ 5) × ((passed 32 (deliverable 20 two_dropped) two_dropped).front ≡ 5) × (is_dropped 32 two_dropped 3 ≡ true) × (is_dropped 32 (received 32 3 (1 ∷ []) (pos 0) two_dropped) 3 ≡ false)
+drops : (gaps 32 two_dropped ≡ []) × (ack_point 32 two_dropped ≡ 5) × ((passed 32 (deliverable 20 two_dropped) two_dropped).front ≡ 5) ×
+    (is_dropped 32 two_dropped 3 ≡ true) × (is_dropped 32 (received 32 3 (1 ∷ []) (pos 0) two_dropped) 3 ≡ false)
 unfolding in_window
 drops = (refl, refl, refl, refl, refl)

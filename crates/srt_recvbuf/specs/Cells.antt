@@ -1,7 +1,7 @@
 -- The places of a window and the state of each.
 use Rattle.std.specs.Prelude.{ℕ, ℤ, Bool, true, false, Option, None, Some, List, [], length, slice_index_or, not}
-use Rattle.srt_recvbuf.specs.declared.window.Place.{Place}
-use Rattle.srt_recvbuf.specs.declared.window.Place.TheVariants.{Missing as MissingPlace, Dropped as DroppedPlace, Received as ReceivedPlace}
+use Rattle.srt_recvbuf.specs.declared.window.NumberState.{NumberState}
+use Rattle.srt_recvbuf.specs.declared.window.NumberState.TheVariants.{Missing as MissingState, Dropped as DroppedState, Received as ReceivedState}
 use Rattle.srt_ring.specs.declared.ring.PayloadRing.{PayloadRing}
 use Rattle.srt_ring.specs.Ring.{payload_at}
 use Rattle.srt_recvbuf.specs.declared.window.Seek.{Seek}
@@ -15,18 +15,18 @@ pub data Cell : Type 0 where
   Received : (due : ℤ) (payload : List ℕ) → Cell
 
 -- the state of a place, from its record and its payload
-abbrev pub cell_of : Place → List ℕ → Cell
-cell_of MissingPlace payload = Missing
-cell_of DroppedPlace payload = Dropped
-cell_of (ReceivedPlace due) payload = Received due payload
+abbrev pub cell_of : NumberState → List ℕ → Cell
+cell_of MissingState payload = Missing
+cell_of DroppedState payload = Dropped
+cell_of (ReceivedState due) payload = Received due payload
 
 -- the state of the place `at`, from all records and payloads
-abbrev pub cell_in : (places : List Place) (payloads : PayloadRing) (at : ℕ) → Cell
-cell_in places payloads at = cell_of (slice_index_or places at MissingPlace) (payload_at payloads at)
+abbrev pub cell_in : (places : List NumberState) (payloads : PayloadRing) (at : ℕ) → Cell
+cell_in places payloads at = cell_of (slice_index_or places at MissingState) (payload_at payloads at)
 
 -- the record of the place `at`; Missing past the last place
-abbrev pub place_at : Window → ℕ → Place
-place_at w at = slice_index_or w.places.items at MissingPlace
+abbrev pub place_at : Window → ℕ → NumberState
+place_at w at = slice_index_or w.places.items at MissingState
 
 -- the state of the place `at`; Missing past the last place
 abbrev pub cell_at : Window → ℕ → Cell

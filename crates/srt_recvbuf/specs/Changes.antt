@@ -11,11 +11,15 @@ use Rattle.srt_recvbuf.specs.declared.buffer.RecvBuf.{RecvBuf}
 -- if the old buffer represents a record, the new one represents the record after the change, with the same width,
 -- initial number and origin
 abbrev pub Becomes : (old new : RecvBuf) → (change : (width initial : ℕ) → Receiving → Receiving) → Type 0
-Becomes old new change = (width initial origin : ℕ) (r : Receiving) → StandsFor width initial origin old r → StandsFor width initial origin new (change width initial r)
+Becomes old new change =
+    (width initial origin : ℕ) (r : Receiving)
+    → StandsFor width initial origin old r → StandsFor width initial origin new (change width initial r)
 
 -- the same at a moment, which is a time after the origin
 abbrev pub BecomesAt : (now : ℕ) → (old new : RecvBuf) → (change : (width time : ℕ) → Receiving → Receiving) → Type 0
-BecomesAt now old new change = (width initial origin time : ℕ) (r : Receiving) → now ≡ origin + time → StandsFor width initial origin old r → StandsFor width initial origin new (change width time r)
+BecomesAt now old new change =
+    (width initial origin time : ℕ) (r : Receiving)
+    → now ≡ origin + time → StandsFor width initial origin old r → StandsFor width initial origin new (change width time r)
 
 -- if the buffer represents a record, this holds of the record
 abbrev pub HoldsOf : RecvBuf → (fact : (width initial : ℕ) → Receiving → Type 0) → Type 0
@@ -27,7 +31,9 @@ HoldsOfAt now b fact = (width initial origin time : ℕ) (r : Receiving) → now
 
 -- a packet with this sequence number, which is due at this moment, is put into the buffer
 abbrev pub Stores : (word : ℕ) → (due : ℤ) → (payload : List ℕ) → (old new : RecvBuf) → Type 0
-Stores word due payload old new = (width initial origin : ℕ) (r : Receiving) (time : ℤ) → due ≡ pos origin +ℤ time → StandsFor width initial origin old r → StandsFor width initial origin new (received width (counted_from initial word) payload time r)
+Stores word due payload old new =
+    (width initial origin : ℕ) (r : Receiving) (time : ℤ) → due ≡ pos origin +ℤ time → StandsFor width initial origin old r
+    → StandsFor width initial origin new (received width (counted_from initial word) payload time r)
 
 -- these are the first 32 runs of missing places from a place on. `test` is any test of numbers that the places of
 -- missing numbers pass, and `front` the number of the front

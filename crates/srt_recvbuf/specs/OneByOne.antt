@@ -8,7 +8,9 @@ OthersWait = (width : ℕ) (r : Receiving) (a : Arrival) (more : List Arrival) �
 
 -- delivering one and then the others has the same result as delivering all at once
 abbrev pub PassesOneByOne : Type 0
-PassesOneByOne = (width : ℕ) (r : Receiving) (a b : Arrival) (more : List Arrival) → passed width (b ∷ more) (passed width (a ∷ []) r) ≡ passed width (a ∷ b ∷ more) r
+PassesOneByOne =
+    (width : ℕ) (r : Receiving) (a b : Arrival) (more : List Arrival)
+    → passed width (b ∷ more) (passed width (a ∷ []) r) ≡ passed width (a ∷ b ∷ more) r
 
 -- nothing is received past the window
 abbrev pub NothingBeyond : (width : ℕ) → Receiving → Type 0
@@ -21,4 +23,6 @@ NothingDroppedBeyond width r = (n : ℕ) → r.front + width ≤ n → is_droppe
 -- if nothing was dropped and the acknowledgement point is above the front, the first waiting packet is the first
 -- without a gap, and after it is delivered the others without a gap are left
 abbrev pub UnbrokenOneByOne : Type 0
-UnbrokenOneByOne = (width : ℕ) (r : Receiving) → r.requests ≡ [] → NothingBeyond width r → r.front < ack_point width r → (a : Arrival) × (more : List Arrival) × (waiting r ≡ a ∷ more) × (unbroken width r ≡ a ∷ unbroken width (passed width (a ∷ []) r))
+UnbrokenOneByOne =
+    (width : ℕ) (r : Receiving) → r.requests ≡ [] → NothingBeyond width r → r.front < ack_point width r
+    → (a : Arrival) × (more : List Arrival) × (waiting r ≡ a ∷ more) × (unbroken width r ≡ a ∷ unbroken width (passed width (a ∷ []) r))

@@ -1,6 +1,7 @@
 -- What a receiver got of one stream, and all results that follow from it. Numbers count from the initial one, without
 -- a wrap. Lists have the newest first.
-use Rattle.std.specs.Prelude.{ℕ, ◌+◌, ◌-◌, ◌^◌, ℤ, pos, int_le, Bool, false, Option, None, Some, List, [], ◌∷◌, filter, find, filter_map, take, take_while, min, max, not, is_some, nat_lt, nat_le, ◌==◌, ◌&&◌, ◌||◌, if◌then◌else◌}
+use Rattle.std.specs.Prelude.{ℕ, ◌+◌, ◌-◌, ◌^◌, ℤ, pos, int_le, Bool, false, Option, None, Some, List, [], ◌∷◌, filter, find, filter_map}
+use Rattle.std.specs.Prelude.{take, take_while, min, max, not, is_some, nat_lt, nat_le, ◌==◌, ◌&&◌, ◌||◌, if◌then◌else◌}
 use Rattle.srt_seq.specs.Window.{in_window}
 use Rattle.srt_seq.specs.Runs.{Range, span, is_in, numbers_from, least_from, Run, runs}
 use Rattle.srt_recvbuf.specs.declared.buffer.Put.{Put}
@@ -23,7 +24,7 @@ pub record Receiving : Type 0 where
   pub requests : List Request
   pub front : ℕ
 
--- a stream of which nothing came yet
+-- a stream of which nothing was received yet
 abbrev pub nothing_yet : Receiving
 nothing_yet = record { arrivals = []; requests = []; front = 0 }
 
@@ -85,7 +86,7 @@ is_waiting r = nat_lt r.front (end_of r.arrivals)
 abbrev pub waiting : Receiving → List Arrival
 waiting r = filter_map (arrival_of r.arrivals) (numbers_from r.front (end_of r.arrivals - r.front))
 
--- the most payloads that one event delivers (this profile)
+-- the most payloads that one event delivers (our choice)
 abbrev pub most : ℕ
 most = 64
 
@@ -135,7 +136,7 @@ put_of None r = Outside
 put_of (Some n) r = if is_received r n then Repeat else New
 
 -- after a drop request; one with a top bit set, or whose last number is 2^30 or more past its first, changes nothing
--- (section 3.2.9, this profile)
+-- (section 3.2.9; our choice)
 abbrev pub requested : (width : ℕ) → Range → Receiving → Receiving
 requested width q r =
     if nat_lt q.first (2 ^ 31) && nat_lt q.last (2 ^ 31) && nat_lt (span q) (2 ^ 30)
@@ -157,7 +158,7 @@ after_next width None r = r
 after_next width (Some a) r = passed width (a ∷ []) r
 
 -- what a NAK reports from a number on: the first 32 runs of gaps. None if the number is outside the window and isn't
--- its end (section 4.8.2, this profile)
+-- its end (section 4.8.2; our choice)
 abbrev pub runs_from : (width : ℕ) → Option ℕ → Receiving → List Run
 runs_from width None r = []
 runs_from width (Some n) r = take 32 (runs (gaps_from width n r))

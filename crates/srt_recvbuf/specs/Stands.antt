@@ -39,7 +39,8 @@ own_range initial first last = range_from initial (record { first = word_of firs
 -- the place of the next packet to be delivered; None if there is none
 abbrev pub IsNextDue : (origin time room : ℕ) → (cells : ℕ → Cell) → Receiving → Option ℕ → Type 0
 IsNextDue origin time room cells r None = next_due time room r ≡ None
-IsNextDue origin time room cells r (Some d) = (a : Arrival) × (next_due time room r ≡ Some a) × (a.number ≡ r.front + d) × (cells d ≡ Received (pos origin +ℤ a.due) a.payload)
+IsNextDue origin time room cells r (Some d) =
+    (a : Arrival) × (next_due time room r ≡ Some a) × (a.number ≡ r.front + d) × (cells d ≡ Received (pos origin +ℤ a.due) a.payload)
 
 -- the sequence numbers of runs, as pairs of a first and a last
 abbrev pub words_of : List (Seq31 × Seq31) → List (ℕ × ℕ)

@@ -1,14 +1,14 @@
 //! The receiver buffer: what is received, delivered and dropped, and the acknowledgement point. What is missing is in
 //! `gaps.rt`.
 
-ghost use Rattle.std.specs.Prelude.{◌≡◌, ℕ, ◌+◌, ◌-◌, ◌^◌, ◌<◌, ◌≤◌, ◌+ℤ◌, Option, None, Some, IfOk, IfSome, is_some, true, false, nat_le, nat_lt, ◌&&◌};
-ghost use Rattle.srt_seq.specs.Given.{given};
+ghost use Rattle.std.specs.Prelude.{◌≡◌, ◌≢◌, ℕ, ◌+◌, ◌-◌, ◌^◌, ◌<◌, ◌≤◌, ◌+ℤ◌, Option, None, Some, IfOk, IfSome, is_some, option_copied};
+ghost use Rattle.std.specs.Prelude.{length, max, true, false, nat_le, nat_lt, ◌&&◌};
 ghost use Rattle.srt_seq.specs.Window.{word_of, counted_from, in_window, offset_of, number_word};
 ghost use Rattle.srt_recvbuf.specs.Cells.{width_of, cell_at, cell_is_missing, cell_is_received};
 
-use crate::window::{Place, Seek, Window};
+use crate::window::{NumberState, Seek, Window};
 use srt_seq::limits::RANGE_END;
-use srt_seq::{Payload, PayloadRef, Seq31};
+use srt_seq::{PayloadRef, Seq31};
 use std::alloc::{AllocError, Global};
 
 /// What became of a data packet that was given to `RecvBuf::put` (section 3.1).
@@ -27,8 +27,9 @@ pub enum Put {
 /// the front on, each of which is received, dropped by the sender, or missing.
 ///
 /// `end`, `point` and `next` are kept incrementally, so a stream with few losses costs O(1) a packet at any width. At
-/// worst `put` and `advance` are linear in the places that they search, as each of their comments says. `start` is
-/// linear in the width. Times are microseconds of one clock that the caller chooses, the same for `put` and `advance`.
+/// worst `put` and `note_delivered` are linear in the places that they search, as each of their comments says. `start`
+/// is linear in the width. Times are microseconds of one clock that the caller chooses, the same for `put` and
+/// `next_due`.
 #[derive(Drop)]
 pub struct RecvBuf {
     pub(crate) front: Seq31,
@@ -37,20 +38,23 @@ pub struct RecvBuf {
     pub(crate) end: usize,
     /// The number of places from the front on before the first missing one.
     pub(crate) point: usize,
-    /// Where the search for the first packet resumes: no packet is after the front's place and before this one.
+    /// The place of the first packet after the front's place; `end` or more if there is none.
     next: usize,
     ghost end_inside: { end ≤ width_of window },
     ghost point_inside: { point ≤ width_of window },
+    ghost nothing_past_end: { (d : ℕ) → end ≤ d → cell_is_received (cell_at window d) ≡ false },
     ghost nothing_between: { (d : ℕ) → 0 < d → d < next → cell_is_received (cell_at window d) ≡ false },
+    ghost packet_at_next: { next < end → cell_is_received (cell_at window next) ≡ true },
 }
 
 impl RecvBuf {
     ghost use Rattle.srt_recvbuf.specs.Stands.{IsNextDue, StandsFor, places_of, own_range};
     ghost use Rattle.srt_recvbuf.specs.Changes.{Becomes, BecomesAt, HoldsOf, HoldsOfAt, Stores, payload_in};
-    ghost use Rattle.srt_recvbuf.specs.Receiving.{nothing_yet, put_of, requested, settled, moved_to, top, ack_point, available, is_waiting, next_due, after_next};
+    ghost use Rattle.srt_recvbuf.specs.Receiving.{nothing_yet, put_of, requested, settled, moved_to, top, ack_point, available, is_waiting};
+    ghost use Rattle.srt_recvbuf.specs.Receiving.{next_due, after_next};
 
     /// An empty buffer of `width` packets, 32 to 8192, for a stream with the initial number 0; `start` begins any
-    /// other. The only call that takes memory; the error is a refused allocation. O(width).
+    /// other. The only call that allocates; the error is a refused allocation. O(width).
     pub fn open(alloc: Global, width: u32) -> Result<RecvBuf, AllocError>
         requires least { 32 ≤ width }
         requires most { width ≤ 8192 }
@@ -61,7 +65,7 @@ impl RecvBuf {
             window: Window::open(alloc, width as usize)?,
             end: 0,
             point: 0,
-            next: 0,
+            next: 1,
         })
     }
 
@@ -74,7 +78,7 @@ impl RecvBuf {
         self.window.clear();
         self.end = 0;
         self.point = 0;
-        self.next = 0;
+        self.next = 1;
     }
 
     /// Stores a data packet that is due at `due`, in microseconds; it may be in the past, or negative. The payload is
@@ -91,10 +95,8 @@ impl RecvBuf {
         if self.window.is(at, Seek::APacket) {
             return Put::Repeat;
         }
+        self.next = self.next_with(at);
         self.window.fill(at, due, payload);
-        if 0 < at {
-            self.next = self.next.min(at);
-        }
         self.end = self.end.max(at + 1);
         self.find_point();
         Put::New
@@ -159,40 +161,36 @@ impl RecvBuf {
         0 < self.end
     }
 
-    /// Delivers the next payload: the one of the least received number, if it is due at `now` (microseconds, below
-    /// 2^62) and `room` isn't 0. The front then moves past that number, which gives up missing numbers before it, and
-    /// past dropped numbers after it (sections 4.5 and 4.6).
+    /// The payload that is to be delivered next, at most 1456 bytes: the one of the least received number, if it is due
+    /// at `now` (microseconds, below 2^62) and `room` isn't 0 (sections 4.5 and 4.6). None if there is none: a packet
+    /// that isn't due holds back those behind it. O(1), and no byte is copied. It counts as delivered once
+    /// `note_delivered` is called.
     ///
-    /// Returns whether there was one. If so, `payload` is replaced by its bytes, one copy; if not, `payload` is
-    /// unchanged. The caller lends it, since a payload that is returned by value is copied at each step, and even a
-    /// `None` of that size is filled and copied. `room` only counts as 0 or not. In buffer mode call it only if the
-    /// acknowledgement point is past the front; else a gap would be skipped. O(1) if the front's number is received or
-    /// nothing came since the last search; else linear in the distance to the first packet. Linear also in the places
-    /// that the front and the acknowledgement point pass.
-    pub fn advance(&mut self, now: u64, room: u32, payload: &mut Payload) -> bool
+    /// `room` only counts as 0 or not. In buffer mode let it be 0 unless the acknowledgement point is past the front;
+    /// else a gap would be skipped.
+    pub fn next_due(&self, now: u64, room: u32) -> Option<&[u8]>
         requires { now < 2 ^ 62 }
-        ensures stands { BecomesAt now self.old self.new (λ width time r. after_next width (next_due time room r) r) }
-        ensures answer { HoldsOfAt now self.old (λ origin time r. given result payload.new.items ≡ payload_in (next_due time room r)) }
-        ensures kept { result ≡ false → payload.new ≡ payload.old }
+        ensures answer { HoldsOfAt now self.now (λ origin time r. option_copied result ≡ payload_in (next_due time room r)) }
+        ensures fits { IfSome result (λ p. length p.now ≤ 1456) }
     {
         let Some(at) = self.first_due(now, room) else {
-            return false;
+            return None;
         };
-        self.window.copy_to(at, payload);
-        self.pass(at);
-        true
+        Some(self.window.payload(at))
     }
 
-    /// Passes over the next payload: what `advance` does, without a copy of the payload. Returns whether there was
-    /// one.
-    pub fn pass_over(&mut self, now: u64, room: u32) -> bool
+    /// Notes that the payload that `next_due` returns at this moment and for this room was delivered, or is left out
+    /// since nobody takes it. The front then moves past its number, which gives up missing numbers before it, and past
+    /// dropped numbers after it (sections 4.5 and 4.6). Returns whether there was one; if not, nothing changes. Linear
+    /// in the places that the front and the acknowledgement point pass, and in the distance to the next packet.
+    pub fn note_delivered(&mut self, now: u64, room: u32) -> bool
         requires { now < 2 ^ 62 }
         ensures stands { BecomesAt now self.old self.new (λ width time r. after_next width (next_due time room r) r) }
         ensures answer { HoldsOfAt now self.old (λ origin time r. result ≡ is_some (next_due time room r)) }
     {
         match self.first_due(now, room) {
             Some(at) => {
-                self.pass(at);
+                self.move_past(at);
                 true
             }
             None => false,
@@ -200,18 +198,17 @@ impl RecvBuf {
     }
 
     /// The place of the first packet, if it is due at `now` and `room` isn't 0. None if there is no packet, or it
-    /// isn't due yet: a packet that isn't due holds back those behind it.
-    fn first_due(&mut self, now: u64, room: u32) -> Option<usize>
+    /// isn't due yet.
+    fn first_due(&self, now: u64, room: u32) -> Option<usize>
         requires { now < 2 ^ 62 }
-        ensures stands { Becomes self.old self.new (λ width initial r. r) }
-        ensures first { HoldsOfAt now self.old (λ origin time r. IsNextDue origin time room (cell_at self.new.window) r result) }
-        ensures below { IfSome result (λ d. d < places_of self.new) }
+        ensures first { HoldsOfAt now self.now (λ origin time r. IsNextDue origin time room (cell_at self.now.window) r result) }
+        ensures below { IfSome result (λ d. d < places_of self.now) }
     {
         if room == 0 {
             return None;
         }
-        let at = self.find_first();
-        if at == self.end {
+        let at = self.first_packet();
+        if at >= self.end {
             return None;
         }
         let due = self.window.due(at)?;
@@ -219,7 +216,7 @@ impl RecvBuf {
     }
 
     /// Moves the front past the packet of a place, and past dropped numbers after it.
-    fn pass(&mut self, at: usize)
+    fn move_past(&mut self, at: usize)
         requires { at < places_of self.old }
         ensures { Becomes self.old self.new (λ width initial r. settled width (moved_to (r.front + (at + 1)) r)) }
     {
@@ -227,26 +224,54 @@ impl RecvBuf {
         self.settle();
     }
 
-    /// The place of the first packet, or `end` if there is none. The search resumes at `next`, before which there is
-    /// no packet but at the front.
-    fn find_first(&mut self) -> usize
-        ensures stands { Becomes self.old self.new (λ width initial r. r) }
-        ensures high { result ≤ self.new.end }
-        ensures before { (d : ℕ) → d < result → cell_is_received (cell_at self.new.window d) ≡ false }
-        ensures here { result < self.new.end → cell_is_received (cell_at self.new.window result) ≡ true }
+    /// The place of the first packet; `end` or more if there is none. O(1).
+    fn first_packet(&self) -> usize
+        ensures before { (d : ℕ) → d < result → cell_is_received (cell_at self.now.window d) ≡ false }
+        ensures here { result < self.now.end → cell_is_received (cell_at self.now.window result) ≡ true }
     {
         if self.window.is(0, Seek::APacket) {
-            return 0;
+            0
+        } else {
+            self.next
         }
-        let from = self.next.max(1).min(self.end);
-        self.next = self.window.find(Seek::APacket, from, self.end);
-        self.next
+    }
+
+    /// The place of the first packet after the front's place, once there is one at `at`.
+    fn next_with(&self, at: usize) -> usize
+        ensures apart { (d : ℕ) → 0 < d → d < result → d ≢ at }
+        ensures between { (d : ℕ) → 0 < d → d < result → cell_is_received (cell_at self.now.window d) ≡ false }
+        ensures here { result ≢ at → result < max self.now.end (at + 1) → cell_is_received (cell_at self.now.window result) ≡ true }
+    {
+        if at == 0 {
+            return self.next;
+        }
+        if self.next < self.end {
+            self.next.min(at)
+        } else {
+            at
+        }
+    }
+
+    /// The place of the first packet after a place; `end` or more if there is none. O(1) if the place is before
+    /// `next`, else linear in the distance to that packet.
+    fn packet_after(&self, at: usize) -> usize
+        requires { at ≤ places_of self.now }
+        ensures low { at < result }
+        ensures between { (d : ℕ) → at < d → d < result → cell_is_received (cell_at self.now.window d) ≡ false }
+        ensures here { result < self.now.end → cell_is_received (cell_at self.now.window result) ≡ true }
+    {
+        if at < self.next {
+            self.next
+        } else {
+            self.window
+                .find(Seek::APacket, at + 1, self.end.max(at + 1))
+        }
     }
 
     /// A drop request for the numbers `first` to `last`, both in (section 3.2.9). Those of the window that aren't
     /// received count as dropped, and the front moves past dropped numbers. Received packets stay. If `last` is 2^30
     /// or more past `first`, as it is in a backward range, nothing changes. Linear in the numbers of the window that
-    /// it names; takes no memory.
+    /// it names; doesn't allocate.
     pub fn dropped(&mut self, first: Seq31, last: Seq31)
         ensures { Becomes self.old self.new (λ width initial r. requested width (own_range initial first last) r) }
     {
@@ -264,11 +289,12 @@ impl RecvBuf {
         requires { count ≤ places_of self.old }
         ensures { Becomes self.old self.new (λ width initial r. moved_to (r.front + count) r) }
     {
+        let next = self.packet_after(count);
         self.window.slide_by(count);
         self.front = self.front.add(count as u32);
         self.end = self.end.saturating_sub(count);
         self.point = self.point.saturating_sub(count);
-        self.next = self.next.saturating_sub(count);
+        self.next = next - count;
         self.find_point();
     }
 

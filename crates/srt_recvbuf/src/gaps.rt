@@ -9,7 +9,7 @@ use crate::buffer::RecvBuf;
 use crate::window::Seek;
 use arrayvec::ArrayVec;
 use srt_seq::Seq31;
-use srt_seq::limits::NAK_RUNS_MAX;
+use srt_seq::limits::MAX_NAK_RUNS;
 
 impl RecvBuf {
     ghost use Rattle.srt_recvbuf.specs.Stands.{said_runs, words_of};
@@ -26,7 +26,7 @@ impl RecvBuf {
     /// The first 32 runs of missing numbers from `from` on and below the highest received number, lowest first: what
     /// a NAK reports (section 4.8.2). Each is a pair of its first and its last number. Empty if `from` is outside
     /// front..=front + width. Linear in the distance from the first missing number, or from `from` if that is
-    /// greater, to the highest received one; takes no memory.
+    /// greater, to the highest received one; doesn't allocate.
     pub fn runs(&self, from: Seq31) -> ArrayVec<(Seq31, Seq31), 32>
         ensures { HoldsOf self.now (λ width initial r. words_of result.items ≡ said_runs width initial (word_of from) r) }
     {
@@ -43,7 +43,7 @@ impl RecvBuf {
     {
         let mut runs = ArrayVec::new();
         let mut at = from;
-        for _ in 0..NAK_RUNS_MAX {
+        for _ in 0..MAX_NAK_RUNS {
             let low = self.window.find(Seek::NothingThere, at, self.end);
             if low == self.end {
                 return runs;

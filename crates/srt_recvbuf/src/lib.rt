@@ -7,8 +7,9 @@
 //! Types: [`RecvBuf`], the buffer; [`Put`], what became of one packet.
 //!
 //! Calls: `RecvBuf::open` once; `start` for each session; `put` for each data packet and `dropped` for each drop
-//! request; `advance` until it returns false, which delivers payloads in order, or `pass_over` if nobody takes them; and
-//! at any time `ack_point`, `available`, `has_gaps`, `runs` and `top`, which is what an ACK or a NAK is made of.
+//! request; `next_due`, which lends the payload that is to be delivered next, and `note_delivered` after it (or without
+//! it if nobody takes the payload), until there is none; and at any time `ack_point`, `available`, `has_gaps`, `runs`
+//! and `top`, which is what an ACK or a NAK is made of.
 //!
 //! Files: `buffer.rt` has the rules for what is received, delivered and dropped, and the acknowledgement point;
 //! `gaps.rt` the runs of missing numbers that a NAK reports. `window.rt` is the ring of packet states under them,

@@ -4,7 +4,7 @@ mod plain;
 mod random;
 
 use crate::{Put, RecvBuf};
-use srt_seq::{Payload, PayloadRef, Seq31};
+use srt_seq::{PayloadRef, Seq31};
 use std::test::Fail;
 
 fn number(word: u32) -> Result<Seq31, Fail> {
@@ -20,14 +20,19 @@ fn buffer(rt: &HostRuntime, initial: u32) -> Result<RecvBuf, Fail> {
     Ok(buffer)
 }
 
+/// Whether these bytes are due; they are then noted as delivered.
 fn is_given(buffer: &mut RecvBuf, now: u32, bytes: &[u8]) -> bool {
-    let mut payload = Payload::new();
-    buffer.advance(u64::from(now), 64, &mut payload) && payload.as_slice() == bytes
+    let now = u64::from(now);
+    let is_due = match buffer.next_due(now, 64) {
+        Some(payload) => payload == bytes,
+        None => false,
+    };
+    buffer.note_delivered(now, 64) && is_due
 }
 
 fn gives_nothing(buffer: &mut RecvBuf, now: u32, room: u32) -> bool {
-    let mut payload = Payload::new();
-    !buffer.advance(u64::from(now), room, &mut payload)
+    let now = u64::from(now);
+    buffer.next_due(now, room).is_none() && !buffer.note_delivered(now, room)
 }
 
 #[test]
@@ -120,7 +125,7 @@ fn a_packet_behind_a_gap_waits_for_its_moment(rt: HostRuntime) -> Result<(), Fai
 }
 
 #[test]
-fn a_place_is_written_where_something_is_due(rt: HostRuntime) -> Result<(), Fail> {
+fn payloads_that_are_due_come_in_order(rt: HostRuntime) -> Result<(), Fail> {
     let mut buffer = buffer(&rt, 7)?;
     assert_eq!(rt;
         buffer.put(number(7)?, 1, PayloadRef { bytes: &[7, 7] }),
@@ -138,14 +143,12 @@ fn a_place_is_written_where_something_is_due(rt: HostRuntime) -> Result<(), Fail
         buffer.put(number(10)?, 2, PayloadRef { bytes: &[10, 10] }),
         Put::New
     );
-    let mut payload = Payload::new();
     for wanted in [&[7, 7][..], &[8][..], &[9][..]] {
-        assert!(rt; buffer.advance(1, 64, &mut payload));
-        assert_eq!(rt; payload.as_slice(), wanted);
+        assert!(rt; is_given(&mut buffer, 1, wanted));
     }
-    assert!(rt; !buffer.advance(1, 64, &mut payload));
-    assert!(rt; !buffer.advance(2, 0, &mut payload));
-    assert_eq!(rt; payload.as_slice(), &[9][..]);
+    assert!(rt; gives_nothing(&mut buffer, 1, 64));
+    assert!(rt; gives_nothing(&mut buffer, 2, 0));
+    assert!(rt; is_given(&mut buffer, 2, &[10, 10]));
     Ok(())
 }
 
@@ -160,14 +163,14 @@ fn a_payload_passed_over_is_gone(rt: HostRuntime) -> Result<(), Fail> {
         buffer.put(number(10)?, 30, PayloadRef { bytes: &[10] }),
         Put::New
     );
-    assert!(rt; !buffer.pass_over(19, 64));
-    assert!(rt; !buffer.pass_over(20, 0));
+    assert!(rt; !buffer.note_delivered(19, 64));
+    assert!(rt; !buffer.note_delivered(20, 0));
     assert_eq!(rt; buffer.front().get(), 7);
-    assert!(rt; buffer.pass_over(20, 1));
+    assert!(rt; buffer.note_delivered(20, 1));
     assert_eq!(rt; buffer.front().get(), 9);
-    assert!(rt; !buffer.pass_over(29, 1));
+    assert!(rt; !buffer.note_delivered(29, 1));
     assert!(rt; is_given(&mut buffer, 30, &[10]));
-    assert!(rt; !buffer.pass_over(30, 1));
+    assert!(rt; !buffer.note_delivered(30, 1));
     Ok(())
 }
 

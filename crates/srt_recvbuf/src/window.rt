@@ -5,12 +5,12 @@ ghost use Rattle.srt_ring.specs.Ring.{width_of as width_in};
 
 use circular_buffer::HeapCircularBuffer;
 use srt_ring::PayloadRing;
-use srt_seq::{Payload, PayloadRef};
+use srt_seq::PayloadRef;
 use std::alloc::{AllocError, Global};
 
 /// The state of one sequence number of the window.
 #[derive(Clone, Copy, Debug, PartialEq, Eq)]
-pub enum Place {
+pub enum NumberState {
     /// Neither received nor dropped.
     Missing,
     /// The sender dropped the number, and no packet of it came (section 3.2.9).
@@ -35,7 +35,7 @@ pub enum Seek {
 /// A ring of packet states from the front on, with a payload for each. A *place* is a distance from the front.
 #[derive(Drop)]
 pub struct Window {
-    places: HeapCircularBuffer<Place>,
+    places: HeapCircularBuffer<NumberState>,
     payloads: PayloadRing,
     ghost full: { length places.items ≡ places.capacity },
     ghost as_many: { width_in payloads ≡ places.capacity },
@@ -46,7 +46,7 @@ impl Window {
     ghost use Rattle.srt_recvbuf.specs.Cells.{place_at, cell_at, due_of, after_drop, cell_is_received, is_sought, payload_of, width_of};
     ghost use Rattle.srt_recvbuf.specs.Cells.Cell.{Missing, Dropped, Received};
 
-    /// A window of `width` missing places. The only call that takes memory; the error is a refused allocation.
+    /// A window of `width` missing places. The only call that allocates; the error is a refused allocation.
     /// O(width).
     pub fn open(alloc: Global, width: usize) -> Result<Window, AllocError>
         requires some { 0 < width }
@@ -55,7 +55,7 @@ impl Window {
     {
         let mut places = HeapCircularBuffer::with_capacity(alloc, width)?;
         for _ in 0..width {
-            let _ = places.try_push_back(Place::Missing);
+            let _ = places.try_push_back(NumberState::Missing);
         }
         Ok(Window {
             places,
@@ -73,12 +73,12 @@ impl Window {
     }
 
     /// The state of a place; Missing past the last.
-    pub fn place(&self, at: usize) -> Place
+    pub fn place(&self, at: usize) -> NumberState
         ensures value { result ≡ place_at self.now at }
     {
         match self.places.get(at) {
             Some(place) => *place,
-            None => Place::Missing,
+            None => NumberState::Missing,
         }
     }
 
@@ -87,19 +87,20 @@ impl Window {
         ensures { result ≡ due_of (cell_at self.now at) }
     {
         match self.place(at) {
-            Place::Received { due } => Some(due),
+            NumberState::Received { due } => Some(due),
             _ => None,
         }
     }
 
-    /// Replaces the bytes of `payload` by those of a place. They are the packet's if the place has one, and else
-    /// without meaning. One copy.
-    pub fn copy_to(&self, at: usize, payload: &mut Payload)
+    /// The bytes of a place's payload, at most 1456. They are the packet's if the place has one, and else without
+    /// meaning.
+    pub fn payload(&self, at: usize) -> &[u8]
         requires { at < width_of self.now }
-        ensures packet { cell_is_received (cell_at self.now at) ≡ true → payload.new.items ≡ payload_of (cell_at self.now at) }
-        ensures bytes { payload.new.items ≡ payload_at self.now.payloads at }
+        ensures packet { cell_is_received (cell_at self.now at) ≡ true → result.now ≡ payload_of (cell_at self.now at) }
+        ensures bytes { result.now ≡ payload_at self.now.payloads at }
+        ensures fits { length result.now ≤ 1456 }
     {
-        self.payloads.copy_to(at, payload);
+        self.payloads.payload(at)
     }
 
     /// Gives a place the first warm buffer, by an exchange, if no packet is in either place. See `PayloadRing`.
@@ -123,11 +124,11 @@ impl Window {
     {
         self.warm_up(at);
         self.payloads.set(at, payload.bytes);
-        self.mark(at, Place::Received { due });
+        self.mark(at, NumberState::Received { due });
     }
 
     /// Sets the state of a place and leaves its payload as it is.
-    fn mark(&mut self, at: usize, place: Place)
+    fn mark(&mut self, at: usize, place: NumberState)
         requires inside { at < width_of self.old }
         ensures width { width_of self.new ≡ width_of self.old }
         ensures places { (d : ℕ) → place_at self.new d ≡ (if d == at then place else place_at self.old d) }
@@ -145,17 +146,17 @@ impl Window {
         ensures cells { (d : ℕ) → cell_at self.new d ≡ (if d == at then after_drop (cell_at self.old d) else cell_at self.old d) }
     {
         if self.is(at, Seek::NothingThere) {
-            self.mark(at, Place::Dropped);
+            self.mark(at, NumberState::Dropped);
         }
     }
 
     /// Moves the states by one: removes the first, and appends a missing one.
-    fn turn(&mut self)
+    fn slide_states(&mut self)
         ensures width { width_of self.new ≡ width_of self.old }
         ensures places { (d : ℕ) → place_at self.new d ≡ place_at self.old (d + 1) }
         ensures payloads { self.new.payloads ≡ self.old.payloads }
     {
-        self.places.push_back(Place::Missing);
+        self.places.push_back(NumberState::Missing);
     }
 
     /// Moves the front on by one: removes the first place, and appends a missing one. O(1).
@@ -163,7 +164,7 @@ impl Window {
         ensures width { width_of self.new ≡ width_of self.old }
         ensures cells { (d : ℕ) → cell_at self.new d ≡ cell_at self.old (d + 1) }
     {
-        self.turn();
+        self.slide_states();
         let width = self.payloads.width();
         self.payloads.advance(width);
     }
@@ -184,7 +185,7 @@ impl Window {
         ensures cells { (d : ℕ) → cell_at self.new d ≡ Missing }
     {
         for at in 0..self.places.len() {
-            self.mark(at, Place::Missing);
+            self.mark(at, NumberState::Missing);
         }
     }
 
@@ -193,15 +194,15 @@ impl Window {
         ensures { result ≡ is_sought seek (cell_at self.now at) }
     {
         match self.place(at) {
-            Place::Missing => match seek {
+            NumberState::Missing => match seek {
                 Seek::NothingThere | Seek::NotDropped => true,
                 _ => false,
             },
-            Place::Dropped => match seek {
+            NumberState::Dropped => match seek {
                 Seek::SomethingThere => true,
                 _ => false,
             },
-            Place::Received { due: _ } => match seek {
+            NumberState::Received { due: _ } => match seek {
                 Seek::NothingThere => false,
                 _ => true,
             },

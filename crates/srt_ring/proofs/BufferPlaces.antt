@@ -34,11 +34,13 @@ pub slots_in : (width first at : ℕ) → first < width → at < width → slot_
 slots_in width first at fi ai = grind (arith, nat_tests)
 
 -- the front moves by one place
-pub slots_next : (width first next d : ℕ) → first < width → d + 1 < width → next ≡ (if first + 1 == width then 0 else first + 1) → slot_of width next d ≡ slot_of width first (d + 1)
+pub slots_next : (width first next d : ℕ) → first < width → d + 1 < width → next ≡ (if first + 1 == width then 0 else first + 1)
+    → slot_of width next d ≡ slot_of width first (d + 1)
 slots_next width first next d fi di e = grind (arith, nat_tests)
 
 -- different places have different buffers
-pub buffers_apart : (o : BufferOrder) (width first at d : ℕ) → slots_of o ≡ width → first < width → at < width → d < width → d ≢ at → buffer_of_slot o (slot_of width first d) ≢ buffer_of_slot o (slot_of width first at)
+pub buffers_apart : (o : BufferOrder) (width first at d : ℕ) → slots_of o ≡ width → first < width → at < width → d < width → d ≢ at
+    → buffer_of_slot o (slot_of width first d) ≢ buffer_of_slot o (slot_of width first at)
 buffers_apart o width first at d sl fi ai di ne =
     let one = slots_in width first d fi di in
     let other = slots_in width first at fi ai in

@@ -4,7 +4,7 @@ use Rattle.srt_ring.specs.declared.buffers.PayloadBuffer.{PayloadBuffer}
 
 -- the payload of a buffer: the first `len` bytes of its array
 abbrev pub bytes_of : PayloadBuffer → List ℕ
-bytes_of t = take t.len t.block.xs
+bytes_of t = take t.len t.array.bytes
 
 -- the payload of the buffer at an index; empty past the last
 abbrev pub bytes_at : List PayloadBuffer → ℕ → List ℕ

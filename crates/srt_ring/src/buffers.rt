@@ -2,20 +2,19 @@
 
 ghost use Rattle.std.specs.Prelude.{◌≡◌, ◌≤◌, [], length, take};
 
-use srt_seq::Payload;
 use srt_seq::limits::MAX_PAYLOAD;
 
 #[derive(Drop)]
-struct Block {
-    xs: [u8; 1456],
+struct PayloadArray {
+    bytes: [u8; 1456],
 }
 
-impl Block {
+impl PayloadArray {
     fn write(&mut self, bytes: &[u8])
         requires { length bytes.now ≤ 1456 }
-        ensures { take (length bytes.now) self.new.xs ≡ bytes.now }
+        ensures { take (length bytes.now) self.new.bytes ≡ bytes.now }
     {
-        self.xs[..bytes.len()].copy_from_slice(bytes);
+        self.bytes[..bytes.len()].copy_from_slice(bytes);
     }
 }
 
@@ -24,21 +23,21 @@ impl Block {
 #[derive(Drop)]
 pub struct PayloadBuffer {
     len: usize,
-    block: Block,
+    array: PayloadArray,
     pub ghost fits: { len ≤ 1456 },
 }
 
 impl PayloadBuffer {
     ghost use Rattle.srt_ring.specs.Buffers.{bytes_of};
 
-    /// An empty payload. Takes no memory beyond the value itself, of fixed size.
+    /// An empty payload. Doesn't allocate: the value itself has a fixed size.
     pub fn new() -> PayloadBuffer
         ensures { bytes_of result ≡ [] }
     {
         PayloadBuffer {
             len: 0,
-            block: Block {
-                xs: [0; MAX_PAYLOAD],
+            array: PayloadArray {
+                bytes: [0; MAX_PAYLOAD],
             },
         }
     }
@@ -48,7 +47,7 @@ impl PayloadBuffer {
         requires { length bytes.now ≤ 1456 }
         ensures { bytes_of self.new ≡ bytes.now }
     {
-        self.block.write(bytes);
+        self.array.write(bytes);
         self.len = bytes.len();
     }
 
@@ -57,20 +56,6 @@ impl PayloadBuffer {
         ensures value { result.now ≡ bytes_of self.now }
         ensures fits { length result.now ≤ 1456 }
     {
-        &self.block.xs[..self.len]
-    }
-
-    /// Replaces the bytes of `payload` by this buffer's. One copy, and the fastest if both have the same length.
-    pub fn copy_to(&self, payload: &mut Payload)
-        ensures { payload.new.items ≡ bytes_of self.now }
-    {
-        if payload.len() == self.len {
-            payload
-                .as_mut_slice()
-                .copy_from_slice(&self.block.xs[..self.len]);
-            return;
-        }
-        payload.clear();
-        let _ = payload.try_extend_from_slice(&self.block.xs[..self.len]);
+        &self.array.bytes[..self.len]
     }
 }

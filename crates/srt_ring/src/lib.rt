@@ -7,8 +7,8 @@
 //! [`PayloadRing`] is the one public type. An entry is addressed by its distance from the front, its *place*; it
 //! keeps the same *slot* until the front passes it; `order.rt` maps a slot to its *buffer* (`buffers.rt`).
 //!
-//! Calls: `PayloadRing::open` with the width, the only call that takes memory; then `set` and `copy_to`, which each
-//! copy one payload, `payload`, which lends one, and `advance`, which moves the front on by one place. Before a `set`,
+//! Calls: `PayloadRing::open` with the width, the only call that allocates; then `set`, which copies one payload,
+//! `payload`, which lends one, and `advance`, which moves the front on by one place. Before a `set`,
 //! `take_warm` and `exchange` give the place a buffer that was used lately, so that a steady stream stays in the
 //! processor's caches. All calls but `open` are O(1), besides the bytes that they copy.
 //!

@@ -10,13 +10,15 @@ use std::alloc::{AllocError, Global};
 pub struct BufferOrder {
     buffers: Vec<usize>,
     pub ghost inside: { (slot : ℕ) → slot < vec_len buffers → slice_index_or buffers.items slot 0 < vec_len buffers },
-    pub ghost apart: { (one other : ℕ) → one < vec_len buffers → other < vec_len buffers → slice_index_or buffers.items one 0 ≡ slice_index_or buffers.items other 0 → one ≡ other },
+    pub ghost apart: { (one other : ℕ) → one < vec_len buffers → other < vec_len buffers
+        → slice_index_or buffers.items one 0 ≡ slice_index_or buffers.items other 0
+        → one ≡ other },
 }
 
 impl BufferOrder {
     ghost use Rattle.srt_ring.specs.Slots.{buffer_of_slot, slots_of};
 
-    /// A map of `width` slots, each with the buffer of its own index. Takes memory; the error is a refused
+    /// A map of `width` slots, each with the buffer of its own index. Allocates; the error is a refused
     /// allocation. O(width).
     pub fn open(alloc: Global, width: usize) -> Result<BufferOrder, AllocError>
         ensures { IfOk result (λ o. slots_of o ≡ width) }

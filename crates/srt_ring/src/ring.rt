@@ -5,7 +5,6 @@ ghost use Rattle.srt_ring.specs.Slots.{slots_of};
 
 use crate::buffers::PayloadBuffer;
 use crate::order::BufferOrder;
-use srt_seq::Payload;
 use std::alloc::{AllocError, Global};
 
 /// A ring of 1 to 8192 places with a payload of 0 to 1456 bytes each. A place is a distance from the front, which
@@ -32,7 +31,7 @@ impl PayloadRing {
     ghost use Rattle.srt_ring.specs.Buffers.{slot_of};
     ghost use Rattle.srt_ring.specs.Ring.{width_of, first_of, warm_of, payload_at};
 
-    /// A ring of `width` empty payloads. The only call that takes memory; the error is a refused allocation.
+    /// A ring of `width` empty payloads. The only call that allocates; the error is a refused allocation.
     /// O(width).
     pub fn open(alloc: Global, width: usize) -> Result<PayloadRing, AllocError>
         requires some { 0 < width }
@@ -86,7 +85,7 @@ impl PayloadRing {
         }
     }
 
-    /// The bytes of a place's payload.
+    /// The bytes of a place's payload, which is lent: no byte is copied. O(1).
     pub fn payload(&self, at: usize) -> &[u8]
         requires { at < width_of self.now }
         ensures value { result.now ≡ payload_at self.now at }
@@ -94,15 +93,6 @@ impl PayloadRing {
     {
         let index = self.order.buffer(self.slot(at));
         self.buffers[index].bytes()
-    }
-
-    /// Replaces the bytes of `payload` by those of a place. One copy.
-    pub fn copy_to(&self, at: usize, payload: &mut Payload)
-        requires { at < width_of self.now }
-        ensures { payload.new.items ≡ payload_at self.now at }
-    {
-        let index = self.order.buffer(self.slot(at));
-        self.buffers[index].copy_to(payload);
     }
 
     /// Replaces the payload of a place by these bytes, at most 1456. One copy.

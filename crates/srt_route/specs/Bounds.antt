@@ -20,8 +20,10 @@ OneInASlot = (e : Terms) (index : ℕ) (items : List Item) (slot : ℕ) → leng
 
 -- and the slots are 0, 1, .., as many as the route's terms say
 abbrev pub NoneElsewhere : Type 0
-NoneElsewhere = (e : Terms) (index : ℕ) (items : List Item) (slot : ℕ) → e.sessions ≤ slot → length (filter (is_open_in slot) (after e index items).sessions) ≡ 0
+NoneElsewhere =
+    (e : Terms) (index : ℕ) (items : List Item) (slot : ℕ)
+    → e.sessions ≤ slot → length (filter (is_open_in slot) (after e index items).sessions) ≡ 0
 
--- a caller, which is a peer and a socket ID there, has at most one open session
+-- a caller, which is a peer and a socket ID there, has at most one open session that doesn't drain
 abbrev pub OneOfACaller : Type 0
 OneOfACaller = (e : Terms) (index : ℕ) (items : List Item) (peer : Peer) (caller : ℕ) → length (filter (is_of peer caller) (after e index items).sessions) ≤ 1

@@ -12,7 +12,9 @@ ClosesOnce = (e : Terms) (index : ℕ) (items : List Item) → (after e index it
 
 -- then no session is open
 abbrev pub ClosedHasNoSession : Type 0
-ClosedHasNoSession = (e : Terms) (index : ℕ) (items : List Item) → (after e index items).is_closed ≡ true → list_any (λ (s : Session). s.is_open) (after e index items).sessions ≡ false
+ClosedHasNoSession =
+    (e : Terms) (index : ℕ) (items : List Item)
+    → (after e index items).is_closed ≡ true → list_any (λ (s : Session). s.is_open) (after e index items).sessions ≡ false
 
 -- and whatever comes, nothing is replied and no session changes
 abbrev pub ClosedIsQuiet : Type 0

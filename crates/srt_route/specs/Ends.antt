@@ -1,5 +1,7 @@
 -- Which sessions end in an event, why, and what is kept of them.
-use Rattle.std.specs.Prelude.{◌≡◌, ℕ, Option, None, Some, Result, Ok, Err, List, find, ◌==◌, if◌then◌else◌}
+use Rattle.std.specs.Prelude.{◌≡◌, ℕ, Bool, Option, None, Some, Result, Ok, Err, List, find, not, ◌==◌, ◌&&◌, if◌then◌else◌}
+use Rattle.srt_seq.specs.declared.shared.Callers.{Callers}
+use Rattle.srt_seq.specs.declared.shared.Callers.TheVariants.{Draft, Libsrt}
 use Rattle.srt_seq.specs.declared.shared.Peer.{Peer}
 use Rattle.srt_seq.specs.Terms.{Terms}
 use Rattle.srt_seq.specs.Items.{Item, Received, Tick, Close}
@@ -12,11 +14,11 @@ use Rattle.srt_route.specs.declared.ledger.EndCause.TheVariants as causes
 use Rattle.srt_route.specs.declared.ledger.EndedSession.{EndedSession}
 use Rattle.srt_route.specs.declared.ledger.Ledger.{Ledger}
 use Rattle.srt_route.specs.declared.table.Table.{Table}
-use Rattle.srt_route.specs.Past.{Past, Publishes, Subscribes, Agreed}
-use Rattle.srt_route.specs.Sessions.{Session, session_id, is_open_in, is_idle, aged, terms_of}
-use Rattle.srt_route.specs.Route.{Route, is_for, clock_after}
+use Rattle.srt_route.specs.Past.{Past, Publishes, Subscribes, Agreed, has_left}
+use Rattle.srt_route.specs.Sessions.{Session, session_id, is_draining, is_open_in, is_over, advanced, aged, terms_of}
+use Rattle.srt_route.specs.Route.{Route, is_for, clock_after, delivered, drain_of, has_whole_file, is_file_over, passed_by, taken_by}
 use Rattle.srt_route.specs.Tables.{IsTable}
-use Rattle.srt_route.specs.Ledgers.{cause_of, shutdown_cause, heard_at_end, entry_of}
+use Rattle.srt_route.specs.Ledgers.{cause_of, drained_cause, file_cause, shutdown_cause, heard_at_end, entry_of, time_cause}
 
 -- this tells the end of a session, what it counted aside
 pub record IsEnd (index : ℕ) (cause : EndCause) (moment : ℕ) (s : Session) (x : EndedSession) : Type 0 where
@@ -49,42 +51,78 @@ EndsAre index cause moment sessions old new = (at : ℕ) → EndsIn index cause 
 
 -- why time ends a session, and why a packet does
 abbrev pub idle_end : (clock : ℕ) → Session → Option EndCause
-idle_end clock s = if is_idle s clock then Some causes.Silence else None
+idle_end clock s = if is_over s clock then Some (time_cause s.drains) else None
 
 abbrev pub packet_end : Agreed → (initial : ℕ) → Body → Past → Option EndCause
 packet_end terms initial body (Publishes m) = cause_of (publisher.ended terms.publisher initial body m)
 packet_end terms initial body (Subscribes m) = shutdown_cause body
 
+-- none does from which on it drains
+abbrev pub cause_unless : (drains : Option ℕ) → Option EndCause → Option EndCause
+cause_unless None cause = cause
+cause_unless (Some until) cause = None
+
 -- a packet ends only the session that it is for
-abbrev pub arrived_end : (e : Terms) (index : ℕ) → Peer → Packet → Session → Option EndCause
-arrived_end e index peer packet s = if is_for index peer packet.dest s then packet_end (terms_of e s) s.conclusion.initial packet.body s.past else None
+abbrev pub arrived_end : (e : Terms) (index clock : ℕ) → Peer → Packet → List Session → Session → Option EndCause
+arrived_end e index clock peer packet sessions s =
+    if is_for index peer packet.dest s
+    then cause_unless (drain_of e clock packet.body sessions (Some s)) (packet_end (terms_of e s) s.conclusion.initial packet.body s.past)
+    else None
 
 -- a packet without a destination ends none, and a datagram that isn't a packet neither
-abbrev pub destined_end : (e : Terms) (index : ℕ) → Peer → Packet → Session → Option EndCause
-destined_end e index peer packet s = if packet.dest == 0 then None else arrived_end e index peer packet s
+abbrev pub destined_end : (e : Terms) (index clock : ℕ) → Peer → Packet → List Session → Session → Option EndCause
+destined_end e index clock peer packet sessions s = if packet.dest == 0 then None else arrived_end e index clock peer packet sessions s
 
-abbrev pub read_end : (e : Terms) (index : ℕ) → Peer → Result Packet PacketFault → Session → Option EndCause
-read_end e index peer (Ok packet) s = destined_end e index peer packet s
-read_end e index peer (Err fault) s = None
+abbrev pub read_end : (e : Terms) (index clock : ℕ) → Peer → Result Packet PacketFault → List Session → Session → Option EndCause
+read_end e index clock peer (Ok packet) sessions s = destined_end e index clock peer packet sessions s
+read_end e index clock peer (Err fault) sessions s = None
 
 -- why an item ends a session: a Close ends each
-abbrev pub item_end : (e : Terms) (index : ℕ) → Item → Session → Option EndCause
-item_end e index (Received datagram moment) s = read_end e index datagram.peer (packet_in datagram.bytes) s
-item_end e index (Tick moment) s = None
-item_end e index (Close moment) s = Some causes.Closed
+abbrev pub item_end : (e : Terms) (index clock : ℕ) → Item → List Session → Session → Option EndCause
+item_end e index clock (Received datagram moment) sessions s = read_end e index clock datagram.peer (packet_in datagram.bytes) sessions s
+item_end e index clock (Tick moment) sessions s = None
+item_end e index clock (Close moment) sessions s = Some causes.Closed
 
--- why an event ends a session: time comes first. After a route was closed none ends
-abbrev pub event_end : (e : Terms) (index clock : ℕ) → Item → Session → Option EndCause
-event_end e index clock item s = if is_idle s clock then Some causes.Silence else item_end e index item (aged e clock s)
+-- why an event ends a session before its delivery: time comes first. After a route was closed none ends
+abbrev pub event_end : (e : Terms) (index clock : ℕ) → Item → List Session → Session → Option EndCause
+event_end e index clock item sessions s =
+    if is_over s clock then Some (time_cause s.drains) else item_end e index clock item (advanced e clock sessions) (aged e clock s)
 
 abbrev pub end_at : (e : Terms) (index : ℕ) → Item → Route → Session → Option EndCause
-end_at e index item route s = if route.is_closed then None else event_end e index (clock_after item route) item s
+end_at e index item route s = if route.is_closed then None else event_end e index (clock_after item route) item route.sessions s
 
--- what is kept after an item, by the sessions before it
-abbrev pub KeepsEnds : (e : Terms) (index : ℕ) → Item → Route → (old new : (slot : ℕ) → Option EndedSession) → Type 0
-KeepsEnds e index item route old new = EndsAre index (end_at e index item route) (clock_after item route) route.sessions old new
+-- after the delivery a session ends that drains and has nothing left, where the callers speak libsrt
+abbrev pub drained_end : Terms → Session → Option EndCause
+drained_end e s = drained_cause (is_draining s && not (has_left (terms_of e s) s.past))
+
+abbrev pub settled_end : Callers → Terms → Session → Option EndCause
+settled_end Draft e s = None
+settled_end Libsrt e s = drained_end e s
+
+abbrev pub settled_end_at : (e : Terms) → Route → Session → Option EndCause
+settled_end_at e route s = if route.is_closed then None else settled_end e.rules.callers e s
+
+abbrev pub delivered_by : Terms → (index : ℕ) → Item → Route → List Session
+delivered_by e index item route = delivered e (clock_after item route) (taken_by e index item route).sessions
+
+-- at the end of an event a subscriber's session ends that has the whole file
+abbrev pub file_end : (over : Bool) → Session → Option EndCause
+file_end over s = file_cause (has_whole_file over s)
+
+abbrev pub file_end_at : (e : Terms) (index : ℕ) → Item → Route → Session → Option EndCause
+file_end_at e index item route s = if route.is_closed then None else file_end (is_file_over e (passed_by e index item route)) s
+
+-- what is kept after an item: first by the sessions before it, then by those after the delivery, and then by those that
+-- are left
+pub record KeepsEnds (e : Terms) (index : ℕ) (item : Item) (route : Route) (old new : (slot : ℕ) → Option EndedSession) : Type 0 where
+  pub mid : (slot : ℕ) → Option EndedSession
+  pub later : (slot : ℕ) → Option EndedSession
+  pub ends : EndsAre index (end_at e index item route) (clock_after item route) route.sessions old mid
+  pub drained : EndsAre index (settled_end_at e route) (clock_after item route) (delivered_by e index item route) mid later
+  pub files : EndsAre index (file_end_at e index item route) (clock_after item route) (passed_by e index item route) later new
 
 -- the same of the parts of an event, for whatever sessions a table stands for
-abbrev pub Ends : (clock : ℕ) → (cause : (e : Terms) (index : ℕ) → Session → Option EndCause) → Table → (old new : Ledger) → Type 0
+abbrev pub Ends : (clock : ℕ) → (cause : (e : Terms) (index : ℕ) → List Session → Session → Option EndCause) → Table → (old new : Ledger) → Type 0
 Ends clock cause table old new =
-    (e : Terms) (index : ℕ) (sessions : List Session) → IsTable e index clock table sessions → EndsAre index (cause e index) clock sessions (entry_of old) (entry_of new)
+    (e : Terms) (index : ℕ) (sessions : List Session)
+    → IsTable e index clock table sessions → EndsAre index (cause e index sessions) clock sessions (entry_of old) (entry_of new)

@@ -1,13 +1,15 @@
 -- What a route keeps of the sessions that ended, and what it counts.
-use Rattle.std.specs.Prelude.{◌≡◌, ◌≢◌, ℕ, ◌+◌, ◌-◌, ◌^◌, ◌<◌, ◌≤◌, min, Option, None, Some, length, slice_index_or, if◌then◌else◌}
+use Rattle.std.specs.Prelude.{◌≡◌, ◌≢◌, ℕ, ◌+◌, ◌-◌, ◌^◌, ◌<◌, ◌≤◌, min, Bool, true, false, Option, None, Some, length, slice_index_or, if◌then◌else◌}
 use Rattle.srt_hs.specs.declared.refusals.RefusalCode.{RefusalCode}
 use Rattle.srt_hs.specs.declared.refusals.RefusalCode.TheVariants as codes
+use Rattle.srt_route.specs.declared.refusals.RefusalCause.{RefusalCause}
+use Rattle.srt_route.specs.declared.refusals.RefusalCause.TheVariants as refusals
 use Rattle.srt_packet.specs.Grammar.{Body, Shutdown}
 use Rattle.srt_pub.specs.declared.ends.PubEnd.{PubEnd}
 use Rattle.srt_pub.specs.declared.ends.PubEnd.TheVariants as ends
 use Rattle.srt_route.specs.declared.seat.Session.{Session as TheSession}
 use Rattle.srt_route.specs.declared.seat.Seat.{Seat}
-use Rattle.srt_route.specs.declared.state.Route.{Route as TheRoute}
+use Rattle.srt_route.specs.declared.route.Route.{Route as TheRoute}
 use Rattle.srt_route.specs.declared.table.Table.{Table}
 use Rattle.srt_route.specs.declared.ledger.EndCause.{EndCause}
 use Rattle.srt_route.specs.declared.ledger.EndCause.TheVariants as causes
@@ -15,8 +17,8 @@ use Rattle.srt_route.specs.declared.ledger.EndedSession.{EndedSession}
 use Rattle.srt_route.specs.declared.ledger.Ledger.{Ledger}
 use Rattle.srt_route.specs.declared.ledger.Refusals.{Refusals}
 use Rattle.srt_route.specs.declared.totals.Totals.{Totals}
-use Rattle.srt_route.specs.Tables.{session_passes, peer_idle}
-use Rattle.srt_route.specs.Totals.{SumsGrow, with_traffic}
+use Rattle.srt_route.specs.Tables.{is_stored_over}
+use Rattle.srt_route.specs.Totals.{SumsGrow, both, with_traffic}
 
 -- the session that ended last in a slot
 abbrev pub entry_of : Ledger → (at : ℕ) → Option EndedSession
@@ -32,11 +34,24 @@ abbrev pub shutdown_cause : Body → Option EndCause
 shutdown_cause Shutdown = Some causes.Shutdown
 shutdown_cause _ = None
 
+abbrev pub time_cause : (drains : Option ℕ) → EndCause
+time_cause None = causes.Silence
+time_cause (Some until) = causes.DrainedTooLong
+
 abbrev pub idle_cause : (clock : ℕ) → Option TheSession → Option EndCause
-idle_cause clock o = if session_passes (peer_idle clock) o then Some causes.Silence else None
+idle_cause clock None = None
+idle_cause clock (Some t) = if is_stored_over clock t then Some (time_cause t.drains) else None
 
 abbrev pub closed_cause : Option TheSession → Option EndCause
 closed_cause o = Some causes.Closed
+
+abbrev pub drained_cause : (ends : Bool) → Option EndCause
+drained_cause true = Some causes.Drained
+drained_cause false = None
+
+abbrev pub file_cause : (whole : Bool) → Option EndCause
+file_cause true = Some causes.FileEnded
+file_cause false = None
 
 -- a session that a packet ends was heard of at its end
 abbrev pub heard_at_end : EndCause → (heard moment : ℕ) → ℕ
@@ -44,6 +59,9 @@ heard_at_end causes.Shutdown heard moment = moment
 heard_at_end causes.WindowLost heard moment = moment
 heard_at_end causes.Silence heard moment = heard
 heard_at_end causes.Closed heard moment = heard
+heard_at_end causes.FileEnded heard moment = heard
+heard_at_end causes.Drained heard moment = heard
+heard_at_end causes.DrainedTooLong heard moment = heard
 
 -- this tells the end of a stored session
 pub record IsEndOf (cause : EndCause) (moment : ℕ) (t : TheSession) (x : EndedSession) : Type 0 where
@@ -103,19 +121,29 @@ more n = min (2 ^ 64 - 1) (n + 1)
 abbrev pub with_opening : Ledger → Ledger
 with_opening ledger = record ledger { opened = more ledger.opened }
 
-abbrev pub refusals_with : RefusalCode → Refusals → Refusals
-refusals_with codes.Peer r = record r { peer = more r.peer }
-refusals_with codes.Resource r = record r { resource = more r.resource }
-refusals_with codes.Rogue r = record r { rogue = more r.rogue }
-refusals_with codes.MessageApi r = record r { message_api = more r.message_api }
-refusals_with _ r = r
+abbrev pub refusals_with : RefusalCause → Refusals → Refusals
+refusals_with refusals.Peer r = record r { peer = more r.peer }
+refusals_with refusals.Address r = record r { address = more r.address }
+refusals_with refusals.Resource r = record r { resource = more r.resource }
+refusals_with refusals.Reserved r = record r { reserved = more r.reserved }
+refusals_with refusals.Rogue r = record r { rogue = more r.rogue }
+refusals_with refusals.MessageApi r = record r { message_api = more r.message_api }
 
-abbrev pub with_refusal : RefusalCode → Ledger → Ledger
-with_refusal reason ledger = record ledger { refusals = refusals_with reason ledger.refusals }
+abbrev pub with_refusal : RefusalCause → Ledger → Ledger
+with_refusal cause ledger = record ledger { refusals = refusals_with cause ledger.refusals }
+
+-- how many were refused for this cause, and with this code
+abbrev pub refused_for : RefusalCause → Refusals → ℕ
+refused_for refusals.Peer r = r.peer
+refused_for refusals.Address r = r.address
+refused_for refusals.Resource r = r.resource
+refused_for refusals.Reserved r = r.reserved
+refused_for refusals.Rogue r = r.rogue
+refused_for refusals.MessageApi r = r.message_api
 
 abbrev pub refused_by : RefusalCode → Refusals → ℕ
 refused_by codes.Peer r = r.peer
-refused_by codes.Resource r = r.resource
+refused_by codes.Resource r = both (both r.resource r.address) r.reserved
 refused_by codes.Rogue r = r.rogue
 refused_by codes.MessageApi r = r.message_api
 refused_by _ r = 0
@@ -128,4 +156,7 @@ abbrev pub opened_in : TheRoute → ℕ
 opened_in r = r.ledger.opened
 
 abbrev pub refused_in : RefusalCode → TheRoute → ℕ
-refused_in reason r = refused_by reason r.ledger.refusals
+refused_in code r = refused_by code r.ledger.refusals
+
+abbrev pub refused_of : RefusalCause → TheRoute → ℕ
+refused_of cause r = refused_for cause r.ledger.refusals

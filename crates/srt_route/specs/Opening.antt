@@ -1,4 +1,4 @@
--- Which entry a route can be opened with (this profile).
+-- Which entry a route can be opened with (our choice).
 use Rattle.std.specs.Prelude.{ℕ, Option, None, Some, nat_lt, ◌&&◌, if◌then◌else◌}
 use Rattle.srt_seq.specs.declared.shared.OpenFault.{OpenFault}
 use Rattle.srt_seq.specs.declared.shared.OpenFault.TheVariants.{Names, Limits}

@@ -1,12 +1,13 @@
 -- The past of a session, and what each part of an event does to it. Times count from the session's opening.
-use Rattle.std.specs.Prelude.{ℕ, Bool, true, false, Option, None, Some, List, [], map, min, ◌||◌}
+use Rattle.std.specs.Prelude.{ℕ, ◌-◌, Bool, true, false, Option, None, Some, List, [], map, min, ◌||◌, if◌then◌else◌}
 use Rattle.srt_seq.specs.declared.shared.Role.{Role}
 use Rattle.srt_seq.specs.declared.shared.Role.TheVariants.{Publish, Request}
 use Rattle.srt_packet.specs.Grammar.{Body, Shutdown}
 use Rattle.srt_recvbuf.specs.Receiving.{Arrival}
-use Rattle.srt_sendbuf.specs.Sending.{room}
+use Rattle.srt_sendbuf.specs.Sending.{is_all_acknowledged, room}
 use Rattle.srt_pub.specs.Heard as to_publisher
 use Rattle.srt_pub.specs.Publishing as publisher
+use Rattle.srt_pub.specs.Publishing.{has_undelivered}
 use Rattle.srt_pub.specs.Says as publisher_text
 use Rattle.srt_sub.specs.Heard as to_subscriber
 use Rattle.srt_sub.specs.Subscribing as subscriber
@@ -41,6 +42,11 @@ abbrev pub expired_past : Agreed → (time : ℕ) → Past → Past
 expired_past terms time (Publishes p) = Publishes p
 expired_past terms time (Subscribes s) = Subscribes (subscriber.expired terms.subscriber time s)
 
+-- how long ago an unencrypted data packet came to a publisher's session last; if none came, how long ago its opening was
+abbrev pub silence_of : (time : ℕ) → Past → ℕ
+silence_of time (Publishes p) = time - publisher.last_came p.notes
+silence_of time (Subscribes s) = 0
+
 -- the past after a packet; sequence numbers count from the session's initial number, timestamps from the conclusion's
 abbrev pub took_past : Agreed → (initial time stamp : ℕ) → Body → Past → Past
 took_past terms initial time stamp body (Publishes p) = Publishes (publisher.took terms.publisher time stamp (to_publisher.heard_from initial body) p)
@@ -51,13 +57,28 @@ abbrev pub is_shutdown : Body → Bool
 is_shutdown Shutdown = true
 is_shutdown _ = false
 
--- and a live publisher's session ends if its window is lost (this profile)
+-- and a live publisher's session ends if its window is lost (our choice)
 abbrev pub loses_window : Agreed → (initial : ℕ) → Body → Past → Bool
 loses_window terms initial body (Publishes p) = publisher.loses_window terms.publisher.mode terms.publisher (to_publisher.heard_from initial body) p
 loses_window terms initial body (Subscribes s) = false
 
 abbrev pub ends_with : Agreed → (initial : ℕ) → Body → Past → Bool
 ends_with terms initial body past = is_shutdown body || loses_window terms initial body past
+
+-- whether a packet ends a publisher's session, and if so whether it is its own SHUTDOWN
+abbrev pub publisher_end : Agreed → (initial : ℕ) → Body → Past → Option Bool
+publisher_end terms initial body (Publishes p) = if ends_with terms initial body (Publishes p) then Some (is_shutdown body) else None
+publisher_end terms initial body (Subscribes s) = None
+
+-- whether a subscriber acknowledged all that was queued for it
+abbrev pub has_all : Past → Bool
+has_all (Publishes p) = false
+has_all (Subscribes s) = is_all_acknowledged s.sending
+
+-- whether a publisher's session has something left to deliver
+abbrev pub has_left : Agreed → Past → Bool
+has_left terms (Publishes p) = has_undelivered terms.publisher.mode p.receiving
+has_left terms (Subscribes s) = false
 
 -- the packets that answer a packet at once
 abbrev pub answers_to : (initial : ℕ) → Body → Past → List Report
@@ -91,6 +112,11 @@ abbrev pub reports_of : Agreed → (time : ℕ) → Past → List Report
 reports_of terms time (Publishes p) = map ToPublisher (publisher.reports terms.publisher time p)
 reports_of terms time (Subscribes s) = map ToSubscriber (subscriber.reports terms.subscriber time s)
 
-abbrev pub reported_past : Agreed → (time : ℕ) → Past → Past
-reported_past terms time (Publishes p) = Publishes (publisher.reported terms.publisher time p)
-reported_past terms time (Subscribes s) = Subscribes (subscriber.reported terms.subscriber time s)
+-- a publisher that drains sends nothing
+abbrev pub reported_if : (draining : Bool) → publisher.Terms → (time : ℕ) → publisher.Publishing → publisher.Publishing
+reported_if true terms time p = p
+reported_if false terms time p = publisher.reported terms time p
+
+abbrev pub reported_past : (draining : Bool) → Agreed → (time : ℕ) → Past → Past
+reported_past draining terms time (Publishes p) = Publishes (reported_if draining terms.publisher time p)
+reported_past draining terms time (Subscribes s) = Subscribes (subscriber.reported terms.subscriber time s)

@@ -1,10 +1,14 @@
 -- A route as a function of all its items. Lists of items and of sessions have the newest first, lists of replies the
 -- oldest.
-use Rattle.std.specs.Prelude.{ℕ, ◌+◌, ◌*◌, ◌%◌, ◌^◌, ◌≤◌, Bool, true, false, Option, None, Some, Result, Ok, Err, List, [], ◌∷◌, ◌++◌, length, map, fold, max, find, not, nat_lt, nat_le, ◌==◌, ◌&&◌, ◌||◌, if◌then◌else◌}
+use Rattle.std.specs.Prelude.{ℕ, ◌+◌, ◌-◌, ◌*◌, ◌%◌, ◌^◌, ◌≤◌, Bool, true, false, Option, None, Some, Result, Ok, Err, List, [], ◌∷◌, ◌++◌}
+use Rattle.std.specs.Prelude.{length, map, fold, max, find, not, nat_lt, nat_le, ◌==◌, ◌&&◌, ◌||◌, if◌then◌else◌}
 use Rattle.std.specs.List.{flat_map}
 use Rattle.srt_seq.specs.declared.shared.Peer.{Peer}
 use Rattle.srt_seq.specs.declared.shared.Mode.{Mode}
 use Rattle.srt_seq.specs.declared.shared.Mode.TheVariants.{Live, Buffer}
+use Rattle.srt_seq.specs.declared.shared.Callers.{Callers}
+use Rattle.srt_seq.specs.declared.shared.Callers.TheVariants.{Draft, Libsrt}
+use Rattle.srt_seq.specs.declared.shared.Role.{Role}
 use Rattle.srt_seq.specs.Terms.{Terms}
 use Rattle.srt_seq.specs.Items.{Datagram, Item, Received, Tick, Close, moment_of}
 use Rattle.srt_packet.specs.declared.reading.PacketFault.{PacketFault}
@@ -16,11 +20,16 @@ use Rattle.srt_hs.specs.declared.writing.HsAnswer.{HsAnswer}
 use Rattle.srt_hs.specs.declared.writing.AnswerKind.TheVariants as answers
 use Rattle.srt_hs.specs.declared.refusals.RefusalCode.{RefusalCode}
 use Rattle.srt_hs.specs.declared.refusals.RefusalCode.TheVariants as codes
+use Rattle.srt_route.specs.declared.refusals.RefusalCause.{RefusalCause}
+use Rattle.srt_route.specs.declared.refusals.RefusalCause.TheVariants as causes
 use Rattle.srt_hs.specs.Text.{answer_text}
 use Rattle.srt_route.specs.declared.conclusion.Conclusion.{Conclusion}
 use Rattle.srt_route.specs.Conclusions.{conclusion_in}
-use Rattle.srt_route.specs.Past.{Report, report_text, past_of, least_with}
-use Rattle.srt_route.specs.Sessions.{Session, is_same_peer, session_id, answer_of, publishes, is_publisher, is_subscriber, open_publishers, active, is_active, by_slot, free_slot, generation_of, time_in, aged, took, answered_at_once, payloads, passed, reports_at, reported}
+use Rattle.srt_route.specs.Past.{Report, report_text, past_of, least_with, loses_window, publisher_end, has_all, has_left, is_shutdown}
+use Rattle.srt_route.specs.Sessions.{Session, is_same_peer, session_id, answer_of, publishes, is_subscriber, open_publishers}
+use Rattle.srt_route.specs.Sessions.{active, is_active, by_slot, free_slot, free_slots, sessions_from, generation_of, time_in, is_idle, terms_of}
+use Rattle.srt_route.specs.Sessions.{advanced, took, answered_at_once, payloads}
+use Rattle.srt_route.specs.Sessions.{of_libsrt, with_end, passed, reports_at, reported, is_draining, settled, speaks}
 
 -- the clock in microseconds, every session that was ever opened, and whether the route was closed
 pub record Route : Type 0 where
@@ -42,7 +51,7 @@ pub record Reply : Type 0 where
   pub peer : Peer
   pub packet : Output
 
--- the bytes of an output; the timestamp of a handshake is 0 (this profile)
+-- the bytes of an output; the timestamp of a handshake is 0 (our choice)
 abbrev pub output_text : Output → List ℕ
 output_text (Answers caller answer) = text (record { stamp = 0; dest = caller; body = out.Handshake (record { items = answer_text answer }) })
 output_text (Says caller initial time report) = report_text caller initial time report
@@ -59,7 +68,21 @@ pub record Taken : Type 0 where
 abbrev pub nothing_taken : List Session → Taken
 nothing_taken sessions = record { sessions = sessions; answers = [] }
 
--- the clock never goes back (this profile)
+-- a session's SHUTDOWN (section 3.2.7)
+abbrev pub shutdown_to : (clock : ℕ) → Session → Reply
+shutdown_to clock s = record { peer = s.peer; packet = Ends s.conclusion.caller (time_in s clock) }
+
+-- where the callers speak libsrt, the peer of a session that ends by silence or by a lost window is told (our choice)
+abbrev pub told_if : Callers → (ends : Bool) → (clock : ℕ) → Session → List Reply
+told_if Draft ends clock s = []
+told_if Libsrt true clock s = shutdown_to clock s ∷ []
+told_if Libsrt false clock s = []
+
+-- the SHUTDOWNs of the sessions that end by silence, slots upwards
+abbrev pub idle_told : Terms → (clock : ℕ) → List Session → List Reply
+idle_told e clock sessions = flat_map (λ s. told_if e.rules.callers (is_idle s clock) clock s) (by_slot e sessions)
+
+-- the clock never goes back (our choice)
 abbrev pub clock_after : Item → Route → ℕ
 clock_after item route = max route.clock (moment_of item)
 
@@ -78,32 +101,77 @@ abbrev pub differ : Bool → Bool → Bool
 differ true b = not b
 differ false b = b
 
--- the first reason to refuse a conclusion, free slots aside; at most two publishers are open (this profile)
-abbrev pub refused : Mode → (publishers : ℕ) → Conclusion → Option RefusalCode
+-- the code with which a conclusion is refused for this cause (section 4.3)
+abbrev pub code_of : RefusalCause → RefusalCode
+code_of causes.MessageApi = codes.MessageApi
+code_of causes.Rogue = codes.Rogue
+code_of causes.Peer = codes.Peer
+code_of causes.Address = codes.Resource
+code_of causes.Resource = codes.Resource
+code_of causes.Reserved = codes.Resource
+
+-- the first reason to refuse a conclusion, free slots and limits aside; at most two publishers are open (our choice)
+abbrev pub refused : Mode → (publishers : ℕ) → Conclusion → Option RefusalCause
 refused mode publishers c =
-    if differ c.wants_stream (is_buffer mode) then Some codes.MessageApi
-    else if nat_lt c.mtu 76 || c.window == 0 || (not (publishes c.role) && is_buffer mode && nat_lt c.mtu 1500) then Some codes.Rogue
-    else if publishes c.role && nat_le 2 publishers then Some codes.Peer else None
+    if differ c.wants_stream (is_buffer mode) then Some causes.MessageApi
+    else if nat_lt c.mtu 76 || c.window == 0 || (not (publishes c.role) && is_buffer mode && nat_lt c.mtu 1500) then Some causes.Rogue
+    else if publishes c.role && nat_le 2 publishers then Some causes.Peer else None
+
+-- an address has as many open sessions as it may have, if the route has such a limit
+abbrev pub is_crowded : (limit : Option ℕ) → (sessions : ℕ) → Bool
+is_crowded None sessions = false
+is_crowded (Some limit) sessions = nat_le limit sessions
+
+-- the slots that are free are kept for the publishers that aren't open yet, and the caller is none
+abbrev pub is_reserved : (reserved free publishers : ℕ) → Role → Bool
+is_reserved reserved free publishers role = not (publishes role) && nat_le free (reserved - publishers)
+
+-- the slot for a session, or the first cause to refuse it: one in the conclusion itself, the limit of its address, no free
+-- slot, and then that the free ones are kept for publishers (our choice)
+abbrev pub decided : Option RefusalCause → (crowded : Bool) → (free : Option ℕ) → (reserved : Bool) → Result ℕ RefusalCause
+decided (Some cause) crowded free reserved = Err cause
+decided None true free reserved = Err causes.Address
+decided None false None reserved = Err causes.Resource
+decided None false (Some slot) true = Err causes.Reserved
+decided None false (Some slot) false = Ok slot
+
+abbrev pub decision : Terms → Peer → Conclusion → List Session → Result ℕ RefusalCause
+decision e peer c sessions =
+    decided (refused e.mode (open_publishers sessions) c) (is_crowded e.rules.sessions_per_address (sessions_from peer.ip sessions))
+    (free_slot e sessions) (is_reserved e.rules.reserved (free_slots e sessions) (open_publishers sessions) c.role)
 
 abbrev pub session_opened : (clock : ℕ) → Peer → (stamp : ℕ) → Conclusion → (slot generation : ℕ) → Session
 session_opened clock peer stamp c slot generation =
-    record { slot = slot; generation = generation; peer = peer; stamp = stamp; conclusion = c; opening = clock; heard = clock; is_open = true; past = past_of c.role }
+    record {
+      slot = slot;
+      generation = generation;
+      peer = peer;
+      stamp = stamp;
+      conclusion = c;
+      opening = clock;
+      heard = clock;
+      is_open = true;
+      drains = None;
+      took_over = false;
+      file_ended = false;
+      past = past_of c.role;
+    }
 
 abbrev pub with_session : Terms → (index : ℕ) → Session → List Session → Taken
 with_session e index s sessions = record { sessions = s ∷ sessions; answers = answered s.peer s.conclusion.caller (answer_of e index s) }
 
--- a session opens in the least free slot; if none is free, the conclusion is refused (this profile)
-abbrev pub opens : Terms → (index clock : ℕ) → Peer → (stamp : ℕ) → Conclusion → List Session → Option ℕ → Taken
-opens e index clock peer stamp c sessions None = record { sessions = sessions; answers = answered peer c.caller (refusal c codes.Resource) }
-opens e index clock peer stamp c sessions (Some slot) = with_session e index (session_opened clock peer stamp c slot (generation_of sessions slot)) sessions
+-- a session opens in the slot
+abbrev pub opens : Terms → (index clock : ℕ) → Peer → (stamp : ℕ) → Conclusion → List Session → (slot : ℕ) → Taken
+opens e index clock peer stamp c sessions slot = with_session e index (session_opened clock peer stamp c slot (generation_of sessions slot)) sessions
 
-abbrev pub considered : Terms → (index clock : ℕ) → Peer → (stamp : ℕ) → Conclusion → List Session → Option RefusalCode → Taken
-considered e index clock peer stamp c sessions (Some reason) = record { sessions = sessions; answers = answered peer c.caller (refusal c reason) }
-considered e index clock peer stamp c sessions None = opens e index clock peer stamp c sessions (free_slot e sessions)
+-- or the conclusion is refused
+abbrev pub considered : Terms → (index clock : ℕ) → Peer → (stamp : ℕ) → Conclusion → List Session → Result ℕ RefusalCause → Taken
+considered e index clock peer stamp c sessions (Err cause) = record { sessions = sessions; answers = answered peer c.caller (refusal c (code_of cause)) }
+considered e index clock peer stamp c sessions (Ok slot) = opens e index clock peer stamp c sessions slot
 
--- whether this is an open session of this caller
+-- whether this is an open session of this caller that doesn't drain
 abbrev pub is_of : Peer → (caller : ℕ) → Session → Bool
-is_of peer caller s = s.is_open && is_same_peer s.peer peer && s.conclusion.caller == caller
+is_of peer caller s = s.is_open && is_same_peer s.peer peer && s.conclusion.caller == caller && not (is_draining s)
 
 abbrev pub heard_if : Bool → (clock : ℕ) → Session → Session
 heard_if mine clock s = if mine then record s { heard = clock } else s
@@ -112,29 +180,58 @@ heard_if mine clock s = if mine then record s { heard = clock } else s
 abbrev pub concluded : Terms → (index clock : ℕ) → Peer → (stamp : ℕ) → Conclusion → List Session → Option Session → Taken
 concluded e index clock peer stamp c sessions (Some s) =
     record { sessions = map (λ t. heard_if (is_of peer c.caller t) clock t) sessions; answers = answered peer c.caller (answer_of e index s) }
-concluded e index clock peer stamp c sessions None = considered e index clock peer stamp c sessions (refused e.mode (open_publishers sessions) c)
+concluded e index clock peer stamp c sessions None = considered e index clock peer stamp c sessions (decision e peer c sessions)
 
--- a packet belongs to the session whose ID is its destination, if that session is open and its peer is the sender
--- (section 3)
+-- a packet belongs to the session whose ID is its destination, if that session is open and doesn't drain, and its peer is
+-- the sender (section 3)
 abbrev pub is_for : (index : ℕ) → Peer → (dest : ℕ) → Session → Bool
-is_for index peer dest s = s.is_open && is_same_peer s.peer peer && session_id index s == dest
+is_for index peer dest s = s.is_open && is_same_peer s.peer peer && session_id index s == dest && not (is_draining s)
 
-abbrev pub took_if : Bool → Terms → (clock : ℕ) → Packet → Session → Session
-took_if mine e clock packet s = if mine then took e clock packet.stamp packet.body s else s
+abbrev pub took_if : (drains : Option ℕ) → Bool → Terms → (clock : ℕ) → Packet → Session → Session
+took_if drains mine e clock packet s = if mine then took drains e clock packet.stamp packet.body s else s
 
 -- a session's report
 abbrev pub said_by : (time : ℕ) → Session → Report → Reply
 said_by time s report = record { peer = s.peer; packet = Says s.conclusion.caller s.conclusion.initial time report }
 
-abbrev pub answered_by : (clock : ℕ) → Body → Option Session → List Reply
-answered_by clock body None = []
-answered_by clock body (Some s) = map (said_by (time_in s clock) s) (answered_at_once body s)
+-- the SHUTDOWN of a session that loses its window with a packet
+abbrev pub lost_told : Terms → (clock : ℕ) → Body → Session → List Reply
+lost_told e clock body s = told_if e.rules.callers (loses_window (terms_of e s) s.conclusion.initial body s.past) clock s
+
+abbrev pub answered_by : Terms → (clock : ℕ) → Body → Option Session → List Reply
+answered_by e clock body None = []
+answered_by e clock body (Some s) = lost_told e clock body s ++ map (said_by (time_in s clock) s) (answered_at_once body s)
+
+-- where the callers speak libsrt, the active publisher's session drains from its SHUTDOWN on if something is left to
+-- deliver (our choice): until then for the delay and five seconds, in buffer mode for five seconds
+abbrev pub drain_if : Callers → (left : Bool) → (until : ℕ) → Option ℕ
+drain_if Draft left until = None
+drain_if Libsrt true until = Some until
+drain_if Libsrt false until = None
+
+abbrev pub drain_of : Terms → (clock : ℕ) → Body → (sessions : List Session) → Option Session → Option ℕ
+drain_of e clock body sessions None = None
+drain_of e clock body sessions (Some s) =
+    drain_if e.rules.callers (is_shutdown body && is_active sessions s && has_left (terms_of e s) s.past)
+    (clock + (terms_of e s).publisher.delay + 5_000_000)
+
+-- whether the packet ends a publisher's session, where the callers speak libsrt
+abbrev pub packet_end : (drains : Option ℕ) → Terms → Body → Option Session → Option Bool
+packet_end (Some until) e body o = None
+packet_end None e body None = None
+packet_end None e body (Some s) = of_libsrt e.rules.callers (publisher_end (terms_of e s) s.conclusion.initial body s.past)
+
+-- all sessions after a packet: the one that it is for took it, and each keeps how a publisher's ended, if one did
+abbrev pub took_packet : (drains : Option ℕ) → (end : Option Bool) → Terms → (index clock : ℕ) → Peer → Packet → Session → Session
+took_packet drains end e index clock peer packet s = with_end end (took_if drains (is_for index peer packet.dest s) e clock packet s)
 
 abbrev pub arrived : Terms → (index clock : ℕ) → Peer → Packet → List Session → Taken
 arrived e index clock peer packet sessions =
+    let s = find (is_for index peer packet.dest) sessions in
+    let drains = drain_of e clock packet.body sessions s in
     record {
-      sessions = map (λ s. took_if (is_for index peer packet.dest s) e clock packet s) sessions;
-      answers = answered_by clock packet.body (find (is_for index peer packet.dest) sessions);
+      sessions = map (took_packet drains (packet_end drains e packet.body s) e index clock peer packet) sessions;
+      answers = answered_by e clock packet.body (find (is_for index peer packet.dest) sessions);
     }
 
 -- the conclusion in a packet, if it is one
@@ -162,9 +259,6 @@ read_taken e index clock peer (Err fault) sessions = nothing_taken sessions
 abbrev pub ended : Session → Session
 ended s = record s { is_open = false }
 
-abbrev pub shutdown_to : (clock : ℕ) → Session → Reply
-shutdown_to clock s = record { peer = s.peer; packet = Ends s.conclusion.caller (time_in s clock) }
-
 abbrev pub closed : Terms → (clock : ℕ) → List Session → Taken
 closed e clock sessions = record { sessions = map ended sessions; answers = map (shutdown_to clock) (by_slot e sessions) }
 
@@ -186,10 +280,15 @@ abbrev pub delivery : Terms → (clock : ℕ) → (room : Option ℕ) → List S
 delivery e clock room sessions = delivery_of e clock room (active sessions)
 
 -- the room by which a publisher delivers: a publisher that stands by has no subscribers. So in live mode it delivers
--- what is due, to nobody, and in buffer mode it delivers nothing (this profile)
+-- what is due, to nobody, and in buffer mode it delivers nothing (our choice)
 abbrev pub room_if : (is_active : Bool) → (room : Option ℕ) → Option ℕ
 room_if true room = room
 room_if false room = None
+
+-- whether something was delivered
+abbrev pub is_some_payload : List (List ℕ) → Bool
+is_some_payload [] = false
+is_some_payload (x ∷ xs) = true
 
 -- each publisher delivers, and each open subscriber is fed what the active one delivers
 abbrev pub delivered : Terms → (clock : ℕ) → List Session → List Session
@@ -198,6 +297,23 @@ delivered e clock sessions =
     let fed = delivery e clock room sessions in
     map (λ s. passed e clock (room_if (is_active sessions s) room) fed s) sessions
 
+-- then a publisher's session that drains ends if nothing is left, by its own SHUTDOWN
+abbrev pub drain_end : (before after : ℕ) → Option Bool
+drain_end before after = if nat_lt after before then Some true else None
+
+abbrev pub settled_by : Callers → Terms → (clock : ℕ) → (delivered : Bool) → List Session → List Session
+settled_by Draft e clock given sessions = sessions
+settled_by Libsrt e clock given sessions =
+    let later = map (settled e given clock) sessions in
+    map (with_end (drain_end (open_publishers sessions) (open_publishers later))) later
+
+-- whether the active publisher delivers something
+abbrev pub gives_some : Terms → (clock : ℕ) → List Session → Bool
+gives_some e clock sessions = is_some_payload (delivery e clock (least_room e sessions) sessions)
+
+abbrev pub after_delivery : Terms → (clock : ℕ) → List Session → List Session
+after_delivery e clock sessions = settled_by e.rules.callers e clock (gives_some e clock sessions) (delivered e clock sessions)
+
 -- the packets that sessions send at the end of an event, slots upwards
 abbrev pub packets_at : Terms → (here : Bool) → (time : ℕ) → Session → List Reply
 packets_at e here time s = map (said_by time s) (reports_at e here time s)
@@ -205,21 +321,54 @@ packets_at e here time s = map (said_by time s) (reports_at e here time s)
 abbrev pub packets_where : Terms → (clock : ℕ) → (Session → Bool) → List Session → List Reply
 packets_where e clock test sessions = flat_map (λ s. packets_at e (test s) (time_in s clock) s) (by_slot e sessions)
 
--- an event of a route that wasn't closed, in this profile's order: the clock advances, sessions age, the item is taken
+-- where the callers speak libsrt, in buffer mode, a file is over once no publisher is open
+abbrev pub sends_files : Callers → Mode → Bool
+sends_files Draft mode = false
+sends_files Libsrt Live = false
+sends_files Libsrt Buffer = true
+
+abbrev pub is_file_over : Terms → List Session → Bool
+is_file_over e sessions = sends_files e.rules.callers e.mode && open_publishers sessions == 0
+
+-- a subscriber has the whole file if it was open when the last publisher's session ended, by its own SHUTDOWN, and if it
+-- acknowledged all that was queued
+abbrev pub has_whole_file : (over : Bool) → Session → Bool
+has_whole_file over s = over && is_subscriber s && s.file_ended && has_all s.past
+
+-- then it is sent a SHUTDOWN in place of a KEEPALIVE, and nothing else is due to it; the others are sent their packets
+abbrev pub served_at : (whole : Bool) → Terms → (clock : ℕ) → Session → List Reply
+served_at true e clock s = shutdown_to clock s ∷ []
+served_at false e clock s = packets_at e (is_subscriber s) (time_in s clock) s
+
+abbrev pub served : Terms → (clock : ℕ) → (over : Bool) → List Session → List Reply
+served e clock over sessions = flat_map (λ s. served_at (has_whole_file over s) e clock s) (by_slot e sessions)
+
+-- and its session ends
+abbrev pub finished_at : (whole : Bool) → Terms → (clock : ℕ) → Session → Session
+finished_at true e clock s = ended s
+finished_at false e clock s = reported e clock s
+
+abbrev pub finished : Terms → (clock : ℕ) → (over : Bool) → Session → Session
+finished e clock over s = finished_at (has_whole_file over s) e clock s
+
+-- an event of a route that wasn't closed, in this order (our choice): the clock advances, time advances for the sessions,
+-- the item is taken
 abbrev pub taken_by : Terms → (index : ℕ) → Item → Route → Taken
-taken_by e index item route = let clock = clock_after item route in taken e index clock item (map (aged e clock) route.sessions)
+taken_by e index item route = let clock = clock_after item route in taken e index clock item (advanced e clock route.sessions)
 
 -- then the publishers deliver
 abbrev pub passed_by : Terms → (index : ℕ) → Item → Route → List Session
-passed_by e index item route = delivered e (clock_after item route) (taken_by e index item route).sessions
+passed_by e index item route = after_delivery e (clock_after item route) (taken_by e index item route).sessions
 
--- then the publishers send, and then the subscribers do. A route that was closed replies to nothing
+-- then the publishers send, and then the subscribers do. What is sent as time advances comes first, the answers to the item
+-- come second. A route that was closed replies to nothing
 abbrev pub replies_at : (is_closed : Bool) → Terms → (index : ℕ) → Item → Route → List Reply
 replies_at true e index item route = []
 replies_at false e index item route =
     let clock = clock_after item route in
     let sessions = passed_by e index item route in
-    (taken_by e index item route).answers ++ packets_where e clock is_publisher sessions ++ packets_where e clock is_subscriber sessions
+    idle_told e clock route.sessions ++ (taken_by e index item route).answers ++ packets_where e clock speaks sessions
+    ++ served e clock (is_file_over e sessions) sessions
 
 abbrev pub replies_to : Terms → (index : ℕ) → Item → Route → List Reply
 replies_to e index item route = replies_at route.is_closed e index item route
@@ -227,7 +376,9 @@ replies_to e index item route = replies_at route.is_closed e index item route
 -- the sessions at the end of an event. After a route was closed they stay as they are
 abbrev pub sessions_at : (is_closed : Bool) → Terms → (index : ℕ) → Item → Route → List Session
 sessions_at true e index item route = route.sessions
-sessions_at false e index item route = map (reported e (clock_after item route)) (passed_by e index item route)
+sessions_at false e index item route =
+    let sessions = passed_by e index item route in
+    map (finished e (clock_after item route) (is_file_over e sessions)) sessions
 
 abbrev pub closes : Item → Bool
 closes (Received datagram moment) = false

@@ -23,10 +23,14 @@ pub record IsSendable (bytes : List ℕ) : Type 0 where
 
 -- the same for each kind of output
 abbrev pub PublishersSendPackets : Type 0
-PublishersSendPackets = (caller initial time : ℕ) (report : publisher.Report) → IsPublishersReport report → IsSendable (publisher_text.says caller initial time report)
+PublishersSendPackets =
+    (caller initial time : ℕ) (report : publisher.Report)
+    → IsPublishersReport report → IsSendable (publisher_text.says caller initial time report)
 
 abbrev pub SubscribersSendPackets : Type 0
-SubscribersSendPackets = (caller initial time : ℕ) (report : subscriber.Report) → IsSubscribersReport report → IsSendable (subscriber_text.says caller initial time report)
+SubscribersSendPackets =
+    (caller initial time : ℕ) (report : subscriber.Report)
+    → IsSubscribersReport report → IsSendable (subscriber_text.says caller initial time report)
 
 abbrev pub AnswersArePackets : Type 0
 AnswersArePackets = (caller : ℕ) (a : HsAnswer) → IsReadable a.what → IsSendable (output_text (Answers caller a))

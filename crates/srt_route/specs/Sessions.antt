@@ -1,11 +1,14 @@
 -- The sessions of a route: every one that was ever opened, the newest first.
-use Rattle.std.specs.Prelude.{ℕ, ◌+◌, ◌-◌, ◌*◌, ◌%◌, ◌^◌, Bool, true, false, Option, None, Some, List, [], ◌∷◌, length, min, max, filter, find, filter_map, not, nat_le, ◌==◌, ◌&&◌, if◌then◌else◌}
+use Rattle.std.specs.Prelude.{ℕ, ◌+◌, ◌-◌, ◌*◌, ◌%◌, ◌^◌, Bool, true, false, Option, None, Some, List, [], ◌∷◌, length, min, max, filter}
+use Rattle.std.specs.Prelude.{find, filter_map, map, not, nat_le, nat_lt, ◌==◌, ◌&&◌, if◌then◌else◌}
 use Rattle.std.specs.List.{list_any}
-use Rattle.std.specs.Option.{option_or}
+use Rattle.std.specs.Option.{is_some, option_or}
 use Rattle.std.specs.Str.{bytes_eq}
 use Rattle.srt_seq.specs.declared.shared.Peer.{Peer}
 use Rattle.srt_seq.specs.declared.shared.Mode.{Mode}
 use Rattle.srt_seq.specs.declared.shared.Mode.TheVariants.{Live, Buffer}
+use Rattle.srt_seq.specs.declared.shared.Callers.{Callers}
+use Rattle.srt_seq.specs.declared.shared.Callers.TheVariants.{Draft, Libsrt}
 use Rattle.srt_seq.specs.declared.shared.Role.{Role}
 use Rattle.srt_seq.specs.declared.shared.Role.TheVariants.{Publish, Request}
 use Rattle.srt_seq.specs.Lift.{stamped_from}
@@ -15,7 +18,8 @@ use Rattle.srt_packet.specs.Grammar.{Body}
 use Rattle.srt_hs.specs.declared.writing.HsAnswer.{HsAnswer}
 use Rattle.srt_hs.specs.declared.writing.AnswerKind.TheVariants as answers
 use Rattle.srt_route.specs.declared.conclusion.Conclusion.{Conclusion}
-use Rattle.srt_route.specs.Past.{Past, Agreed, Report, expired_past, took_past, ends_with, answers_to, payloads_of, passed_past, reports_of, reported_past}
+use Rattle.srt_route.specs.Past.{Past, Agreed, Report, expired_past, took_past, ends_with, answers_to, payloads_of, passed_past, reports_of}
+use Rattle.srt_route.specs.Past.{has_left, reported_past, silence_of}
 
 pub record Session : Type 0 where
   pub slot : ℕ
@@ -28,13 +32,21 @@ pub record Session : Type 0 where
   pub opening : ℕ
   pub heard : ℕ
   pub is_open : Bool
+  -- of a publisher's session that drains, the moment at which it ends if something is left to deliver by then; it drains
+  -- from its SHUTDOWN on
+  pub drains : Option ℕ
+  -- whether it took over from another publisher, and none from it since
+  pub took_over : Bool
+  -- whether a publisher's session ended while it was open, and the last of them by its own SHUTDOWN; where the callers
+  -- speak libsrt
+  pub file_ended : Bool
   -- what it received and sent
   pub past : Past
 
 abbrev pub is_same_peer : Peer → Peer → Bool
 is_same_peer p q = bytes_eq p.ip q.ip && p.port == q.port
 
--- a session's socket ID: the route's index, the generation and the slot (this profile)
+-- a session's socket ID: the route's index, the generation and the slot (our choice)
 abbrev pub id_of : (index generation slot : ℕ) → ℕ
 id_of index generation slot = (index + 1) * 2 ^ 20 + generation % 4096 * 256 + slot
 
@@ -67,12 +79,20 @@ abbrev pub answer_of : Terms → (index : ℕ) → Session → HsAnswer
 answer_of e index s = agreed e (session_id index s) s.conclusion
 
 -- the parameters of the session, in microseconds, packets and bytes; of the two delays the first is for data from a
--- publisher, the second for data to a subscriber
+-- publisher, the second for data to a subscriber. The route's rules say whose rules a publisher's session follows, and
+-- how much a subscriber's session may send again
 abbrev pub agreed_terms : Terms → Conclusion → Agreed
 agreed_terms e c =
     record {
-      publisher = record { mode = e.mode; width = e.buffer; delay = 1000 * receiver_ms e c };
-      subscriber = record { mode = e.mode; width = e.buffer; delay = 1000 * sender_ms e c; mtu = agreed_mtu c; window = c.window };
+      publisher = record { mode = e.mode; width = e.buffer; delay = 1000 * receiver_ms e c; callers = e.rules.callers };
+      subscriber = record {
+        mode = e.mode;
+        width = e.buffer;
+        delay = 1000 * sender_ms e c;
+        mtu = agreed_mtu c;
+        window = c.window;
+        resend_percent = e.rules.resend_percent;
+      };
     }
 
 abbrev pub terms_of : Terms → Session → Agreed
@@ -92,10 +112,20 @@ is_subscriber s = s.is_open && not (publishes s.conclusion.role)
 abbrev pub open_publishers : List Session → ℕ
 open_publishers sessions = length (filter is_publisher sessions)
 
--- of the open publishers the one that was opened first is active; another one stands by (this profile)
+-- the open publisher that was opened first
+abbrev pub first_opened : List Session → Option Session
+first_opened [] = None
+first_opened (s ∷ older) = option_or (first_opened older) (if is_publisher s then Some s else None)
+
+-- an open publisher that took over
+abbrev pub leads : Session → Bool
+leads s = is_publisher s && s.took_over
+
+-- of the open publishers the one that took over is active, and else the one that was opened first; another one stands by
+-- (our choice). So the one that was active stays so while it is open: what opens later didn't take over, and was opened
+-- last; what ends leaves the marks of the others; and a take-over marks the other one and unmarks the one before.
 abbrev pub active : List Session → Option Session
-active [] = None
-active (s ∷ older) = option_or (active older) (if is_publisher s then Some s else None)
+active sessions = option_or (find leads sessions) (first_opened sessions)
 
 -- whether a session is the active publisher: an open session is known by its slot
 abbrev pub has_slot : Option Session → (slot : ℕ) → Bool
@@ -104,6 +134,13 @@ has_slot (Some s) slot = s.slot == slot
 
 abbrev pub is_active : List Session → Session → Bool
 is_active sessions s = has_slot (active sessions) s.slot
+
+-- the publisher that stands by
+abbrev pub is_standby : List Session → Session → Bool
+is_standby sessions s = is_publisher s && not (is_active sessions s)
+
+abbrev pub standby : List Session → Option Session
+standby sessions = find (is_standby sessions) sessions
 
 abbrev pub is_open_in : (slot : ℕ) → Session → Bool
 is_open_in slot s = s.is_open && s.slot == slot
@@ -114,6 +151,17 @@ by_slot e sessions = filter_map (λ slot. find (is_open_in slot) sessions) (numb
 
 abbrev pub is_free : List Session → (slot : ℕ) → Bool
 is_free sessions slot = not (list_any (is_open_in slot) sessions)
+
+-- the number of free slots
+abbrev pub free_slots : Terms → List Session → ℕ
+free_slots e sessions = length (filter (is_free sessions) (numbers_from 0 e.sessions))
+
+-- the number of open sessions of an IP address, whatever their ports
+abbrev pub is_from : (ip : List ℕ) → Session → Bool
+is_from ip s = s.is_open && bytes_eq s.peer.ip ip
+
+abbrev pub sessions_from : (ip : List ℕ) → List Session → ℕ
+sessions_from ip sessions = length (filter (is_from ip) sessions)
 
 -- the least free slot
 abbrev pub free_slot : Terms → List Session → Option ℕ
@@ -131,28 +179,115 @@ time_in s clock = clock - s.opening
 abbrev pub stamp_in : Session → (stamp : ℕ) → ℕ
 stamp_in s stamp = stamped_from s.stamp stamp
 
--- the peer sent nothing for 5 s (this profile)
-abbrev pub is_idle : Session → (clock : ℕ) → Bool
-is_idle s clock = nat_le 5_000_000 (clock - s.heard)
+-- a session that drains delivers, and takes and sends nothing any more (our choice)
+abbrev pub is_draining : Session → Bool
+is_draining s = is_some s.drains
 
--- time advances: an idle session ends, and another one drops what is too late
+-- the peer sent nothing for 5 s (our choice); of a session that drains nothing is heard
+abbrev pub is_silent_at : (drains : Option ℕ) → (heard clock : ℕ) → Bool
+is_silent_at None heard clock = nat_le 5_000_000 (clock - heard)
+is_silent_at (Some until) heard clock = false
+
+abbrev pub is_idle : Session → (clock : ℕ) → Bool
+is_idle s clock = is_silent_at s.drains s.heard clock
+
+-- time ends a session whose peer is idle, and one that drains for too long
+abbrev pub is_over_at : (drains : Option ℕ) → (heard clock : ℕ) → Bool
+is_over_at None heard clock = nat_le 5_000_000 (clock - heard)
+is_over_at (Some until) heard clock = nat_le until clock
+
+abbrev pub is_over : Session → (clock : ℕ) → Bool
+is_over s clock = is_over_at s.drains s.heard clock
+
+-- time advances: a session ends that is over, and another one drops what is too late
 abbrev pub aged_at : Terms → (lives : Bool) → (time : ℕ) → Session → Session
 aged_at e lives time s = if lives then record s { past = expired_past (terms_of e s) time s.past } else record s { is_open = false }
 
 abbrev pub aged : Terms → (clock : ℕ) → Session → Session
-aged e clock s = aged_at e (s.is_open && not (is_idle s clock)) (time_in s clock) s
+aged e clock s = aged_at e (s.is_open && not (is_over s clock)) (time_in s clock) s
 
--- a session after a packet
-abbrev pub took_at : Terms → (clock time stamp : ℕ) → Body → Session → Session
-took_at e clock time stamp body s =
+-- the time after which a publisher that stands by takes over, in microseconds: in live mode, if the route has one
+abbrev pub takeover_us : Mode → Option ℕ → Option ℕ
+takeover_us Live None = None
+takeover_us Live (Some ms) = Some (1000 * ms)
+takeover_us Buffer takeover_ms = None
+
+-- no data came to a publisher's session for this time (our choice)
+abbrev pub is_silent : (limit clock : ℕ) → Session → Bool
+is_silent limit clock s = nat_le limit (silence_of (time_in s clock) s.past)
+
+-- it takes over if no data came to the active one for this time, and some came to itself
+abbrev pub has_failed : (limit clock : ℕ) → (active standby : Option Session) → Bool
+has_failed limit clock (Some s) (Some t) = is_silent limit clock s && not (is_silent limit clock t)
+has_failed limit clock (Some s) None = false
+has_failed limit clock None standby = false
+
+abbrev pub takes_over_after : Option ℕ → (clock : ℕ) → List Session → Bool
+takes_over_after None clock sessions = false
+takes_over_after (Some limit) clock sessions = has_failed limit clock (active sessions) (standby sessions)
+
+-- nobody takes over while a session drains
+abbrev pub drains_open : Session → Bool
+drains_open s = s.is_open && is_draining s
+
+abbrev pub number_draining : List Session → ℕ
+number_draining sessions = length (filter drains_open sessions)
+
+abbrev pub takes_over_if : (draining : Bool) → Option ℕ → (clock : ℕ) → List Session → Bool
+takes_over_if true limit clock sessions = false
+takes_over_if false limit clock sessions = takes_over_after limit clock sessions
+
+abbrev pub takes_over : Terms → (clock : ℕ) → List Session → Bool
+takes_over e clock sessions = takes_over_if (not (number_draining sessions == 0)) (takeover_us e.mode e.rules.takeover_ms) clock sessions
+
+-- a take-over marks the publisher that stood by, and unmarks the one that was active
+abbrev pub marked : List Session → Session → Session
+marked sessions s = if is_publisher s then record s { took_over = not (is_active sessions s) } else s
+
+abbrev pub marked_if : (due : Bool) → List Session → List Session
+marked_if true sessions = map (marked sessions) sessions
+marked_if false sessions = sessions
+
+-- what is so only where the callers speak libsrt
+abbrev pub of_libsrt : Callers → Option Bool → Option Bool
+of_libsrt Draft o = None
+of_libsrt Libsrt o = o
+
+-- a session after a publisher's session ended, by its own SHUTDOWN or not; and as it was if none did
+abbrev pub with_end : Option Bool → Session → Session
+with_end None s = s
+with_end (Some by_shutdown) s = record s { file_ended = by_shutdown }
+
+-- whether publishers' sessions ended, by their number before and after: by silence, and so not by their own SHUTDOWN
+abbrev pub silent_end : (before after : ℕ) → Option Bool
+silent_end before after = if nat_lt after before then Some false else None
+
+abbrev pub time_end : Terms → (before after : List Session) → Option Bool
+time_end e before after = of_libsrt e.rules.callers (silent_end (open_publishers before) (open_publishers after))
+
+-- time advances for all sessions; after all ends the publisher that stands by takes over if it is due (our choice)
+abbrev pub advanced : Terms → (clock : ℕ) → List Session → List Session
+advanced e clock sessions =
+    let later = map (aged e clock) sessions in
+    map (with_end (time_end e sessions later)) (marked_if (takes_over e clock later) later)
+
+-- a packet doesn't end a session that drains from then on
+abbrev pub ends_unless : (drains : Option ℕ) → (ends : Bool) → Bool
+ends_unless None ends = ends
+ends_unless (Some until) ends = false
+
+-- a session after a packet, from which on it drains or not
+abbrev pub took_at : (drains : Option ℕ) → Terms → (clock time stamp : ℕ) → Body → Session → Session
+took_at drains e clock time stamp body s =
     record s {
       heard = clock;
-      is_open = not (ends_with (terms_of e s) s.conclusion.initial body s.past);
+      is_open = not (ends_unless drains (ends_with (terms_of e s) s.conclusion.initial body s.past));
+      drains = drains;
       past = took_past (terms_of e s) s.conclusion.initial time stamp body s.past;
     }
 
-abbrev pub took : Terms → (clock stamp : ℕ) → Body → Session → Session
-took e clock stamp body s = took_at e clock (time_in s clock) (stamp_in s stamp) body s
+abbrev pub took : (drains : Option ℕ) → Terms → (clock stamp : ℕ) → Body → Session → Session
+took drains e clock stamp body s = took_at drains e clock (time_in s clock) (stamp_in s stamp) body s
 
 -- the packets that answer it at once
 abbrev pub answered_at_once : Body → Session → List Report
@@ -168,12 +303,31 @@ passed_at e here time room delivery s = if here then record s { past = passed_pa
 abbrev pub passed : Terms → (clock : ℕ) → (room : Option ℕ) → List (List ℕ) → Session → Session
 passed e clock room delivery s = passed_at e s.is_open (time_in s clock) room delivery s
 
+-- a session after the deliveries of an event: one that drains ends if nothing is left to deliver; in buffer mode it has
+-- another five seconds after each delivery
+abbrev pub renewed : Mode → (delivered : Bool) → (clock until : ℕ) → ℕ
+renewed Live delivered clock until = until
+renewed Buffer true clock until = clock + 5_000_000
+renewed Buffer false clock until = until
+
+abbrev pub settled_at : (drains : Option ℕ) → Terms → (delivered : Bool) → (clock : ℕ) → Session → Session
+settled_at None e delivered clock s = s
+settled_at (Some until) e delivered clock s =
+    record s { is_open = s.is_open && has_left (terms_of e s) s.past; drains = Some (renewed e.mode delivered clock until) }
+
+abbrev pub settled : Terms → (delivered : Bool) → (clock : ℕ) → Session → Session
+settled e delivered clock s = settled_at s.drains e delivered clock s
+
+-- the publishers that send at the end of an event
+abbrev pub speaks : Session → Bool
+speaks s = is_publisher s && not (is_draining s)
+
 -- the packets that a session sends at the end of an event, and the session after them
 abbrev pub reports_at : Terms → (here : Bool) → (time : ℕ) → Session → List Report
 reports_at e here time s = if here then reports_of (terms_of e s) time s.past else []
 
 abbrev pub reported_at : Terms → (here : Bool) → (time : ℕ) → Session → Session
-reported_at e here time s = if here then record s { past = reported_past (terms_of e s) time s.past } else s
+reported_at e here time s = if here then record s { past = reported_past (is_draining s) (terms_of e s) time s.past } else s
 
 abbrev pub reported : Terms → (clock : ℕ) → Session → Session
 reported e clock s = reported_at e s.is_open (time_in s clock) s

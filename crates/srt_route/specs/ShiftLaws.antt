@@ -88,10 +88,14 @@ StampsStay = (by first word : ℕ) → stamped_from ((first + by) % 2 ^ 32) ((wo
 
 -- what a session takes from a packet stays the same
 abbrev pub PublishersHearTheSame : Type 0
-PublishersHearTheSame = (by initial : ℕ) (body : Body) → to_publisher.heard_from (shifted by initial) (shifted_body by body) ≡ to_publisher.heard_from initial body
+PublishersHearTheSame =
+    (by initial : ℕ) (body : Body)
+    → to_publisher.heard_from (shifted by initial) (shifted_body by body) ≡ to_publisher.heard_from initial body
 
 abbrev pub SubscribersHearTheSame : Type 0
-SubscribersHearTheSame = (by initial : ℕ) (body : Body) → to_subscriber.heard_from (shifted by initial) (shifted_body by body) ≡ to_subscriber.heard_from initial body
+SubscribersHearTheSame =
+    (by initial : ℕ) (body : Body)
+    → to_subscriber.heard_from (shifted by initial) (shifted_body by body) ≡ to_subscriber.heard_from initial body
 
 -- the output has shifted numbers. A loss list has at least one run, and fits into a datagram
 abbrev pub IsLossList : List Run → Type 0
@@ -103,7 +107,9 @@ IsPublishersReport (publisher.NakOfNew rs) = IsLossList rs
 IsPublishersReport _ = ⊤
 
 abbrev pub PublishersSayOthers : Type 0
-PublishersSayOthers = (by caller initial time : ℕ) (report : publisher.Report) → IsPublishersReport report → renumbered by (publisher_text.says caller initial time report) ≡ publisher_text.says caller (shifted by initial) time report
+PublishersSayOthers =
+    (by caller initial time : ℕ) (report : publisher.Report) → IsPublishersReport report
+    → renumbered by (publisher_text.says caller initial time report) ≡ publisher_text.says caller (shifted by initial) time report
 
 -- and a payload has 1 to 1456 bytes
 abbrev pub IsSubscribersReport : subscriber.Report → Type 0
@@ -111,7 +117,9 @@ IsSubscribersReport (subscriber.Media number again origin payload) = (0 < length
 IsSubscribersReport _ = ⊤
 
 abbrev pub SubscribersSayOthers : Type 0
-SubscribersSayOthers = (by caller initial time : ℕ) (report : subscriber.Report) → IsSubscribersReport report → renumbered by (subscriber_text.says caller initial time report) ≡ subscriber_text.says caller (shifted by initial) time report
+SubscribersSayOthers =
+    (by caller initial time : ℕ) (report : subscriber.Report) → IsSubscribersReport report
+    → renumbered by (subscriber_text.says caller initial time report) ≡ subscriber_text.says caller (shifted by initial) time report
 
 -- an answer that is sent can be read. Its congestion control block has at most four words, as that of a conclusion
 abbrev pub HasFewWords : Option CongestionText → Type 0
@@ -128,4 +136,6 @@ abbrev pub shifted_answer : (by : ℕ) → HsAnswer → HsAnswer
 shifted_answer by a = record a { initial = shifted by a.initial }
 
 abbrev pub AnswersSayOthers : Type 0
-AnswersSayOthers = (by caller : ℕ) (a : HsAnswer) → IsReadable a.what → renumbered by (output_text (Answers caller a)) ≡ output_text (Answers caller (shifted_answer by a))
+AnswersSayOthers =
+    (by caller : ℕ) (a : HsAnswer)
+    → IsReadable a.what → renumbered by (output_text (Answers caller a)) ≡ output_text (Answers caller (shifted_answer by a))

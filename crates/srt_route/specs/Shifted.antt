@@ -3,7 +3,8 @@ use Rattle.std.specs.Prelude.{ℕ, ◌+◌, ◌*◌, ◌/◌, ◌%◌, ◌^◌, 
 use Rattle.srt_seq.specs.Words.{word_at}
 use Rattle.srt_seq.specs.Items.{Datagram, Item, Received, Tick, Close}
 use Rattle.srt_packet.specs.declared.reading.PacketFault.{PacketFault}
-use Rattle.srt_packet.specs.Grammar.{Packet, Body, Data, Handshake, KeepAlive, Ack, Nak, CongestionWarning, Shutdown, AckAck, DropRequest, PeerError, UserDefined}
+use Rattle.srt_packet.specs.Grammar.{Packet, Body, Data, Handshake, KeepAlive, Ack, Nak, CongestionWarning, Shutdown, AckAck, DropRequest}
+use Rattle.srt_packet.specs.Grammar.{PeerError, UserDefined}
 use Rattle.srt_packet.specs.Reading.{packet_in}
 use Rattle.srt_hs.specs.Reading.{handshake_in}
 

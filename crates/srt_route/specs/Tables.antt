@@ -1,7 +1,10 @@
 -- The sessions that a route's table stands for.
-use Rattle.std.specs.Prelude.{◌≡◌, ℕ, ◌-◌, ◌%◌, ◌^◌, ◌<◌, Bool, true, false, Option, None, Some, List, [], ◌∷◌, map, length, find, slice_index_or, nat_le, not, ◌==◌, ◌&&◌, if◌then◌else◌, ⊤}
-use Rattle.std.specs.Option.{option_to_list}
+use Rattle.std.specs.Prelude.{◌≡◌, ℕ, ◌%◌, ◌^◌, ◌<◌, Bool, true, false, Option, None, Some, List, [], ◌∷◌, map, length, find}
+use Rattle.std.specs.Prelude.{slice_index_or, option_map, not, ◌==◌, ◌&&◌, if◌then◌else◌, ⊤}
+use Rattle.std.specs.Option.{is_some, option_to_list}
+use Rattle.std.specs.Str.{bytes_eq}
 use Rattle.srt_seq.specs.declared.shared.Peer.{Peer}
+use Rattle.srt_seq.specs.declared.shared.Mode.{Mode}
 use Rattle.srt_seq.specs.Terms.{Terms}
 use Rattle.srt_seq.specs.Items.{Datagram}
 use Rattle.srt_route.specs.declared.replies.Reply.{Reply as TheReply}
@@ -14,9 +17,12 @@ use Rattle.srt_route.specs.declared.seat.Seat.{Seat}
 use Rattle.srt_route.specs.declared.table.Table.{Table}
 use Rattle.srt_route.specs.Written.{written}
 use Rattle.srt_route.specs.Sessions.{Session, is_same_peer, session_id, answer_of, publishes, is_publisher, active, is_open_in, generation_of}
+use Rattle.srt_route.specs.Sessions.{is_over_at, is_silent_at, renewed}
 use Rattle.srt_route.specs.Route.{Taken, Answers, is_of, sent}
 use Rattle.srt_route.specs.Buffers.{IsSeated}
-use Rattle.srt_route.specs.Places.{place_of, is_same}
+use Rattle.srt_route.specs.declared.publisher_buffers.PublisherBuffers.{PublisherBuffers}
+use Rattle.srt_route.specs.declared.publisher_buffers.PublisherBuffers.TheVariants.{First}
+use Rattle.srt_route.specs.PublisherBuffers.{place_of, is_same}
 
 -- the stored session is this one, except that its end and its past aren't stored
 pub record IsSession (e : Terms) (index : ℕ) (t : TheSession) (s : Session) : Type 0 where
@@ -26,6 +32,8 @@ pub record IsSession (e : Terms) (index : ℕ) (t : TheSession) (s : Session) : 
   pub role_is : t.role ≡ s.conclusion.role
   pub opened_is : t.opened ≡ s.opening
   pub heard_is : t.heard ≡ s.heard
+  pub drains_is : t.drains ≡ s.drains
+  pub file_is : t.file_ended ≡ s.file_ended
   pub answer_is : t.answer ≡ answer_of e index s
 
 abbrev pub IsStored : Terms → (index : ℕ) → Option TheSession → Option Session → Type 0
@@ -39,13 +47,17 @@ abbrev pub session_passes : (TheSession → Bool) → Option TheSession → Bool
 session_passes test None = false
 session_passes test (Some t) = test t
 
--- whether the session of a seat uses the second publisher buffers
-abbrev pub uses_second : Seat → Bool
-uses_second seat = session_passes (λ t. t.second) seat.session
+-- which of the two publisher buffers of a route a stored session uses, and that of a seat; the first where none is open
+abbrev pub buffers_by : Option TheSession → PublisherBuffers
+buffers_by None = First
+buffers_by (Some t) = t.buffers
+
+abbrev pub used_buffers : Seat → PublisherBuffers
+used_buffers seat = buffers_by seat.session
 
 -- the publisher buffers of a seat's session, of the two of a route
 abbrev pub buffers_of : List Publisher → Seat → (other : Publisher) → Publisher
-buffers_of publishers seat other = slice_index_or publishers (place_of (uses_second seat)) other
+buffers_of publishers seat other = slice_index_or publishers (place_of (used_buffers seat)) other
 
 -- a seat has the open session of its slot with its buffers, which have the route's width, and the number of sessions
 -- that were opened in it, in 16 bits
@@ -75,24 +87,28 @@ pub record IsPublishing (sessions : List Session) (at : ℕ) (s : Session) : Typ
   pub found : find (is_open_in at) sessions ≡ Some s
   pub publishes : is_publisher s ≡ true
 
--- open publishers use different buffers, and one that uses the older's is active: of two open ones it was opened first,
--- and one that is open alone may use either
-pub record ArePublishers (second_is_older : Bool) (seats : List Seat) (sessions : List Session) : Type 0 where
+-- open publishers use different buffers, and one that uses the leading ones is active; one that is open alone may use
+-- either
+pub record ArePublishers (leading : PublisherBuffers) (seats : List Seat) (sessions : List Session) : Type 0 where
   pub apart : (at k : ℕ) (d : Seat) (s t : Session) → IsPublishing sessions at s → IsPublishing sessions k t
-      → uses_second (slice_index_or seats at d) ≡ uses_second (slice_index_or seats k d) → at ≡ k
-  pub older_is_active : (at : ℕ) (d : Seat) (s : Session) → IsPublishing sessions at s
-      → uses_second (slice_index_or seats at d) ≡ second_is_older → active sessions ≡ Some s
+      → used_buffers (slice_index_or seats at d) ≡ used_buffers (slice_index_or seats k d) → at ≡ k
+  pub leading_is_active : (at : ℕ) (d : Seat) (s : Session) → IsPublishing sessions at s
+      → used_buffers (slice_index_or seats at d) ≡ leading → active sessions ≡ Some s
 
--- the session of this slot uses the second publisher buffers, or the first
-abbrev pub Uses : Table → (at : ℕ) → (second : Bool) → Type 0
-Uses t at second = (d : Seat) → second ≡ uses_second (slice_index_or t.seats.items at d)
+-- the session of this slot uses these publisher buffers
+abbrev pub Uses : Table → (at : ℕ) → (which : PublisherBuffers) → Type 0
+Uses t at which = (d : Seat) → which ≡ used_buffers (slice_index_or t.seats.items at d)
+
+-- the sessions of these seats use the publisher buffers that they used
+abbrev pub UseSameBuffers : (old new : List Seat) → Type 0
+UseSameBuffers old new = (at : ℕ) (d : Seat) → used_buffers (slice_index_or new at d) ≡ used_buffers (slice_index_or old at d)
 
 abbrev pub UseTheSame : (old new : Table) → Type 0
-UseTheSame old new = (at : ℕ) (d : Seat) → uses_second (slice_index_or new.seats.items at d) ≡ uses_second (slice_index_or old.seats.items at d)
+UseTheSame old new = UseSameBuffers old.seats.items new.seats.items
 
 -- both publisher buffers have this width
 abbrev pub AreWide : (width : ℕ) → List Publisher → Type 0
-AreWide width publishers = (second : Bool) (p : Publisher) → publisher.width_of (slice_index_or publishers (place_of second) p) ≡ width
+AreWide width publishers = (which : PublisherBuffers) (p : Publisher) → publisher.width_of (slice_index_or publishers (place_of which) p) ≡ width
 
 -- this is the table of these sessions at this clock
 pub record IsTable (e : Terms) (index clock : ℕ) (t : Table) (sessions : List Session) : Type 0 where
@@ -102,11 +118,12 @@ pub record IsTable (e : Terms) (index clock : ℕ) (t : Table) (sessions : List 
   pub mode_is : t.mode ≡ e.mode
   pub latency_is : t.latency_ms ≡ e.latency_ms
   pub buffer_is : t.buffer ≡ e.buffer
+  pub rules_are : t.rules ≡ e.rules
   pub publishers_wide : AreWide e.buffer t.publishers.items
   pub places_are : length t.seats.items ≡ e.sessions
   pub seats_are : AreSeats e index clock t.publishers.items t.seats.items sessions
   pub alone : AreAlone e.sessions sessions
-  pub publishers_are : ArePublishers t.second_is_older t.seats.items sessions
+  pub publishers_are : ArePublishers t.leading t.seats.items sessions
 
 -- the datagram of a reply, or none
 abbrev pub written_of : Option TheReply → List Datagram
@@ -119,7 +136,7 @@ pub record IsTaken (e : Terms) (index clock : ℕ) (t : Table) (replies : List D
 
 -- the tests by which a stored session is found
 abbrev pub is_session_of : Peer → (caller : ℕ) → TheSession → Bool
-is_session_of peer caller t = is_same_peer t.peer peer && t.caller == caller
+is_session_of peer caller t = is_same_peer t.peer peer && t.caller == caller && not (is_some t.drains)
 
 abbrev pub holds : Peer → (caller : ℕ) → Seat → Bool
 holds peer caller seat = session_passes (is_session_of peer caller) seat.session
@@ -127,9 +144,20 @@ holds peer caller seat = session_passes (is_session_of peer caller) seat.session
 abbrev pub has_publisher : Seat → Bool
 has_publisher seat = session_passes (λ t. publishes t.role) seat.session
 
+-- whether it is a publisher's that sends packets, and whether it drains
+abbrev pub has_speaker : Seat → Bool
+has_speaker seat = session_passes (λ t. publishes t.role && not (is_some t.drains)) seat.session
+
+abbrev pub has_draining : Seat → Bool
+has_draining seat = session_passes (λ t. is_some t.drains) seat.session
+
 -- whether it is a publisher's with these buffers
-abbrev pub publishes_from : (second : Bool) → Seat → Bool
-publishes_from second seat = session_passes (λ t. publishes t.role && is_same t.second second) seat.session
+abbrev pub publishes_from : (which : PublisherBuffers) → Seat → Bool
+publishes_from which seat = session_passes (λ t. publishes t.role && is_same t.buffers which) seat.session
+
+-- whether a session of this address is open in a seat
+abbrev pub has_address : (ip : List ℕ) → Seat → Bool
+has_address ip seat = session_passes (λ t. bytes_eq t.peer.ip ip) seat.session
 
 abbrev pub has_subscriber : Seat → Bool
 has_subscriber seat = session_passes (λ t. not (publishes t.role)) seat.session
@@ -145,6 +173,15 @@ is_vacant seat = no_session seat.session
 abbrev pub with_stored : Option TheSession → Seat → Seat
 with_stored session seat = record { generation = seat.generation; session = session; subscriber = seat.subscriber }
 
+-- a seat after an event's deliveries: its session ends, or has its time anew if it drains
+abbrev pub stored_settled : (ends : Bool) → Mode → (delivered : Bool) → (clock : ℕ) → Option TheSession → Option TheSession
+stored_settled ends mode given clock None = None
+stored_settled ends mode given clock (Some t) =
+    if ends then None else Some (record t { drains = option_map (renewed mode given clock) t.drains })
+
+abbrev pub seat_settled : (ends : Bool) → Mode → (delivered : Bool) → (clock : ℕ) → Seat → Seat
+seat_settled ends mode given clock seat = with_stored (stored_settled ends mode given clock seat.session) seat
+
 -- a stored session whose peer is heard of at this clock
 abbrev pub heard_at : (clock : ℕ) → TheSession → TheSession
 heard_at clock t = record t { heard = clock }
@@ -156,22 +193,32 @@ again_of peer (Some t) = sent (record { peer = peer; packet = Answers t.caller t
 
 -- whether a packet is for a stored session
 abbrev pub is_stored_for : Peer → (dest : ℕ) → TheSession → Bool
-is_stored_for peer dest t = is_same_peer t.peer peer && t.id == dest
+is_stored_for peer dest t = is_same_peer t.peer peer && t.id == dest && not (is_some t.drains)
 
--- the stored session after such a packet
-abbrev pub stored_after : (ends : Bool) → (clock : ℕ) → Option TheSession → Option TheSession
-stored_after ends clock None = None
-stored_after ends clock (Some t) = if ends then None else Some (heard_at clock t)
+-- the stored session after such a packet, from which on it drains or not
+abbrev pub stored_after : (ends : Bool) → (drains : Option ℕ) → (clock : ℕ) → Option TheSession → Option TheSession
+stored_after ends drains clock None = None
+stored_after ends drains clock (Some t) = if ends then None else Some (record t { heard = clock; drains = drains })
 
--- the session's peer sent nothing for 5 s (this profile)
+-- the stored session of a seat after a publisher's session ended, by its own SHUTDOWN or not
+abbrev pub stored_end : (by_shutdown : Bool) → TheSession → TheSession
+stored_end by_shutdown t = record t { file_ended = by_shutdown }
+
+abbrev pub seat_with_end : (by_shutdown : Bool) → Seat → Seat
+seat_with_end by_shutdown seat = with_stored (option_map (stored_end by_shutdown) seat.session) seat
+
+-- time ends the session (our choice), and whether because its peer sent nothing for 5 s
+abbrev pub is_stored_over : (clock : ℕ) → TheSession → Bool
+is_stored_over clock t = is_over_at t.drains t.heard clock
+
 abbrev pub peer_idle : (clock : ℕ) → TheSession → Bool
-peer_idle clock t = nat_le 5_000_000 (clock - t.heard)
+peer_idle clock t = is_silent_at t.drains t.heard clock
 
 -- the stored session after time has advanced
 abbrev pub stored_aged : (clock : ℕ) → Option TheSession → Option TheSession
 stored_aged clock None = None
-stored_aged clock (Some t) = if peer_idle clock t then None else Some t
+stored_aged clock (Some t) = if is_stored_over clock t then None else Some t
 
--- whether it is a subscriber's session that isn't idle
+-- whether it is a subscriber's session that isn't over
 abbrev pub is_kept_subscriber : (clock : ℕ) → TheSession → Bool
-is_kept_subscriber clock t = not (peer_idle clock t) && not (publishes t.role)
+is_kept_subscriber clock t = not (is_stored_over clock t) && not (publishes t.role)

@@ -1,20 +1,20 @@
 -- The sessions that opened, and the conclusions that were refused.
-use Rattle.std.specs.Prelude.{◌≡◌, ℕ, Option, None, Some, Result, Ok, Err, List, map, find, ◌==◌, if◌then◌else◌}
+use Rattle.std.specs.Prelude.{◌≡◌, ℕ, Option, None, Some, Result, Ok, Err, List, find, ◌==◌, if◌then◌else◌}
 use Rattle.srt_seq.specs.declared.shared.Peer.{Peer}
 use Rattle.srt_seq.specs.Terms.{Terms}
 use Rattle.srt_seq.specs.Items.{Item, Received, Tick, Close}
 use Rattle.srt_packet.specs.declared.reading.PacketFault.{PacketFault}
 use Rattle.srt_packet.specs.Grammar.{Packet}
 use Rattle.srt_packet.specs.Reading.{packet_in}
-use Rattle.srt_hs.specs.declared.refusals.RefusalCode.{RefusalCode}
+use Rattle.srt_route.specs.declared.refusals.RefusalCause.{RefusalCause}
 use Rattle.srt_route.specs.declared.admission.Admission.{Admission}
 use Rattle.srt_route.specs.declared.conclusion.Conclusion.{Conclusion}
 use Rattle.srt_route.specs.declared.ledger.Ledger.{Ledger}
 use Rattle.srt_route.specs.declared.ledger.Refusals.{Refusals}
-use Rattle.srt_route.specs.declared.state.Route.{Route as TheRoute}
+use Rattle.srt_route.specs.declared.route.Route.{Route as TheRoute}
 use Rattle.srt_route.specs.declared.table.Table.{Table}
 use Rattle.srt_route.specs.Admission.{admitted}
-use Rattle.srt_route.specs.Sessions.{Session, aged}
+use Rattle.srt_route.specs.Sessions.{Session, advanced}
 use Rattle.srt_route.specs.Route.{Route, clock_after, concludes, is_of}
 use Rattle.srt_route.specs.Tables.{IsTable}
 use Rattle.srt_route.specs.Ledgers.{more, refusals_with}
@@ -24,7 +24,7 @@ pub record Tally : Type 0 where
   pub refusals : Refusals
 
 abbrev pub no_tally : Tally
-no_tally = record { opened = 0; refusals = record { peer = 0; resource = 0; rogue = 0; message_api = 0 } }
+no_tally = record { opened = 0; refusals = record { peer = 0; resource = 0; rogue = 0; message_api = 0; address = 0; reserved = 0 } }
 
 abbrev pub tally_of : Ledger → Tally
 tally_of ledger = record { opened = ledger.opened; refusals = ledger.refusals }
@@ -33,18 +33,18 @@ abbrev pub tally_in : TheRoute → Tally
 tally_in r = tally_of r.ledger
 
 -- a conclusion is admitted and its session opens, or it is refused
-abbrev pub admitted_tally : Result Admission RefusalCode → Tally → Tally
+abbrev pub admitted_tally : Result Admission RefusalCause → Tally → Tally
 admitted_tally (Ok admission) t = record t { opened = more t.opened }
-admitted_tally (Err reason) t = record t { refusals = refusals_with reason t.refusals }
+admitted_tally (Err cause) t = record t { refusals = refusals_with cause t.refusals }
 
 -- that of a caller whose session is open is answered again, and nothing is counted
-abbrev pub concluded_tally : Terms → Conclusion → List Session → Option Session → Tally → Tally
-concluded_tally e c sessions (Some s) t = t
-concluded_tally e c sessions None t = admitted_tally (admitted e sessions c) t
+abbrev pub concluded_tally : Terms → Peer → Conclusion → List Session → Option Session → Tally → Tally
+concluded_tally e peer c sessions (Some s) t = t
+concluded_tally e peer c sessions None t = admitted_tally (admitted e peer sessions c) t
 
 abbrev pub conclusion_tally : Terms → Peer → List Session → Option Conclusion → Tally → Tally
 conclusion_tally e peer sessions None t = t
-conclusion_tally e peer sessions (Some c) t = concluded_tally e c sessions (find (is_of peer c.caller) sessions) t
+conclusion_tally e peer sessions (Some c) t = concluded_tally e peer c sessions (find (is_of peer c.caller) sessions) t
 
 abbrev pub packet_tally : Terms → Peer → Packet → List Session → Tally → Tally
 packet_tally e peer packet sessions t = if packet.dest == 0 then conclusion_tally e peer sessions (concludes packet.body) t else t
@@ -60,7 +60,7 @@ item_tally e (Close moment) sessions t = t
 
 -- after an item, by the route before it; after a route was closed nothing is counted
 abbrev pub tally_after : Terms → Item → Route → Tally → Tally
-tally_after e item route t = if route.is_closed then t else item_tally e item (map (aged e (clock_after item route)) route.sessions) t
+tally_after e item route t = if route.is_closed then t else item_tally e item (advanced e (clock_after item route) route.sessions) t
 
 -- the same of the parts of an event, for whatever sessions a table stands for
 abbrev pub Tallies : (clock : ℕ) → (Terms → List Session → Tally → Tally) → Table → (old new : Ledger) → Type 0

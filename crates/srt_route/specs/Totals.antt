@@ -4,7 +4,7 @@ use Rattle.srt_seq.specs.Terms.{Terms}
 use Rattle.srt_pub.specs.declared.counts.Counts.{Counts as Received}
 use Rattle.srt_sub.specs.declared.counts.Counts.{Counts as Queued}
 use Rattle.srt_sub.specs.declared.counts.Sendings.{Sendings}
-use Rattle.srt_route.specs.declared.state.Route.{Route as TheRoute}
+use Rattle.srt_route.specs.declared.route.Route.{Route as TheRoute}
 use Rattle.srt_route.specs.declared.totals.Totals.{Totals}
 use Rattle.srt_route.specs.declared.view.SessionView.{SessionView}
 use Rattle.srt_route.specs.declared.view.Traffic.{Traffic}
@@ -20,11 +20,15 @@ abbrev pub both_received : Received → Received → Received
 both_received a b =
     record {
       came = both a.came b.came;
+      late = both a.late b.late;
+      ahead = both a.ahead b.ahead;
       received = both a.received b.received;
       bytes = both a.bytes b.bytes;
       delivered = both a.delivered b.delivered;
       given_up = both a.given_up b.given_up;
       naks = both a.naks b.naks;
+      reported_lost = both a.reported_lost b.reported_lost;
+      full_windows = both a.full_windows b.full_windows;
     }
 
 abbrev pub both_queued : Queued → Queued → Queued
@@ -34,6 +38,7 @@ both_queued a b =
       bytes = both a.bytes b.bytes;
       naks = both a.naks b.naks;
       given_up = both a.given_up b.given_up;
+      misdirected = both a.misdirected b.misdirected;
     }
 
 abbrev pub both_sent : Sendings → Sendings → Sendings

@@ -1,5 +1,5 @@
 -- What a look at a route shows of its open sessions.
-use Rattle.std.specs.Prelude.{◌≡◌, ℕ, ◌<◌, Bool, false, Option, None, Some, List, find, length, slice_index_or, ◌&&◌, ⊤}
+use Rattle.std.specs.Prelude.{◌≡◌, ℕ, ◌<◌, Option, None, Some, List, find, length, slice_index_or, ◌&&◌, ⊤}
 use Rattle.srt_seq.specs.declared.shared.Role.{Role}
 use Rattle.srt_seq.specs.declared.shared.Role.TheVariants.{Publish, Request}
 use Rattle.srt_seq.specs.Terms.{Terms}
@@ -11,8 +11,7 @@ use Rattle.srt_pub.specs.declared.session.Publisher.{Publisher}
 use Rattle.srt_sub.specs.Viewing as subscriber
 use Rattle.srt_sub.specs.declared.session.Subscriber.{Subscriber}
 use Rattle.srt_route.specs.Past.{Past, Agreed, Publishes, Subscribes}
-use Rattle.srt_route.specs.Sessions.{Session, is_active, is_open_in, publishes, receiver_ms, sender_ms, session_id, terms_of}
-use Rattle.srt_route.specs.Places.{is_same}
+use Rattle.srt_route.specs.Sessions.{Session, is_active, is_draining, is_open_in, publishes, receiver_ms, sender_ms, session_id, terms_of}
 use Rattle.srt_route.specs.Buffers.{IsSeated}
 use Rattle.srt_route.specs.Tables.{IsTable}
 use Rattle.srt_route.specs.declared.seat.Session.{Session as TheSession}
@@ -45,6 +44,7 @@ pub record IsView (e : Terms) (index : ℕ) (sessions : List Session) (s : Sessi
   pub id_is : v.id ≡ session_id index s
   pub role_is : v.role ≡ s.conclusion.role
   pub active_is : v.is_active ≡ (publishes s.conclusion.role && is_active sessions s)
+  pub draining_is : v.is_draining ≡ is_draining s
   pub opened_is : v.opened ≡ s.opening
   pub heard_is : v.heard ≡ s.heard
   pub latency_is : v.latency_ms ≡ latency_of s.conclusion.role e s
@@ -96,8 +96,3 @@ latency_by role _ = 0
 
 abbrev pub latency_in : Role → HsAnswer → ℕ
 latency_in role answer = latency_by role answer.what
-
--- whether a stored session is the active publisher, if the active one uses these buffers
-abbrev pub is_active_by : Option Bool → TheSession → Bool
-is_active_by None t = false
-is_active_by (Some second) t = publishes t.role && is_same t.second second

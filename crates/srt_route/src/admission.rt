@@ -1,29 +1,29 @@
 //! Step 3 of an event, a conclusion at its route (sections 3.2.1 and 4.3.1.2): every refusal in its order, and how a
 //! session opens.
 
-ghost use Rattle.std.specs.Prelude.{◌≡◌, ◌<◌, ◌^◌, ◌∷◌, [], Some, length, IfOk};
+ghost use Rattle.std.specs.Prelude.{◌≡◌, ◌<◌, ◌^◌, ◌∷◌, [], Some, count_by, length, IfOk};
 ghost use Rattle.srt_seq.specs.Given.{given};
-ghost use Rattle.srt_route.specs.Route.{is_buffer, refused};
+ghost use Rattle.srt_route.specs.Route.{is_buffer, is_crowded, is_reserved, refused};
 ghost use Rattle.srt_route.specs.Written.{written};
-ghost use Rattle.srt_route.specs.Tables.{written_of};
-ghost use Rattle.srt_route.specs.Admission.{admitted, older_after};
+ghost use Rattle.srt_route.specs.Tables.{has_address, written_of};
+ghost use Rattle.srt_route.specs.Admission.{admitted};
 ghost use Rattle.srt_route.specs.Tallies.{Tallies, admitted_tally, conclusion_tally};
-ghost use Rattle.srt_route.specs.Calls.{Admits, OpensSession, TakesConclusion, TakesFirst};
+ghost use Rattle.srt_route.specs.inside.Calls.{Admits, OpensSession, TakesConclusion, TakesFirst};
 
 use crate::agreement::{Agreement, agree};
 use crate::answer::{accepted, answer_to, refusal};
 use crate::arrival::Arrival;
 use crate::conclusion::Conclusion;
 use crate::ledger::Ledger;
-use crate::places::place_of;
+use crate::refusals::RefusalCause;
 use crate::replies::Reply;
-use crate::seat::{Session, count_publishers, free_slot, have_publisher, slot_of};
+use crate::seat::{Seat, Session, count_from, count_publishers, count_vacant, free_slot, slot_of};
 use crate::socket_ids::id_at;
+use crate::standby::{leading_after, unused_buffers};
 use crate::start::start_buffers;
 use crate::table::Table;
-use srt_hs::RefusalCode;
 use srt_seq::limits::{MAX_MTU, MIN_MTU};
-use srt_seq::{Mode, Role};
+use srt_seq::{Mode, Peer, Role};
 
 /// The slot in which a session opens, and what was agreed.
 #[derive(Clone, Copy)]
@@ -40,51 +40,72 @@ fn is_buffer(mode: Mode) -> bool
     matches!(mode, Mode::Buffer)
 }
 
-/// The first reason to refuse a conclusion, free slots aside. In order: 1012 (SRT_REJ_MESSAGEAPI) if the flag STREAM
-/// and the route's mode differ; 1004 (SRT_REJ_ROGUE) if the MTU is below 76, the flow window is 0, or a subscriber of
-/// buffer mode has an MTU below 1500; 1002 (SRT_REJ_PEER) if the caller wants to publish while two publishers are open.
-fn refused(mode: Mode, publishers: usize, c: &Conclusion) -> Option<RefusalCode>
+/// The first cause to refuse a conclusion, free slots and limits aside. In order: `MessageApi` if the flag STREAM and
+/// the route's mode differ; `Rogue` if the MTU is below 76, the flow window is 0, or a subscriber of buffer mode has an
+/// MTU below 1500; `Peer` if the caller wants to publish while two publishers are open.
+fn refused(mode: Mode, publishers: usize, c: &Conclusion) -> Option<RefusalCause>
     ensures { result ≡ refused mode publishers c.now }
 {
     if c.wants_stream != is_buffer(mode) {
-        return Some(RefusalCode::MessageApi);
+        return Some(RefusalCause::MessageApi);
     }
     let publishes = matches!(c.role, Role::Publish);
     if c.mtu < MIN_MTU || c.window == 0 || (!publishes && is_buffer(mode) && c.mtu < MAX_MTU) {
-        return Some(RefusalCode::Rogue);
+        return Some(RefusalCause::Rogue);
     }
     if publishes && publishers >= 2 {
-        return Some(RefusalCode::Peer);
+        return Some(RefusalCause::Peer);
     }
     None
 }
 
-/// The least free slot and the agreement, or the first reason to refuse: 1012, 1004, 1002, and then 1003
-/// (SRT_REJ_RESOURCE) if no slot is free.
-fn admit(table: &Table, c: &Conclusion) -> Result<Admission, RefusalCode>
-    ensures inside { IfOk result (λ a. a.at < length table.now.seats.items) }
-    ensures value { Admits table.now c.now result }
+/// Whether an address has as many open sessions as it may have. Without a limit no session is counted.
+fn is_crowded(limit: Option<u32>, seats: &[Seat], peer: Peer) -> bool
+    ensures { result ≡ is_crowded limit (count_by (has_address peer.ip) seats.now) }
 {
-    if let Some(reason) = refused(table.mode, count_publishers(&table.seats), c) {
-        return Err(reason);
-    }
-    match free_slot(&table.seats) {
-        Some(at) => Ok(Admission {
-            at,
-            agreement: agree(table.mode, table.latency_ms, c),
-        }),
-        None => Err(RefusalCode::Resource),
+    match limit {
+        Some(limit) => count_from(seats, peer) >= limit as usize,
+        None => false,
     }
 }
 
-/// Which of two open publishers is older after a session has opened: if it is a publisher's with the second buffers,
-/// the one with the first, and the other way round. A subscriber's changes nothing.
-fn older_after(older: bool, role: Role, second: bool) -> bool
-    ensures { result ≡ older_after older role second }
+/// Whether the slots that are free are kept for publishers that aren't open yet, and the caller is none. All numbers
+/// are of slots or of sessions, at most 17.
+fn is_reserved(reserved: u32, free: usize, publishers: usize, role: Role) -> bool
+    ensures { result ≡ is_reserved reserved free publishers role }
 {
     match role {
-        Role::Publish => !second,
-        Role::Request => older,
+        Role::Publish => false,
+        Role::Request => free <= (reserved as usize).saturating_sub(publishers),
+    }
+}
+
+/// The least free slot and the agreement, or the first cause to refuse: one in the conclusion itself, then the limit of
+/// the caller's address, no free slot, and that the free ones are kept for publishers.
+fn admit(table: &Table, peer: Peer, c: &Conclusion) -> Result<Admission, RefusalCause>
+    ensures inside { IfOk result (λ a. a.at < length table.now.seats.items) }
+    ensures value { Admits table.now peer c.now result }
+{
+    let publishers = count_publishers(&table.seats);
+    if let Some(cause) = refused(table.mode, publishers, c) {
+        return Err(cause);
+    }
+    let rules = table.rules;
+    if is_crowded(rules.sessions_per_address, &table.seats, peer) {
+        return Err(RefusalCause::Address);
+    }
+    let free = count_vacant(&table.seats);
+    match free_slot(&table.seats) {
+        Some(at) => {
+            if is_reserved(rules.reserved, free, publishers, c.role) {
+                return Err(RefusalCause::Reserved);
+            }
+            Ok(Admission {
+                at,
+                agreement: agree(table.mode, table.latency_ms, rules, c),
+            })
+        }
+        None => Err(RefusalCause::Resource),
     }
 }
 
@@ -105,15 +126,15 @@ fn open_session(
     let role = c.role;
     let at = admission.at;
     let id = id_at(table.index, table.seats[at].generation, at);
-    let second = have_publisher(&table.seats, false);
+    let buffers = unused_buffers(&table.seats);
     start_buffers(
         &mut table.seats[at],
-        &mut table.publishers[place_of(second)],
+        &mut table.publishers[buffers.place()],
         arrival,
         admission.agreement,
         &c,
     );
-    table.second_is_older = older_after(table.second_is_older, role, second);
+    table.leading = leading_after(table.leading, role, buffers);
     let answer = accepted(admission.agreement, table.buffer, id, c);
     answer_to(reply, arrival.peer, caller, &answer);
     table.seats[at].fill(Session {
@@ -121,9 +142,11 @@ fn open_session(
         caller,
         id,
         role,
-        second,
+        buffers,
         opened: arrival.clock,
         heard: arrival.clock,
+        drains: None,
+        file_ended: false,
         answer,
     });
 }
@@ -139,16 +162,21 @@ fn consider(
     requires { c.initial < 2 ^ 31 }
     ensures taken { TakesFirst arrival c table.old table.new (written reply.new ∷ []) }
     ensures ended { (ledger.new.ended ≡ ledger.old.ended) × (ledger.new.totals ≡ ledger.old.totals) }
-    ensures tally { Tallies arrival.clock (λ e sessions. admitted_tally (admitted e sessions c)) table.old ledger.old ledger.new }
+    ensures tally { Tallies arrival.clock (λ e sessions. admitted_tally (admitted e arrival.peer sessions c)) table.old ledger.old ledger.new }
 {
-    match admit(table, &c) {
+    match admit(table, arrival.peer, &c) {
         Ok(admission) => {
             ledger.open();
             open_session(table, admission, arrival, c, reply);
         }
-        Err(reason) => {
-            ledger.refuse(reason);
-            answer_to(reply, arrival.peer, c.caller, &refusal(c.initial, reason));
+        Err(cause) => {
+            ledger.refuse(cause);
+            answer_to(
+                reply,
+                arrival.peer,
+                c.caller,
+                &refusal(c.initial, cause.code()),
+            );
         }
     }
 }

@@ -44,7 +44,7 @@ pub fn accepted(agreement: Agreement, window: u32, id: u32, c: Conclusion) -> Hs
     }
 }
 
-/// Writes a handshake answer into `reply`, to the caller's socket with this ID. Its timestamp is 0 (this profile).
+/// Writes a handshake answer into `reply`, to the caller's socket with this ID. Its timestamp is 0 (our choice).
 pub fn answer_to(reply: &mut Reply, peer: Peer, caller: u32, answer: &HsAnswer)
     ensures { written reply.new ≡ sent (record { peer = peer; packet = Answers caller answer.now }) }
 {

@@ -1,22 +1,24 @@
 //! Step 4 of an event, delivery (sections 4.2, 4.5 and 4.6): the active publisher's payloads go to every open subscriber,
-//! and those of a publisher that stands by go to nobody.
+//! and those of a publisher that stands by go to nobody (`standby.rt`).
 
-ghost use Rattle.std.specs.Prelude.{◌≡◌, ℕ, ◌<◌, ◌^◌, Bool, true, false, Some, None, List};
+ghost use Rattle.std.specs.Prelude.{◌≡◌, ℕ, ◌<◌, ◌≤◌, ◌^◌, true, false, None, List, is_some, length};
 ghost use Rattle.srt_seq.specs.Terms.{Terms};
-ghost use Rattle.srt_pub.specs.Calls.{room_after};
+ghost use Rattle.srt_pub.specs.Calls.{room_after, next_delivery, after_delivery};
+ghost use Rattle.srt_pub.specs.Changes.{BecomesAt, HoldsOfAt};
 ghost use Rattle.srt_route.specs.Sessions.{Session};
 ghost use Rattle.srt_route.specs.Route.{least_room, delivered};
-ghost use Rattle.srt_route.specs.Tables.{IsTable, UseTheSame, has_subscriber};
-ghost use Rattle.srt_route.specs.OneSession.{IsRoomOf, SubscriberFed, PublisherStoodBy};
-ghost use Rattle.srt_route.specs.Delivery.{lesser, GivesNext, TurnsTo, IsRoomOfAll, PassesOn, StandsBy, HasNone, IsActiveOf};
-ghost use Rattle.srt_route.specs.Calls.{TableBecomes, SubscribersFed};
+ghost use Rattle.srt_route.specs.Tables.{IsTable, UseTheSame, UseSameBuffers, has_subscriber};
+ghost use Rattle.srt_route.specs.inside.OneSession.{IsRoomOf, SubscriberFed};
+ghost use Rattle.srt_route.specs.inside.Delivery.{lesser, AreFed, AreGiven, GivesNext, TurnsTo, IsRoomOfAll, PassesOn};
+ghost use Rattle.srt_route.specs.inside.Calls.{TableBecomes};
 
-use crate::places::place_of;
-use crate::seat::{Seat, have_publisher};
+use crate::publisher_buffers::PublisherBuffers;
+use crate::seat::Seat;
+use crate::standby::{active_buffers, deliver_standby};
 use crate::table::Table;
 use srt_pub::Publisher;
-use srt_seq::limits::PAYLOADS_MAX;
-use srt_seq::{Mode, Payload};
+use srt_seq::Mode;
+use srt_seq::limits::MAX_PAYLOADS;
 
 /// The number of payloads that fit into the subscriber's send buffer; None if no subscriber's session is open in the
 /// seat.
@@ -55,12 +57,13 @@ fn least_room(table: &Table) -> Option<u32>
 }
 
 /// Queues a payload for the subscriber of a seat, if one is open.
-fn feed_seat(seat: &mut Seat, clock: u64, payload: &Payload)
-    requires { clock < 2 ^ 62 }
+fn feed_seat(seat: &mut Seat, clock: u64, payload: &[u8])
+    requires early { clock < 2 ^ 62 }
+    requires fits { length payload.now ≤ 1456 }
     ensures generation { seat.new.generation ≡ seat.old.generation }
     ensures session { seat.new.session ≡ seat.old.session }
     ensures none { has_subscriber seat.old ≡ false → seat.new.subscriber ≡ seat.old.subscriber }
-    ensures some { has_subscriber seat.old ≡ true → SubscriberFed clock payload.now.items seat.old.subscriber seat.new.subscriber }
+    ensures some { has_subscriber seat.old ≡ true → SubscriberFed clock payload.now seat.old.subscriber seat.new.subscriber }
 {
     if !seat.has_subscriber() {
         return;
@@ -69,13 +72,13 @@ fn feed_seat(seat: &mut Seat, clock: u64, payload: &Payload)
 }
 
 /// Queues a payload for each open subscriber.
-fn feed(table: &mut Table, clock: u64, payload: &Payload)
-    requires { clock < 2 ^ 62 }
-    ensures table { SubscribersFed clock payload.now.items table.old table.new }
-    ensures stays { UseTheSame table.old table.new }
+pub fn feed(seats: &mut [Seat], clock: u64, payload: &[u8])
+    requires early { clock < 2 ^ 62 }
+    requires fits { length payload.now ≤ 1456 }
+    ensures { AreFed clock payload.now seats.old seats.new }
 {
-    for at in 0..table.seats.len() {
-        feed_seat(&mut table.seats[at], clock, payload);
+    for at in 0..seats.len() {
+        feed_seat(&mut seats[at], clock, payload);
     }
 }
 
@@ -89,86 +92,52 @@ fn room_after(mode: Mode, room: u32) -> u32
     }
 }
 
-/// Writes the next payload of the publisher with these buffers into `payload` and queues it for each open subscriber.
-/// Returns false if none is due.
-fn deliver_next(
-    table: &mut Table,
-    second: bool,
-    clock: u64,
-    room: u32,
-    payload: &mut Payload,
-) -> bool
+/// Lends the publisher's next payload to each open subscriber, who copies it, and notes that it was delivered. Returns
+/// false if none is due.
+fn pass_on(publisher: &mut Publisher, seats: &mut [Seat], clock: u64, room: u32) -> bool
     requires { clock < 2 ^ 62 }
-    ensures given { GivesNext second clock room table.old result }
-    ensures table { TurnsTo second clock room table.old table.new }
+    ensures given { HoldsOfAt clock publisher.old (λ terms time q. result ≡ is_some (next_delivery terms time room q)) }
+    ensures publisher { BecomesAt clock publisher.old publisher.new (λ terms time q. after_delivery terms (next_delivery terms time room q) q) }
+    ensures seats { HoldsOfAt clock publisher.old (λ terms time q. AreGiven clock (next_delivery terms time room q) seats.old seats.new) }
+    ensures same_length { length seats.new ≡ length seats.old }
+    ensures stays { UseSameBuffers seats.old seats.new }
+{
+    let Some(payload) = publisher.next_due(clock, room) else {
+        return false;
+    };
+    feed(seats, clock, payload);
+    publisher.note_delivered(clock, room)
+}
+
+/// Queues the next payload of the publisher with these buffers for each open subscriber. Returns false if none is due.
+fn deliver_next(table: &mut Table, which: PublisherBuffers, clock: u64, room: u32) -> bool
+    requires { clock < 2 ^ 62 }
+    ensures given { GivesNext which clock room table.old result }
+    ensures table { TurnsTo which clock room table.old table.new }
     ensures stays { UseTheSame table.old table.new }
 {
-    if !table.publishers[place_of(second)].deliver(clock, room, payload) {
-        return false;
-    }
-    feed(table, clock, payload);
-    true
+    let publisher = &mut table.publishers[which.place()];
+    pass_on(publisher, &mut table.seats, clock, room)
 }
 
 /// Queues the due payloads of the publisher with these buffers for each open subscriber, one by one: at most 64.
-fn deliver_each(table: &mut Table, second: bool, clock: u64, room: u32, payload: &mut Payload)
+fn deliver_each(table: &mut Table, which: PublisherBuffers, clock: u64, room: u32)
     requires { clock < 2 ^ 62 }
-    ensures table { PassesOn second clock room table.old table.new }
+    ensures table { PassesOn which clock room table.old table.new }
     ensures stays { UseTheSame table.old table.new }
 {
     let mut room = room;
-    for turn in 0..PAYLOADS_MAX {
-        if !deliver_next(table, second, clock, room, payload) {
+    for turn in 0..MAX_PAYLOADS {
+        if !deliver_next(table, which, clock, room) {
             return;
         }
         room = room_after(table.mode, room);
     }
 }
 
-/// Passes over the due payloads of a publisher that stands by, at most 64. It has no subscribers, so its room is 0: in
-/// buffer mode nothing is delivered, and in live mode, where the room doesn't count, what is due.
-fn stand_by(publisher: &mut Publisher, clock: u64)
-    requires { clock < 2 ^ 62 }
-    ensures { PublisherStoodBy clock publisher.old publisher.new }
-{
-    for turn in 0..PAYLOADS_MAX {
-        if !publisher.pass_over(clock) {
-            return;
-        }
-    }
-}
-
-/// Passes over the due payloads of the publisher that stands by while the one with these buffers is active.
-fn deliver_standby(table: &mut Table, active: bool, clock: u64)
-    requires { clock < 2 ^ 62 }
-    ensures { StandsBy active clock table.old table.new }
-{
-    let second = !active;
-    if !have_publisher(&table.seats, second) {
-        return;
-    }
-    stand_by(&mut table.publishers[place_of(second)], clock);
-}
-
-/// Whether the active publisher uses the second buffers; None if no publisher is open. Of two open ones the one that
-/// was opened first is active, else the only one.
-pub fn active_buffers(table: &Table) -> Option<bool>
-    ensures none { result ≡ None → HasNone table.now }
-    ensures some { (second : Bool) → result ≡ Some second → IsActiveOf table.now second }
-{
-    let older = table.second_is_older;
-    if have_publisher(&table.seats, older) {
-        return Some(older);
-    }
-    if have_publisher(&table.seats, !older) {
-        return Some(!older);
-    }
-    None
-}
-
 /// The number of payloads that fit into the send buffer of every open subscriber in buffer mode, 0 if none is open. In
 /// live mode, where the room doesn't count, no seat is looked at.
-fn room_of_all(table: &Table) -> u32
+pub fn room_of_all(table: &Table) -> u32
     ensures { IsRoomOfAll table.now result }
 {
     match table.mode {
@@ -177,9 +146,9 @@ fn room_of_all(table: &Table) -> u32
     }
 }
 
-/// Delivers the payloads that are due, at most 64 of each publisher, each by way of `payload`. In buffer mode a payload
-/// is delivered only if every open subscriber has room for it and at least one is open.
-pub fn deliver(table: &mut Table, clock: u64, payload: &mut Payload)
+/// Delivers the payloads that are due, at most 64 of each publisher, each by one copy for each open subscriber. In buffer
+/// mode a payload is delivered only if every open subscriber has room for it and at least one is open.
+pub fn deliver(table: &mut Table, clock: u64)
     requires early { clock < 2 ^ 62 }
     ensures { TableBecomes clock table.old table.new (λ e. delivered e clock) }
 {
@@ -187,6 +156,6 @@ pub fn deliver(table: &mut Table, clock: u64, payload: &mut Payload)
         return;
     };
     let room = room_of_all(table);
-    deliver_each(table, active, clock, room, payload);
+    deliver_each(table, active, clock, room);
     deliver_standby(table, active, clock);
 }

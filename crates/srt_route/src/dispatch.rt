@@ -9,20 +9,21 @@ ghost use Rattle.srt_sub.specs.Endings.{is_ended, is_shutdown};
 ghost use Rattle.srt_sub.specs.Stands.{texts_of};
 ghost use Rattle.srt_route.specs.Buffers.{datagrams_to};
 ghost use Rattle.srt_route.specs.Tables.{stored_after, written_of};
-ghost use Rattle.srt_route.specs.OneSession.{PublisherTook, PublisherEndsFor, SubscriberTook, SubscriberAnswers};
+ghost use Rattle.srt_route.specs.inside.OneSession.{PublisherTook, PublisherEndsFor, SubscriberTook, SubscriberAnswers};
 ghost use Rattle.srt_packet.specs.Reading.{packet_in};
 ghost use Rattle.srt_route.specs.Ledgers.{CountsStay};
 ghost use Rattle.srt_route.specs.Ends.{Ends, arrived_end, destined_end, read_end, item_end};
 ghost use Rattle.srt_route.specs.Totals.{SumsGrow};
 ghost use Rattle.srt_route.specs.Tallies.{Tallies, item_tally, packet_tally, read_tally};
-ghost use Rattle.srt_route.specs.Calls.{AnswersItem, AnswersPacket, TakenBySession, TakesDatagram, TakesItem, TakesPacket};
+ghost use Rattle.srt_route.specs.inside.Calls.{AnswersItem, AnswersPacket, TakenBySession, TakesDatagram, TakesItem, TakesPacket};
 
 use crate::admission::conclude;
 use crate::arrival::Arrival;
-use crate::closing::close_seats;
+use crate::closing::{close_seats, tell_lost};
 use crate::conclusion::conclusion_in;
+use crate::draining::{drains_after, end_unless};
+use crate::files::{note_end, of_libsrt, shutdown_end};
 use crate::ledger::{Ledger, cause_of, shutdown_cause};
-use crate::places::place_of;
 use crate::replies::Reply;
 use crate::reply_queue::ReplyQueue;
 use crate::seat::Seat;
@@ -73,18 +74,18 @@ fn hear_subscriber(
     requires { arrival.clock < 2 ^ 62 }
     ensures subscriber { SubscriberTook arrival.clock (packet_of packet.now) seat.old.subscriber seat.new.subscriber }
     ensures generation { seat.new.generation ≡ seat.old.generation }
-    ensures session { seat.new.session ≡ stored_after (is_shutdown (body_of packet.now.kind)) arrival.clock seat.old.session }
+    ensures session { seat.new.session ≡ stored_after (is_shutdown (body_of packet.now.kind)) None arrival.clock seat.old.session }
     ensures answer { SubscriberAnswers arrival.clock arrival.peer (packet_of packet.now) seat.old.subscriber (written_of (given result reply.new)) }
 {
     let took = seat
         .subscriber
         .datagram(packet, arrival.clock, &mut reply.packet);
-    seat.keep_or_end(arrival.clock, is_ended(took));
+    seat.keep_or_end(arrival.clock, is_ended(took), None);
     answer_of(arrival.peer, took, reply)
 }
 
 /// Applies a packet with a destination to the open session with this ID, if the sender is that session's peer. Returns
-/// true if `reply` has an answer.
+/// true if `reply` has an answer: a subscriber's, or the SHUTDOWN of a publisher's session that ends by a lost window.
 fn to_session(
     table: &mut Table,
     ledger: &mut Ledger,
@@ -94,7 +95,7 @@ fn to_session(
 ) -> bool
     requires { arrival.clock < 2 ^ 62 }
     ensures taken { TakenBySession arrival (packet_of packet.now) table.old table.new (written_of (given result reply.new)) }
-    ensures ends { Ends arrival.clock (λ e index. arrived_end e index arrival.peer (packet_of packet.now)) table.old ledger.old ledger.new }
+    ensures ends { Ends arrival.clock (λ e index. arrived_end e index arrival.clock arrival.peer (packet_of packet.now)) table.old ledger.old ledger.new }
     ensures counts { CountsStay ledger.old ledger.new }
     ensures sums { SumsGrow ledger.old.totals ledger.new.totals }
 {
@@ -106,15 +107,21 @@ fn to_session(
         return false;
     }
     if table.seats[at].has_publisher() {
-        let second = table.seats[at].uses_second();
-        let end = hear_publisher(
-            &mut table.publishers[place_of(second)],
-            arrival.clock,
-            packet,
-        );
+        let which = table.seats[at].used_buffers();
+        let drains = drains_after(table, at, &packet.kind, arrival.clock);
+        let heard = hear_publisher(&mut table.publishers[which.place()], arrival.clock, packet);
+        let end = end_unless(drains, heard);
         ledger.note(table, at, cause_of(end), arrival.clock);
-        table.seats[at].keep_or_end(arrival.clock, end.is_some());
-        return false;
+        let told = tell_lost(
+            &table.seats[at],
+            table.rules.callers,
+            end,
+            arrival.clock,
+            reply,
+        );
+        table.seats[at].keep_or_end(arrival.clock, end.is_some(), drains);
+        note_end(table, of_libsrt(table.rules.callers, shutdown_end(end)));
+        return told;
     }
     ledger.note(table, at, shutdown_cause(&packet.kind), arrival.clock);
     hear_subscriber(&mut table.seats[at], arrival, packet, reply)
@@ -133,7 +140,7 @@ fn to_destination(
     requires early { arrival.clock < 2 ^ 62 }
     ensures table { TakesPacket arrival (packet_of packet.now) table.old table.new }
     ensures answer { AnswersPacket arrival (packet_of packet.now) table.old (written_of (given result reply.new)) }
-    ensures ends { Ends arrival.clock (λ e index. destined_end e index arrival.peer (packet_of packet.now)) table.old ledger.old ledger.new }
+    ensures ends { Ends arrival.clock (λ e index. destined_end e index arrival.clock arrival.peer (packet_of packet.now)) table.old ledger.old ledger.new }
     ensures tally { Tallies arrival.clock (λ e sessions. packet_tally e arrival.peer (packet_of packet.now) sessions) table.old ledger.old ledger.new }
     ensures sums { SumsGrow ledger.old.totals ledger.new.totals }
 {
@@ -162,7 +169,7 @@ fn take_datagram(
 ) -> bool
     requires { clock < 2 ^ 62 }
     ensures taken { TakesDatagram clock peer (head.now ++ body.now) table.old table.new (written_of (given result reply.new)) }
-    ensures ends { Ends clock (λ e index. read_end e index peer (packet_in (head.now ++ body.now))) table.old ledger.old ledger.new }
+    ensures ends { Ends clock (λ e index. read_end e index clock peer (packet_in (head.now ++ body.now))) table.old ledger.old ledger.new }
     ensures tally { Tallies clock (λ e sessions. read_tally e peer (packet_in (head.now ++ body.now)) sessions) table.old ledger.old ledger.new }
     ensures sums { SumsGrow ledger.old.totals ledger.new.totals }
 {
@@ -191,7 +198,7 @@ pub fn dispatch(
     requires { clock < 2 ^ 62 }
     ensures table { TakesItem clock (told item.now) table.old table.new }
     ensures said { AnswersItem clock (told item.now) table.old waiting.old waiting.new }
-    ensures ends { Ends clock (λ e index. item_end e index (told item.now)) table.old ledger.old ledger.new }
+    ensures ends { Ends clock (λ e index. item_end e index clock (told item.now)) table.old ledger.old ledger.new }
     ensures tally { Tallies clock (λ e sessions. item_tally e (told item.now) sessions) table.old ledger.old ledger.new }
     ensures sums { SumsGrow ledger.old.totals ledger.new.totals }
 {

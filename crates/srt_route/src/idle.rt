@@ -1,75 +1,155 @@
-//! Step 2 of an event: sessions whose peer is idle end, and subscribers drop what is too late to send (sections 4.5 and
-//! 4.6).
+//! Step 2 of an event: sessions whose peer is idle end, and are told if the callers speak libsrt; subscribers drop what is
+//! too late to send (sections 4.5 and 4.6); and a publisher that stands by takes over if it is due.
 
 ghost use Rattle.std.specs.Prelude.{◌≡◌, ◌<◌, ◌^◌, true, false};
 ghost use Rattle.srt_route.specs.Buffers.{ExpiresTo};
-ghost use Rattle.srt_route.specs.Tables.{session_passes, peer_idle, is_kept_subscriber, stored_aged, with_stored};
-ghost use Rattle.srt_route.specs.Calls.{AgesTo};
+ghost use Rattle.srt_route.specs.Tables.{session_passes, peer_idle, is_kept_subscriber, is_stored_over, stored_aged, with_stored};
+ghost use Rattle.srt_route.specs.Ledgers.{idle_cause, time_cause};
+ghost use Rattle.srt_route.specs.inside.Calls.{AdvancesTo, AgesTo, TellsIdle};
+ghost use Rattle.srt_route.specs.inside.OneSession.{shutdowns_if};
+ghost use Rattle.srt_route.specs.inside.Reports.{Queues};
 
-use crate::seat::Seat;
+use crate::closing::tell_end;
+use crate::files::{note_end, of_libsrt, silent_end};
+use crate::ledger::EndCause;
+use crate::replies::Reply;
+use crate::reply_queue::ReplyQueue;
+use crate::seat::{Seat, Session, count_publishers, publishes};
+use crate::standby::take_over;
 use crate::table::Table;
-use srt_seq::Role;
+use srt_seq::Callers;
 use srt_seq::limits::PEER_IDLE_TIMEOUT_US;
 
+/// Whether time ends the session: its peer sent nothing for five seconds, or it drains and its time is over.
+fn is_over(session: &Session, clock: u64) -> bool
+    ensures { result ≡ is_stored_over clock session.now }
+{
+    match session.drains {
+        Some(until) => clock >= until,
+        None => clock.saturating_sub(session.heard) >= PEER_IDLE_TIMEOUT_US,
+    }
+}
+
+/// The cause of an end by time.
+fn time_cause(drains: Option<u64>) -> EndCause
+    ensures { result ≡ time_cause drains }
+{
+    match drains {
+        Some(_) => EndCause::DrainedTooLong,
+        None => EndCause::Silence,
+    }
+}
+
 impl Seat {
-    /// Whether the session's peer sent nothing for five seconds.
-    pub fn peer_idle(&self, clock: u64) -> bool
+    /// Whether the session's peer sent nothing for five seconds; nothing is heard of a session that drains.
+    fn peer_idle(&self, clock: u64) -> bool
         ensures { result ≡ session_passes (peer_idle clock) self.now.session }
     {
         match &self.session {
-            Some(session) => clock.saturating_sub(session.heard) >= PEER_IDLE_TIMEOUT_US,
+            Some(session) => match session.drains {
+                Some(_) => false,
+                None => clock.saturating_sub(session.heard) >= PEER_IDLE_TIMEOUT_US,
+            },
             None => false,
         }
     }
 
-    /// Closes the session if its peer is idle. No packet is sent.
-    fn end_if_idle(&mut self, clock: u64)
+    /// Why time ends the session, if it does: its peer sent nothing for five seconds, or it drains for too long.
+    pub fn end_by_time(&self, clock: u64) -> Option<EndCause>
+        ensures { result ≡ idle_cause clock self.now.session }
+    {
+        match &self.session {
+            Some(session) => {
+                if is_over(session, clock) {
+                    Some(time_cause(session.drains))
+                } else {
+                    None
+                }
+            }
+            None => None,
+        }
+    }
+
+    /// Closes the session if it is over.
+    fn end_if_over(&mut self, clock: u64)
         ensures { self.new ≡ with_stored (stored_aged clock self.old.session) self.old }
     {
-        if self.peer_idle(clock) {
+        if self.is_over(clock) {
             self.session = None;
         }
     }
 
-    /// Whether a subscriber's session is open here and isn't idle.
+    fn is_over(&self, clock: u64) -> bool
+        ensures { result ≡ session_passes (is_stored_over clock) self.now.session }
+    {
+        match &self.session {
+            Some(session) => is_over(session, clock),
+            None => false,
+        }
+    }
+
+    /// Whether a subscriber's session is open here and isn't over.
     fn is_kept_subscriber(&self, clock: u64) -> bool
         ensures { result ≡ session_passes (is_kept_subscriber clock) self.now.session }
     {
         match &self.session {
-            Some(session) => {
-                clock.saturating_sub(session.heard) < PEER_IDLE_TIMEOUT_US
-                    && !matches!(session.role, Role::Publish)
-            }
+            Some(session) => !is_over(session, clock) && !publishes(session.role),
             None => false,
         }
     }
 }
 
-/// Advances the time of one seat.
-fn pass_time(seat: &mut Seat, clock: u64)
+/// Advances the time of one seat. Queues the SHUTDOWN of a session that ends, if the callers speak libsrt.
+fn pass_time(
+    seat: &mut Seat,
+    clock: u64,
+    callers: Callers,
+    hand: &mut Box<Reply>,
+    waiting: &mut ReplyQueue,
+)
     requires { clock < 2 ^ 62 }
     ensures generation { seat.new.generation ≡ seat.old.generation }
     ensures session { seat.new.session ≡ stored_aged clock seat.old.session }
     ensures expires { session_passes (is_kept_subscriber clock) seat.old.session ≡ true → ExpiresTo clock seat.old.subscriber seat.new.subscriber }
     ensures stays { session_passes (is_kept_subscriber clock) seat.old.session ≡ false → seat.new.subscriber ≡ seat.old.subscriber }
+    ensures said { Queues waiting.old waiting.new (shutdowns_if callers (session_passes (peer_idle clock) seat.old.session) clock seat.old.session) }
 {
     if seat.is_kept_subscriber(clock) {
         seat.subscriber.expire(clock);
         return;
     }
-    seat.end_if_idle(clock);
+    let ends = seat.peer_idle(clock);
+    tell_end(seat, callers, ends, clock, hand, waiting);
+    seat.end_if_over(clock);
 }
 
-/// Advances the time to this clock, in microseconds: closes sessions whose peer sent nothing for five seconds, and lets
-/// the other subscribers drop what is too late.
-pub fn end_idle(table: &mut Table, clock: u64)
+/// Advances the time to this clock, in microseconds: closes sessions whose peer sent nothing for five seconds, slots
+/// upwards, and lets the other subscribers drop what is too late.
+fn end_idle(table: &mut Table, clock: u64, hand: &mut Box<Reply>, waiting: &mut ReplyQueue)
     requires early { clock < 2 ^ 62 }
-    ensures { AgesTo clock table.old table.new }
+    ensures table { AgesTo clock table.old table.new }
+    ensures said { TellsIdle clock table.old waiting.old waiting.new }
 {
     let places = table.seats.len();
+    let callers = table.rules.callers;
     let mut at = 0;
     while at < places {
-        pass_time(&mut table.seats[at], clock);
+        pass_time(&mut table.seats[at], clock, callers, hand, waiting);
         at += 1;
     }
+}
+
+/// Advances the time to this clock, in microseconds: ends idle sessions, lets the other subscribers drop what is too
+/// late, and after all ends lets the publisher that stands by take over, if it is due. Where the callers speak libsrt, the
+/// others keep it if a publisher's session ended.
+pub fn advance(table: &mut Table, clock: u64, hand: &mut Box<Reply>, waiting: &mut ReplyQueue)
+    requires early { clock < 2 ^ 62 }
+    ensures table { AdvancesTo clock table.old table.new }
+    ensures said { TellsIdle clock table.old waiting.old waiting.new }
+{
+    let before = count_publishers(&table.seats);
+    end_idle(table, clock, hand, waiting);
+    let end = silent_end(before, count_publishers(&table.seats));
+    take_over(table, clock);
+    note_end(table, of_libsrt(table.rules.callers, end));
 }

@@ -1,11 +1,28 @@
 //! Laws of the definitions.
 
+ghost use Rattle.srt_route.specs.Acknowledged.{DeliversAll, DeliversInOrder, EndsAtOnce, EndsDrained, FeedsAll, FrontsStay, OneAloneDelivers, PointsStay};
+ghost use Rattle.srt_route.specs.Activity.{ActiveGoesOn, OneIsActive, OneDelivers, OpensBehind, StandbyLeads, StaysActive};
 ghost use Rattle.srt_route.specs.Bounds.{TwoPublish, NoMoreThanSlots, OneInASlot, NoneElsewhere, OneOfACaller};
 ghost use Rattle.srt_route.specs.Closed.{ClosesOnce, ClosedHasNoSession, ClosedIsQuiet};
+ghost use Rattle.srt_route.specs.Drafts.{NoneDrains};
+ghost use Rattle.srt_route.specs.Limits.{FewOfAnAddress, KeepsSlots, NoneIsKeptFromPublishers, PublishersHaveSlots};
+ghost use Rattle.srt_route.specs.Queues.{QueuesGoOn};
 ghost use Rattle.srt_route.specs.Relabel.{Renumbers, Restamps, Moves};
+ghost use Rattle.srt_route.specs.Resends.{ResendsFew};
 ghost use Rattle.srt_route.specs.Route.{RepliesHavePlaces};
 ghost use Rattle.srt_route.specs.Sendable.{PublishersSendPackets, SubscribersSendPackets, AnswersArePackets, RepliesArePackets};
-ghost use Rattle.srt_route.specs.ShiftLaws.{ShiftGoesRound, FourBytesAreTheWord, PacketsShift, LengthsStay, LossesShift, HandshakesShift, ConclusionsShift, PacketsRestamp, CountsStay, StampsStay, PublishersHearTheSame, SubscribersHearTheSame, PublishersSayOthers, SubscribersSayOthers, AnswersSayOthers, ConclusionsHaveFewWords};
+ghost use Rattle.srt_route.specs.ShiftLaws.{ShiftGoesRound, FourBytesAreTheWord, PacketsShift, LengthsStay, LossesShift, HandshakesShift};
+ghost use Rattle.srt_route.specs.ShiftLaws.{ConclusionsShift, PacketsRestamp, CountsStay, StampsStay, PublishersHearTheSame};
+ghost use Rattle.srt_route.specs.ShiftLaws.{SubscribersHearTheSame, PublishersSayOthers, SubscribersSayOthers, AnswersSayOthers};
+ghost use Rattle.srt_route.specs.ShiftLaws.{ConclusionsHaveFewWords};
+
+use crate::route::Route;
+
+/// A subscriber of a route with a limit on resends is sent few packets again: at every moment a hundred times these
+/// packets are at most 6400, the limit times its new packets, and a hundred for each 20 ms since its session's opening.
+pub fn resends(route: &Route)
+    ensures { ResendsFew route.now }
+{}
 
 /// An item has no more replies than the queue of waiting replies holds.
 pub fn replies_have_places()
@@ -22,13 +39,65 @@ pub fn replies_are_packets()
 {}
 
 /// Whatever a route's terms are and whatever came, at most two of its open sessions publish. No more sessions are open
-/// than it has slots, at most one in each slot and none elsewhere, and at most one is open of each caller.
+/// than it has slots, at most one in each slot and none elsewhere; and of each caller at most one is open that doesn't
+/// drain.
 pub fn open_sessions()
     ensures publishers { TwoPublish }
     ensures sessions { NoMoreThanSlots }
     ensures slots { OneInASlot }
     ensures elsewhere { NoneElsewhere }
     ensures callers { OneOfACaller }
+{}
+
+/// Where a route's callers follow the draft no session ever drains, whatever its items are: each publisher's ends by its
+/// own SHUTDOWN at once.
+pub fn draft()
+    ensures { NoneDrains }
+{}
+
+/// In buffer mode, whatever a route's items are, no acknowledgement point that an ACK told a publisher, a Full or a
+/// Light one, is past its present point (`points`). A publisher delivers the numbers from its front on, one after
+/// another, and the front moves behind the last of them (`order`), and with no packet that comes (`fronts`); so all
+/// that it ever delivered are the numbers below its front, in order and each once (`all`). Nobody but the active
+/// publisher delivers (`one`), and each subscriber that is open while an event delivers gets all payloads that it
+/// delivers, in order (`fed`). Where the callers speak libsrt and the active publisher's session ends by its own
+/// SHUTDOWN, at once (`at_once`) or after it drained and not by time (`drained`), each point that it was told is at
+/// most its front: every number below the point was received and delivered.
+pub fn acknowledged()
+    ensures points { PointsStay }
+    ensures order { DeliversInOrder }
+    ensures fronts { FrontsStay }
+    ensures all { DeliversAll }
+    ensures one { OneAloneDelivers }
+    ensures fed { FeedsAll }
+    ensures at_once { EndsAtOnce }
+    ensures drained { EndsDrained }
+{}
+
+/// A route keeps its limits, whatever its items are. The free slots and the open publishers are together at least as
+/// many as the slots that are kept for publishers; so while fewer publishers are open, no publisher is refused because
+/// no slot is free, and none ever because the free ones are kept. No IP address has more open sessions than one may
+/// have.
+pub fn limits()
+    ensures slots { KeepsSlots }
+    ensures publishers { PublishersHaveSlots }
+    ensures kept { NoneIsKeptFromPublishers }
+    ensures addresses { FewOfAnAddress }
+{}
+
+/// Whatever a route's items are, exactly one of its open publishers is active, if any is open: after each item, and
+/// while an event delivers. As time advances the active one stays active while it is open; a take-over makes the other
+/// one active; and a publisher that opens while one is active stands by. So over a whole event the active one stays
+/// active while its session is open, if no take-over is due. Whoever is active, what is queued for a
+/// subscriber goes on with what the active one delivers, in order: no number is left out, and none is used again.
+pub fn activity()
+    ensures one { OneIsActive }
+    ensures delivers { OneDelivers }
+    ensures stays { StaysActive }
+    ensures next { StandbyLeads }
+    ensures behind { OpensBehind }
+    ensures goes_on { ActiveGoesOn }
+    ensures queues { QueuesGoOn }
 {}
 
 /// A route with a Close among its items is closed. It has no open session; and whatever comes, it replies to nothing

@@ -6,9 +6,10 @@ ghost use Rattle.std.specs.Prelude.{◌≡◌, ◌<◌, ℕ, None, Some, length,
 ghost use Rattle.srt_packet.specs.View.{body_of};
 ghost use Rattle.srt_route.specs.Tallies.{no_tally, tally_of};
 ghost use Rattle.srt_route.specs.Totals.{with_traffic};
-ghost use Rattle.srt_route.specs.Ledgers.{Notes, NotesEach, cause_of, closed_cause, entry_of, idle_cause, heard_at_end, refused_by, with_opening, with_refusal, shutdown_cause};
+ghost use Rattle.srt_route.specs.Ledgers.{Notes, NotesEach, cause_of, closed_cause, drained_cause, entry_of, file_cause, idle_cause, heard_at_end, refused_by};
+ghost use Rattle.srt_route.specs.Ledgers.{refused_for, with_opening, with_refusal, shutdown_cause};
 
-use crate::seat::Seat;
+use crate::refusals::RefusalCause;
 use crate::table::Table;
 use crate::totals::Totals;
 use crate::view::SessionView;
@@ -30,6 +31,12 @@ pub enum EndCause {
     WindowLost,
     /// Its route was closed.
     Closed,
+    /// A subscriber's in buffer mode, where the callers speak libsrt: the file is over, and it acknowledged all of it.
+    FileEnded,
+    /// A publisher's where the callers speak libsrt: its peer sent a SHUTDOWN, and then all that had come was delivered.
+    Drained,
+    /// A publisher's where the callers speak libsrt: its peer sent a SHUTDOWN, and what had come wasn't delivered in time.
+    DrainedTooLong,
 }
 
 /// A session that ended.
@@ -43,7 +50,7 @@ pub struct EndedSession {
     pub moment: u64,
 }
 
-/// Conclusions that a route refused, by reason. Each count stops at 2^64 - 1.
+/// Conclusions that a route refused, by cause. Each count stops at 2^64 - 1.
 #[derive(Clone, Copy)]
 pub(crate) struct Refusals {
     /// 1002: a third publisher.
@@ -54,6 +61,10 @@ pub(crate) struct Refusals {
     pub rogue: u64,
     /// 1012: the flag STREAM and the route's mode differ.
     pub message_api: u64,
+    /// 1003: the address has as many open sessions as it may have.
+    pub address: u64,
+    /// 1003: the free slots are kept for publishers.
+    pub reserved: u64,
 }
 
 /// What a route keeps of what is over.
@@ -90,15 +101,22 @@ pub(crate) fn shutdown_cause(kind: &Kind<'_>) -> Option<EndCause>
     }
 }
 
-/// The cause of an idle session's end at this clock; None where none is open, or where its peer was heard of.
-fn idle_cause(seat: &Seat, clock: u64) -> Option<EndCause>
-    ensures { result ≡ idle_cause clock seat.now.session }
+/// The cause of a subscriber's end if it has the whole file.
+pub(crate) fn file_cause(whole: bool) -> Option<EndCause>
+    ensures { result ≡ file_cause whole }
 {
-    if seat.peer_idle(clock) {
-        Some(EndCause::Silence)
+    if whole {
+        Some(EndCause::FileEnded)
     } else {
         None
     }
+}
+
+/// The cause of a draining session's end if nothing is left.
+pub(crate) fn drained_cause(ends: bool) -> Option<EndCause>
+    ensures { result ≡ drained_cause ends }
+{
+    if ends { Some(EndCause::Drained) } else { None }
 }
 
 /// When the peer of a session was last heard of: a session that ends by a packet was heard of at its end.
@@ -110,6 +128,9 @@ fn heard_at_end(cause: EndCause, heard: u64, moment: u64) -> u64
         EndCause::WindowLost => moment,
         EndCause::Silence => heard,
         EndCause::Closed => heard,
+        EndCause::FileEnded => heard,
+        EndCause::Drained => heard,
+        EndCause::DrainedTooLong => heard,
     }
 }
 
@@ -128,6 +149,8 @@ impl Ledger {
                 resource: 0,
                 rogue: 0,
                 message_api: 0,
+                address: 0,
+                reserved: 0,
             },
         }
     }
@@ -139,32 +162,48 @@ impl Ledger {
         self.opened = self.opened.saturating_add(1);
     }
 
-    /// Counts a conclusion that was refused for this reason; of one that a route never gives, none is counted.
-    pub fn refuse(&mut self, reason: RefusalCode)
-        ensures { self.new ≡ with_refusal reason self.old }
+    /// Counts a conclusion that was refused for this cause.
+    pub fn refuse(&mut self, cause: RefusalCause)
+        ensures { self.new ≡ with_refusal cause self.old }
     {
         let refusals = &mut self.refusals;
-        match reason {
-            RefusalCode::Peer => refusals.peer = refusals.peer.saturating_add(1),
-            RefusalCode::Resource => refusals.resource = refusals.resource.saturating_add(1),
-            RefusalCode::Rogue => refusals.rogue = refusals.rogue.saturating_add(1),
-            RefusalCode::MessageApi => {
+        match cause {
+            RefusalCause::Peer => refusals.peer = refusals.peer.saturating_add(1),
+            RefusalCause::Address => refusals.address = refusals.address.saturating_add(1),
+            RefusalCause::Resource => refusals.resource = refusals.resource.saturating_add(1),
+            RefusalCause::Reserved => refusals.reserved = refusals.reserved.saturating_add(1),
+            RefusalCause::Rogue => refusals.rogue = refusals.rogue.saturating_add(1),
+            RefusalCause::MessageApi => {
                 refusals.message_api = refusals.message_api.saturating_add(1)
             }
-            RefusalCode::Version => {}
-            RefusalCode::Unsecure => {}
-            RefusalCode::Filter => {}
-            RefusalCode::Group => {}
         }
     }
 
-    /// The conclusions that were refused for this reason.
-    pub fn refused(&self, reason: RefusalCode) -> u64
-        ensures { result ≡ refused_by reason self.now.refusals }
+    /// The conclusions that were refused for this cause.
+    pub fn refused_for(&self, cause: RefusalCause) -> u64
+        ensures { result ≡ refused_for cause self.now.refusals }
     {
-        match reason {
+        match cause {
+            RefusalCause::Peer => self.refusals.peer,
+            RefusalCause::Address => self.refusals.address,
+            RefusalCause::Resource => self.refusals.resource,
+            RefusalCause::Reserved => self.refusals.reserved,
+            RefusalCause::Rogue => self.refusals.rogue,
+            RefusalCause::MessageApi => self.refusals.message_api,
+        }
+    }
+
+    /// The conclusions that were refused with this code; 0 for one that a route never gives.
+    pub fn refused(&self, code: RefusalCode) -> u64
+        ensures { result ≡ refused_by code self.now.refusals }
+    {
+        match code {
             RefusalCode::Peer => self.refusals.peer,
-            RefusalCode::Resource => self.refusals.resource,
+            RefusalCode::Resource => self
+                .refusals
+                .resource
+                .saturating_add(self.refusals.address)
+                .saturating_add(self.refusals.reserved),
             RefusalCode::Rogue => self.refusals.rogue,
             RefusalCode::MessageApi => self.refusals.message_api,
             RefusalCode::Version => 0,
@@ -177,7 +216,13 @@ impl Ledger {
     /// Keeps a session that ended as the last one of its slot, and adds what it counted to the sums.
     fn put(&mut self, at: usize, session: EndedSession)
         requires { at < 17 }
-        ensures { self.new ≡ record { ended = slice_set self.old.ended at (Some session); totals = with_traffic session.view.traffic self.old.totals; opened = self.old.opened; refusals = self.old.refusals } }
+        ensures { self.new
+            ≡ record {
+              ended = slice_set self.old.ended at (Some session);
+              totals = with_traffic session.view.traffic self.old.totals;
+              opened = self.old.opened;
+              refusals = self.old.refusals;
+            } }
     {
         self.totals = self.totals.with(&session.view.traffic);
         self.ended[at] = Some(session);
@@ -215,12 +260,12 @@ impl Ledger {
         }
     }
 
-    /// Notes the end of each session whose peer is idle at this clock, before any of them ends.
+    /// Notes the end of each session that time ends at this clock, before any of them ends.
     pub fn note_idle(&mut self, table: &Table, clock: u64)
         ensures { NotesEach (idle_cause clock) clock table.now self.old self.new }
     {
         for at in 0..table.seats.len() {
-            self.note(table, at, idle_cause(&table.seats[at], clock), clock);
+            self.note(table, at, table.seats[at].end_by_time(clock), clock);
         }
     }
 

@@ -1,27 +1,27 @@
 //! What a route tells of sessions that ended: each cause, in slots that are used again and where a publisher stands by;
 //! and what it counts.
 
-use crate::tests::{FIRST, HSREQ, PUBLISH, REQUEST, SECOND, conclusion, peer, studio};
+use crate::tests::{FIRST, PUBLISHES, PUBLISHES_A_STREAM, REQUESTS, SECOND, peer, studio};
 use crate::{EndCause, EndedSession, Reply, Route, SessionView, Traffic};
 use srt_hs::RefusalCode;
+use srt_samples::{Block, Caller, Sample, conclusion, data_packet, shutdown};
 use srt_seq::{Item, Peer, Role};
 use std::process::Abort;
 use std::test::Fail;
 
-/// A data packet with number 5, sent one millisecond after its conclusion.
-const DATA: &str = "00000005e0000001000003e8001000006869";
+/// The socket IDs of the first sessions in slots 0, 1 and 2, and of the second one in slot 0.
+pub(crate) const SLOT_0: u32 = 0x10_0000;
 
-/// A data packet with number 1029: with a window of 1024 packets from number 5 it is the first one past it.
-const PAST_THE_WINDOW: &str = "00000405e0000001000003e8001000006869";
+pub(crate) const SLOT_1: u32 = 0x10_0001;
 
-/// SHUTDOWNs to the first sessions in slots 0, 1 and 2, and to the second one in slot 0.
-const TO_SLOT_0: &str = "80050000000000000000000000100000";
+pub(crate) const SLOT_2: u32 = 0x10_0002;
 
-const TO_SLOT_1: &str = "80050000000000000000000000100001";
+const SLOT_0_AGAIN: u32 = 0x10_0100;
 
-const TO_SLOT_2: &str = "80050000000000000000000000100002";
-
-const TO_SLOT_0_AGAIN: &str = "80050000000000000000000000100100";
+/// A data packet with this number, sent one millisecond after its conclusion.
+fn media<'a>(number: u32) -> Sample<'a> {
+    data_packet(number).stamp(1_000).to(SLOT_0).payload(b"hi")
+}
 
 /// Takes all replies that wait, up to a hundred.
 fn drain(rt: &(impl AllocGlobal + Abort), route: &mut Route) -> Result<(), Fail> {
@@ -33,7 +33,11 @@ fn drain(rt: &(impl AllocGlobal + Abort), route: &mut Route) -> Result<(), Fail>
 }
 
 /// Gives a route this item, which comes early, and drops its replies.
-fn give(rt: &(impl AllocGlobal + Abort), route: &mut Route, item: &Item) -> Result<(), Fail> {
+pub(crate) fn give(
+    rt: &(impl AllocGlobal + Abort),
+    route: &mut Route,
+    item: &Item,
+) -> Result<(), Fail> {
     let moment = match item {
         Item::Tick { moment } => *moment,
         Item::Close { moment } => *moment,
@@ -52,14 +56,14 @@ fn give(rt: &(impl AllocGlobal + Abort), route: &mut Route, item: &Item) -> Resu
 }
 
 /// Gives a route these bytes of a peer at this moment.
-fn tell(
+pub(crate) fn tell(
     rt: &(impl AllocGlobal + Abort),
     route: &mut Route,
     moment: u64,
     from: Peer,
-    text: &str,
+    sample: Sample<'_>,
 ) -> Result<(), Fail> {
-    let bytes = hex::decode(rt.alloc(), text)?;
+    let bytes = sample.bytes(rt.alloc())?;
     if bytes.len() < 16 {
         return Err(Fail::from("a header"));
     }
@@ -75,14 +79,13 @@ fn tell(
 }
 
 /// Opens a session of the caller 1 at this port, one second after the route's opening.
-fn open(
+pub(crate) fn open(
     rt: &(impl AllocGlobal + Abort),
     route: &mut Route,
     port: u16,
-    wants: &str,
+    wants: &[Block<'_>],
 ) -> Result<(), Fail> {
-    let text = conclusion(rt.alloc(), FIRST, &[HSREQ, wants])?;
-    tell(rt, route, 1_000_000, peer(port), text.as_str())
+    tell(rt, route, 1_000_000, peer(port), conclusion(FIRST, wants))
 }
 
 /// Asserts the end of a session that opened at one second: its port, socket ID, cause and moment.
@@ -108,10 +111,16 @@ fn assert_ended(
 #[test]
 fn a_shutdown_of_a_publisher_is_told(rt: HostRuntime) -> Result<(), Fail> {
     let mut route = studio(rt.alloc())?;
-    open(&rt, &mut route, 5000, PUBLISH)?;
+    open(&rt, &mut route, 5000, &PUBLISHES)?;
     assert!(rt; route.ended(0).is_none());
-    tell(&rt, &mut route, 1_100_000, peer(5000), DATA)?;
-    tell(&rt, &mut route, 1_200_000, peer(5000), TO_SLOT_0)?;
+    tell(&rt, &mut route, 1_100_000, peer(5000), media(5))?;
+    tell(
+        &rt,
+        &mut route,
+        1_200_000,
+        peer(5000),
+        shutdown().to(SLOT_0),
+    )?;
     let end = route.ended(0);
     let view = assert_ended(&rt, end, 5000, 0x10_0000, EndCause::Shutdown, 1_200_000)?;
     assert!(rt; view.role == Role::Publish && view.is_active);
@@ -127,9 +136,15 @@ fn a_shutdown_of_a_publisher_is_told(rt: HostRuntime) -> Result<(), Fail> {
 #[test]
 fn a_shutdown_of_a_subscriber_is_told(rt: HostRuntime) -> Result<(), Fail> {
     let mut route = studio(rt.alloc())?;
-    open(&rt, &mut route, 5000, PUBLISH)?;
-    open(&rt, &mut route, 5001, REQUEST)?;
-    tell(&rt, &mut route, 1_300_000, peer(5001), TO_SLOT_1)?;
+    open(&rt, &mut route, 5000, &PUBLISHES)?;
+    open(&rt, &mut route, 5001, &REQUESTS)?;
+    tell(
+        &rt,
+        &mut route,
+        1_300_000,
+        peer(5001),
+        shutdown().to(SLOT_1),
+    )?;
     let end = route.ended(1);
     let view = assert_ended(&rt, end, 5001, 0x10_0001, EndCause::Shutdown, 1_300_000)?;
     assert!(rt; view.role == Role::Request && !view.is_active);
@@ -141,7 +156,7 @@ fn a_shutdown_of_a_subscriber_is_told(rt: HostRuntime) -> Result<(), Fail> {
 #[test]
 fn silence_is_told(rt: HostRuntime) -> Result<(), Fail> {
     let mut route = studio(rt.alloc())?;
-    open(&rt, &mut route, 5000, REQUEST)?;
+    open(&rt, &mut route, 5000, &REQUESTS)?;
     give(&rt, &mut route, &Item::Tick { moment: 5_999_999 })?;
     assert!(rt; route.ended(0).is_none());
     give(&rt, &mut route, &Item::Tick { moment: 6_000_000 })?;
@@ -154,25 +169,63 @@ fn silence_is_told(rt: HostRuntime) -> Result<(), Fail> {
 #[test]
 fn a_lost_window_is_told(rt: HostRuntime) -> Result<(), Fail> {
     let mut route = studio(rt.alloc())?;
-    open(&rt, &mut route, 5000, PUBLISH)?;
-    tell(&rt, &mut route, 1_400_000, peer(5000), PAST_THE_WINDOW)?;
+    open(&rt, &mut route, 5000, &PUBLISHES)?;
+    tell(&rt, &mut route, 1_400_000, peer(5000), media(1029))?;
     let end = route.ended(0);
     let view = assert_ended(&rt, end, 5000, 0x10_0000, EndCause::WindowLost, 1_400_000)?;
     assert_eq!(rt; view.heard, 1_400_000);
     match view.traffic {
-        Traffic::Received(x) => assert_eq!(rt; (x.counts.came, x.counts.received), (1, 0)),
+        Traffic::Received(x) => {
+            assert_eq!(rt;
+                (x.counts.came, x.counts.received, x.counts.ahead),
+                (1, 0, 1)
+            )
+        }
         Traffic::Sent(_) => return Err(Fail::from("a publisher's counts")),
     }
+    let totals = route.totals();
+    assert_eq!(rt; (totals.received.ahead, totals.received.late), (1, 0));
+    Ok(())
+}
+
+/// An encoder asks to receive, and sends all the same.
+#[test]
+fn data_packets_that_come_to_a_subscriber_are_counted(rt: HostRuntime) -> Result<(), Fail> {
+    let mut route = studio(rt.alloc())?;
+    open(&rt, &mut route, 5000, &REQUESTS)?;
+    tell(&rt, &mut route, 1_100_000, peer(5000), media(5))?;
+    tell(&rt, &mut route, 1_200_000, peer(5000), media(5))?;
+    tell(
+        &rt,
+        &mut route,
+        1_300_000,
+        peer(5000),
+        shutdown().to(SLOT_0),
+    )?;
+    let end = route.ended(0);
+    let view = assert_ended(&rt, end, 5000, 0x10_0000, EndCause::Shutdown, 1_300_000)?;
+    match view.traffic {
+        Traffic::Received(_) => return Err(Fail::from("a subscriber's counts")),
+        Traffic::Sent(x) => assert_eq!(rt; (x.counts.misdirected, x.counts.queued), (2, 0)),
+    }
+    let totals = route.totals();
+    assert_eq!(rt; (totals.queued.misdirected, totals.received.came), (2, 0));
     Ok(())
 }
 
 #[test]
 fn a_close_is_told_of_each_session(rt: HostRuntime) -> Result<(), Fail> {
     let mut route = studio(rt.alloc())?;
-    open(&rt, &mut route, 5000, PUBLISH)?;
-    open(&rt, &mut route, 5001, PUBLISH)?;
-    open(&rt, &mut route, 5002, REQUEST)?;
-    tell(&rt, &mut route, 1_100_000, peer(5002), TO_SLOT_2)?;
+    open(&rt, &mut route, 5000, &PUBLISHES)?;
+    open(&rt, &mut route, 5001, &PUBLISHES)?;
+    open(&rt, &mut route, 5002, &REQUESTS)?;
+    tell(
+        &rt,
+        &mut route,
+        1_100_000,
+        peer(5002),
+        shutdown().to(SLOT_2),
+    )?;
     give(&rt, &mut route, &Item::Close { moment: 2_000_000 })?;
     let end = route.ended(0);
     let active = assert_ended(&rt, end, 5000, 0x10_0000, EndCause::Closed, 2_000_000)?;
@@ -192,14 +245,26 @@ fn a_close_is_told_of_each_session(rt: HostRuntime) -> Result<(), Fail> {
 #[test]
 fn a_slot_tells_the_last_session_that_ended_in_it(rt: HostRuntime) -> Result<(), Fail> {
     let mut route = studio(rt.alloc())?;
-    open(&rt, &mut route, 5000, REQUEST)?;
-    tell(&rt, &mut route, 1_000_000, peer(5000), TO_SLOT_0)?;
-    open(&rt, &mut route, 5003, PUBLISH)?;
+    open(&rt, &mut route, 5000, &REQUESTS)?;
+    tell(
+        &rt,
+        &mut route,
+        1_000_000,
+        peer(5000),
+        shutdown().to(SLOT_0),
+    )?;
+    open(&rt, &mut route, 5003, &PUBLISHES)?;
     assert_eq!(rt; route.opened(), 2);
     let end = route.ended(0);
     let first = assert_ended(&rt, end, 5000, 0x10_0000, EndCause::Shutdown, 1_000_000)?;
     assert!(rt; first.role == Role::Request);
-    tell(&rt, &mut route, 1_500_000, peer(5003), TO_SLOT_0_AGAIN)?;
+    tell(
+        &rt,
+        &mut route,
+        1_500_000,
+        peer(5003),
+        shutdown().to(SLOT_0_AGAIN),
+    )?;
     let end = route.ended(0);
     let second = assert_ended(&rt, end, 5003, 0x10_0100, EndCause::Shutdown, 1_500_000)?;
     assert!(rt; second.role == Role::Publish);
@@ -209,13 +274,25 @@ fn a_slot_tells_the_last_session_that_ended_in_it(rt: HostRuntime) -> Result<(),
 #[test]
 fn the_end_of_a_publisher_that_a_standby_follows_is_told(rt: HostRuntime) -> Result<(), Fail> {
     let mut route = studio(rt.alloc())?;
-    open(&rt, &mut route, 5000, PUBLISH)?;
-    open(&rt, &mut route, 5001, PUBLISH)?;
-    tell(&rt, &mut route, 1_200_000, peer(5000), TO_SLOT_0)?;
+    open(&rt, &mut route, 5000, &PUBLISHES)?;
+    open(&rt, &mut route, 5001, &PUBLISHES)?;
+    tell(
+        &rt,
+        &mut route,
+        1_200_000,
+        peer(5000),
+        shutdown().to(SLOT_0),
+    )?;
     let end = route.ended(0);
     let first = assert_ended(&rt, end, 5000, 0x10_0000, EndCause::Shutdown, 1_200_000)?;
     assert!(rt; first.is_active);
-    tell(&rt, &mut route, 1_200_000, peer(5001), TO_SLOT_1)?;
+    tell(
+        &rt,
+        &mut route,
+        1_200_000,
+        peer(5001),
+        shutdown().to(SLOT_1),
+    )?;
     let end = route.ended(1);
     let second = assert_ended(&rt, end, 5001, 0x10_0001, EndCause::Shutdown, 1_200_000)?;
     assert!(rt; second.is_active);
@@ -225,8 +302,8 @@ fn the_end_of_a_publisher_that_a_standby_follows_is_told(rt: HostRuntime) -> Res
 #[test]
 fn of_two_publishers_that_fall_silent_one_was_active(rt: HostRuntime) -> Result<(), Fail> {
     let mut route = studio(rt.alloc())?;
-    open(&rt, &mut route, 5000, PUBLISH)?;
-    open(&rt, &mut route, 5001, PUBLISH)?;
+    open(&rt, &mut route, 5000, &PUBLISHES)?;
+    open(&rt, &mut route, 5001, &PUBLISHES)?;
     give(&rt, &mut route, &Item::Tick { moment: 7_000_000 })?;
     let end = route.ended(0);
     let first = assert_ended(&rt, end, 5000, 0x10_0000, EndCause::Silence, 7_000_000)?;
@@ -253,23 +330,22 @@ fn refusals_are_counted_by_code(rt: HostRuntime) -> Result<(), Fail> {
     let alloc = rt.alloc();
     let mut route = studio(alloc)?;
     assert_refused(&rt, &route, [0, 0, 0, 0]);
-    let stream = conclusion(alloc, FIRST, &["0001000300010500000000ff00780078", PUBLISH])?;
-    tell(&rt, &mut route, 1_000_000, peer(5000), stream.as_str())?;
-    tell(&rt, &mut route, 1_000_000, peer(5000), stream.as_str())?;
+    let stream = conclusion(FIRST, &PUBLISHES_A_STREAM);
+    tell(&rt, &mut route, 1_000_000, peer(5000), stream)?;
+    tell(&rt, &mut route, 1_000_000, peer(5000), stream)?;
     assert_refused(&rt, &route, [0, 0, 0, 2]);
-    let fields = ["00000005", "0000004b", "00002000", "00000001"];
-    let small = conclusion(alloc, fields, &[HSREQ, PUBLISH])?;
-    tell(&rt, &mut route, 1_000_000, peer(5000), small.as_str())?;
+    let small = conclusion(Caller { mtu: 75, ..FIRST }, &PUBLISHES);
+    tell(&rt, &mut route, 1_000_000, peer(5000), small)?;
     assert_refused(&rt, &route, [0, 0, 1, 2]);
     assert_eq!(rt; route.opened(), 0);
-    open(&rt, &mut route, 5000, PUBLISH)?;
-    open(&rt, &mut route, 5001, PUBLISH)?;
-    open(&rt, &mut route, 5002, PUBLISH)?;
+    open(&rt, &mut route, 5000, &PUBLISHES)?;
+    open(&rt, &mut route, 5001, &PUBLISHES)?;
+    open(&rt, &mut route, 5002, &PUBLISHES)?;
     assert_refused(&rt, &route, [1, 0, 1, 2]);
-    open(&rt, &mut route, 5002, REQUEST)?;
-    open(&rt, &mut route, 5003, REQUEST)?;
-    open(&rt, &mut route, 5004, REQUEST)?;
-    open(&rt, &mut route, 5005, REQUEST)?;
+    open(&rt, &mut route, 5002, &REQUESTS)?;
+    open(&rt, &mut route, 5003, &REQUESTS)?;
+    open(&rt, &mut route, 5004, &REQUESTS)?;
+    open(&rt, &mut route, 5005, &REQUESTS)?;
     assert_refused(&rt, &route, [1, 1, 1, 2]);
     assert_eq!(rt; route.opened(), 5);
     Ok(())
@@ -279,15 +355,15 @@ fn refusals_are_counted_by_code(rt: HostRuntime) -> Result<(), Fail> {
 fn a_conclusion_that_comes_again_opens_nothing(rt: HostRuntime) -> Result<(), Fail> {
     let alloc = rt.alloc();
     let mut route = studio(alloc)?;
-    open(&rt, &mut route, 5000, PUBLISH)?;
-    open(&rt, &mut route, 5000, PUBLISH)?;
+    open(&rt, &mut route, 5000, &PUBLISHES)?;
+    open(&rt, &mut route, 5000, &PUBLISHES)?;
     // The same caller wants something that would be refused: it gets its first answer.
-    let stream = conclusion(alloc, FIRST, &["0001000300010500000000ff00780078", PUBLISH])?;
-    tell(&rt, &mut route, 1_000_000, peer(5000), stream.as_str())?;
+    let stream = conclusion(FIRST, &PUBLISHES_A_STREAM);
+    tell(&rt, &mut route, 1_000_000, peer(5000), stream)?;
     assert_eq!(rt; route.opened(), 1);
     assert_refused(&rt, &route, [0, 0, 0, 0]);
-    let second = conclusion(alloc, SECOND, &[HSREQ, PUBLISH])?;
-    tell(&rt, &mut route, 1_000_000, peer(5000), second.as_str())?;
+    let second = conclusion(SECOND, &PUBLISHES);
+    tell(&rt, &mut route, 1_000_000, peer(5000), second)?;
     assert_eq!(rt; route.opened(), 2);
     Ok(())
 }
@@ -309,23 +385,35 @@ fn assert_totals(rt: &(impl AllocGlobal + Abort), route: &Route, counts: [u64; 4
 #[test]
 fn totals_stay_when_sessions_end(rt: HostRuntime) -> Result<(), Fail> {
     let mut route = studio(rt.alloc())?;
-    open(&rt, &mut route, 5000, PUBLISH)?;
-    open(&rt, &mut route, 5001, REQUEST)?;
-    open(&rt, &mut route, 5002, REQUEST)?;
+    open(&rt, &mut route, 5000, &PUBLISHES)?;
+    open(&rt, &mut route, 5001, &REQUESTS)?;
+    open(&rt, &mut route, 5002, &REQUESTS)?;
     assert_totals(&rt, &route, [0, 0, 0, 0]);
-    tell(&rt, &mut route, 1_010_000, peer(5000), DATA)?;
+    tell(&rt, &mut route, 1_010_000, peer(5000), media(5))?;
     assert_totals(&rt, &route, [1, 0, 0, 0]);
     give(&rt, &mut route, &Item::Tick { moment: 1_200_000 })?;
     assert_totals(&rt, &route, [1, 1, 2, 2]);
-    tell(&rt, &mut route, 1_300_000, peer(5001), TO_SLOT_1)?;
+    tell(
+        &rt,
+        &mut route,
+        1_300_000,
+        peer(5001),
+        shutdown().to(SLOT_1),
+    )?;
     assert_totals(&rt, &route, [1, 1, 2, 2]);
-    tell(&rt, &mut route, 1_300_000, peer(5000), TO_SLOT_0)?;
+    tell(
+        &rt,
+        &mut route,
+        1_300_000,
+        peer(5000),
+        shutdown().to(SLOT_0),
+    )?;
     assert_totals(&rt, &route, [1, 1, 2, 2]);
     // Another publisher in the same slot and buffers.
-    let text = conclusion(rt.alloc(), FIRST, &[HSREQ, PUBLISH])?;
-    tell(&rt, &mut route, 1_400_000, peer(5003), text.as_str())?;
+    let conclusion = conclusion(FIRST, &PUBLISHES);
+    tell(&rt, &mut route, 1_400_000, peer(5003), conclusion)?;
     assert_totals(&rt, &route, [1, 1, 2, 2]);
-    let data = "00000005e0000001000003e8001001006869";
+    let data = media(5).to(SLOT_0_AGAIN);
     tell(&rt, &mut route, 1_410_000, peer(5003), data)?;
     assert_totals(&rt, &route, [2, 1, 2, 2]);
     give(&rt, &mut route, &Item::Close { moment: 1_420_000 })?;

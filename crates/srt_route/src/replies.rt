@@ -1,10 +1,12 @@
-//! The packets that a route sends.
+//! The packets that a route sends, and boxes for them.
 
-ghost use Rattle.std.specs.Prelude.{◌≡◌, []};
+ghost use Rattle.std.specs.Prelude.{◌≡◌, ◌≤◌, [], length, IfOk};
+ghost use Rattle.std.specs.Vec.{vec_capacity};
 ghost use Rattle.srt_packet.specs.Encoded.{bytes_of};
 
 use srt_packet::EncodedPacket;
 use srt_seq::Peer;
+use std::alloc::{AllocError, Global};
 
 /// A packet that a route sends, with its receiver.
 #[derive(Drop)]
@@ -28,4 +30,17 @@ impl Reply {
             packet: EncodedPacket::new(),
         }
     }
+}
+
+/// `count` boxes with blank replies, in a vector with capacity for all of them. Allocates them; an error keeps none
+/// of them.
+pub fn blank_boxes(alloc: Global, count: usize) -> Result<Vec<Box<Reply>>, AllocError>
+    ensures count { IfOk result (λ boxes. length boxes.items ≡ count) }
+    ensures room { IfOk result (λ boxes. count ≤ vec_capacity boxes) }
+{
+    let mut boxes = Vec::with_capacity(alloc, count)?;
+    while boxes.len() < count {
+        boxes.push(Box::new(alloc, Reply::blank())?)?;
+    }
+    Ok(boxes)
 }

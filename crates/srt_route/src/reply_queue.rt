@@ -4,7 +4,7 @@ ghost use Rattle.std.specs.Prelude.{◌≡◌, ◌↔◌, ◌+◌, ◌<◌, ◌�
 ghost use Rattle.std.specs.Vec.{vec_capacity};
 ghost use Rattle.std.specs.VecDeque.{deque_capacity};
 
-use crate::replies::Reply;
+use crate::replies::{Reply, blank_boxes};
 use srt_seq::Peer;
 use std::alloc::{AllocError, Global};
 use std::collections::VecDeque;
@@ -50,7 +50,7 @@ impl ReplyQueue {
     ghost use Rattle.srt_packet.specs.Encoded.{bytes_of};
     ghost use Rattle.srt_pub.specs.Calls.{texts, listed};
     ghost use Rattle.srt_route.specs.Buffers.{datagrams_to};
-    ghost use Rattle.srt_route.specs.Reports.{Queues};
+    ghost use Rattle.srt_route.specs.inside.Reports.{Queues};
     ghost use Rattle.srt_route.specs.Tables.{written_of};
     ghost use Rattle.srt_route.specs.Waits.{replies_of, places_of};
 
@@ -60,10 +60,7 @@ impl ReplyQueue {
         ensures room { IfOk result (λ w. places_of w ≡ places) }
     {
         let replies = VecDeque::with_capacity(alloc, places)?;
-        let mut spare = Vec::with_capacity(alloc, places)?;
-        while spare.len() < places {
-            spare.push(Box::new(alloc, Reply::blank())?)?;
-        }
+        let spare = blank_boxes(alloc, places)?;
         Ok(ReplyQueue { replies, spare })
     }
 

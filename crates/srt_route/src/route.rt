@@ -1,37 +1,40 @@
-//! An event of a route, in six steps; docs/PROTOCOL.md, "A route", has them in words.
+//! A route's state, and an event of it in six steps; docs/PROTOCOL.md, "A route", has them in words.
 
-ghost use Rattle.std.specs.Prelude.{◌≡◌, ◌↔◌, ℕ, ◌+◌, ◌*◌, ◌<◌, ◌≤◌, ◌^◌, ◌++◌, ◌∷◌, [], List, length, None, Some, Err, IfOk, IfErr, map, max, true, false};
-ghost use Rattle.srt_seq.specs.declared.shared.OpenFault.{OpenFault as TheFault};
-ghost use Rattle.srt_seq.specs.Given.{given};
-ghost use Rattle.srt_seq.specs.Terms.{Terms, terms_of};
-ghost use Rattle.srt_seq.specs.Items.{Item as TheItem, told, moment_of};
-ghost use Rattle.srt_route.specs.Opening.{fault_of};
-ghost use Rattle.srt_route.specs.Written.{written};
-ghost use Rattle.srt_route.specs.Sessions.{Session as TheSession, is_publisher, is_subscriber, open_publishers, reported};
-ghost use Rattle.srt_route.specs.Route.{Route as TheRoute, sent, after, taken_by, delivered, packets_where, closes, reply};
-ghost use Rattle.srt_route.specs.Tables.{written_of};
-ghost use Rattle.srt_route.specs.Waits.{replies_of, places_of};
-ghost use Rattle.srt_route.specs.Reports.{AreSaid};
-ghost use Rattle.srt_route.specs.Ledgers.{ended_in};
-ghost use Rattle.srt_route.specs.Ends.{KeepsEnds};
-ghost use Rattle.srt_route.specs.Totals.{SumsGrow, totals_of_ended};
-ghost use Rattle.srt_route.specs.Tallies.{no_tally, tally_after, tally_in};
-ghost use Rattle.srt_route.specs.Stands.{IsRoute, stands, waiting, places};
+ghost use Rattle.std.specs.Prelude.{◌≡◌, ◌<◌, ◌^◌, max};
+ghost use Rattle.srt_seq.specs.Items.{told, moment_of};
+ghost use Rattle.srt_route.specs.Route.{closes};
 
-use crate::delivery::deliver;
 use crate::dispatch::dispatch;
-use crate::idle::end_idle;
+use crate::draining::deliver_and_settle;
+use crate::idle::advance;
 use crate::ledger::Ledger;
 use crate::opening::check_entry;
 use crate::replies::Reply;
 use crate::reply_queue::{ReplyQueue, ScratchBoxes};
 use crate::seat::count_publishers;
-use crate::state::Route;
 use crate::table::Table;
 use crate::transmit::{transmit_publishers, transmit_subscribers};
-use arrayvec::ArrayVec;
 use srt_seq::{Entry, Item, OpenFault};
 use std::alloc::Global;
+
+/// A route: its sessions and their buffers, and the replies that wait. It takes no memory after `open`. What every event
+/// reads stands first and together, in a few cache lines.
+#[derive(Drop)]
+pub struct Route {
+    /// The greatest moment of any item so far, in microseconds.
+    pub(crate) clock: u64,
+    /// Whether the route was closed. Then no session is open, and only the clock goes on.
+    pub(crate) closed: bool,
+    /// The replies that wait to be sent.
+    pub(crate) waiting: ReplyQueue,
+    /// The sessions and their buffers.
+    pub(crate) table: Table,
+    /// The boxes that an event writes its packets into.
+    pub(crate) scratch: ScratchBoxes,
+    /// What is kept of sessions that ended, and what is counted.
+    pub(crate) ledger: Ledger,
+    pub(crate) ghost early: { clock < 2 ^ 62 },
+}
 
 /// The later of two moments.
 fn later(clock: u64, moment: u64) -> u64
@@ -64,6 +67,20 @@ fn closes(item: &Item) -> bool
 }
 
 impl Route {
+    ghost use Rattle.std.specs.Prelude.{◌↔◌, ℕ, ◌+◌, ◌*◌, ◌∷◌, [], List, length, None, Some, Err, IfOk, IfErr, true, false};
+    ghost use Rattle.srt_seq.specs.declared.shared.OpenFault.{OpenFault as TheFault};
+    ghost use Rattle.srt_seq.specs.Terms.{Terms, terms_of};
+    ghost use Rattle.srt_seq.specs.Items.{Item as TheItem};
+    ghost use Rattle.srt_route.specs.Opening.{fault_of};
+    ghost use Rattle.srt_route.specs.Written.{written};
+    ghost use Rattle.srt_route.specs.Sessions.{open_publishers};
+    ghost use Rattle.srt_route.specs.Route.{after, reply};
+    ghost use Rattle.srt_route.specs.Ledgers.{ended_in};
+    ghost use Rattle.srt_route.specs.Ends.{KeepsEnds};
+    ghost use Rattle.srt_route.specs.Totals.{SumsGrow, totals_of_ended};
+    ghost use Rattle.srt_route.specs.Tallies.{no_tally, tally_after, tally_in};
+    ghost use Rattle.srt_route.specs.Stands.{stands, waiting, places};
+
     /// A route without sessions, at clock 0. `index` is the route's position in the configuration, below 511. Takes all
     /// memory that the route will ever need: the buffers of its sessions, 66 replies for each session and 4 more, and 4
     /// scratch boxes. Errors: `Names` if the name has a wrong form, else `Limits` if the index or a number is outside
@@ -90,7 +107,6 @@ impl Route {
         Ok(Route {
             clock: 0,
             table,
-            payload: ArrayVec::new(),
             scratch,
             waiting,
             closed: false,
@@ -120,9 +136,14 @@ impl Route {
             return 0;
         }
         self.closed = closes(item);
-        // 2: idle sessions end, and what is too late is dropped.
+        // 2: idle sessions end, what is too late is dropped, and the publisher that stands by takes over if it is due.
         self.ledger.note_idle(&self.table, self.clock);
-        end_idle(&mut self.table, self.clock);
+        advance(
+            &mut self.table,
+            self.clock,
+            &mut self.scratch.reply,
+            &mut self.waiting,
+        );
         // 3: a datagram is for a session, or is a conclusion; a Close ends every session.
         dispatch(
             &mut self.table,
@@ -132,8 +153,8 @@ impl Route {
             &mut self.scratch.reply,
             &mut self.waiting,
         );
-        // 4: payloads go from the active publisher to the subscribers.
-        deliver(&mut self.table, self.clock, &mut self.payload);
+        // 4: payloads go from the active publisher to the subscribers; one that drains ends once nothing is left.
+        deliver_and_settle(&mut self.table, &mut self.ledger, self.clock);
         // 5: the publishers' packets.
         transmit_publishers(
             &mut self.table,
@@ -141,9 +162,10 @@ impl Route {
             &mut self.scratch,
             &mut self.waiting,
         );
-        // 6: the subscribers' packets.
+        // 6: the subscribers' packets, or the end of a session that has a whole file.
         transmit_subscribers(
             &mut self.table,
+            &mut self.ledger,
             self.clock,
             &mut self.scratch.reply,
             &mut self.waiting,

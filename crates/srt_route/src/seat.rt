@@ -4,9 +4,11 @@ ghost use Rattle.std.specs.Prelude.{◌≡◌, ℕ, ◌+◌, ◌*◌, ◌%◌, �
 ghost use Rattle.std.specs.List.{list_any};
 ghost use Rattle.srt_seq.specs.Given.{given};
 ghost use Rattle.srt_route.specs.Sessions.{is_same_peer, publishes};
-ghost use Rattle.srt_route.specs.Tables.{is_session_of, session_passes, holds, has_publisher, has_subscriber, uses_second, publishes_from, is_vacant, heard_at, again_of, is_stored_for, stored_after, with_stored, written_of};
+ghost use Rattle.srt_route.specs.Tables.{is_session_of, session_passes, holds, has_address, has_publisher, has_subscriber, used_buffers, publishes_from};
+ghost use Rattle.srt_route.specs.Tables.{has_draining, has_speaker, is_vacant, heard_at, again_of, is_stored_for, stored_after, with_stored, written_of};
 
 use crate::answer::answer_to;
+use crate::publisher_buffers::PublisherBuffers;
 use crate::replies::Reply;
 use srt_hs::HsAnswer;
 use srt_seq::{Peer, Role};
@@ -23,13 +25,18 @@ pub struct Session {
     pub id: u32,
     /// Whether the caller publishes or subscribes.
     pub role: Role,
-    /// Whether a publisher's session uses the second of the route's two publisher buffers; without meaning for a
-    /// subscriber.
-    pub second: bool,
+    /// Which of the route's two publisher buffers a publisher's session uses; without meaning for a subscriber.
+    pub buffers: PublisherBuffers,
     /// The moment at which it was opened, in microseconds: its packets' timestamps count from it.
     pub opened: u64,
     /// The moment of the last packet or conclusion from the peer, in microseconds.
     pub heard: u64,
+    /// Of a publisher's session that drains the moment at which it ends if something is left to deliver by then, in
+    /// microseconds; it drains from its SHUTDOWN on.
+    pub drains: Option<u64>,
+    /// Whether a publisher's session ended while this one was open, and the last of them by its own SHUTDOWN; where the
+    /// callers speak libsrt.
+    pub file_ended: bool,
     /// The answer to its conclusion, kept to answer a repeated conclusion with the same bytes (section 4.3.1.2).
     pub answer: HsAnswer,
 }
@@ -65,7 +72,11 @@ impl Seat {
         ensures { result ≡ holds peer caller self.now }
     {
         match &self.session {
-            Some(session) => is_same_peer(session.peer, peer) && session.caller == caller,
+            Some(session) => {
+                is_same_peer(session.peer, peer)
+                    && session.caller == caller
+                    && session.drains.is_none()
+            }
             None => false,
         }
     }
@@ -88,6 +99,32 @@ impl Seat {
         if self.has_publisher() { 1 } else { 0 }
     }
 
+    /// The number of sessions of this address that are open here, whatever the port: 1 or 0.
+    fn sessions_from(&self, peer: Peer) -> usize
+        ensures value { result ≡ (if has_address peer.ip self.now then 1 else 0) }
+        ensures small { result ≤ 1 }
+    {
+        if self.has_address(peer) { 1 } else { 0 }
+    }
+
+    /// Whether a session of this address is open here, whatever the port.
+    fn has_address(&self, peer: Peer) -> bool
+        ensures { result ≡ has_address peer.ip self.now }
+    {
+        match &self.session {
+            Some(session) => session.peer.ip == peer.ip,
+            None => false,
+        }
+    }
+
+    /// The number of sessions that are missing here: 1 or 0.
+    fn vacancies(&self) -> usize
+        ensures value { result ≡ (if is_vacant self.now then 1 else 0) }
+        ensures small { result ≤ 1 }
+    {
+        if self.is_vacant() { 1 } else { 0 }
+    }
+
     /// Whether a subscriber's session is open here.
     pub fn has_subscriber(&self) -> bool
         ensures { result ≡ has_subscriber self.now }
@@ -98,23 +135,22 @@ impl Seat {
         }
     }
 
-    /// Whether the session here uses the second publisher buffers; false if none is open.
-    pub fn uses_second(&self) -> bool
-        ensures { result ≡ uses_second self.now }
+    /// The publisher buffers that the session here uses; the first if none is open.
+    pub fn used_buffers(&self) -> PublisherBuffers
+        ensures { result ≡ used_buffers self.now }
     {
         match &self.session {
-            Some(session) => session.second,
-            None => false,
+            Some(session) => session.buffers,
+            None => PublisherBuffers::First,
         }
     }
 
-    /// Whether a publisher's session with these buffers is open here: with the second ones if `second`, else with the
-    /// first.
-    fn publishes_from(&self, second: bool) -> bool
-        ensures { result ≡ publishes_from second self.now }
+    /// Whether a publisher's session with these buffers is open here.
+    fn publishes_from(&self, which: PublisherBuffers) -> bool
+        ensures { result ≡ publishes_from which self.now }
     {
         match &self.session {
-            Some(session) => publishes(session.role) && session.second == second,
+            Some(session) => publishes(session.role) && session.buffers.same_as(which),
             None => false,
         }
     }
@@ -165,14 +201,17 @@ impl Seat {
         ensures { result ≡ session_passes (is_stored_for peer dest) self.now.session }
     {
         match &self.session {
-            Some(session) => is_same_peer(session.peer, peer) && session.id == dest,
+            Some(session) => {
+                is_same_peer(session.peer, peer) && session.id == dest && session.drains.is_none()
+            }
             None => false,
         }
     }
 
-    /// After a packet for the session: closes it if `ends`, else updates the time at which it was last heard of.
-    pub fn keep_or_end(&mut self, clock: u64, ends: bool)
-        ensures { self.new ≡ with_stored (stored_after ends clock self.old.session) self.old }
+    /// After a packet for the session: closes it if `ends`, else updates the time at which it was last heard of; it drains
+    /// from then on if there is a moment until which it does.
+    pub fn keep_or_end(&mut self, clock: u64, ends: bool, drains: Option<u64>)
+        ensures { self.new ≡ with_stored (stored_after ends drains clock self.old.session) self.old }
     {
         if ends {
             self.session = None;
@@ -180,6 +219,28 @@ impl Seat {
         }
         if let Some(session) = &mut self.session {
             session.heard = clock;
+            session.drains = drains;
+        }
+    }
+
+    /// Whether a publisher's session is open here that sends packets: one that drains sends none.
+    pub fn speaks(&self) -> bool
+        ensures { result ≡ has_speaker self.now }
+    {
+        match &self.session {
+            Some(session) => publishes(session.role) && session.drains.is_none(),
+            None => false,
+        }
+    }
+
+    /// The number of sessions that drain here: 1 or 0.
+    fn draining(&self) -> usize
+        ensures value { result ≡ (if has_draining self.now then 1 else 0) }
+        ensures small { result ≤ 1 }
+    {
+        match &self.session {
+            Some(session) => { if session.drains.is_some() { 1 } else { 0 } }
+            None => 0,
         }
     }
 }
@@ -202,12 +263,44 @@ pub fn count_publishers(seats: &[Seat]) -> usize
     count
 }
 
-/// Whether a publisher's session with these buffers is open in any seat: with the second ones if `second`, else with
-/// the first.
-pub fn have_publisher(seats: &[Seat], second: bool) -> bool
-    ensures { result ≡ list_any (publishes_from second) seats.now }
+/// The number of open sessions of this address, whatever their ports.
+pub fn count_from(seats: &[Seat], peer: Peer) -> usize
+    ensures { result ≡ count_by (has_address peer.ip) seats.now }
 {
-    seats.iter().any(|seat| seat.publishes_from(second))
+    let mut count = 0;
+    for at in 0..seats.len() {
+        count += seats[at].sessions_from(peer);
+    }
+    count
+}
+
+/// The number of open sessions that drain.
+pub fn count_draining(seats: &[Seat]) -> usize
+    ensures { result ≡ count_by has_draining seats.now }
+{
+    let mut count = 0;
+    for at in 0..seats.len() {
+        count += seats[at].draining();
+    }
+    count
+}
+
+/// The number of free slots.
+pub fn count_vacant(seats: &[Seat]) -> usize
+    ensures { result ≡ count_by is_vacant seats.now }
+{
+    let mut count = 0;
+    for at in 0..seats.len() {
+        count += seats[at].vacancies();
+    }
+    count
+}
+
+/// Whether a publisher's session with these buffers is open in any seat.
+pub fn have_publisher(seats: &[Seat], which: PublisherBuffers) -> bool
+    ensures { result ≡ list_any (publishes_from which) seats.now }
+{
+    seats.iter().any(|seat| seat.publishes_from(which))
 }
 
 /// The first slot without a session.

@@ -3,7 +3,7 @@
 ghost use Rattle.std.specs.Prelude.{◌≡◌, ℕ, ◌%◌, ◌<◌};
 ghost use Rattle.srt_route.specs.Sessions.{id_of};
 
-/// The socket ID of a session (this profile): index + 1 at bit 20, the generation modulo 4096 at bit 8, and the slot in
+/// The socket ID of a session (our choice): index + 1 at bit 20, the generation modulo 4096 at bit 8, and the slot in
 /// the low 8 bits.
 pub fn id_at(index: u32, generation: u16, at: usize) -> u32
     requires index { index < 511 }

@@ -2,7 +2,7 @@
 
 ghost use Rattle.std.specs.Prelude.{◌<◌, ◌^◌};
 ghost use Rattle.srt_seq.specs.Window.{word_of};
-ghost use Rattle.srt_route.specs.OneSession.{BeginsUnder, PublisherBegins, SubscriberBegins};
+ghost use Rattle.srt_route.specs.inside.OneSession.{BeginsUnder, PublisherBegins, SubscriberBegins};
 
 use crate::agreement::Agreement;
 use crate::arrival::Arrival;
@@ -12,7 +12,7 @@ use srt_pub::Publisher;
 use srt_seq::{Role, Seq31, Stamp32};
 use srt_sub::Subscriber;
 
-/// A publisher's session opens, with the delay that was agreed.
+/// A publisher's session opens, with the delay that was agreed and the rules of the route.
 fn start_publisher(
     publisher: &mut Publisher,
     arrival: Arrival,
@@ -30,10 +30,11 @@ fn start_publisher(
         caller,
         mode: agreement.mode,
         delay,
+        callers: agreement.rules.callers,
     });
 }
 
-/// A subscriber's session opens, with what was agreed.
+/// A subscriber's session opens, with what was agreed and the rules of the route.
 fn start_subscriber(
     subscriber: &mut Subscriber,
     clock: u64,
@@ -52,6 +53,7 @@ fn start_subscriber(
         mode: agreement.mode,
         mtu: agreement.mtu,
         window: c.window,
+        resend_percent: agreement.rules.resend_percent,
     });
 }
 

@@ -2,9 +2,10 @@
 
 ghost use Rattle.std.specs.Prelude.{◌≡◌, ◌<◌, ◌≤◌, [], None, length, IfOk, IfErr};
 
+use crate::publisher_buffers::PublisherBuffers;
 use crate::seat::Seat;
 use srt_pub::Publisher;
-use srt_seq::{Entry, Mode, OpenFault};
+use srt_seq::{Entry, Mode, OpenFault, Rules};
 use srt_sub::Subscriber;
 use std::alloc::{AllocError, Global};
 
@@ -20,14 +21,14 @@ pub struct Table {
     pub latency_ms: u16,
     /// The size of each session's window, in packets: 32 to 8192.
     pub buffer: u32,
+    /// What the route does beyond the draft.
+    pub rules: Rules,
     /// A seat for each slot: at most 17.
     pub seats: Vec<Seat>,
     /// The buffers of two publishers' sessions, the first and the second; meaningless while no session uses them.
     pub publishers: Vec<Publisher>,
-    /// Whether of two open publishers the one with the second buffers was opened first. The one that was opened first is
-    /// active, and the other stands by. A publisher that is open alone is active, whatever this says: so if the active
-    /// one ends, the other takes over by that alone.
-    pub second_is_older: bool,
+    /// The buffers of the active one of two open publishers: see `standby.rt`.
+    pub leading: PublisherBuffers,
     pub ghost index_below: { index < 511 },
     pub ghost few: { length seats.items ≤ 17 },
     pub ghost two: { length publishers.items ≡ 2 },
@@ -77,9 +78,10 @@ impl Table {
             mode: entry.mode,
             latency_ms: entry.latency_ms as u16,
             buffer: entry.buffer,
+            rules: entry.rules,
             seats,
             publishers,
-            second_is_older: false,
+            leading: PublisherBuffers::First,
         })
     }
 }

@@ -2,16 +2,59 @@
 //! it is arbitrary here.
 
 use crate::{Reply, Route, SessionView, Traffic};
-use srt_seq::{Entry, Item, Mode, OpenFault, Peer, Role};
+use srt_samples::{
+    Block, Caller, Handshake, Offer, Phase, Sample, conclusion, data_packet, first_difference,
+    handshake_packet, keep_alive, shutdown,
+};
+use srt_seq::{Access, Entry, Item, Mode, OpenFault, Peer, Role, Rules};
 use std::alloc::Global;
 use std::process::Abort;
 use std::test::Fail;
 
-pub(crate) const PUBLISH: &str = "000500063a3a212374733d726f696475703d6d2c696c627500006873";
+const HSREQ: Block<'static> = Block::Request(Offer {
+    version: 0x1_0500,
+    flags: 0xbf,
+    receiver_ms: 120,
+    sender_ms: 120,
+});
 
-pub(crate) const REQUEST: &str = "000500026475747300006f69";
+/// With the flag for messages in a stream, which is refused.
+const STREAM: Block<'static> = Block::Request(Offer {
+    version: 0x1_0500,
+    flags: 0xff,
+    receiver_ms: 120,
+    sender_ms: 120,
+});
 
-pub(crate) const HSREQ: &str = "0001000300010500000000bf00780078";
+const PUBLISH: Block<'static> = Block::StreamId("#!::r=studio,m=publish");
+
+const REQUEST: Block<'static> = Block::StreamId("studio");
+
+/// The blocks of a publisher, of one whose flags are refused, and of a subscriber.
+pub(crate) const PUBLISHES: [Block<'static>; 2] = [HSREQ, PUBLISH];
+
+pub(crate) const PUBLISHES_A_STREAM: [Block<'static>; 2] = [STREAM, PUBLISH];
+
+pub(crate) const REQUESTS: [Block<'static>; 2] = [HSREQ, REQUEST];
+
+pub(crate) const FIRST: Caller = Caller {
+    id: 1,
+    initial: 5,
+    mtu: 1500,
+    window: 8192,
+    cookie: 0x1234_5678,
+};
+
+pub(crate) const SECOND: Caller = Caller {
+    id: 2,
+    initial: 9,
+    mtu: 1500,
+    window: 8192,
+    cookie: 0x1234_5678,
+};
+
+/// The socket ID of the first session in slot 0.
+const SLOT_0: u32 = 0x10_0000;
 
 pub(crate) fn peer(port: u16) -> Peer {
     let mut ip = [0u8; 16];
@@ -22,7 +65,7 @@ pub(crate) fn peer(port: u16) -> Peer {
     Peer { ip, port }
 }
 
-fn entry(alloc: Global, name: &str, mode: Mode) -> Result<Entry, Fail> {
+pub(crate) fn entry(alloc: Global, name: &str, mode: Mode) -> Result<Entry, Fail> {
     let buffer = match mode {
         Mode::Live => 1024,
         Mode::Buffer => 32,
@@ -35,6 +78,8 @@ fn entry(alloc: Global, name: &str, mode: Mode) -> Result<Entry, Fail> {
         sessions: 5,
         inbox: 16,
         outbox: 16,
+        access: Access::anyone(),
+        rules: Rules::DRAFT,
     })
 }
 
@@ -45,46 +90,37 @@ pub(crate) fn studio(alloc: Global) -> Result<Route, Fail> {
     }
 }
 
-/// The concatenation of these texts.
-fn joined(alloc: Global, parts: &[&str]) -> Result<String, Fail> {
-    let mut text = String::new(alloc);
-    for part in parts {
-        text.push_str(part)?;
-    }
-    Ok(text)
-}
-
-/// A conclusion with this initial number, MTU, flow window and caller's ID, all of 8 digits.
-pub(crate) fn conclusion(
-    alloc: Global,
-    fields: [&str; 4],
-    blocks: &[&str],
-) -> Result<String, Fail> {
-    let blocks = joined(alloc, blocks)?;
-    joined(
-        alloc,
-        &[
-            "800000000000000000000000000000000000000500000005",
-            fields[0],
-            fields[1],
-            fields[2],
-            "ffffffff",
-            fields[3],
-            "1234567800000000000000000000000000000000",
-            blocks.as_str(),
-        ],
-    )
-}
-
-/// Asserts what the route replies to these bytes; an empty text means no reply.
-fn assert_told(
+/// Asserts that the route replies this to a datagram.
+fn assert_answered(
     rt: &(impl AllocGlobal + Abort),
     route: &mut Route,
     from: Peer,
-    text: &str,
-    answer: &str,
+    sample: Sample<'_>,
+    answer: Sample<'_>,
 ) -> Result<(), Fail> {
-    let bytes = hex::decode(rt.alloc(), text)?;
+    let wanted = answer.bytes(rt.alloc())?;
+    assert_replied(rt, route, from, sample, &wanted)
+}
+
+/// Asserts that the route replies nothing to a datagram.
+fn assert_unanswered(
+    rt: &(impl AllocGlobal + Abort),
+    route: &mut Route,
+    from: Peer,
+    sample: Sample<'_>,
+) -> Result<(), Fail> {
+    assert_replied(rt, route, from, sample, &[])
+}
+
+/// Asserts the bytes that the route replies to a datagram, none if there is no reply.
+fn assert_replied(
+    rt: &(impl AllocGlobal + Abort),
+    route: &mut Route,
+    from: Peer,
+    sample: Sample<'_>,
+    wanted: &[u8],
+) -> Result<(), Fail> {
+    let bytes = sample.bytes(rt.alloc())?;
     if bytes.len() < 16 || route.waits() {
         return Err(Fail::from("a header, and no reply that waits"));
     }
@@ -107,18 +143,18 @@ fn assert_told(
     } else {
         assert_eq!(rt; waiting, 0);
     }
-    let wanted = hex::decode(rt.alloc(), answer)?;
-    assert_eq!(rt; &out[..len], wanted.as_slice());
+    assert_eq!(rt; first_difference(&out[..len], wanted), None);
     assert!(rt; !route.waits());
     Ok(())
 }
 
-/// Asserts what a route that is closed at this moment sends: the ports of the peers, and a SHUTDOWN to each.
+/// Asserts what a route that is closed at this moment sends: a SHUTDOWN to each of these ports and socket IDs, with the
+/// timestamp of half a second.
 fn assert_closed(
     rt: &(impl AllocGlobal + Abort),
     route: &mut Route,
     moment: u64,
-    shutdowns: &[(u16, &str)],
+    shutdowns: &[(u16, u32)],
 ) -> Result<(), Fail> {
     if route.waits() || moment > 10_000_000 {
         return Err(Fail::from("an early moment, and no reply that waits"));
@@ -127,200 +163,256 @@ fn assert_closed(
     assert_eq!(rt; waiting, shutdowns.len());
     let mut out = [0u8; 1472];
     let mut place = Box::new(rt.alloc(), Reply::blank())?;
-    for (port, text) in shutdowns {
+    for (port, id) in shutdowns {
         assert!(rt; route.next_reply(&mut place));
         assert!(rt; place.peer == peer(*port));
         let len = place.packet.copy_to(&mut out);
-        let wanted = hex::decode(rt.alloc(), text)?;
-        assert_eq!(rt; &out[..len], wanted.as_slice());
+        let wanted = shutdown().stamp(500_000).to(*id).bytes(rt.alloc())?;
+        assert_eq!(rt; first_difference(&out[..len], &wanted), None);
     }
     assert!(rt; !route.waits());
     Ok(())
 }
 
-/// A refusal to this caller with this initial number.
-fn refusal(alloc: Global, caller: &str, initial: &str, code: &str) -> Result<String, Fail> {
-    joined(
-        alloc,
-        &[
-            "800000000000000000000000",
-            caller,
-            "0000000500000000",
-            initial,
-            "000005dc00002000",
-            code,
-            "000000010000000000000000000000000000000000000000",
-        ],
+/// A refusal of this caller.
+fn refusal<'a>(caller: Caller, code: u32) -> Sample<'a> {
+    handshake_packet(
+        Handshake {
+            version: 5,
+            fields: 0,
+            initial: caller.initial,
+            mtu: 1500,
+            window: 8192,
+            phase: Phase::Refused(code),
+            id: 1,
+            cookie: 0,
+            address: 0,
+        },
+        &[],
     )
+    .to(caller.id)
 }
 
-/// An answer of the live route to the caller 1 with initial number 5.
-fn agreed(alloc: Global, id: &str, delays: &str) -> Result<String, Fail> {
-    joined(
-        alloc,
-        &[
-            "80000000000000000000000000000001000000050000000100000005000005dc00000400ffffffff",
+/// HSRSP with delays of 120 ms, and with one of 200 ms.
+const RESPONSE: [Block<'static>; 1] = [Block::Response(Offer {
+    version: 0x1_0500,
+    flags: 0x3f,
+    receiver_ms: 120,
+    sender_ms: 120,
+})];
+
+const RESPONSE_200: [Block<'static>; 1] = [Block::Response(Offer {
+    version: 0x1_0500,
+    flags: 0x3f,
+    receiver_ms: 200,
+    sender_ms: 120,
+})];
+
+/// An answer of the live route to this caller, with this socket ID and these blocks.
+fn agreed<'a>(caller: Caller, id: u32, blocks: &'a [Block<'a>]) -> Sample<'a> {
+    handshake_packet(
+        Handshake {
+            version: 5,
+            fields: 1,
+            initial: caller.initial,
+            mtu: 1500,
+            window: 1024,
+            phase: Phase::Conclusion,
             id,
-            "000000000000000000000000000000000000000000020003000105000000003f",
-            delays,
-        ],
+            cookie: 0,
+            address: 0,
+        },
+        blocks,
     )
+    .to(caller.id)
 }
 
-pub(crate) const FIRST: [&str; 4] = ["00000005", "000005dc", "00002000", "00000001"];
-
-pub(crate) const SECOND: [&str; 4] = ["00000009", "000005dc", "00002000", "00000002"];
-
-/// The answer to the second caller, in slot 1.
-const SECOND_ANSWER: &str = "8000000000000000000000000000000200000005000000010000000900\
-    0005dc00000400ffffffff0010000100000000000000000000000000000000000000000002000300010500\
-    0000003f00780078";
+/// A data packet of the first session in slot 0, with its first number, one millisecond after its conclusion.
+fn media<'a>() -> Sample<'a> {
+    data_packet(5).stamp(1_000).to(SLOT_0).payload(b"hi")
+}
 
 #[test]
 fn a_publisher_is_answered_again_and_ends(rt: HostRuntime) -> Result<(), Fail> {
     let alloc = rt.alloc();
     let mut route = studio(alloc)?;
-    let first = conclusion(alloc, FIRST, &[HSREQ, PUBLISH])?;
-    let answer = agreed(alloc, "00100000", "00780078")?;
-    assert_told(&rt, &mut route, peer(5000), first.as_str(), answer.as_str())?;
-    assert_told(&rt, &mut route, peer(5000), first.as_str(), answer.as_str())?;
+    let first = conclusion(FIRST, &PUBLISHES);
+    let answer = agreed(FIRST, SLOT_0, &RESPONSE);
+    assert_answered(&rt, &mut route, peer(5000), first, answer)?;
+    assert_answered(&rt, &mut route, peer(5000), first, answer)?;
     // Another publisher, which stands by, and a shutdown of another peer.
-    let second = conclusion(alloc, SECOND, &[HSREQ, PUBLISH])?;
-    assert_told(&rt, &mut route, peer(5001), second.as_str(), SECOND_ANSWER)?;
-    let end = "80050000000000000000000000100000";
-    assert_told(&rt, &mut route, peer(5001), end, "")?;
-    assert_told(&rt, &mut route, peer(5000), first.as_str(), answer.as_str())?;
+    let second = conclusion(SECOND, &PUBLISHES);
+    assert_answered(
+        &rt,
+        &mut route,
+        peer(5001),
+        second,
+        agreed(SECOND, 0x10_0001, &RESPONSE),
+    )?;
+    let end = shutdown().to(SLOT_0);
+    assert_unanswered(&rt, &mut route, peer(5001), end)?;
+    assert_answered(&rt, &mut route, peer(5000), first, answer)?;
     // Its own shutdown, and the next session in that slot.
-    assert_told(&rt, &mut route, peer(5000), end, "")?;
-    let next = agreed(alloc, "00100100", "00780078")?;
-    assert_told(&rt, &mut route, peer(5000), first.as_str(), next.as_str())
+    assert_unanswered(&rt, &mut route, peer(5000), end)?;
+    let next = agreed(FIRST, 0x10_0100, &RESPONSE);
+    assert_answered(&rt, &mut route, peer(5000), first, next)
 }
+
+/// A subscriber's blocks with a sender's delay of 200 ms.
+const LATE_REQUESTS: [Block<'static>; 2] = [
+    Block::Request(Offer {
+        version: 0x1_0500,
+        flags: 0xbf,
+        receiver_ms: 120,
+        sender_ms: 200,
+    }),
+    REQUEST,
+];
+
+/// A publisher's blocks with delays of 1 ms, and flags that are refused.
+const PUBLISHES_EARLY: [Block<'static>; 2] = [
+    Block::Request(Offer {
+        version: 0x1_0500,
+        flags: 0xff,
+        receiver_ms: 1,
+        sender_ms: 1,
+    }),
+    PUBLISH,
+];
 
 #[test]
 fn the_answer_to_a_changed_conclusion_is_the_first(rt: HostRuntime) -> Result<(), Fail> {
     let alloc = rt.alloc();
     let mut route = studio(alloc)?;
-    let first = conclusion(alloc, FIRST, &["0001000300010500000000bf007800c8", REQUEST])?;
-    let answer = agreed(alloc, "00100000", "00c80078")?;
-    assert_told(&rt, &mut route, peer(5000), first.as_str(), answer.as_str())?;
-    let changed = conclusion(
-        alloc,
-        ["00000007", "00000001", "00000000", "00000001"],
-        &["0001000300010500000000ff00010001", PUBLISH],
-    )?;
-    assert_told(
-        &rt,
-        &mut route,
-        peer(5000),
-        changed.as_str(),
-        answer.as_str(),
-    )
+    let first = conclusion(FIRST, &LATE_REQUESTS);
+    let answer = agreed(FIRST, SLOT_0, &RESPONSE_200);
+    assert_answered(&rt, &mut route, peer(5000), first, answer)?;
+    let caller = Caller {
+        initial: 7,
+        mtu: 1,
+        window: 0,
+        ..FIRST
+    };
+    let changed = conclusion(caller, &PUBLISHES_EARLY);
+    assert_answered(&rt, &mut route, peer(5000), changed, answer)
 }
 
 #[test]
 fn refusals_come_in_their_order(rt: HostRuntime) -> Result<(), Fail> {
     let alloc = rt.alloc();
     let mut route = studio(alloc)?;
-    let stream = "0001000300010500000000ff00780078";
-    for (mtu, window, hsreq, code) in [
-        ("00000046", "00002000", stream, "000003f4"),
-        ("0000004b", "00002000", HSREQ, "000003ec"),
-        ("000005dc", "00000000", HSREQ, "000003ec"),
+    for (mtu, window, blocks, code) in [
+        (70, 8192, &PUBLISHES_A_STREAM, 1012),
+        (75, 8192, &PUBLISHES, 1004),
+        (1500, 0, &PUBLISHES, 1004),
     ] {
-        let text = conclusion(
-            alloc,
-            ["00000005", mtu, window, "00000001"],
-            &[hsreq, PUBLISH],
-        )?;
-        let refused = refusal(alloc, "00000001", "00000005", code)?;
-        assert_told(&rt, &mut route, peer(5000), text.as_str(), refused.as_str())?;
+        let caller = Caller {
+            mtu,
+            window,
+            ..FIRST
+        };
+        let sample = conclusion(caller, blocks);
+        assert_answered(&rt, &mut route, peer(5000), sample, refusal(FIRST, code))?;
     }
-    let first = conclusion(alloc, FIRST, &[HSREQ, PUBLISH])?;
-    let ids = ["00100000", "00100001", "00100002", "00100003", "00100004"];
-    let answer = agreed(alloc, ids[0], "00780078")?;
-    assert_told(&rt, &mut route, peer(5000), first.as_str(), answer.as_str())?;
-    let request = conclusion(alloc, FIRST, &[HSREQ, REQUEST])?;
+    let first = conclusion(FIRST, &PUBLISHES);
+    let ids = [SLOT_0, 0x10_0001, 0x10_0002, 0x10_0003, 0x10_0004];
+    let answer = agreed(FIRST, ids[0], &RESPONSE);
+    assert_answered(&rt, &mut route, peer(5000), first, answer)?;
+    let request = conclusion(FIRST, &REQUESTS);
     // A publisher that stands by, and three subscribers.
     for k in 1..5 {
-        let text = if k == 1 { &first } else { &request };
-        let answer = agreed(alloc, ids[k], "00780078")?;
-        assert_told(
-            &rt,
-            &mut route,
-            peer(5000 + k as u16),
-            text.as_str(),
-            answer.as_str(),
-        )?;
+        let sample = if k == 1 { first } else { request };
+        let answer = agreed(FIRST, ids[k], &RESPONSE);
+        assert_answered(&rt, &mut route, peer(5000 + k as u16), sample, answer)?;
     }
-    let refused = refusal(alloc, "00000001", "00000005", "000003ea")?;
-    assert_told(
-        &rt,
-        &mut route,
-        peer(5005),
-        first.as_str(),
-        refused.as_str(),
-    )?;
-    let refused = refusal(alloc, "00000001", "00000005", "000003eb")?;
-    assert_told(
-        &rt,
-        &mut route,
-        peer(5005),
-        request.as_str(),
-        refused.as_str(),
-    )
+    let refused = refusal(FIRST, 1002);
+    assert_answered(&rt, &mut route, peer(5005), first, refused)?;
+    let refused = refusal(FIRST, 1003);
+    assert_answered(&rt, &mut route, peer(5005), request, refused)
 }
+
+/// What HSREQ and HSRSP say in buffer mode.
+const FILE_OFFER: Offer = Offer {
+    version: 0x1_0500,
+    flags: 0x74,
+    receiver_ms: 0,
+    sender_ms: 0,
+};
+
+pub(crate) const PUBLISHES_FILES: [Block<'static>; 3] = [
+    Block::Request(FILE_OFFER),
+    Block::StreamId("#!::r=files,m=publish"),
+    Block::Congestion("file"),
+];
+
+const FILE_RESPONSE: [Block<'static>; 2] = [Block::Response(FILE_OFFER), Block::Congestion("file")];
+
+pub(crate) const REQUESTS_FILES: [Block<'static>; 2] = [
+    Block::Request(FILE_OFFER),
+    Block::StreamId("files"),
+];
 
 #[test]
 fn buffer_mode_agrees_on_no_delays(rt: HostRuntime) -> Result<(), Fail> {
     let alloc = rt.alloc();
     let opened = Route::open(alloc, &entry(alloc, "files", Mode::Buffer)?, 1);
     let mut route = opened.ok().ok_or("the route opens")?;
-    let hsreq = "00010003000105000000007400000000";
-    let file = "00060001656c6966";
-    let text = conclusion(
-        alloc,
-        ["00000005", "000005dc", "00006400", "00000001"],
-        &[
-            hsreq,
-            "000500063a3a212369663d722c73656c75703d6d73696c6200000068",
-            file,
-        ],
-    )?;
-    let answer = "80000000000000000000000000000001000000050000000500000005000005dc00000020\
-        ffffffff00200000000000000000000000000000000000000000000000020003000105000000007400000000\
-        00060001656c6966";
-    assert_told(&rt, &mut route, peer(5000), text.as_str(), answer)?;
-    let text = conclusion(
-        alloc,
-        ["00000009", "000005db", "00002000", "00000002"],
-        &[hsreq, "00050002656c696600000073"],
-    )?;
-    let refused = refusal(alloc, "00000002", "00000009", "000003ec")?;
-    assert_told(&rt, &mut route, peer(5001), text.as_str(), refused.as_str())
+    let first = conclusion(
+        Caller {
+            window: 25_600,
+            ..FIRST
+        },
+        &PUBLISHES_FILES,
+    );
+    let answer = handshake_packet(
+        Handshake {
+            version: 5,
+            fields: 5,
+            initial: 5,
+            mtu: 1500,
+            window: 32,
+            phase: Phase::Conclusion,
+            id: 0x20_0000,
+            cookie: 0,
+            address: 0,
+        },
+        &FILE_RESPONSE,
+    );
+    assert_answered(&rt, &mut route, peer(5000), first, answer.to(1))?;
+    let second = Caller {
+        mtu: 1499,
+        ..SECOND
+    };
+    let refused = refusal(second, 1004);
+    assert_answered(
+        &rt,
+        &mut route,
+        peer(5001),
+        conclusion(second, &REQUESTS_FILES),
+        refused,
+    )
 }
 
 #[test]
 fn what_opens_nothing_is_not_answered(rt: HostRuntime) -> Result<(), Fail> {
     let alloc = rt.alloc();
     let mut route = studio(alloc)?;
-    let high = conclusion(
-        alloc,
-        ["80000005", "000005dc", "00002000", "00000001"],
-        &[HSREQ, PUBLISH],
-    )?;
-    let no_hsreq = conclusion(alloc, FIRST, &[PUBLISH])?;
-    let no_name = conclusion(alloc, FIRST, &[HSREQ])?;
-    let cut = conclusion(alloc, FIRST, &[HSREQ, "0005"])?;
-    for text in [
-        high.as_str(),
-        no_hsreq.as_str(),
-        no_name.as_str(),
-        cut.as_str(),
-        "00000000e00000010000000000000000",
-        "80010000000000000000000000000000",
-        "00000005e0000001000003e8001000006869",
+    let high = Caller {
+        initial: 0x8000_0005,
+        ..FIRST
+    };
+    let no_name = conclusion(FIRST, &PUBLISHES[..1]);
+    for sample in [
+        conclusion(high, &PUBLISHES),
+        conclusion(FIRST, &PUBLISHES[1..]),
+        no_name,
+        // The type of a block, and nothing behind it.
+        no_name.payload(&[0, 5]),
+        data_packet(0),
+        keep_alive(),
+        media(),
     ] {
-        assert_told(&rt, &mut route, peer(5000), text, "")?;
+        assert_unanswered(&rt, &mut route, peer(5000), sample)?;
     }
     if route.waits() {
         return Err(Fail::from("no reply waits"));
@@ -351,18 +443,16 @@ fn a_wrong_entry_is_refused(rt: HostRuntime) -> Result<(), Fail> {
 fn a_closed_route_sends_shutdowns_and_nothing_more(rt: HostRuntime) -> Result<(), Fail> {
     let alloc = rt.alloc();
     let mut route = studio(alloc)?;
-    let first = conclusion(alloc, FIRST, &[HSREQ, PUBLISH])?;
-    let answer = agreed(alloc, "00100000", "00780078")?;
-    assert_told(&rt, &mut route, peer(5000), first.as_str(), answer.as_str())?;
-    let shutdown = "80050000000000000007a12000000001";
-    assert_closed(&rt, &mut route, 1_500_000, &[(5000, shutdown)])?;
+    let first = conclusion(FIRST, &PUBLISHES);
+    let answer = agreed(FIRST, SLOT_0, &RESPONSE);
+    assert_answered(&rt, &mut route, peer(5000), first, answer)?;
+    assert_closed(&rt, &mut route, 1_500_000, &[(5000, FIRST.id)])?;
     assert_closed(&rt, &mut route, 1_600_000, &[])?;
     // Its conclusion again, that of another caller, and a data packet.
-    let request = conclusion(alloc, SECOND, &[HSREQ, REQUEST])?;
-    assert_told(&rt, &mut route, peer(5000), first.as_str(), "")?;
-    assert_told(&rt, &mut route, peer(5001), request.as_str(), "")?;
-    let data = "00000005e0000001000003e8001000006869";
-    assert_told(&rt, &mut route, peer(5000), data, "")?;
+    let request = conclusion(SECOND, &REQUESTS);
+    assert_unanswered(&rt, &mut route, peer(5000), first)?;
+    assert_unanswered(&rt, &mut route, peer(5001), request)?;
+    assert_unanswered(&rt, &mut route, peer(5000), media())?;
     if route.waits() {
         return Err(Fail::from("no reply waits"));
     }
@@ -374,20 +464,23 @@ fn a_closed_route_sends_shutdowns_and_nothing_more(rt: HostRuntime) -> Result<()
 fn shutdowns_come_slots_upwards(rt: HostRuntime) -> Result<(), Fail> {
     let alloc = rt.alloc();
     let mut route = studio(alloc)?;
-    let first = conclusion(alloc, FIRST, &[HSREQ, PUBLISH])?;
-    let answer = agreed(alloc, "00100000", "00780078")?;
-    assert_told(&rt, &mut route, peer(5000), first.as_str(), answer.as_str())?;
-    let second = conclusion(alloc, SECOND, &[HSREQ, REQUEST])?;
-    assert_told(&rt, &mut route, peer(5001), second.as_str(), SECOND_ANSWER)?;
+    let first = conclusion(FIRST, &PUBLISHES);
+    let answer = agreed(FIRST, SLOT_0, &RESPONSE);
+    assert_answered(&rt, &mut route, peer(5000), first, answer)?;
+    let second = conclusion(SECOND, &REQUESTS);
+    assert_answered(
+        &rt,
+        &mut route,
+        peer(5001),
+        second,
+        agreed(SECOND, 0x10_0001, &RESPONSE),
+    )?;
     // The first caller leaves and comes back: it opens last, in slot 0.
-    let end = "80050000000000000000000000100000";
-    assert_told(&rt, &mut route, peer(5000), end, "")?;
-    let next = agreed(alloc, "00100100", "00780078")?;
-    assert_told(&rt, &mut route, peer(5000), first.as_str(), next.as_str())?;
-    let shutdowns = [
-        (5000, "80050000000000000007a12000000001"),
-        (5001, "80050000000000000007a12000000002"),
-    ];
+    let end = shutdown().to(SLOT_0);
+    assert_unanswered(&rt, &mut route, peer(5000), end)?;
+    let next = agreed(FIRST, 0x10_0100, &RESPONSE);
+    assert_answered(&rt, &mut route, peer(5000), first, next)?;
+    let shutdowns = [(5000, FIRST.id), (5001, SECOND.id)];
     assert_closed(&rt, &mut route, 1_500_000, &shutdowns)
 }
 
@@ -395,9 +488,9 @@ fn shutdowns_come_slots_upwards(rt: HostRuntime) -> Result<(), Fail> {
 fn an_idle_session_gets_no_shutdown(rt: HostRuntime) -> Result<(), Fail> {
     let alloc = rt.alloc();
     let mut route = studio(alloc)?;
-    let first = conclusion(alloc, FIRST, &[HSREQ, PUBLISH])?;
-    let answer = agreed(alloc, "00100000", "00780078")?;
-    assert_told(&rt, &mut route, peer(5000), first.as_str(), answer.as_str())?;
+    let first = conclusion(FIRST, &PUBLISHES);
+    let answer = agreed(FIRST, SLOT_0, &RESPONSE);
+    assert_answered(&rt, &mut route, peer(5000), first, answer)?;
     assert_closed(&rt, &mut route, 6_000_000, &[])
 }
 
@@ -426,22 +519,21 @@ fn a_look_shows_the_open_sessions(rt: HostRuntime) -> Result<(), Fail> {
     let alloc = rt.alloc();
     let mut route = studio(alloc)?;
     assert!(rt; route.session(0).is_none());
-    let first = conclusion(alloc, FIRST, &[HSREQ, PUBLISH])?;
-    let answer = agreed(alloc, "00100000", "00780078")?;
-    assert_told(&rt, &mut route, peer(5000), first.as_str(), answer.as_str())?;
-    let second = conclusion(alloc, SECOND, &[HSREQ, PUBLISH])?;
-    assert_told(&rt, &mut route, peer(5001), second.as_str(), SECOND_ANSWER)?;
-    let request = conclusion(alloc, FIRST, &[HSREQ, REQUEST])?;
-    let answer = agreed(alloc, "00100002", "00780078")?;
-    assert_told(
+    let first = conclusion(FIRST, &PUBLISHES);
+    let answer = agreed(FIRST, SLOT_0, &RESPONSE);
+    assert_answered(&rt, &mut route, peer(5000), first, answer)?;
+    let second = conclusion(SECOND, &PUBLISHES);
+    assert_answered(
         &rt,
         &mut route,
-        peer(5002),
-        request.as_str(),
-        answer.as_str(),
+        peer(5001),
+        second,
+        agreed(SECOND, 0x10_0001, &RESPONSE),
     )?;
-    let data = "00000005e0000001000003e8001000006869";
-    assert_told(&rt, &mut route, peer(5000), data, "")?;
+    let request = conclusion(FIRST, &REQUESTS);
+    let answer = agreed(FIRST, 0x10_0002, &RESPONSE);
+    assert_answered(&rt, &mut route, peer(5002), request, answer)?;
+    assert_unanswered(&rt, &mut route, peer(5000), media())?;
     let active = assert_shown(&rt, route.session(0), 5000, Role::Publish, 0x10_0000, true)?;
     match active.traffic {
         Traffic::Received(x) => {
@@ -457,8 +549,8 @@ fn a_look_shows_the_open_sessions(rt: HostRuntime) -> Result<(), Fail> {
     }
     assert!(rt; route.session(3).is_none() && route.session(17).is_none());
     // The active publisher leaves: nothing is shown of it, and the other one is active.
-    let end = "80050000000000000000000000100000";
-    assert_told(&rt, &mut route, peer(5000), end, "")?;
+    let end = shutdown().to(SLOT_0);
+    assert_unanswered(&rt, &mut route, peer(5000), end)?;
     assert!(rt; route.session(0).is_none());
     let _ = assert_shown(&rt, route.session(1), 5001, Role::Publish, 0x10_0001, true)?;
     Ok(())

@@ -8,9 +8,10 @@ use crate::view::Traffic;
 /// What the sessions of a route counted, those that ended and those that are open. Each count stops at 2^64 - 1.
 #[derive(Clone, Copy, Debug, PartialEq, Eq)]
 pub struct Totals {
-    /// Of all publishers' sessions: what came, was received, was delivered or passed over, and was given up.
+    /// Of all publishers' sessions: what came, was received, was delivered or passed over, and was given up; NAKs and
+    /// Full ACKs of a full window.
     pub received: srt_pub::Counts,
-    /// Of all subscribers' sessions: what was queued, asked for, and given up.
+    /// Of all subscribers' sessions: what was queued, asked for, and given up, and data packets that came.
     pub queued: srt_sub::Counts,
     /// Of all subscribers' sessions: the data packets that were sent, and sent again.
     pub sent: srt_sub::Sendings,
@@ -22,11 +23,15 @@ fn both_received(a: srt_pub::Counts, b: srt_pub::Counts) -> srt_pub::Counts
 {
     srt_pub::Counts {
         came: a.came.saturating_add(b.came),
+        late: a.late.saturating_add(b.late),
+        ahead: a.ahead.saturating_add(b.ahead),
         received: a.received.saturating_add(b.received),
         bytes: a.bytes.saturating_add(b.bytes),
         delivered: a.delivered.saturating_add(b.delivered),
         given_up: a.given_up.saturating_add(b.given_up),
         naks: a.naks.saturating_add(b.naks),
+        reported_lost: a.reported_lost.saturating_add(b.reported_lost),
+        full_windows: a.full_windows.saturating_add(b.full_windows),
     }
 }
 
@@ -39,6 +44,7 @@ fn both_queued(a: srt_sub::Counts, b: srt_sub::Counts) -> srt_sub::Counts
         bytes: a.bytes.saturating_add(b.bytes),
         naks: a.naks.saturating_add(b.naks),
         given_up: a.given_up.saturating_add(b.given_up),
+        misdirected: a.misdirected.saturating_add(b.misdirected),
     }
 }
 
@@ -58,17 +64,22 @@ impl Totals {
         Totals {
             received: srt_pub::Counts {
                 came: 0,
+                late: 0,
+                ahead: 0,
                 received: 0,
                 bytes: 0,
                 delivered: 0,
                 given_up: 0,
                 naks: 0,
+                reported_lost: 0,
+                full_windows: 0,
             },
             queued: srt_sub::Counts {
                 queued: 0,
                 bytes: 0,
                 naks: 0,
                 given_up: 0,
+                misdirected: 0,
             },
             sent: srt_sub::Sendings { fresh: 0, again: 0 },
         }

@@ -1,16 +1,21 @@
 //! Steps 5 and 6 of an event, what sessions send at its end: each publisher's packets, then each subscriber's, slots
-//! upwards.
+//! upwards, or the SHUTDOWN that ends one at the end of a file.
 
 ghost use Rattle.std.specs.Prelude.{◌≡◌, ◌<◌, ◌^◌, [], true, false, map, length};
-ghost use Rattle.srt_route.specs.Sessions.{is_publisher, is_subscriber};
+ghost use Rattle.srt_route.specs.Sessions.{speaks};
 ghost use Rattle.srt_route.specs.Route.{packets_where};
 ghost use Rattle.srt_route.specs.Tables.{has_subscriber};
-ghost use Rattle.srt_route.specs.Delivery.{changed, after_publisher, after_publisher_in, after_subscriber, packets_in};
-ghost use Rattle.srt_route.specs.Reports.{Queues};
-ghost use Rattle.srt_route.specs.OneSession.{PublisherReported, PublisherSaid, SeatSaid, SubscriberReported, SubscriberSaid};
-ghost use Rattle.srt_route.specs.Calls.{TableBecomes, Transmits};
+ghost use Rattle.srt_route.specs.inside.Delivery.{changed, after_publisher, after_publisher_in, packets_in};
+ghost use Rattle.srt_route.specs.inside.Reports.{Queues};
+ghost use Rattle.srt_route.specs.inside.OneSession.{PublisherReported, PublisherSaid, SeatSaid, SubscriberReported, SubscriberSaid};
+ghost use Rattle.srt_route.specs.inside.Calls.{TableBecomes, Transmits};
+ghost use Rattle.srt_route.specs.inside.Files.{EndsFiles, FinishesSubscribers, SeatEnds, SeatServed, ServesSubscribers};
+ghost use Rattle.srt_route.specs.Ledgers.{CountsStay};
+ghost use Rattle.srt_route.specs.Totals.{SumsGrow};
 
-use crate::places::place_of;
+use crate::closing::close_seat;
+use crate::files::is_file_over;
+use crate::ledger::{Ledger, file_cause};
 use crate::replies::Reply;
 use crate::reply_queue::{ReplyQueue, ScratchBoxes};
 use crate::seat::Seat;
@@ -20,7 +25,7 @@ use srt_seq::Peer;
 use srt_sub::Subscriber;
 
 /// One more than the number of packets that a subscriber is sent at most at the end of an event.
-const CALLS_MAX: u32 = 66;
+const MAX_CALLS: u32 = 66;
 
 /// Queues a publisher's ACK, NAK and KEEPALIVE, in this order, each if it is due (sections 3.2.3 to 3.2.5).
 fn transmit_reports(
@@ -45,7 +50,7 @@ fn transmit_reports(
     waiting.put_to_if(peer, &mut scratch.keep_alive, reports.keep_alive);
 }
 
-/// Queues the packets of a seat's publisher, if one is open.
+/// Queues the packets of a seat's publisher, if one is open that doesn't drain.
 fn transmit_publisher(
     table: &mut Table,
     at: usize,
@@ -57,16 +62,16 @@ fn transmit_publisher(
     requires inside { at < length table.old.seats.items }
     ensures seats { length table.new.seats.items ≡ length table.old.seats.items }
     ensures table { TableBecomes clock table.old table.new (λ e. map (changed (after_publisher_in e clock at))) }
-    ensures said { Transmits clock table.old waiting.old waiting.new (λ e. packets_in e clock is_publisher at) }
+    ensures said { Transmits clock table.old waiting.old waiting.new (λ e. packets_in e clock speaks at) }
 {
-    if !table.seats[at].has_publisher() {
+    if !table.seats[at].speaks() {
         return;
     }
     let Some(session) = &table.seats[at].session else {
         return;
     };
     transmit_reports(
-        &mut table.publishers[place_of(session.second)],
+        &mut table.publishers[session.buffers.place()],
         session.peer,
         clock,
         scratch,
@@ -83,7 +88,7 @@ pub fn transmit_publishers(
 )
     requires { clock < 2 ^ 62 }
     ensures table { TableBecomes clock table.old table.new (λ e. map (changed (after_publisher e clock))) }
-    ensures said { Transmits clock table.old waiting.old waiting.new (λ e. packets_where e clock is_publisher) }
+    ensures said { Transmits clock table.old waiting.old waiting.new (λ e. packets_where e clock speaks) }
 {
     for at in 0..table.seats.len() {
         transmit_publisher(table, at, clock, scratch, waiting);
@@ -102,7 +107,7 @@ fn transmit_subscriber(
     ensures stands { SubscriberReported clock subscriber.old subscriber.new }
     ensures said { SubscriberSaid clock peer subscriber.old waiting.old waiting.new }
 {
-    for turn in 0..CALLS_MAX {
+    for turn in 0..MAX_CALLS {
         if !subscriber.emit(clock, &mut hand.packet) {
             return;
         }
@@ -128,18 +133,45 @@ fn transmit_seat(seat: &mut Seat, clock: u64, hand: &mut Box<Reply>, waiting: &m
     }
 }
 
-/// Step 6: queues the packets of the open subscribers, slots upwards.
-pub fn transmit_subscribers(
-    table: &mut Table,
+/// Queues the packets of a seat's subscriber, if one is open. If it has the `whole` file, it ends instead, with a SHUTDOWN.
+fn serve_seat(
+    seat: &mut Seat,
+    whole: bool,
     clock: u64,
     hand: &mut Box<Reply>,
     waiting: &mut ReplyQueue,
 )
     requires { clock < 2 ^ 62 }
-    ensures table { TableBecomes clock table.old table.new (λ e. map (changed (after_subscriber e clock))) }
-    ensures said { Transmits clock table.old waiting.old waiting.new (λ e. packets_where e clock is_subscriber) }
+    ensures ends { whole ≡ true → SeatEnds clock seat.old seat.new waiting.old waiting.new }
+    ensures served { whole ≡ false → SeatServed clock seat.old seat.new waiting.old waiting.new }
 {
+    if whole {
+        close_seat(seat, clock, hand, waiting);
+        return;
+    }
+    transmit_seat(seat, clock, hand, waiting);
+}
+
+/// Step 6: queues the packets of the open subscribers, slots upwards. Where a file is over, the sessions of those that
+/// have all of it end, with a SHUTDOWN.
+pub fn transmit_subscribers(
+    table: &mut Table,
+    ledger: &mut Ledger,
+    clock: u64,
+    hand: &mut Box<Reply>,
+    waiting: &mut ReplyQueue,
+)
+    requires { clock < 2 ^ 62 }
+    ensures table { FinishesSubscribers clock table.old table.new }
+    ensures said { ServesSubscribers clock table.old waiting.old waiting.new }
+    ensures ends { EndsFiles clock table.old ledger.old ledger.new }
+    ensures counts { CountsStay ledger.old ledger.new }
+    ensures sums { SumsGrow ledger.old.totals ledger.new.totals }
+{
+    let over = is_file_over(table);
     for at in 0..table.seats.len() {
-        transmit_seat(&mut table.seats[at], clock, hand, waiting);
+        let whole = table.seats[at].has_whole_file(over);
+        ledger.note(table, at, file_cause(whole), clock);
+        serve_seat(&mut table.seats[at], whole, clock, hand, waiting);
     }
 }

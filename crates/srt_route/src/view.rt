@@ -5,15 +5,14 @@ ghost use Rattle.srt_seq.specs.Terms.{Terms};
 ghost use Rattle.srt_seq.specs.Items.{Item as TheItem};
 ghost use Rattle.srt_route.specs.Route.{after};
 ghost use Rattle.srt_route.specs.Stands.{stands};
-ghost use Rattle.srt_route.specs.Ledgers.{ended_in, opened_in, refused_in};
+ghost use Rattle.srt_route.specs.Ledgers.{ended_in, opened_in, refused_in, refused_of};
 ghost use Rattle.srt_route.specs.Totals.{AddUp, totals_of_ended, with_shown};
-ghost use Rattle.srt_route.specs.Viewing.{delay_of, is_active_by, latency_in, SeesSlot, ShowsSlot, ShowsSession, TellsTraffic};
+ghost use Rattle.srt_route.specs.Viewing.{delay_of, latency_in, SeesSlot, ShowsSlot, ShowsSession, TellsTraffic};
 
-use crate::delivery::active_buffers;
 use crate::ledger::EndedSession;
-use crate::places::place_of;
-use crate::seat::{Session, publishes};
-use crate::state::Route;
+use crate::refusals::RefusalCause;
+use crate::route::Route;
+use crate::standby::{active_buffers, is_active_by};
 use crate::table::Table;
 use crate::totals::Totals;
 use srt_hs::{AnswerKind, HsAnswer, RefusalCode};
@@ -43,6 +42,8 @@ pub struct SessionView {
     pub role: Role,
     /// Whether it is the active publisher. Another publisher stands by; a subscriber is never active.
     pub is_active: bool,
+    /// Whether it is a publisher's session that drains: its peer sent a SHUTDOWN, and something is left to deliver.
+    pub is_draining: bool,
     /// The moment at which it was opened, in microseconds of the route's clock.
     pub opened: u64,
     /// The moment of the last packet or conclusion from the peer, in microseconds of the route's clock.
@@ -64,7 +65,7 @@ fn delay_of(role: Role, recv_ms: u16, send_ms: u16) -> u16
 }
 
 /// The agreed latency of data in the direction of this role, in milliseconds, from the answer to the conclusion.
-fn latency_in(role: Role, answer: &HsAnswer) -> u16
+pub fn latency_in(role: Role, answer: &HsAnswer) -> u16
     ensures { result ≡ latency_in role answer.now }
 {
     match &answer.what {
@@ -79,16 +80,6 @@ fn latency_in(role: Role, answer: &HsAnswer) -> u16
         } => delay_of(role, *recv_ms, *send_ms),
         AnswerKind::Induction(_) => 0,
         AnswerKind::Refusal(_) => 0,
-    }
-}
-
-/// Whether a session is the active publisher, where the active one uses these buffers; None if no publisher is open.
-fn is_active_by(active: Option<bool>, session: &Session) -> bool
-    ensures { result ≡ is_active_by active session.now }
-{
-    match active {
-        Some(second) => publishes(session.role) && session.second == second,
-        None => false,
     }
 }
 
@@ -120,12 +111,13 @@ impl Table {
                 id: session.id,
                 role: session.role,
                 is_active: is_active_by(active, session),
+                is_draining: session.drains.is_some(),
                 opened: session.opened,
                 heard: session.heard,
                 latency_ms: latency_in(session.role, &session.answer),
                 traffic: traffic_of(
                     session.role,
-                    &self.publishers[place_of(session.second)],
+                    &self.publishers[session.buffers.place()],
                     &seat.subscriber,
                 ),
             }),
@@ -171,12 +163,19 @@ impl Route {
         self.ledger.opened
     }
 
-    /// The conclusions that this route refused so far for this reason, each copy of one. What `srt_lobby` refuses comes
+    /// The conclusions that this route refused so far with this code, each copy of one. What `srt_lobby` refuses comes
     /// to no route. Stops at 2^64 - 1.
     pub fn refused(&self, code: RefusalCode) -> u64
         ensures { result ≡ refused_in code self.now }
     {
         self.ledger.refused(code)
+    }
+
+    /// The conclusions that this route refused so far for this cause, each copy of one. Stops at 2^64 - 1.
+    pub fn refused_for(&self, cause: RefusalCause) -> u64
+        ensures { result ≡ refused_of cause self.now }
+    {
+        self.ledger.refused_for(cause)
     }
 
     /// What all sessions of the route counted so far, those that ended and those that are open. When a session ends, its

@@ -1,5 +1,6 @@
 -- The Full ACK that a number confirms, and the book after that.
-use Rattle.std.proofs.Common.{◌≡◌, ◌≢◌, ℕ, zero, suc, ◌+◌, ◌-◌, ◌%◌, ◌<◌, ◌≤◌, min, Bool, true, Option, Some, None, List, [], ◌∷◌, length, map, take, get_or, inl, inr, set, refl, sym, ap, ◌∙◌, arith}
+use Rattle.std.proofs.Common.{◌≡◌, ◌≢◌, ℕ, zero, suc, ◌+◌, ◌-◌, ◌%◌, ◌<◌, ◌≤◌, min, Bool, true, Option, Some, None, List, [], ◌∷◌, length}
+use Rattle.std.proofs.Common.{map, take, get_or, inl, inr, set, refl, sym, ap, ◌∙◌, arith}
 use Rattle.std.specs.List.{find, position, position_or_len, slice_get}
 use Rattle.std.proofs.lemmas.List.{length-map, get_or-set_other}
 use Rattle.std.proofs.lemmas.Grind.{get_or-set_at}
@@ -60,7 +61,9 @@ marked_other [] i e k at = refl
 marked_other (n ∷ h) i zero k at = let off : n.index ≢ i = λ s. at (omega (arith, k.0, s)) in grind (arith, nat_tests)
 marked_other (n ∷ h) i (suc e) k at = marked_other h i e k.1 (λ s. at (omega (arith, s)))
 
-pub book_confirmed : (next at : ℕ) (moments : List (Option ℕ)) (h : List Noted) (number d i : ℕ) → length moments ≡ 64 → at < 64 → d < 64 → i ≡ (at + (63 - d)) % 64 → IsBookOf next at moments h → waiting_place number h ≡ Some d → IsBookOf next at (set moments i None) (confirmed number h)
+pub book_confirmed : (next at : ℕ) (moments : List (Option ℕ)) (h : List Noted) (number d i : ℕ) → length moments ≡ 64 → at < 64 → d < 64
+    → i ≡ (at + (63 - d)) % 64 → IsBookOf next at moments h → waiting_place number h ≡ Some d
+    → IsBookOf next at (set moments i None) (confirmed number h)
 book_confirmed next at moments h number d i len small low i_is b e =
     let f = found h number d e in
     let x = get_or h d nobody in
@@ -77,11 +80,13 @@ book_confirmed next at moments h number d i len small low i_is b e =
             get_or-set_at moments i _ None None at_i (omega (arith, i_is, len)) ∙ sym none
         | inr n ↦
             let off : (at + (63 - place)) % 64 ≢ i = λ s. n.1 (omega (arith, s, i_is, lt, low, small)) in
-            get_or-set_other moments i _ None None off ∙ b.moments_are place lt ∙ sym (marked_other h x.index place b.numbered (λ s. n.1 (omega (arith, index, f.within, s))))
+            get_or-set_other moments i _ None None off ∙ b.moments_are place lt
+            ∙ sym (marked_other h x.index place b.numbered (λ s. n.1 (omega (arith, index, f.within, s))))
       ];
     })
 
-pub sample_found : (h : List Noted) (number now d m : ℕ) → waiting_place number h ≡ Some d → moment_at h d ≡ Some m → sample number now h ≡ Some (min (now - m) 10_000_000)
+pub sample_found : (h : List Noted) (number now d m : ℕ)
+    → waiting_place number h ≡ Some d → moment_at h d ≡ Some m → sample number now h ≡ Some (min (now - m) 10_000_000)
 sample_found h number now d m e at =
     let f = found h number d e in
     let same : (get_or h d nobody).moment ≡ m = grind arith in

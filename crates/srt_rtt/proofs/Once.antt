@@ -1,16 +1,19 @@
 -- The laws of the book.
-use Rattle.std.proofs.Common.{◌≡◌, ◌≢◌, ◌⊎◌, ℕ, zero, suc, ◌+◌, ◌-◌, ◌<◌, false, Option, Some, None, List, [], ◌∷◌, length, map, take, get_or, inl, inr, refl, sym, ap, ◌∙◌, arith}
+use Rattle.std.proofs.Common.{◌≡◌, ◌≢◌, ◌⊎◌, ℕ, zero, suc, ◌+◌, ◌-◌, ◌<◌, false, Option, Some, None, List, [], ◌∷◌, length, map, take}
+use Rattle.std.proofs.Common.{get_or, inl, inr, refl, sym, ap, ◌∙◌, arith}
 use Rattle.std.specs.List.{slice_get}
 use Rattle.std.proofs.lemmas.List.{length-map}
 use Rattle.std.specs.Option.{option_and_then}
 use Rattle.std.proofs.lemmas.Bool.Decides.{nat_tests, eqb_tells}
 use Rattle.std.proofs.lemmas.Option.{slice_get-get_or, slice_get_within, get_or_from_slice_get}
 use Rattle.srt_seq.specs.Counts.{ack_number}
-use Rattle.srt_rtt.specs.Book.{Noted, is_waiting, waiting, waiting_place, marked, confirmed, IsNumbered, with_marked, WaitsAtPlace, ConfirmsOnce, PlacesCountBack}
+use Rattle.srt_rtt.specs.Book.{Noted, is_waiting, waiting, waiting_place, marked, confirmed, IsNumbered, with_marked, WaitsAtPlace}
+use Rattle.srt_rtt.specs.Book.{ConfirmsOnce, PlacesCountBack}
 use Rattle.srt_rtt.proofs.Places.{nobody, index_at, none_passes, in_last}
 use Rattle.srt_rtt.proofs.Confirmed.{found, not_found, confirmed_none}
 
-at_answer : (number : ℕ) (h : List Noted) (o : Option ℕ) → waiting_place number h ≡ o → waiting number h ≡ option_and_then (slice_get h) (waiting_place number h)
+at_answer : (number : ℕ) (h : List Noted) (o : Option ℕ)
+    → waiting_place number h ≡ o → waiting number h ≡ option_and_then (slice_get h) (waiting_place number h)
 at_answer number h None e = not_found h number e ∙ ap (option_and_then (slice_get h)) (sym e)
 at_answer number h (Some d) e =
     let f = found h number d e in
@@ -35,7 +38,9 @@ marked_at (n ∷ h) i (suc e) lt = marked_at h i e (omega (arith, lt))
 not_again : (number i : ℕ) (n : Noted) → (n.index ≡ i) ⊎ (ack_number n.index ≢ number) → is_waiting number (marked i n) ≡ false
 not_again number i n at = grind (arith, nat_tests)
 
-one_place : (count number d e i j : ℕ) → i ≡ count - (d + 1) → j ≡ count - (e + 1) → d < count → e < count → d < 64 → e < 64 → ack_number i ≡ number → ack_number j ≡ number → e ≡ d
+one_place : (count number d e i j : ℕ) → i ≡ count - (d + 1) → j ≡ count - (e + 1) → d < count → e < count → d < 64 → e < 64
+    → ack_number i ≡ number → ack_number j ≡ number
+    → e ≡ d
 one_place count number d e i j i_is j_is d_in e_in d_small e_small a b = omega arith
 
 once_at : (number : ℕ) (h : List Noted) (o : Option ℕ) → IsNumbered h → waiting_place number h ≡ o → waiting number (confirmed number h) ≡ None

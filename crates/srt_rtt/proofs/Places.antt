@@ -1,12 +1,13 @@
 -- The Full ACK at a place, and the place of the one that a number confirms.
-use Rattle.std.proofs.Common.{◌≡◌, ◌≢◌, ℕ, zero, suc, ◌+◌, ◌-◌, ◌%◌, ◌<◌, Bool, true, false, cond, Option, Some, None, List, [], ◌∷◌, length, take, get_or, inl, inr, refl, sym, ap, ◌∙◌, arith}
+use Rattle.std.proofs.Common.{◌≡◌, ◌≢◌, ℕ, zero, suc, ◌+◌, ◌-◌, ◌%◌, ◌<◌, Bool, true, false, cond, Option, Some, None, List, [], ◌∷◌}
+use Rattle.std.proofs.Common.{length, take, get_or, inl, inr, refl, sym, ap, ◌∙◌, arith}
 use Rattle.std.specs.List.{position}
 use Rattle.std.proofs.lemmas.List.{get_or-take, get_or_read, length-take}
 use Rattle.std.proofs.lemmas.List.Sums.{position_or_len_is}
 use Rattle.std.proofs.lemmas.Bool.Decides.{nat_tests, eqb_tells}
 use Rattle.srt_seq.specs.Counts.{ack_number}
 use Rattle.srt_rtt.specs.Book.{Noted, is_waiting, waiting_place, IsNumbered, moment_at, IsBookOf}
-use Rattle.srt_rtt.specs.Steps.{IsStepsBack}
+use Rattle.srt_rtt.specs.inside.Steps.{IsStepsBack}
 
 pub nobody : Noted
 nobody = record { index = 0; moment = 0; is_confirmed = true }
@@ -42,7 +43,8 @@ pub still : (number : ℕ) (n : Noted) → is_waiting number n ≡ true → mome
 still number n w = grind (arith, nat_tests)
 
 -- a Full ACK of the last 64 has a number only if that number leads to its place
-no_wait : (h : List Noted) (number e : ℕ) → IsNumbered h → e < length h → ack_number (length h - (e + 1)) ≢ number → is_waiting number (get_or h e nobody) ≡ false
+no_wait : (h : List Noted) (number e : ℕ)
+    → IsNumbered h → e < length h → ack_number (length h - (e + 1)) ≢ number → is_waiting number (get_or h e nobody) ≡ false
 no_wait h number e k lt w = let i = index_at h e k lt in grind (arith, nat_tests)
 
 pub none_passes : (p : Noted → Bool) (xs : List Noted) → ((e : ℕ) → e < length xs → p (get_or xs e nobody) ≡ false) → position p xs ≡ None
@@ -50,7 +52,8 @@ none_passes p xs h =
     let at = position_or_len_is p xs (length xs) nobody (omega arith) h (λ lt. absurd (omega (arith, lt))) in
     grind (arith, nat_tests)
 
-one_passes : (p : Noted → Bool) (xs : List Noted) (d : ℕ) → d < length xs → p (get_or xs d nobody) ≡ true → ((e : ℕ) → e < d → p (get_or xs e nobody) ≡ false) → position p xs ≡ Some d
+one_passes : (p : Noted → Bool) (xs : List Noted) (d : ℕ)
+    → d < length xs → p (get_or xs d nobody) ≡ true → ((e : ℕ) → e < d → p (get_or xs e nobody) ≡ false) → position p xs ≡ Some d
 one_passes p xs d lt here before =
     let at = position_or_len_is p xs d nobody (omega (arith, lt)) before (λ _. here) in
     grind (arith, nat_tests)
@@ -75,7 +78,8 @@ place_stale h number d k steps m = none_passes (is_waiting number) (take 64 h) (
       | inr n ↦ no_wait h number e k at.1 (λ same. n.1 (steps.1 e at.0 at.1 same))
     ]))
 
-pub place_some : (h : List Noted) (number d m : ℕ) → d < 64 → IsNumbered h → IsStepsBack number (length h) (Some d) → moment_at h d ≡ Some m → waiting_place number h ≡ Some d
+pub place_some : (h : List Noted) (number d m : ℕ)
+    → d < 64 → IsNumbered h → IsStepsBack number (length h) (Some d) → moment_at h d ≡ Some m → waiting_place number h ≡ Some d
 place_some h number d m small k steps e =
     let within : d < length h = is_within h d m e in
     let n = length-take 64 h in
@@ -88,5 +92,8 @@ place_some h number d m small k steps e =
     let at = in_last h b (omega (arith, less, lt)) in
     rw at.2 (no_wait h number b k at.1 (λ same. let q = steps.1 b at.0 at.1 same in absurd (omega (arith, q, less)))))
 
-pub read_at : (next at : ℕ) (moments : List (Option ℕ)) (h : List Noted) (d i : ℕ) (x : Option ℕ) → length moments ≡ 64 → d < 64 → i ≡ (at + (63 - d)) % 64 → IsBookOf next at moments h → x ≡ get_or moments i x → moment_at h d ≡ x
-read_at next at moments h d i x len small i_is b e = sym (b.moments_are d small) ∙ ap (λ (k : ℕ). get_or moments k None) (sym i_is) ∙ sym (get_or_read moments i x (omega (arith, i_is, len)) e None)
+pub read_at : (next at : ℕ) (moments : List (Option ℕ)) (h : List Noted) (d i : ℕ) (x : Option ℕ)
+    → length moments ≡ 64 → d < 64 → i ≡ (at + (63 - d)) % 64 → IsBookOf next at moments h → x ≡ get_or moments i x → moment_at h d ≡ x
+read_at next at moments h d i x len small i_is b e =
+    sym (b.moments_are d small) ∙ ap (λ (k : ℕ). get_or moments k None) (sym i_is)
+    ∙ sym (get_or_read moments i x (omega (arith, i_is, len)) e None)

@@ -1,6 +1,8 @@
 -- The Full ACKs that were sent, and which of them an ACKACK confirms (sections 3.2.4 and 3.2.8). Moments and samples
 -- are microseconds.
-use Rattle.std.specs.Prelude.{◌≡◌, ℕ, zero, suc, ◌+◌, ◌-◌, ◌%◌, ◌<◌, min, Bool, true, false, not, ◌&&◌, ◌==◌, if◌then◌else◌, Option, None, Some, option_map, List, [], ◌∷◌, length, map, take, find, position, slice_get, slice_index_or, option_and_then}
+use Rattle.std.specs.Prelude.{◌≡◌, ℕ, zero, suc, ◌+◌, ◌-◌, ◌%◌, ◌<◌, min, Bool, true, false, not, ◌&&◌, ◌==◌, if◌then◌else◌, Option, None}
+use Rattle.std.specs.Prelude.{Some, option_map, List, [], ◌∷◌, length, map, take, find, position, slice_get, slice_index_or}
+use Rattle.std.specs.Prelude.{option_and_then}
 use Rattle.srt_seq.specs.Counts.{ack_number}
 use Rattle.srt_rtt.specs.declared.book.AckBook.{AckBook}
 
@@ -18,7 +20,7 @@ noted moment history = record { index = length history; moment = moment; is_conf
 abbrev pub is_waiting : (number : ℕ) → Noted → Bool
 is_waiting number n = (ack_number n.index == number) && not n.is_confirmed
 
--- the one of the last 64 that an ACKACK with this number confirms (this profile)
+-- the one of the last 64 that an ACKACK with this number confirms (our choice)
 abbrev pub waiting : (number : ℕ) → List Noted → Option Noted
 waiting number history = find (is_waiting number) (take 64 history)
 
@@ -26,7 +28,7 @@ waiting number history = find (is_waiting number) (take 64 history)
 abbrev pub waiting_place : (number : ℕ) → List Noted → Option ℕ
 waiting_place number history = position (is_waiting number) (take 64 history)
 
--- the time since it was sent, at most 10 s (this profile)
+-- the time since it was sent, at most 10 s (our choice)
 abbrev pub sample_at : (now : ℕ) → Noted → ℕ
 sample_at now n = min (now - n.moment) 10_000_000
 
@@ -78,4 +80,6 @@ ConfirmsOnce = (number : ℕ) (history : List Noted) → IsNumbered history → 
 
 -- the place of a Full ACK is the number of those sent after it
 abbrev pub PlacesCountBack : Type 0
-PlacesCountBack = (history : List Noted) (place : ℕ) (n : Noted) → IsNumbered history → slice_get history place ≡ Some n → n.index + (place + 1) ≡ length history
+PlacesCountBack =
+    (history : List Noted) (place : ℕ) (n : Noted)
+    → IsNumbered history → slice_get history place ≡ Some n → n.index + (place + 1) ≡ length history

@@ -1,3 +1,3 @@
 pub mod RoundTrip
 pub mod Book
-pub mod Steps
+pub mod inside

@@ -2,12 +2,12 @@
 
 ghost use Rattle.std.specs.Prelude.{◌≡◌, ℕ, ◌+◌, ◌-◌, ◌%◌, ◌<◌, ◌≤◌, List, [], IfOk, IfSome, IsNone, vec_len, length};
 ghost use Rattle.srt_seq.specs.Counts.{ack_number};
-ghost use Rattle.srt_rtt.specs.Steps.{IsStepsBack};
+ghost use Rattle.srt_rtt.specs.inside.Steps.{IsStepsBack};
 
-use srt_seq::limits::{FULL_ACKS_KEPT, RTT_SAMPLE_MAX_US};
+use srt_seq::limits::{FULL_ACKS_KEPT, MAX_RTT_SAMPLE_US};
 use std::alloc::{AllocError, Global};
 
-/// The greatest number of a Full ACK. The one after it has number 1 (this profile).
+/// The greatest number of a Full ACK. The one after it has number 1 (our choice).
 const LAST_NUMBER: u32 = u32::MAX;
 
 /// The last 64 Full ACKs that were sent: when each was sent, and whether it was confirmed. A fixed ring of about 1 KB.
@@ -27,7 +27,7 @@ pub struct AckBook {
 impl AckBook {
     ghost use Rattle.srt_rtt.specs.Book.{Noted, noted, sample, confirmed, waiting_place, StandsFor};
 
-    /// An empty book, whose first Full ACK gets number 1. The only call that takes memory; its only error is a failed
+    /// An empty book, whose first Full ACK gets number 1. The only call that allocates; its only error is a failed
     /// allocation.
     pub fn open(alloc: Global) -> Result<AckBook, AllocError>
         ensures { IfOk result (λ book. StandsFor book []) }
@@ -87,7 +87,7 @@ impl AckBook {
         let index = self.index_of(place);
         let moment = self.moments[index]?;
         self.moments[index] = None;
-        Some(now.saturating_sub(moment).min(RTT_SAMPLE_MAX_US))
+        Some(now.saturating_sub(moment).min(MAX_RTT_SAMPLE_US))
     }
 
     /// The index of the moment of the Full ACK after which `place` others were noted.

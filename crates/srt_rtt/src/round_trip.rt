@@ -1,11 +1,11 @@
 //! The round-trip time and its variance (draft-sharabayko-srt-01, section 4.10).
 
-ghost use Rattle.std.specs.Prelude.{◌≡◌, ℕ, ◌≤◌, List, [], ◌∷◌};
-ghost use Rattle.srt_rtt.specs.RoundTrip.{start as at_first, with_sample, nak_interval as interval_of, resend_after as resend_of, round_trip_of, StandsFor};
+ghost use Rattle.std.specs.Prelude.{◌≡◌, ◌≤◌};
+ghost use Rattle.srt_rtt.specs.RoundTrip.{start as at_first, with_sample, nak_interval as interval_of, resend_after as resend_of, round_trip_of};
 
-use srt_seq::limits::{NAK_INTERVAL_MIN_US, RESEND_MARGIN_US};
+use srt_seq::limits::{MIN_NAK_INTERVAL_US, RESEND_MARGIN_US};
 
-/// A smoothed round-trip time and its variance, both in microseconds. No method takes memory, and each is O(1).
+/// A smoothed round-trip time and its variance, both in microseconds. No method allocates, and each is O(1).
 #[derive(Clone, Copy, Debug, PartialEq, Eq)]
 pub struct Rtt {
     time: u32,
@@ -15,8 +15,7 @@ pub struct Rtt {
 impl Rtt {
     /// The values before the first sample: 100 ms, and a variance of 50 ms.
     pub fn start() -> Rtt
-        ensures value { round_trip_of result ≡ at_first }
-        ensures stands { StandsFor result [] }
+        ensures { round_trip_of result ≡ at_first }
     {
         Rtt {
             time: 100_000,
@@ -32,11 +31,10 @@ impl Rtt {
     }
 
     /// Takes one more sample, in microseconds. Round-trip time and variance move by 1/8 and 1/4 towards the new values,
-    /// rounded down (section 4.10; the rounding is this profile's).
+    /// rounded down (section 4.10; the rounding is our choice).
     pub fn sample(&mut self, sample: u64)
         requires { sample ≤ 10_000_000 }
-        ensures value { round_trip_of self.new ≡ with_sample sample (round_trip_of self.old) }
-        ensures stands { (samples : List ℕ) → StandsFor self.old samples → StandsFor self.new (sample ∷ samples) }
+        ensures { round_trip_of self.new ≡ with_sample sample (round_trip_of self.old) }
     {
         let time = u64::from(self.time);
         let variance = u64::from(self.variance);
@@ -51,12 +49,12 @@ impl Rtt {
     pub fn nak_interval(&self) -> u64
         ensures { result ≡ interval_of (round_trip_of self.now) }
     {
-        ((u64::from(self.time) + 4 * u64::from(self.variance)) / 2).max(NAK_INTERVAL_MIN_US)
+        ((u64::from(self.time) + 4 * u64::from(self.variance)) / 2).max(MIN_NAK_INTERVAL_US)
     }
 
     /// The time, in microseconds, after which everything in flight is sent again, counted from the last new
     /// acknowledgement or the last data packet sent, whichever was later: the round-trip time plus four times the
-    /// variance plus 20 ms (this profile). It can exceed 32 bits.
+    /// variance plus 20 ms (our choice). It can exceed 32 bits.
     pub fn resend_after(&self) -> u64
         ensures { result ≡ resend_of (round_trip_of self.now) }
     {

@@ -1,6 +1,7 @@
 //! Sequences of round-trip samples, and of Full ACKs and ACKACKs.
 
-use crate::{AckBook, Rtt};
+use crate::{AckBook, Rtt, SampledRtt};
+use srt_seq::Callers;
 use std::test::Fail;
 
 #[test]
@@ -58,5 +59,30 @@ fn the_last_64(rt: HostRuntime) -> Result<(), Fail> {
     assert_eq!(rt; book.confirm(64, 700_000), None);
     assert_eq!(rt; book.note(800_000), 1);
     assert_eq!(rt; book.confirm(64, 800_000), None);
+    Ok(())
+}
+
+#[test]
+fn first_samples(rt: HostRuntime) -> Result<(), Fail> {
+    let mut drafts = SampledRtt::start(Callers::Draft);
+    let mut libsrts = SampledRtt::start(Callers::Libsrt);
+    assert_eq!(rt; libsrts.values(), drafts.values());
+    // 7 x 100,000 + 20,001 is 8 x 90,000 + 1, and 3 x 50,000 + 79,999 is 4 x 57,499 + 3.
+    drafts.sample(20_001);
+    assert_eq!(rt;
+        (drafts.values().rtt(), drafts.values().variance()),
+        (90_000, 57_499)
+    );
+    libsrts.sample(20_001);
+    assert_eq!(rt;
+        (libsrts.values().rtt(), libsrts.values().variance()),
+        (20_001, 10_000)
+    );
+    // 7 x 20,001 + 30,000 is 8 x 21,250 + 7, and 3 x 10,000 + 9,999 is 4 x 9,999 + 3.
+    libsrts.sample(30_000);
+    assert_eq!(rt;
+        (libsrts.values().rtt(), libsrts.values().variance()),
+        (21_250, 9_999)
+    );
     Ok(())
 }

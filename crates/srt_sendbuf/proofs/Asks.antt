@@ -16,5 +16,6 @@ swap false true c = refl
 swap false false c = refl
 
 -- a list names an expired number if its first range does, or the others do
-pub asks_more : (x : Range) (xs : List Range) (r : Sending) → asks_for_gone (x ∷ xs) r ≡ (list_any (is_in x) (numbers_from (base r) (front r - base r)) || asks_for_gone xs r)
+pub asks_more : (x : Range) (xs : List Range) (r : Sending)
+    → asks_for_gone (x ∷ xs) r ≡ (list_any (is_in x) (numbers_from (base r) (front r - base r)) || asks_for_gone xs r)
 asks_more x xs r = any_of_both (is_in x) (is_asked xs) (numbers_from (base r) (front r - base r))

@@ -1,5 +1,6 @@
 -- How the front moves.
-use Rattle.std.proofs.Common.{◌≡◌, ℕ, zero, suc, ◌+◌, ◌-◌, ◌<◌, ◌≤◌, min, max, Bool, true, false, Option, List, [], ◌∷◌, length, cond, inl, inr, ◌⊎◌, refl, sym, ap, ◌∙◌, arith}
+use Rattle.std.proofs.Common.{◌≡◌, ℕ, zero, suc, ◌+◌, ◌-◌, ◌<◌, ◌≤◌, min, max, Bool, true, false, Option, List, [], ◌∷◌, length, cond, inl}
+use Rattle.std.proofs.Common.{inr, ◌⊎◌, refl, sym, ap, ◌∙◌, arith}
 use Rattle.std.specs.Prelude.{ℤ, pos, negsuc, All, int_lt, slice_get, nat_lt}
 use Rattle.std.proofs.lemmas.Bool.{cases_lt, lt-ltb, ltb-true}
 use Rattle.std.proofs.lemmas.Bool.Decides.{nat_tests}
@@ -12,7 +13,9 @@ use Rattle.srt_sendbuf.specs.Places.{Kept, is_old}
 use Rattle.srt_sendbuf.specs.Stands.{IsInOrder, IsKept, IsMoved, kept_as}
 
 -- an ACK that leaves the front where it is
-pub acked_below : (behind back steps message : ℕ) (r : Sending) → behind ≡ min (front r - r.acked) 16384 → back ≡ min behind 8192 → steps < back → message ≡ message_number (base r + steps) → IsMoved 0 (back - steps) message r (acknowledged (base r + steps) r)
+pub acked_below : (behind back steps message : ℕ) (r : Sending) → behind ≡ min (front r - r.acked) 16384 → back ≡ min behind 8192
+    → steps < back → message ≡ message_number (base r + steps)
+    → IsMoved 0 (back - steps) message r (acknowledged (base r + steps) r)
 acked_below behind back steps message r b k lt m =
     record {
       queue_is = refl;
@@ -23,7 +26,9 @@ acked_below behind back steps message r b k lt m =
     }
 
 -- an ACK that moves the front
-pub acked_beyond : (behind back steps message : ℕ) (r : Sending) → behind ≡ min (front r - r.acked) 16384 → back ≡ min behind 8192 → back ≤ steps → message ≡ message_number (base r + steps) → IsMoved (steps - back) 0 message r (acknowledged (base r + steps) r)
+pub acked_beyond : (behind back steps message : ℕ) (r : Sending) → behind ≡ min (front r - r.acked) 16384 → back ≡ min behind 8192
+    → back ≤ steps → message ≡ message_number (base r + steps)
+    → IsMoved (steps - back) 0 message r (acknowledged (base r + steps) r)
 acked_beyond behind back steps message r b k le m =
     record {
       queue_is = refl;
@@ -64,18 +69,24 @@ old_first before (p ∷ qs) zero n o lt = here (test before p) refl
     here false e = let none = none_old before p.origin qs e o.0 in rw (e, none) refl
 old_first before (p ∷ qs) (suc k) n o lt = there (test before p) refl (old_first before qs k n o.1 (omega (arith, lt)))
   where
-    there : (b : Bool) → test before p ≡ b → is_old before (kept_as n (slice_get qs k)) ≡ nat_lt k (many before qs) → is_old before (kept_as n (slice_get qs k)) ≡ nat_lt (suc k) (many before (p ∷ qs))
+    there : (b : Bool) → test before p ≡ b → is_old before (kept_as n (slice_get qs k)) ≡ nat_lt k (many before qs)
+        → is_old before (kept_as n (slice_get qs k)) ≡ nat_lt (suc k) (many before (p ∷ qs))
     there true e rest = let same : nat_lt k (many before qs) ≡ nat_lt (suc k) (1 + many before qs) = grind (arith, nat_tests) in rw e (rest ∙ same)
     there false e rest =
         let none = none_old before p.origin qs e o.0 in
         let same : nat_lt k 0 ≡ nat_lt (suc k) 0 = grind (arith, nat_tests) in
         rw (e, none) (rest ∙ ap (nat_lt k) none ∙ same)
 
-pub old_is : (before : ℤ) (qs : List Queued) (k n : ℕ) → IsInOrder qs → k < length qs → is_old before (kept_as n (slice_get qs k)) ≡ nat_lt k (queued_before before qs)
+pub old_is : (before : ℤ) (qs : List Queued) (k n : ℕ)
+    → IsInOrder qs → k < length qs → is_old before (kept_as n (slice_get qs k)) ≡ nat_lt k (queued_before before qs)
 old_is before qs k n o lt = old_first before qs k n o lt ∙ ap (nat_lt k) (many_is before qs)
 
 -- the front after the first n payloads expired: all of them were queued before a time, and the next one wasn't
-pub expired_front : (before : ℤ) (count queued : ℕ) (kept : ℕ → Option Kept) (r : Sending) → IsInOrder r.queue → front r + queued ≡ length r.queue → ((d : ℕ) → d < queued → kept d ≡ kept_as (front r + d) (slice_get r.queue (front r + d))) → IsLater before r → count ≤ queued → ((d : ℕ) → d < count → is_old before (kept d) ≡ true) → (count < queued → is_old before (kept count) ≡ false) → front (expired_before before r) ≡ front r + count
+pub expired_front : (before : ℤ) (count queued : ℕ) (kept : ℕ → Option Kept) (r : Sending) → IsInOrder r.queue
+    → front r + queued ≡ length r.queue → ((d : ℕ) → d < queued → kept d ≡ kept_as (front r + d) (slice_get r.queue (front r + d)))
+    → IsLater before r → count ≤ queued → ((d : ℕ) → d < count → is_old before (kept d) ≡ true)
+    → (count < queued → is_old before (kept count) ≡ false)
+    → front (expired_before before r) ≡ front r + count
 expired_front before count queued kept r o q ks later le old young =
     there (cases_lt 0 count) (cases_lt count queued)
   where
@@ -101,7 +112,10 @@ expired_front before count queued kept r o q ks later le old young =
     there (inl some) b = let x = reached some in let y = within b in omega (arith, x, y)
     there (inr none) b = let y = within b in omega (arith, y, none, later)
 
-pub expired_moved : (before : ℤ) (behind behind2 back back2 count steps message : ℕ) (r : Sending) → behind ≡ min (front r - r.acked) 16384 → back ≡ min behind 8192 → behind2 ≡ min (behind + count) 16384 → back2 ≡ min behind2 8192 → steps ≡ count + back - back2 → message ≡ message_number (base r + steps) → front (expired_before before r) ≡ front r + count → IsMoved count behind2 message r (expired_before before r)
+pub expired_moved : (before : ℤ) (behind behind2 back back2 count steps message : ℕ) (r : Sending) → behind ≡ min (front r - r.acked) 16384
+    → back ≡ min behind 8192 → behind2 ≡ min (behind + count) 16384 → back2 ≡ min behind2 8192 → steps ≡ count + back - back2
+    → message ≡ message_number (base r + steps) → front (expired_before before r) ≡ front r + count
+    → IsMoved count behind2 message r (expired_before before r)
 expired_moved before behind behind2 back back2 count steps message r b k b2 k2 s m f =
     record {
       queue_is = refl;
@@ -112,7 +126,10 @@ expired_moved before behind behind2 back back2 count steps message r b k b2 k2 s
     }
 
 -- an expiry that leaves the front where it is changes no field
-pub expired_none : (before : ℤ) (initial word behind queued flying low high base_message end_message : ℕ) (kept : ℕ → Option Kept) (lost : ℕ → Bool) (r : Sending) → IsKept initial word behind queued flying low high base_message end_message kept lost r → front (expired_before before r) ≡ front r → IsKept initial word behind queued flying low high base_message end_message kept lost (expired_before before r)
+pub expired_none : (before : ℤ) (initial word behind queued flying low high base_message end_message : ℕ) (kept : ℕ → Option Kept)
+    (lost : ℕ → Bool) (r : Sending)
+    → IsKept initial word behind queued flying low high base_message end_message kept lost r → front (expired_before before r) ≡ front r
+    → IsKept initial word behind queued flying low high base_message end_message kept lost (expired_before before r)
 expired_none before initial word behind queued flying low high base_message end_message kept lost r h f =
     record {
       word_is = let w = h.word_is in omega (arith, w, f);

@@ -1,5 +1,6 @@
 -- Buffers of which a call marked some packets as lost.
-use Rattle.std.proofs.Common.{◌≡◌, ℕ, ◌+◌, ◌-◌, ◌*◌, ◌/◌, ◌<◌, ◌≤◌, min, max, Bool, true, false, ◌&&◌, ◌||◌, if◌then◌else◌, Some, List, [], inl, inr, ◌⊎◌, refl, sym, ap, ◌∙◌, arith}
+use Rattle.std.proofs.Common.{◌≡◌, ℕ, ◌+◌, ◌-◌, ◌*◌, ◌/◌, ◌<◌, ◌≤◌, min, max, Bool, true, false, ◌&&◌, ◌||◌, if◌then◌else◌, Some, List, []}
+use Rattle.std.proofs.Common.{inl, inr, ◌⊎◌, refl, sym, ap, ◌∙◌, arith}
 use Rattle.std.specs.Prelude.{nat_lt, nat_le}
 use Rattle.std.proofs.lemmas.Bool.{cases_lt, true≢false}
 use Rattle.std.proofs.lemmas.Bool.Decides.{nat_tests}
@@ -66,7 +67,9 @@ marked_as p q a b e m =
     }
 
 -- a loss list that names the places that were marked
-pub asked_stands : (width initial : ℕ) (a b : SendBuf) (named : ℕ → Bool) (ranges : List Range) (r : Sending) → StandsFor width initial a r → HasMarked named a b → ((d : ℕ) → d < a.sent → is_asked ranges (front r + d) ≡ named d) → StandsFor width initial b (asked ranges r)
+pub asked_stands : (width initial : ℕ) (a b : SendBuf) (named : ℕ → Bool) (ranges : List Range) (r : Sending) → StandsFor width initial a r
+    → HasMarked named a b → ((d : ℕ) → d < a.sent → is_asked ranges (front r + d) ≡ named d)
+    → StandsFor width initial b (asked ranges r)
 asked_stands width initial a b named ranges r h m e =
     record {
       width_is = m.same.width ∙ h.width_is;
@@ -104,7 +107,8 @@ asked_stands width initial a b named ranges r h m e =
         ∙ mixed (is_asked ranges (front r + d)) (is_marked r.marks (front r + d)) (is_in_span (front r) (next r) (front r + d)) (flies d lt)
 
 -- one part: the places that are marked, and the bounds of those that are lost
-pub part_lost : (first last d : ℕ) (lost lost2 : Bool) → lost2 ≡ (if nat_le first d && nat_lt d (last + 1) then true else lost) → lost2 ≡ (is_in_part (Some (first, last)) d || lost)
+pub part_lost : (first last d : ℕ) (lost lost2 : Bool)
+    → lost2 ≡ (if nat_le first d && nat_lt d (last + 1) then true else lost) → lost2 ≡ (is_in_part (Some (first, last)) d || lost)
 part_lost first last d lost lost2 ls = ls ∙ either (nat_le first d) (nat_lt d (last + 1)) (nat_le d last) lost upto
   where
     upto : nat_lt d (last + 1) ≡ nat_le d last
@@ -115,11 +119,18 @@ part_lost first last d lost lost2 ls = ls ∙ either (nat_le first d) (nat_lt d 
     either true false c l e = ap (λ t. t || l) e
     either false b c l e = refl
 
-outside : (first last d : ℕ) (lost lost2 : Bool) → lost2 ≡ (if nat_le first d && nat_lt d (last + 1) then true else lost) → (d < first) ⊎ (last < d) → lost2 ≡ lost
-outside first last d lost lost2 ls (inl a) = let e : nat_le first d ≡ false = grind (arith, nat_tests, a) in ls ∙ ap (λ t. if t && nat_lt d (last + 1) then true else lost) e
-outside first last d lost lost2 ls (inr a) = let e : (nat_le first d && nat_lt d (last + 1)) ≡ false = grind (arith, nat_tests, a) in ls ∙ ap (λ t. if t then true else lost) e
+outside : (first last d : ℕ) (lost lost2 : Bool)
+    → lost2 ≡ (if nat_le first d && nat_lt d (last + 1) then true else lost) → (d < first) ⊎ (last < d) → lost2 ≡ lost
+outside first last d lost lost2 ls (inl a) =
+    let e : nat_le first d ≡ false = grind (arith, nat_tests, a) in ls ∙ ap (λ t. if t && nat_lt d (last + 1) then true else lost) e
+outside first last d lost lost2 ls (inr a) =
+    let e : (nat_le first d && nat_lt d (last + 1)) ≡ false = grind (arith, nat_tests, a) in ls ∙ ap (λ t. if t then true else lost) e
 
-pub part_within : (first last low high low2 high2 flying : ℕ) (lost lost2 : ℕ → Bool) → ((d : ℕ) → lost2 d ≡ (if nat_le first d && nat_lt d (last + 1) then true else lost d)) → (low < high → (low2 ≡ min low first) × (high2 ≡ max high (last + 1))) → (high ≤ low → (low2 ≡ first) × (high2 ≡ last + 1)) → ((d : ℕ) → d < flying → lost d ≡ true → (low ≤ d) × (d < high)) → (d : ℕ) → d < flying → lost2 d ≡ true → (low2 ≤ d) × (d < high2)
+pub part_within : (first last low high low2 high2 flying : ℕ) (lost lost2 : ℕ → Bool)
+    → ((d : ℕ) → lost2 d ≡ (if nat_le first d && nat_lt d (last + 1) then true else lost d))
+    → (low < high → (low2 ≡ min low first) × (high2 ≡ max high (last + 1))) → (high ≤ low → (low2 ≡ first) × (high2 ≡ last + 1))
+    → ((d : ℕ) → d < flying → lost d ≡ true → (low ≤ d) × (d < high)) → (d : ℕ) → d < flying → lost2 d ≡ true
+    → (low2 ≤ d) × (d < high2)
 part_within first last low high low2 high2 flying lost lost2 ls some none within d lt b = inside (cases_lt d first) (cases_lt last d) (cases_lt low high)
   where
     old : lost d ≡ true → (low < high) ⊎ (high ≤ low) → (low2 ≤ d) × (d < high2)
@@ -135,14 +146,23 @@ part_within first last low high low2 high2 flying lost lost2 ls some none within
     inside (inr f) (inl l) c = old (sym (outside first last d (lost d) (lost2 d) (ls d) (inr l)) ∙ b) c
     inside (inr f) (inr l) c = new f l c
 
-pub part_lowest : (first last low high low2 high2 : ℕ) (lost lost2 : ℕ → Bool) → first ≤ last → ((d : ℕ) → lost2 d ≡ (if nat_le first d && nat_lt d (last + 1) then true else lost d)) → (low < high → (low2 ≡ min low first) × (high2 ≡ max high (last + 1))) → (high ≤ low → (low2 ≡ first) × (high2 ≡ last + 1)) → (low < high → lost low ≡ true) → lost2 low2 ≡ true
+pub part_lowest : (first last low high low2 high2 : ℕ) (lost lost2 : ℕ → Bool) → first ≤ last
+    → ((d : ℕ) → lost2 d ≡ (if nat_le first d && nat_lt d (last + 1) then true else lost d))
+    → (low < high → (low2 ≡ min low first) × (high2 ≡ max high (last + 1))) → (high ≤ low → (low2 ≡ first) × (high2 ≡ last + 1))
+    → (low < high → lost low ≡ true)
+    → lost2 low2 ≡ true
 part_lowest first last low high low2 high2 lost lost2 le ls some none lowest = lowest2 (cases_lt low high) (cases_lt low first)
   where
     at_first : lost2 first ≡ true
-    at_first = let e : (nat_le first first && nat_lt first (last + 1)) ≡ true = grind (arith, nat_tests, le) in ls first ∙ ap (λ t. if t then true else lost first) e
+    at_first =
+        let e : (nat_le first first && nat_lt first (last + 1)) ≡ true = grind (arith, nat_tests, le) in
+        ls first ∙ ap (λ t. if t then true else lost first) e
 
     lowest2 : (low < high) ⊎ (high ≤ low) → (low < first) ⊎ (first ≤ low) → lost2 low2 ≡ true
-    lowest2 (inl c) (inl a) = let s = some c in let e : low2 ≡ low = omega (arith, s.0, a) in ap lost2 e ∙ outside first last low (lost low) (lost2 low) (ls low) (inl a) ∙ lowest c
+    lowest2 (inl c) (inl a) =
+        let s = some c in
+        let e : low2 ≡ low = omega (arith, s.0, a) in
+        ap lost2 e ∙ outside first last low (lost low) (lost2 low) (ls low) (inl a) ∙ lowest c
     lowest2 (inl c) (inr a) = let s = some c in let e : low2 ≡ first = omega (arith, s.0, a) in ap lost2 e ∙ at_first
     lowest2 (inr c) a = let s = none c in ap lost2 s.0 ∙ at_first
 
@@ -161,18 +181,22 @@ taken_both a b c list between left s t = (
       ∙ together (s.0 place) (t.0 place) (is_asked (ranges_from initial left) (from + place)),
 )
 
-pub taken_all : (width initial : ℕ) (a b : SendBuf) (list left : List Range) (r : Sending) → StandsFor width initial a r → TakesParts a b list left → left ≡ [] → StandsFor width initial b (asked (ranges_from initial list) r)
+pub taken_all : (width initial : ℕ) (a b : SendBuf) (list left : List Range) (r : Sending)
+    → StandsFor width initial a r → TakesParts a b list left → left ≡ [] → StandsFor width initial b (asked (ranges_from initial list) r)
 taken_all width initial a b list left r h t e =
     asked_stands width initial a b t.0 (ranges_from initial list) r h t.1
     (λ d lt. t.2 initial (front r) d (sym h.fields.word_is) lt ∙ ap (λ xs. t.0 d || is_asked (ranges_from initial xs) (front r + d)) e ∙ alone (t.0 d))
 
 -- each turn makes at most as many marks as there are packets in flight
-pub one_turn_more : (turns first before after sent sent2 : ℕ) → before ≤ first + turns * sent → after ≤ before + sent2 → sent2 ≡ sent → after ≤ first + (turns + 1) * sent
+pub one_turn_more : (turns first before after sent sent2 : ℕ)
+    → before ≤ first + turns * sent → after ≤ before + sent2 → sent2 ≡ sent → after ≤ first + (turns + 1) * sent
 one_turn_more turns first before after sent sent2 b a e =
     let more : (turns + 1) * sent ≡ turns * sent + sent = ap (λ n. n * sent) (omega arith) ∙ suc-mul turns sent in
     omega (arith, b, a, e, more)
 
-pub turns_in_all : (turns all left first after sent front next : ℕ) → 365 * turns + left ≤ all → after ≤ first + (turns + 1) * sent → front + sent ≡ next → after ≤ first + (all / 365 + 1) * (next - front)
+pub turns_in_all : (turns all left first after sent front next : ℕ)
+    → 365 * turns + left ≤ all → after ≤ first + (turns + 1) * sent → front + sent ≡ next → after ≤ first + (all / 365 + 1) * (next - front)
 turns_in_all turns all left first after sent front next t a e =
-    let more : (turns + 1) * sent ≤ (all / 365 + 1) * (next - front) = mul-le (turns + 1) sent (all / 365 + 1) (next - front) (omega (arith, t)) (omega (arith, e)) in
+    let more : (turns + 1) * sent ≤ (all / 365 + 1) * (next - front) =
+    mul-le (turns + 1) sent (all / 365 + 1) (next - front) (omega (arith, t)) (omega (arith, e)) in
     omega (arith, a, more)

@@ -1,5 +1,6 @@
 -- Ranges that are taken off a loss list, as parts of a window.
-use Rattle.std.proofs.Common.{◌≡◌, ℕ, suc, ◌+◌, ◌%◌, ◌^◌, ◌<◌, ◌≤◌, Bool, true, false, ◌||◌, Option, None, Some, List, [], ◌∷◌, length, refl, sym, ap, ◌∙◌, arith}
+use Rattle.std.proofs.Common.{◌≡◌, ℕ, suc, ◌+◌, ◌%◌, ◌^◌, ◌<◌, ◌≤◌, Bool, true, false, ◌||◌, Option, None, Some, List, [], ◌∷◌, length}
+use Rattle.std.proofs.Common.{refl, sym, ap, ◌∙◌, arith}
 use Rattle.std.specs.Prelude.{All, IfSome, slice_index_or}
 use Rattle.std.specs.List.Sorted.{IsNonDecreasingBy}
 use Rattle.std.proofs.lemmas.List.Elements.{All-push}
@@ -20,14 +21,18 @@ in_more parts None d = sym (alone (is_in_parts parts d))
 in_more parts (Some p) d = list_any-append (λ q. is_in_part (Some q) d) parts (p ∷ []) ∙ ap (λ b. is_in_parts parts d || b) (alone (is_in_part (Some p) d))
 
 -- the list's next range is taken, and its part is named if it has one
-pub taken_more : (word width : ℕ) (list left : List Range) (x : Range) (parts : List (ℕ × ℕ)) (part : Option (ℕ × ℕ)) → x.first < 2 ^ 31 → x.last < 2 ^ 31 → ((n : ℕ) → n % 2 ^ 31 ≡ word → IsPartOf x n width part) → IsTaken word width list (x ∷ left) (is_in_parts parts) → IsTaken word width list left (is_in_parts (with_part parts part))
+pub taken_more : (word width : ℕ) (list left : List Range) (x : Range) (parts : List (ℕ × ℕ)) (part : Option (ℕ × ℕ)) → x.first < 2 ^ 31
+    → x.last < 2 ^ 31 → ((n : ℕ) → n % 2 ^ 31 ≡ word → IsPartOf x n width part) → IsTaken word width list (x ∷ left) (is_in_parts parts)
+    → IsTaken word width list left (is_in_parts (with_part parts part))
 taken_more word width list left x parts part f l here before initial from d e lt =
     before initial from d e lt
-    ∙ ap (λ b. is_in_parts parts d || (b || is_asked (ranges_from initial left) (from + d))) (ranges_from_initial initial (from + d) x f l ∙ ap (is_in x) (omega arith) ∙ here (initial + from) e d lt)
+    ∙ ap (λ b. is_in_parts parts d || (b || is_asked (ranges_from initial left) (from + d)))
+    (ranges_from_initial initial (from + d) x f l ∙ ap (is_in x) (omega arith) ∙ here (initial + from) e d lt)
     ∙ together (is_in_parts parts d) (is_in_part part d) (is_asked (ranges_from initial left) (from + d))
     ∙ ap (λ b. b || is_asked (ranges_from initial left) (from + d)) (sym (in_more parts part d))
 
-pub within_more : (width : ℕ) (parts : List (ℕ × ℕ)) (part : Option (ℕ × ℕ)) → AreWithin width parts → IfSome part (λ p. (p.0 ≤ p.1) × (p.1 < width)) → AreWithin width (with_part parts part)
+pub within_more : (width : ℕ) (parts : List (ℕ × ℕ)) (part : Option (ℕ × ℕ))
+    → AreWithin width parts → IfSome part (λ p. (p.0 ≤ p.1) × (p.1 < width)) → AreWithin width (with_part parts part)
 within_more width parts None all one = all
 within_more width parts (Some p) all one = All-push (λ q. (q.0 ≤ q.1) × (q.1 < width)) parts p all one
 

@@ -1,5 +1,6 @@
 -- Times that don't go back, and packets sent one by one.
-use Rattle.std.proofs.Common.{◌≡◌, ℕ, zero, suc, ◌+◌, ◌<◌, ◌≤◌, ◌==◌, Bool, true, false, if◌then◌else◌, List, [], ◌∷◌, ◌++◌, inl, inr, refl, sym, ap, ◌∙◌, arith}
+use Rattle.std.proofs.Common.{◌≡◌, ℕ, zero, suc, ◌+◌, ◌<◌, ◌≤◌, ◌==◌, Bool, true, false, if◌then◌else◌, List, [], ◌∷◌, ◌++◌, inl, inr, refl}
+use Rattle.std.proofs.Common.{sym, ap, ◌∙◌, arith}
 use Rattle.std.specs.Prelude.{ℤ, pos, negsuc, ◌≤ℤ◌, int_lt, filter}
 use Rattle.std.proofs.lemmas.Bool.{cases_eq, eq-eqb, ne_eqb, true≢false}
 use Rattle.std.proofs.lemmas.Bool.Decides.{nat_tests}
@@ -69,7 +70,8 @@ expiry_goes_on =
       expire = λ before s. omega arith;
     }
 
-above : (passes : ℕ → Bool) (n from places : ℕ) → n < from → filter (λ k. if n == k then false else passes k) (numbers_from from places) ≡ filter passes (numbers_from from places)
+above : (passes : ℕ → Bool) (n from places : ℕ)
+    → n < from → filter (λ k. if n == k then false else passes k) (numbers_from from places) ≡ filter passes (numbers_from from places)
 above passes n from zero lt = refl
 above passes n from (suc places) lt =
     let e : (n == from) ≡ false = ne_eqb _ _ (λ e. omega (arith, e, lt)) in
@@ -82,14 +84,19 @@ nothing n more e = cc
 head_of : (a b : ℕ) (xs ys : List ℕ) → a ∷ xs ≡ b ∷ ys → (a ≡ b) × (xs ≡ ys)
 head_of a b xs ys e = (cc, cc)
 
-taken : (passes : ℕ → Bool) (from places n : ℕ) (more : List ℕ) → filter passes (numbers_from from places) ≡ n ∷ more → (from ≤ n) × (n < from + places) × (filter (λ k. if n == k then false else passes k) (numbers_from from places) ≡ more)
+taken : (passes : ℕ → Bool) (from places n : ℕ) (more : List ℕ) → filter passes (numbers_from from places) ≡ n ∷ more
+    → (from ≤ n) × (n < from + places) × (filter (λ k. if n == k then false else passes k) (numbers_from from places) ≡ more)
 taken passes from zero n more e = absurd (nothing n more e)
 taken passes from (suc places) n more e = step (passes from) refl (taken passes (from + 1) places n more)
   where
     rest : List ℕ
     rest = filter passes (numbers_from (from + 1) places)
 
-    step : (b : Bool) → passes from ≡ b → (filter passes (numbers_from (from + 1) places) ≡ n ∷ more → (from + 1 ≤ n) × (n < from + 1 + places) × (filter (λ k. if n == k then false else passes k) (numbers_from (from + 1) places) ≡ more)) → (from ≤ n) × (n < from + suc places) × (filter (λ k. if n == k then false else passes k) (numbers_from from (suc places)) ≡ more)
+    step : (b : Bool) → passes from ≡ b
+        → (filter passes (numbers_from (from + 1) places) ≡ n ∷ more
+        → (from + 1 ≤ n) × (n < from + 1 + places) ×
+        (filter (λ k. if n == k then false else passes k) (numbers_from (from + 1) places) ≡ more))
+        → (from ≤ n) × (n < from + suc places) × (filter (λ k. if n == k then false else passes k) (numbers_from from (suc places)) ≡ more)
     step true b h =
         let all : from ∷ filter passes (numbers_from (from + 1) places) ≡ n ∷ more = rw b at e in
         let two = head_of from n (filter passes (numbers_from (from + 1) places)) more all in
@@ -120,7 +127,9 @@ none_from : (passes : ℕ → Bool) (from places d : ℕ) → filter passes (num
 none_from passes from zero d e lt = absurd (omega (arith, lt))
 none_from passes from (suc places) d e lt = step (passes from) refl d lt (λ k. none_from passes (from + 1) places k)
   where
-    step : (b : Bool) → passes from ≡ b → (d : ℕ) → d < suc places → ((k : ℕ) → filter passes (numbers_from (from + 1) places) ≡ [] → k < places → passes ((from + 1) + k) ≡ false) → passes (from + d) ≡ false
+    step : (b : Bool) → passes from ≡ b → (d : ℕ) → d < suc places
+        → ((k : ℕ) → filter passes (numbers_from (from + 1) places) ≡ [] → k < places → passes ((from + 1) + k) ≡ false)
+        → passes (from + d) ≡ false
     step true b d lt h = let all : from ∷ filter passes (numbers_from (from + 1) places) ≡ [] = rw b at e in absurd cc
     step false b zero lt h = let z : from + 0 ≡ from = omega arith in rw z b
     step false b (suc d) lt h =
@@ -134,7 +143,9 @@ still s e = none_of (λ k. if next s == k then false else is_marked s.marks k) (
     at : (d : ℕ) → d < in_flight (sent (next s) s) → (if next s == front s + d then false else is_marked s.marks (front s + d)) ≡ false
     at d lt = elim (cases_eq (next s) (front s + d)) [
       | inl same ↦ let b : (next s == (front s + d)) ≡ true = eq-eqb _ _ same in rw b refl
-      | inr other ↦ let b : (next s == (front s + d)) ≡ false = ne_eqb _ _ other in rw b (none_from (is_marked s.marks) (front s) (in_flight s) d e (omega (arith, lt, other)))
+      | inr other ↦
+          let b : (next s == (front s + d)) ≡ false = ne_eqb _ _ other in
+          rw b (none_from (is_marked s.marks) (front s) (in_flight s) d e (omega (arith, lt, other)))
     ]
 
 pub new_one_by_one : NewOneByOne

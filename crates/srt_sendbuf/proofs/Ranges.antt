@@ -1,5 +1,6 @@
 -- The part of a window that a range names.
-use Rattle.std.proofs.Common.{◌≡◌, ℕ, zero, suc, ◌+◌, ◌-◌, ◌%◌, ◌^◌, ◌<◌, ◌≤◌, min, Bool, true, false, ◌||◌, Option, None, Some, List, [], ◌∷◌, refl, sym, ap, ◌∙◌, arith}
+use Rattle.std.proofs.Common.{◌≡◌, ℕ, zero, suc, ◌+◌, ◌-◌, ◌%◌, ◌^◌, ◌<◌, ◌≤◌, min, Bool, true, false, ◌||◌, Option, None, Some, List, []}
+use Rattle.std.proofs.Common.{◌∷◌, refl, sym, ap, ◌∙◌, arith}
 use Rattle.std.specs.List.{list_any}
 use Rattle.std.proofs.lemmas.Bool.{or_right, true≢false}
 use Rattle.std.proofs.lemmas.Bool.Decides.{nat_tests}
@@ -34,7 +35,9 @@ none_at test from (suc places) off =
     ∙ none_at test (from + 1) places (λ d l. let m : (from + 1) + d ≡ from + suc d = omega arith in rw m (off (suc d) (omega (arith, l))))
 
 -- if a range has a part of a window, it names one of its numbers
-pub asks_part : (initial from places first last : ℕ) (x : Range) → x.first < 2 ^ 31 → x.last < 2 ^ 31 → IsPartOf x (initial + from) places (Some (first, last)) → first ≤ last → last < places → list_any (is_in (range_from initial x)) (numbers_from from places) ≡ true
+pub asks_part : (initial from places first last : ℕ) (x : Range) → x.first < 2 ^ 31 → x.last < 2 ^ 31
+    → IsPartOf x (initial + from) places (Some (first, last)) → first ≤ last → last < places
+    → list_any (is_in (range_from initial x)) (numbers_from from places) ≡ true
 asks_part initial from places first last x f l part le lt =
     any_at (is_in (range_from initial x)) from places first (omega (arith, le, lt))
     (ranges_from_initial initial (from + first) x f l ∙ ap (is_in x) (omega arith) ∙ part first (omega (arith, le, lt)) ∙ both)
@@ -42,7 +45,8 @@ asks_part initial from places first last x f l part le lt =
     both : is_in_part (Some (first, last)) first ≡ true
     both = grind (arith, nat_tests, le)
 
-pub asks_none : (initial from places : ℕ) (x : Range) → x.first < 2 ^ 31 → x.last < 2 ^ 31 → IsPartOf x (initial + from) places None → list_any (is_in (range_from initial x)) (numbers_from from places) ≡ false
+pub asks_none : (initial from places : ℕ) (x : Range) → x.first < 2 ^ 31 → x.last < 2 ^ 31 → IsPartOf x (initial + from) places None
+    → list_any (is_in (range_from initial x)) (numbers_from from places) ≡ false
 asks_none initial from places x f l part =
     none_at (is_in (range_from initial x)) from places
     (λ d lt. ranges_from_initial initial (from + d) x f l ∙ ap (is_in x) (omega arith) ∙ part d lt)
@@ -62,7 +66,9 @@ any_alike p q same [] = refl
 any_alike p q same (n ∷ ns) = ap (λ t. t || list_any p ns) (same n) ∙ ap (λ t. q n || t) (any_alike p q same ns)
 
 -- an ACK's number, counted from the initial one
-pub own_number : (initial word from width : ℕ) (steps : Option ℕ) → option_map (λ d. initial + from + d) steps ≡ in_window word (initial + from) width → option_map (λ d. from + d) steps ≡ in_window (counted_from initial word) from width
+pub own_number : (initial word from width : ℕ) (steps : Option ℕ)
+    → option_map (λ d. initial + from + d) steps ≡ in_window word (initial + from) width
+    → option_map (λ d. from + d) steps ≡ in_window (counted_from initial word) from width
 own_number initial word from width steps e = same steps (in_window (counted_from initial word) from width) (e ∙ numbers_from_initial initial word from width)
   where
     inner : (a b : ℕ) → Some a ≡ Some b → a ≡ b
@@ -88,7 +94,8 @@ pub record IsBase (initial word back sent : ℕ) (r : Sending) : Type 0 where
   pub near : (initial + base r + back) % 2 ^ 31 ≡ word
   pub flying : back + sent + 1 ≡ next r - base r + 1
 
-pub base_is : (width initial back : ℕ) (b : SendBuf) (r : Sending) → StandsFor width initial b r → back ≡ min b.behind 8192 → IsBase initial (word_of b.front) back b.sent r
+pub base_is : (width initial back : ℕ) (b : SendBuf) (r : Sending)
+    → StandsFor width initial b r → back ≡ min b.behind 8192 → IsBase initial (word_of b.front) back b.sent r
 base_is width initial back b r h is =
     let m = h.fields.behind_is in
     let w = h.fields.word_is in

@@ -1,11 +1,12 @@
 -- The packets of a ring's places.
-use Rattle.std.proofs.Common.{◌≡◌, ℕ, zero, suc, ◌+◌, ◌<◌, ◌==◌, true, false, if◌then◌else◌, Some, List, [], ◌∷◌, ◌++◌, length, drop, inl, inr, refl, sym, ap, ◌∙◌, arith}
+use Rattle.std.proofs.Common.{◌≡◌, ℕ, zero, suc, ◌+◌, ◌<◌, ◌==◌, true, false, if◌then◌else◌, Some, List, [], ◌∷◌, ◌++◌, length, drop, inl}
+use Rattle.std.proofs.Common.{inr, refl, sym, ap, ◌∙◌, arith}
 use Rattle.std.specs.Prelude.{slice_get}
 use Rattle.std.proofs.lemmas.Bool.{cases_lt, cases_order, eq-eqb, ne_eqb}
 use Rattle.std.proofs.lemmas.Option.{slice_get_past}
 use Rattle.srt_ring.specs.declared.ring.PayloadRing.{PayloadRing}
 use Rattle.srt_ring.specs.Ring.{payload_at}
-use Rattle.srt_sendbuf.specs.declared.ring.Place.{Place}
+use Rattle.srt_sendbuf.specs.declared.ring.PacketRecord.{PacketRecord}
 use Rattle.srt_sendbuf.specs.Marks.{is_lost}
 use Rattle.srt_sendbuf.specs.Places.{kept_of, kept_in}
 
@@ -26,14 +27,16 @@ module _ {X : Type 0} where
   length_last (y ∷ xs) x = let h = length_last xs x in omega (arith, h)
 
 -- past the last place the payload doesn't matter
-pub same_inside : (ps : List Place) (d : ℕ) (t u : List ℕ) → (d < length ps → t ≡ u) → kept_of (slice_get ps d) t ≡ kept_of (slice_get ps d) u
+pub same_inside : (ps : List PacketRecord) (d : ℕ) (t u : List ℕ) → (d < length ps → t ≡ u) → kept_of (slice_get ps d) t ≡ kept_of (slice_get ps d) u
 same_inside ps d t u same = elim (cases_lt d (length ps)) [
   | inl lt ↦ ap (kept_of (slice_get ps d)) (same lt)
   | inr past ↦ let e = slice_get_past ps d past in ap (λ x. kept_of x t) e ∙ sym (ap (λ x. kept_of x u) e)
 ]
 
 -- appending a packet
-pub put_kept : (ps : List Place) (w n : PayloadRing) (d : ℕ) (p : Place) (bytes : List ℕ) → payload_at n (length ps) ≡ bytes → (d < length ps → payload_at n d ≡ payload_at w d) → kept_in (ps ++ p ∷ []) n d ≡ (if d == length ps then kept_of (Some p) bytes else kept_in ps w d)
+pub put_kept : (ps : List PacketRecord) (w n : PayloadRing) (d : ℕ) (p : PacketRecord) (bytes : List ℕ) → payload_at n (length ps) ≡ bytes
+    → (d < length ps → payload_at n d ≡ payload_at w d)
+    → kept_in (ps ++ p ∷ []) n d ≡ (if d == length ps then kept_of (Some p) bytes else kept_in ps w d)
 put_kept ps w n d p bytes here kept = elim (cases_order d (length ps)) [
   | inr (inl below) ↦
       let b : (d == length ps) ≡ false = ne_eqb _ _ (λ e. omega (arith, below, e)) in
@@ -49,17 +52,20 @@ put_kept ps w n d p bytes here kept = elim (cases_order d (length ps)) [
       rw b (ap (λ k. kept_of k (payload_at n d)) x ∙ sym (ap (λ k. kept_of k (payload_at w d)) y))
 ]
 
-pub get_next : (ps : List Place) (d : ℕ) → slice_get (drop 1 ps) d ≡ slice_get ps (d + 1)
+pub get_next : (ps : List PacketRecord) (d : ℕ) → slice_get (drop 1 ps) d ≡ slice_get ps (d + 1)
 get_next [] d = refl
 get_next (x ∷ ps) d = let e : d + 1 ≡ suc d = omega arith in sym (ap (slice_get (x ∷ ps)) e)
 
 -- removing the first place
-pub moved_one : (ps : List Place) (w n : PayloadRing) (d : ℕ) → (d + 1 < length ps → payload_at n d ≡ payload_at w (d + 1)) → kept_in (drop 1 ps) n d ≡ kept_in ps w (d + 1)
+pub moved_one : (ps : List PacketRecord) (w n : PayloadRing) (d : ℕ)
+    → (d + 1 < length ps → payload_at n d ≡ payload_at w (d + 1)) → kept_in (drop 1 ps) n d ≡ kept_in ps w (d + 1)
 moved_one ps w n d kept = ap (λ p. kept_of p (payload_at n d)) (get_next ps d) ∙ same_inside ps (d + 1) _ _ kept
 
-pub put_lost : (d : ℕ) (ps : List Place) (p : Place) → p.lost ≡ false → is_lost (slice_get (ps ++ p ∷ []) d) ≡ is_lost (slice_get ps d)
+pub put_lost : (d : ℕ) (ps : List PacketRecord) (p : PacketRecord) → p.lost ≡ false → is_lost (slice_get (ps ++ p ∷ []) d) ≡ is_lost (slice_get ps d)
 put_lost d ps p e = elim (cases_order d (length ps)) [
   | inr (inl below) ↦ ap is_lost (get_left ps (p ∷ []) d below)
   | inl same ↦ ap is_lost (get_last ps p d same) ∙ e ∙ sym (ap is_lost (slice_get_past ps d (omega (arith, same))))
-  | inr (inr above) ↦ let l = length_last ps p in ap is_lost (slice_get_past (ps ++ p ∷ []) d (omega (arith, l, above))) ∙ sym (ap is_lost (slice_get_past ps d (omega (arith, above))))
+  | inr (inr above) ↦
+      let l = length_last ps p in
+      ap is_lost (slice_get_past (ps ++ p ∷ []) d (omega (arith, l, above))) ∙ sym (ap is_lost (slice_get_past ps d (omega (arith, above))))
 ]

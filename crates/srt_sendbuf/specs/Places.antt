@@ -4,7 +4,7 @@ use Rattle.srt_seq.specs.Counts.{message_of}
 use Rattle.srt_ring.specs.declared.ring.PayloadRing.{PayloadRing}
 use Rattle.srt_ring.specs.Buffers.{slot_of}
 use Rattle.srt_ring.specs.Ring.{payload_at, first_of}
-use Rattle.srt_sendbuf.specs.declared.ring.Place.{Place}
+use Rattle.srt_sendbuf.specs.declared.ring.PacketRecord.{PacketRecord}
 use Rattle.srt_sendbuf.specs.Marks.{is_lost}
 use Rattle.srt_sendbuf.specs.declared.ring.Ring.{Ring}
 
@@ -14,11 +14,11 @@ pub record Kept : Type 0 where
   pub message : ℕ
   pub payload : List ℕ
 
-abbrev pub kept_of : Option Place → List ℕ → Option Kept
+abbrev pub kept_of : Option PacketRecord → List ℕ → Option Kept
 kept_of None payload = None
 kept_of (Some p) payload = Some (record { origin = p.origin; message = message_of p.message; payload = payload })
 
-abbrev pub kept_in : (places : List Place) (payloads : PayloadRing) (at : ℕ) → Option Kept
+abbrev pub kept_in : (places : List PacketRecord) (payloads : PayloadRing) (at : ℕ) → Option Kept
 kept_in places payloads at = kept_of (slice_get places at) (payload_at payloads at)
 
 -- the packet of the place `at`; None past the last

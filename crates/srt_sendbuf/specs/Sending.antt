@@ -1,6 +1,7 @@
 -- What a sender keeps of one stream, and all results that follow from it. Numbers count from the initial one, without
 -- a wrap.
-use Rattle.std.specs.Prelude.{ℕ, ◌+◌, ◌-◌, ℤ, pos, int_lt, Bool, true, false, Option, None, Some, List, [], ◌∷◌, ◌++◌, All, filter, length, count_by, slice_get, max, nat_lt, nat_le, ◌==◌, ◌&&◌, ◌||◌, if◌then◌else◌, ◌≤◌}
+use Rattle.std.specs.Prelude.{ℕ, ◌+◌, ◌-◌, ℤ, pos, int_lt, Bool, true, false, Option, None, Some, List, [], ◌∷◌, ◌++◌, All, filter, length}
+use Rattle.std.specs.Prelude.{count_by, slice_get, max, nat_lt, nat_le, ◌==◌, ◌&&◌, ◌||◌, if◌then◌else◌, ◌≤◌}
 use Rattle.std.specs.List.{list_any}
 use Rattle.srt_seq.specs.Window.{in_window, counted_from}
 use Rattle.srt_seq.specs.Runs.{Range, is_in, is_asked, numbers_from}
@@ -35,7 +36,7 @@ nothing_yet = record { queue = []; acked = 0; expired = 0; marks = [] }
 abbrev pub front : Sending → ℕ
 front s = max s.acked s.expired
 
--- the base: the least number that an ACK may name, at most 8192 before the front (this profile)
+-- the base: the least number that an ACK may name, at most 8192 before the front (our choice)
 abbrev pub base : Sending → ℕ
 base s = max s.acked (front s - 8192)
 
@@ -53,6 +54,10 @@ next s = max (front s) (sent_end s.marks)
 -- the number of payloads that can still be queued
 abbrev pub room : (width : ℕ) → Sending → ℕ
 room width s = width - (length s.queue - front s)
+
+-- whether everything that was queued is acknowledged
+abbrev pub is_all_acknowledged : Sending → Bool
+is_all_acknowledged s = s.acked == length s.queue
 
 -- the number of packets in flight: sent, and neither acknowledged nor expired
 abbrev pub in_flight : Sending → ℕ
@@ -153,6 +158,10 @@ due_at queue (Some p) = due_of p.0 p.1 (slice_get queue p.0)
 abbrev pub due : (window : ℕ) → Sending → Option Due
 due window s = due_at s.queue (due_number window (lost s) s)
 
+-- the next new packet, whatever is lost
+abbrev pub due_new : (window : ℕ) → Sending → Option Due
+due_new window s = due_at s.queue (due_number window [] s)
+
 -- the packet that is this many numbers behind the front, as one to be sent
 abbrev pub due_past : (at : ℕ) → (again : Bool) → Sending → Option Due
 due_past at again s = due_of (front s + at) again (slice_get s.queue (front s + at))
@@ -164,6 +173,10 @@ sent_number (Some p) s = sent p.0 s
 -- after the next packet was sent
 abbrev pub after_due : (window : ℕ) → Sending → Sending
 after_due window s = sent_number (due_number window (lost s) s) s
+
+-- after the next new packet was sent
+abbrev pub after_new : (window : ℕ) → Sending → Sending
+after_new window s = sent_number (due_number window [] s) s
 
 -- no payload was queued later than this time
 abbrev pub IsTimely : (now : ℕ) → Sending → Type 0

@@ -20,7 +20,8 @@ kept_as number (Some q) = Some (record { origin = q.origin; message = message_nu
 
 -- the numbers from the front to the queue's end have the places from 0 on, in order; lost ones have places from low
 -- on and before high
-pub record IsKept (initial word behind queued flying low high base_message end_message : ℕ) (kept : ℕ → Option Kept) (lost : ℕ → Bool) (r : Sending) : Type 0 where
+pub record IsKept (initial word behind queued flying low high base_message end_message : ℕ) (kept : ℕ → Option Kept) (lost : ℕ → Bool)
+    (r : Sending) : Type 0 where
   pub word_is : word ≡ (initial + front r) % 2 ^ 31
   pub behind_is : behind ≡ min (front r - r.acked) 16384
   pub queued_is : front r + queued ≡ length r.queue
@@ -36,7 +37,8 @@ pub record IsKept (initial word behind queued flying low high base_message end_m
 -- a buffer of this width represents `r`, a stream with this initial number
 pub record StandsFor (width initial : ℕ) (b : SendBuf) (r : Sending) : Type 0 where
   pub width_is : width_of b.ring ≡ width
-  pub fields : IsKept initial (word_of b.front) b.behind (length_of b.ring) b.sent b.low b.high (message_of b.message) (message_of b.next_message) (kept_at b.ring) (lost_at b.ring) r
+  pub fields : IsKept initial (word_of b.front) b.behind (length_of b.ring) b.sent b.low b.high (message_of b.message)
+      (message_of b.next_message) (kept_at b.ring) (lost_at b.ring) r
 
 -- the front moved on by `count`; the queue and the marks are the same
 pub record IsMoved (count behind message : ℕ) (r moved : Sending) : Type 0 where
@@ -77,7 +79,8 @@ pub record HasMarked (named : ℕ → Bool) (before after : SendBuf) : Type 0 wh
   pub message_is : after.message ≡ before.message
   pub next_message_is : after.next_message ≡ before.next_message
   pub lost_is : (d : ℕ) → d < before.sent → lost_at after.ring d ≡ (named d || lost_at before.ring d)
-  pub within : ((d : ℕ) → d < before.sent → lost_at before.ring d ≡ true → (before.low ≤ d) × (d < before.high)) → (d : ℕ) → d < before.sent → lost_at after.ring d ≡ true → (after.low ≤ d) × (d < after.high)
+  pub within : ((d : ℕ) → d < before.sent → lost_at before.ring d ≡ true → (before.low ≤ d) × (d < before.high))
+      → (d : ℕ) → d < before.sent → lost_at after.ring d ≡ true → (after.low ≤ d) × (d < after.high)
   pub lowest : (before.low < before.high → lost_at before.ring before.low ≡ true) → after.low < after.high → lost_at after.ring after.low ≡ true
 
 -- a call took ranges off a loss list and marked the packets in flight that they name

@@ -3,7 +3,7 @@ use Rattle.std.specs.Prelude.{ℕ, ◌-◌, Bool, Option, None, Some, List, opti
 use Rattle.srt_seq.specs.Window.{word_of, number_word}
 use Rattle.srt_seq.specs.Counts.{message_number, message_of}
 use Rattle.srt_seq.specs.Runs.{Range}
-use Rattle.srt_sendbuf.specs.Sending.{Sending, Due, due, base, front, asks_for_gone}
+use Rattle.srt_sendbuf.specs.Sending.{Sending, Due, due, due_new, base, front, asks_for_gone}
 use Rattle.srt_sendbuf.specs.declared.buffer.Out.{Out}
 use Rattle.srt_sendbuf.specs.declared.buffer.DropRun.{DropRun}
 
@@ -23,7 +23,11 @@ told initial d = record { number = number_word initial d.number; message = messa
 abbrev pub told_due : (initial window : ℕ) → Sending → Option Told
 told_due initial window s = option_map (told initial) (due window s)
 
--- a packet that `next_due` returned
+-- the next new packet to be sent
+abbrev pub told_new : (initial window : ℕ) → Sending → Option Told
+told_new initial window s = option_map (told initial) (due_new window s)
+
+-- a packet that `next_due` or `next_new` returned
 abbrev pub told_by : Out → Told
 told_by o = record { number = word_of o.number; message = message_of o.message; again = o.again; origin = o.origin; payload = o.payload.now }
 
@@ -37,8 +41,8 @@ pub record Gone : Type 0 where
 abbrev pub gone : (initial : ℕ) → Sending → Gone
 gone initial s = record { first = number_word initial (base s); last = number_word initial (front s - 1); message = message_number (base s) }
 
--- the drop request that answers a loss list: None if the list names no number from the base up to the front (this
--- profile)
+-- the drop request that answers a loss list: None if the list names no number from the base up to the front (our
+-- choice)
 abbrev pub gone_for : (initial : ℕ) → List Range → Sending → Option Gone
 gone_for initial ranges s = if asks_for_gone ranges s then Some (gone initial s) else None
 

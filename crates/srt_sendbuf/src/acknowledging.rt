@@ -1,5 +1,5 @@
-//! ACKs: which numbers one may acknowledge, and what it acknowledges (draft-sharabayko-srt-01, section 3.2.4). An ACK may
-//! name the numbers from the base up to next; the base is at most 8192 before the front.
+//! ACKs: which numbers one may acknowledge, and what it acknowledges (draft-sharabayko-srt-01, section 3.2.4). An ACK
+//! may name the numbers from the base up to next; the base is at most 8192 before the front.
 
 ghost use Rattle.std.specs.Prelude.{◌≡◌, ℕ, ◌+◌, ◌%◌, ◌^◌, ◌≤◌, false, option_map, is_some, min, IfSome};
 ghost use Rattle.srt_seq.specs.Window.{word_of};

@@ -14,7 +14,7 @@ use crate::parts::{PARTS, next_parts, split};
 use crate::ring::{Marked, Ring};
 use srt_loss::{LossRef, Ranges};
 use srt_seq::limits::ACK_REACH;
-use srt_seq::{Msg26, Payload, Seq31};
+use srt_seq::{Msg26, Seq31};
 use std::alloc::{AllocError, Global};
 
 /// The cap of `behind`. All values above `ACK_REACH` behave alike, so the counter stops here.
@@ -94,12 +94,13 @@ pub struct SendBuf {
 }
 
 impl SendBuf {
-    ghost use Rattle.srt_sendbuf.specs.Sending.{Sending, nothing_yet, front, room, in_flight, lost, queued, expired_before, asked, all_lost, IsTimely, IsLater};
+    ghost use Rattle.srt_sendbuf.specs.Sending.{Sending, nothing_yet, front, room, in_flight, is_all_acknowledged, lost, queued};
+    ghost use Rattle.srt_sendbuf.specs.Sending.{expired_before, asked, all_lost, IsTimely, IsLater};
     ghost use Rattle.srt_sendbuf.specs.Told.{gone_for, gone_by};
     ghost use Rattle.srt_sendbuf.specs.Stands.{StandsFor, ForWhatever, Becomes, BecomesIf, MovesFront, HasMarked, TakesParts, marks};
 
     /// An empty buffer of `width` packets, 32 to 8192, for a stream with the initial number 0; `start` begins any
-    /// other. The only call that takes memory; the error is a refused allocation. O(width).
+    /// other. The only call that allocates; the error is a refused allocation. O(width).
     pub fn open(alloc: Global, width: u32) -> Result<SendBuf, AllocError>
         requires some { 32 ≤ width }
         requires narrow { width ≤ 8192 }
@@ -144,8 +145,9 @@ impl SendBuf {
     /// Queues a payload, 0 to 1456 bytes, with the next sequence number. `now` is the current time in microseconds,
     /// not before that of any earlier call; it comes back as `Out::origin`. `Full` if no place is free; then nothing
     /// changes. O(1), one copy.
-    pub fn queue(&mut self, payload: &Payload, now: u64) -> Result<(), Full>
-        ensures stands { IfOk result (λ done. BecomesIf (IsTimely now) self.old self.new (queued now payload.now.items)) }
+    pub fn queue(&mut self, payload: &[u8], now: u64) -> Result<(), Full>
+        requires { length payload.now ≤ 1456 }
+        ensures stands { IfOk result (λ done. BecomesIf (IsTimely now) self.old self.new (queued now payload.now)) }
         ensures full { ForWhatever self.old (λ width initial r. IsErr result ↔ (room width r ≡ 0)) }
         ensures same { OnErr result (self.new ≡ self.old) }
     {
@@ -166,6 +168,16 @@ impl SendBuf {
         flying as u32
     }
 
+    /// Whether everything that was queued is acknowledged. O(1).
+    pub fn is_all_acknowledged(&self) -> bool
+        ensures { ForWhatever self.now (λ width initial r. result ≡ is_all_acknowledged r) }
+    {
+        if self.behind != 0 {
+            return false;
+        }
+        self.ring.len() == 0
+    }
+
     /// Whether any packet in flight counts as lost. O(1).
     pub fn any_lost(&self) -> bool
         ensures { ForWhatever self.now (λ width initial r. result ≡ nat_lt 0 (length (lost r))) }
@@ -176,6 +188,7 @@ impl SendBuf {
 
     /// Moves the front on by `count` packets. `behind` and `message` are the fields' values after that. O(count), and
     /// the search for the next lost packet.
+    #[inline(never)]
     pub(crate) fn move_front(&mut self, count: usize, behind: usize, message: Msg26)
         requires inside { count ≤ length_of self.old.ring }
         requires behind_in { behind ≤ 16384 }
@@ -195,6 +208,7 @@ impl SendBuf {
     /// Drops the packets that were queued before a time, in microseconds, sent or not (section 4.6). A time of 0 or
     /// less drops nothing, and times don't go back. Returns the number of packets that it dropped. Linear in that
     /// number; if it is 0, looks at the first packet alone.
+    #[inline(always)]
     pub fn expire(&mut self, before: i64) -> u32
         ensures stands { BecomesIf (IsLater before) self.old self.new (expired_before before) }
         ensures count { ForWhatever self.old (λ width initial r. IsLater before r → front r + result ≡ front (expired_before before r)) }
@@ -263,9 +277,9 @@ impl SendBuf {
 
     /// A loss list (NAK, sections 3.2.5 and 4.8.2): marks the numbers in flight that it names as lost. If it names
     /// any number from the base up to the front, which are expired and not acknowledged, returns the run of all of
-    /// these, for a drop request (this profile). Linear in the numbers in flight that it names and in its n ranges, or
+    /// these, for a drop request (our choice). Linear in the numbers in flight that it names and in its n ranges, or
     /// O(n log n) if they neither ascend nor descend. However much up to 364 ranges overlap, as many as a datagram has,
-    /// each number in flight is marked at most once (`marks`). Takes no memory.
+    /// each number in flight is marked at most once (`marks`). Doesn't allocate.
     pub fn lose(&mut self, losses: &LossRef<'_>) -> Option<DropRun>
         ensures stands { Becomes self.old self.new (λ initial r. asked (ranges_from initial losses.now) r) }
         ensures answer { ForWhatever self.old (λ width initial r. option_map gone_by result ≡ gone_for initial (ranges_from initial losses.now) r) }

@@ -1,5 +1,5 @@
 //! Drop requests: whether a NAK names numbers that are gone, which are expired and not acknowledged, and the run of
-//! them for a drop request (draft-sharabayko-srt-01, sections 3.2.5 and 3.2.9; which run is this profile's).
+//! them for a drop request (draft-sharabayko-srt-01, sections 3.2.5 and 3.2.9; which run is our choice).
 
 ghost use Rattle.std.specs.Prelude.{◌≡◌, ◌^◌, ◌<◌};
 ghost use Rattle.srt_seq.specs.Runs.{span, ranges_from, range_from};

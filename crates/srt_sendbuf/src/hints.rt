@@ -15,7 +15,7 @@ pub struct Hints {
 }
 
 impl Hints {
-    ghost use Rattle.srt_sendbuf.specs.Hints.{hint_at};
+    ghost use Rattle.srt_sendbuf.specs.inside.Hints.{hint_at};
 
     /// All flags off.
     pub fn new() -> Hints

@@ -11,11 +11,11 @@
 //! peer reports; `expire` for what is too old, and `lose_all` to resend all; `next_due` until it returns None, which
 //! gives lost packets first and then new ones, and `note_sent` after each.
 //!
-//! Files: `buffer.rt` has the types, queueing, expiry, and what a NAK marks as lost; `acknowledging.rt` which numbers an
-//! ACK may name, and what it does; `drop_request.rt` which numbers a drop request names; `next_due.rt` the next packet to
-//! send. Under them, `ring.rt` is the ring of packets, `hints.rt` speeds up its search for lost ones, and `parts.rt` sorts
-//! long loss lists. `laws.rt` has facts about the definitions; `specs/Sending.antt` defines all results, and
-//! `specs/Stands.antt` says how the fields represent them.
+//! Files: `buffer.rt` has the types, queueing, expiry, and what a NAK marks as lost; `acknowledging.rt` which numbers
+//! an ACK may name, and what it does; `drop_request.rt` which numbers a drop request names; `next_due.rt` the next
+//! packet to send. Under them, `ring.rt` is the ring of packets, `hints.rt` speeds up its search for lost ones, and
+//! `parts.rt` sorts long loss lists. `laws.rt` has facts about the definitions; `specs/Sending.antt` defines all
+//! results, and `specs/Stands.antt` says how the fields represent them.
 #![tactic(auto)]
 
 mod acknowledging;

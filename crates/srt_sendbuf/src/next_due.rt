@@ -1,5 +1,5 @@
-//! The next packet to send: the lowest lost one, again with the flag R; if none is lost, the next new one, within the flow
-//! window (draft-sharabayko-srt-01, sections 3.1, 3.2.4 and 4.8.2).
+//! The next packet to send: the lowest lost one, again with the flag R; if none is lost, the next new one, within the
+//! flow window (draft-sharabayko-srt-01, sections 3.1, 3.2.4 and 4.8.2).
 
 ghost use Rattle.std.specs.Prelude.{◌≡◌, ◌+◌, ◌<◌, ◌≤◌, true, false, option_map, length, IfSome};
 ghost use Rattle.srt_sendbuf.specs.Places.{length_of};
@@ -7,8 +7,8 @@ ghost use Rattle.srt_sendbuf.specs.Places.{length_of};
 use crate::buffer::{Out, SendBuf};
 
 impl SendBuf {
-    ghost use Rattle.srt_sendbuf.specs.Sending.{front, sent, due_past, after_due};
-    ghost use Rattle.srt_sendbuf.specs.Told.{told, told_by, told_due};
+    ghost use Rattle.srt_sendbuf.specs.Sending.{front, sent, due_past, after_due, after_new};
+    ghost use Rattle.srt_sendbuf.specs.Told.{told, told_by, told_due, told_new};
     ghost use Rattle.srt_sendbuf.specs.Stands.{ForWhatever, Becomes};
 
     /// The packet of a place.
@@ -62,10 +62,8 @@ impl SendBuf {
     {
         if self.low < self.high {
             self.out(self.low, true)
-        } else if self.has_new(window) {
-            self.out(self.sent, false)
         } else {
-            None
+            self.next_new(window)
         }
     }
 
@@ -76,7 +74,31 @@ impl SendBuf {
     {
         if self.low < self.high {
             self.sent_again();
-        } else if self.has_new(window) {
+        } else {
+            self.note_new_sent(window);
+        }
+    }
+
+    /// The next new packet to be sent, whatever is lost: None if none waits, or if `window` (the flow window, in
+    /// packets) or more are in flight (section 3.2.4). O(1), and no byte is copied. It counts as sent once
+    /// `note_new_sent` is called.
+    pub fn next_new(&self, window: u32) -> Option<Out<'_>>
+        ensures answer { ForWhatever self.now (λ width initial r. option_map told_by result ≡ told_new initial window r) }
+        ensures fits { IfSome result (λ o. length o.payload.now ≤ 1456) }
+    {
+        if self.has_new(window) {
+            self.out(self.sent, false)
+        } else {
+            None
+        }
+    }
+
+    /// Notes that the packet that `next_new` returns for this flow window was sent. Changes nothing if there is none.
+    /// O(1).
+    pub fn note_new_sent(&mut self, window: u32)
+        ensures { Becomes self.old self.new (λ initial r. after_new window r) }
+    {
+        if self.has_new(window) {
             self.sent_new();
         }
     }

@@ -53,7 +53,7 @@ fn sort(parts: &mut ArrayVec<(u32, u32), PARTS>)
 /// Takes ranges off a list until there are `PARTS` that name places of a window, or none is left. The window begins at
 /// the number `front` and has `width` places, at most 2^30. The parts are those places, as the first and the last place
 /// of each range, and come in ascending order of their first places. O(n log n) in the ranges, and linear if the list
-/// ascends or descends; takes no memory.
+/// ascends or descends; doesn't allocate.
 pub fn next_parts(ranges: &mut Ranges<'_>, front: Seq31, width: u32) -> ArrayVec<(u32, u32), PARTS>
     requires narrow { width ≤ 2 ^ 30 }
     ensures named { IsTaken (word_of front) width ranges.old ranges.new (is_in_parts result.items) }

@@ -1,21 +1,22 @@
 //! The ring of packets that are kept, with their payloads.
 
-ghost use Rattle.std.specs.Prelude.{◌≡◌, ℕ, ◌+◌, ◌-◌, ◌^◌, ◌<◌, ◌≤◌, ◌/◌, min, max, length, IfOk, vec_len, slice_get, nat_le, nat_lt, ◌==◌, ◌&&◌, true, false, Some, None, if◌then◌else◌};
+ghost use Rattle.std.specs.Prelude.{◌≡◌, ℕ, ◌+◌, ◌-◌, ◌^◌, ◌<◌, ◌≤◌, ◌/◌, min, max, length, IfOk, vec_len, slice_get, nat_le, nat_lt, ◌==◌};
+ghost use Rattle.std.specs.Prelude.{◌&&◌, true, false, Some, None, if◌then◌else◌};
 ghost use Rattle.srt_seq.specs.Counts.{message_of};
 ghost use Rattle.srt_ring.specs.Buffers.{slot_of};
 ghost use Rattle.srt_ring.specs.Ring.{width_of as width_in, first_of, warm_of};
-ghost use Rattle.srt_sendbuf.specs.Hints.{hint_at};
+ghost use Rattle.srt_sendbuf.specs.inside.Hints.{hint_at};
 ghost use Rattle.srt_sendbuf.specs.Marks.{is_lost};
 
 use crate::hints::{BLOCK, Hints};
 use circular_buffer::HeapCircularBuffer;
 use srt_ring::PayloadRing;
-use srt_seq::{Msg26, Payload};
+use srt_seq::Msg26;
 use std::alloc::{AllocError, Global};
 
 /// What is kept of a packet beside its payload.
 #[derive(Clone, Copy, Debug, PartialEq, Eq)]
-pub struct Place {
+pub struct PacketRecord {
     /// When its payload was queued, in microseconds.
     pub origin: u64,
     /// Its message number.
@@ -37,7 +38,7 @@ pub struct Marked {
 /// the oldest packet.
 #[derive(Drop)]
 pub struct Ring {
-    places: HeapCircularBuffer<Place>,
+    places: HeapCircularBuffer<PacketRecord>,
     payloads: PayloadRing,
     /// Which blocks of slots the search for lost packets can skip.
     hints: Hints,
@@ -54,7 +55,7 @@ impl Ring {
     ghost use Rattle.srt_ring.specs.Ring.{payload_at};
     ghost use Rattle.srt_sendbuf.specs.Places.{kept_at, kept_of, lost_at, length_of, width_of, marks_of, is_old, IsPut, IsFree};
 
-    /// An empty ring of `width` places. The only call that takes memory; the error is a refused allocation. O(width).
+    /// An empty ring of `width` places. The only call that allocates; the error is a refused allocation. O(width).
     pub fn open(alloc: Global, width: usize) -> Result<Ring, AllocError>
         requires some { 0 < width }
         requires narrow { width ≤ 8192 }
@@ -96,11 +97,12 @@ impl Ring {
     }
 
     /// Appends a packet that isn't lost. The ring must have a free place. One copy.
-    pub fn put(&mut self, origin: u64, message: Msg26, payload: &Payload)
+    pub fn put(&mut self, origin: u64, message: Msg26, payload: &[u8])
         requires room { length_of self.old < width_of self.old }
+        requires fits { length payload.now ≤ 1456 }
         ensures width { width_of self.new ≡ width_of self.old }
         ensures length { length_of self.new ≡ length_of self.old + 1 }
-        ensures kept { IsPut (record { origin = origin; message = message_of message; payload = payload.now.items }) self.old self.new }
+        ensures kept { IsPut (record { origin = origin; message = message_of message; payload = payload.now }) self.old self.new }
         ensures lost { (d : ℕ) → lost_at self.new d ≡ lost_at self.old d }
     {
         self.warm_up();
@@ -124,15 +126,16 @@ impl Ring {
     }
 
     /// Appends a packet, and copies its payload into the buffer of its place.
-    fn push(&mut self, origin: u64, message: Msg26, payload: &Payload)
+    fn push(&mut self, origin: u64, message: Msg26, payload: &[u8])
         requires room { warm_of self.old.payloads + length_of self.old < width_of self.old }
+        requires fits { length payload.now ≤ 1456 }
         ensures width { width_of self.new ≡ width_of self.old }
         ensures length { length_of self.new ≡ length_of self.old + 1 }
-        ensures kept { IsPut (record { origin = origin; message = message_of message; payload = payload.now.items }) self.old self.new }
+        ensures kept { IsPut (record { origin = origin; message = message_of message; payload = payload.now }) self.old self.new }
         ensures lost { (d : ℕ) → lost_at self.new d ≡ lost_at self.old d }
     {
-        self.payloads.set(self.places.len(), payload.as_slice());
-        self.places.push_back(Place {
+        self.payloads.set(self.places.len(), payload);
+        self.places.push_back(PacketRecord {
             origin,
             message,
             lost: false,
@@ -275,7 +278,7 @@ impl Ring {
 
     /// For a place that isn't lost: the next place at which the search for a lost one continues. Nothing before it is
     /// lost. Skips blocks whose flag is off, and turns off the flag of a block that it searched in vain.
-    fn pass(&mut self, at: usize, end: usize) -> usize
+    fn next_candidate(&mut self, at: usize, end: usize) -> usize
         requires order { at < end }
         requires inside { end ≤ length_of self.old }
         requires not_lost { lost_at self.old at ≡ false }
@@ -317,7 +320,7 @@ impl Ring {
             if self.is_lost(at) {
                 return at;
             }
-            at = self.pass(at, end);
+            at = self.next_candidate(at, end);
         }
         end
     }
@@ -337,9 +340,9 @@ impl Ring {
         }
     }
 
-    /// Marks the places from `from` on and before `end` as lost. `run` is an interval that is marked already and doesn't
-    /// begin later: only places past its end are marked. It grows to the greater end, or becomes the new interval if
-    /// that one begins past its end. So each place is marked once by calls with one `run`.
+    /// Marks the places from `from` on and before `end` as lost. `run` is an interval that is marked already and
+    /// doesn't begin later: only places past its end are marked. It grows to the greater end, or becomes the new
+    /// interval if that one begins past its end. So each place is marked once by calls with one `run`.
     pub fn mark_past(&mut self, run: &mut Marked, from: usize, end: usize)
         requires order { from ≤ end }
         requires inside { end ≤ length_of self.old }
@@ -366,6 +369,7 @@ impl Ring {
 
     /// Whether the packet of a place was queued before a time, in microseconds; false past the last, and for a time
     /// of 0 or less.
+    #[inline(always)]
     pub fn is_before(&self, at: usize, before: i64) -> bool
         ensures { result ≡ is_old before (kept_at self.now at) }
     {
@@ -377,6 +381,7 @@ impl Ring {
 
     /// The number of oldest packets that were queued before a time, in microseconds, up to the first that wasn't.
     /// Linear in the result.
+    #[inline(always)]
     pub fn count_before(&self, before: i64) -> usize
         ensures fits { result ≤ length_of self.now }
         ensures before { (d : ℕ) → d < result → is_old before (kept_at self.now d) ≡ true }
@@ -392,7 +397,7 @@ impl Ring {
     }
 
     /// The record of the packet of a place. None past the last.
-    pub fn place(&self, at: usize) -> Option<Place>
+    pub fn place(&self, at: usize) -> Option<PacketRecord>
         ensures { result ≡ slice_get self.now.places.items at }
     {
         match self.places.get(at) {

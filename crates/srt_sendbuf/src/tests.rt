@@ -5,7 +5,7 @@ mod random;
 
 use crate::SendBuf;
 use srt_loss::read;
-use srt_seq::{Payload, Seq31};
+use srt_seq::Seq31;
 use std::test::Fail;
 
 #[derive(Clone, Copy)]
@@ -45,9 +45,7 @@ fn number(word: u32) -> Result<Seq31, Fail> {
 }
 
 fn queued(buffer: &mut SendBuf, byte: u8, now: u64) -> Answer {
-    let mut payload = Payload::new();
-    let _ = payload.try_push(byte);
-    match buffer.queue(&payload, now) {
+    match buffer.queue(&[byte], now) {
         Ok(()) => Answer::Nothing,
         Err(_) => Answer::Full,
     }

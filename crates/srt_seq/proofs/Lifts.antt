@@ -17,7 +17,9 @@ rem_high (pos a) = omega (arith, ints)
 rem_high (negsuc a) = omega (arith, ints)
 
 -- the lifted time, if it is that many multiples of 2^32 away from the timestamp read in the same multiple as e
-pub lifted : (t : ℕ) (e inside k n : ℤ) → inside ≡ int_rem_euclid e (pos (2 ^ 32)) → n ≡ e +ℤ (pos t -ℤ inside) +ℤ (k *ℤ pos (2 ^ 32)) → e ≤ℤ (n +ℤ pos (2 ^ 31)) → n <ℤ (e +ℤ pos (2 ^ 31)) → IsLift t e n
+pub lifted : (t : ℕ) (e inside k n : ℤ) → inside ≡ int_rem_euclid e (pos (2 ^ 32))
+    → n ≡ e +ℤ (pos t -ℤ inside) +ℤ (k *ℤ pos (2 ^ 32)) → e ≤ℤ (n +ℤ pos (2 ^ 31)) → n <ℤ (e +ℤ pos (2 ^ 31))
+    → IsLift t e n
 lifted t e inside k n i m above below =
     let q = turns_of e in
     record { above = above; below = below; same = (q.0 +ℤ k, omega (arith, ints, q.1)) }
@@ -56,7 +58,8 @@ pub times_from_first : TimesFromFirst
 times_from_first first word around =
     let h = is_lift (stamped_from first word) around in
     let q = own_turns first word in
-    lift_is_one word (pos first +ℤ around) (lift word (pos first +ℤ around)) (pos first +ℤ lift (stamped_from first word) around) (is_lift word (pos first +ℤ around))
+    lift_is_one word (pos first +ℤ around) (lift word (pos first +ℤ around))
+    (pos first +ℤ lift (stamped_from first word) around) (is_lift word (pos first +ℤ around))
     (record {
       above = omega (arith, ints, h.above);
       below = omega (arith, ints, h.below);

@@ -10,7 +10,7 @@ round_number many k = 1 + k % many
 abbrev pub message_number : ℕ → ℕ
 message_number k = round_number (2 ^ 26 - 1) k
 
--- the number of the k-th Full ACK of a publisher's session, counted from 0: after 2^32 - 1 comes 1 (this profile)
+-- the number of the k-th Full ACK of a publisher's session, counted from 0: after 2^32 - 1 comes 1 (our choice)
 abbrev pub ack_number : ℕ → ℕ
 ack_number k = round_number (2 ^ 32 - 1) k
 

@@ -1,6 +1,8 @@
--- The form of a route's name, and the limits of its numbers (this profile).
-use Rattle.std.specs.Prelude.{ℕ, Bool, List, length, nat_le, ◌==◌, ◌&&◌, ◌||◌}
+-- The form of a route's name, and the limits of its numbers (our choice).
+use Rattle.std.specs.Prelude.{ℕ, Bool, true, Option, None, Some, List, length, nat_le, nat_lt, ◌==◌, ◌&&◌, ◌||◌}
 use Rattle.std.specs.List.{list_all}
+use Rattle.srt_seq.specs.declared.shared.Callers.TheVariants.{Draft}
+use Rattle.srt_seq.specs.declared.shared.Rules.{Rules}
 use Rattle.srt_seq.specs.Terms.{Terms}
 
 abbrev pub is_between : (low high n : ℕ) → Bool
@@ -13,8 +15,22 @@ is_name_byte b = is_between 97 122 b || is_between 65 90 b || is_between 48 57 b
 abbrev pub is_name : List ℕ → Bool
 is_name name = is_between 1 64 (length name) && list_all is_name_byte name
 
+-- a route without rules of its own: the draft's
+abbrev pub draft_rules : Rules
+draft_rules = record { callers = Draft; reserved = 0; sessions_per_address = None; takeover_ms = None; resend_percent = None }
+
+-- whether a number is within these limits, if it is given
+abbrev pub is_between_if : (low high : ℕ) → Option ℕ → Bool
+is_between_if low high None = true
+is_between_if low high (Some n) = is_between low high n
+
+abbrev pub are_rules : (sessions : ℕ) → Rules → Bool
+are_rules sessions r =
+    nat_le r.reserved 2 && nat_lt r.reserved sessions && is_between_if 1 17 r.sessions_per_address &&
+    is_between_if 100 5000 r.takeover_ms && is_between_if 5 1000 r.resend_percent
+
 -- whether the numbers of a route are within their limits
 abbrev pub in_limits : Terms → Bool
 in_limits e =
     is_between 20 8000 e.latency_ms && is_between 32 8192 e.buffer && is_between 1 17 e.sessions &&
-    is_between 16 4096 e.inbox && is_between 16 4096 e.outbox
+    is_between 16 4096 e.inbox && is_between 16 4096 e.outbox && are_rules e.sessions e.rules

@@ -3,7 +3,9 @@ pub mod Words
 pub mod Window
 pub mod Lift
 pub mod Counts
+pub mod Capped
 pub mod Runs
+pub mod Access
 pub mod Terms
 pub mod Items
 pub mod Entries

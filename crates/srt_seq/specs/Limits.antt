@@ -5,13 +5,17 @@ use Rattle.std.specs.Prelude.{ℕ}
 abbrev pub nak_interval_min_us : ℕ
 nak_interval_min_us = 20_000
 
--- what is added to RTT + 4 x variance until everything in flight is sent again, in microseconds (this profile)
+-- what is added to RTT + 4 x variance until everything in flight is sent again, in microseconds (our choice)
 abbrev pub resend_margin_us : ℕ
 resend_margin_us = 20_000
 
 -- the time without a packet sent after which a KEEPALIVE is sent, in microseconds (section 3.2.3)
 abbrev pub keep_alive_after_us : ℕ
 keep_alive_after_us = 1_000_000
+
+-- the time without a packet from a caller after which its session ends, in microseconds (our choice)
+abbrev pub peer_idle_timeout_us : ℕ
+peer_idle_timeout_us = 5_000_000
 
 -- the least age, in microseconds, that a packet may reach before it is too late (section 4.6)
 abbrev pub tlpktdrop_min_us : ℕ

@@ -2,6 +2,8 @@
 use Rattle.std.specs.Prelude.{ℕ, List, string_bytes}
 use Rattle.srt_seq.specs.declared.shared.Mode.{Mode}
 use Rattle.srt_seq.specs.declared.shared.Entry.{Entry}
+use Rattle.srt_seq.specs.declared.shared.Rules.{Rules}
+use Rattle.srt_seq.specs.Access.{AccessTerms, access_of}
 
 pub record Terms : Type 0 where
   pub name : List ℕ
@@ -11,6 +13,18 @@ pub record Terms : Type 0 where
   pub sessions : ℕ
   pub inbox : ℕ
   pub outbox : ℕ
+  pub access : AccessTerms
+  pub rules : Rules
 
 abbrev pub terms_of : Entry → Terms
-terms_of e = record { name = string_bytes e.name; mode = e.mode; latency_ms = e.latency_ms; buffer = e.buffer; sessions = e.sessions; inbox = e.inbox; outbox = e.outbox }
+terms_of e = record {
+  name = string_bytes e.name;
+  mode = e.mode;
+  latency_ms = e.latency_ms;
+  buffer = e.buffer;
+  sessions = e.sessions;
+  inbox = e.inbox;
+  outbox = e.outbox;
+  access = access_of e.access;
+  rules = e.rules;
+}

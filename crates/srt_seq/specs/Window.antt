@@ -39,4 +39,7 @@ InWindowIsTheNumber = (word front width : ℕ) → width ≤ 2 ^ 31 → IsWindow
 
 -- each number of a window is the initial number plus a number counted from it
 abbrev pub NumbersFromInitial : Type 0
-NumbersFromInitial = (initial word front width : ℕ) → in_window word (initial + front) width ≡ option_map (λ n. initial + n) (in_window (counted_from initial word) front width)
+NumbersFromInitial =
+    (initial word front width : ℕ)
+    → in_window word (initial + front) width
+    ≡ option_map (λ n. initial + n) (in_window (counted_from initial word) front width)

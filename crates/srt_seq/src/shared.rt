@@ -2,8 +2,6 @@
 
 ghost use Rattle.std.specs.Prelude.{◌<◌, ◌≤◌, length};
 
-use arrayvec::ArrayVec;
-
 /// The address and port that a datagram comes from or goes to. An IPv4 address has the form `::ffff:a.b.c.d`.
 #[derive(Clone, Copy, Debug, PartialEq, Eq)]
 pub struct Peer {
@@ -11,6 +9,20 @@ pub struct Peer {
     pub ip: [u8; 16],
     /// The UDP port, 0 to 65535.
     pub port: u16,
+}
+
+/// What stands against a caller that no route admits, in the order in which a caller is looked at (our choice). A conclusion
+/// of such a caller is refused with 1002 (SRT_REJ_PEER).
+#[derive(Clone, Copy, Debug, PartialEq, Eq)]
+pub enum NotAdmitted {
+    /// It brings no Stream ID, or one with a fault (appendix B).
+    NoName,
+    /// No shown route has the name that it asks for.
+    UnknownName,
+    /// The list of the role that it asks for, `publish_from` or `request_from`, doesn't have its address.
+    Address(Role),
+    /// It brings no key or another one than that of the role that it asks for, `publish_key` or `request_key`.
+    Key(Role),
 }
 
 /// How a route delivers payloads.
@@ -44,6 +56,52 @@ pub enum Turned {
     Idle,
 }
 
+/// An IPv4 network: some addresses in a row. An address is the number that its four octets spell, the first octet in the
+/// upper bits.
+#[derive(Clone, Copy, Debug, PartialEq, Eq)]
+pub struct Network {
+    /// The first address.
+    pub first: u32,
+    /// The number of addresses: 1 to 2^32.
+    pub size: u64,
+}
+
+/// Who may call a route in one role. What isn't given lets every caller in.
+#[derive(Debug, Drop)]
+pub struct RoleAccess {
+    /// The networks that callers may call from: 1 to 16. If they are given, an address that isn't IPv4 is in none.
+    pub from: Option<Vec<Network>>,
+    /// The key that a Stream ID has to bring: 1 to 64 bytes.
+    pub key: Option<String>,
+}
+
+/// Who may call a route (our choice).
+#[derive(Debug, Drop)]
+pub struct Access {
+    /// Who may publish to it.
+    pub publish: RoleAccess,
+    /// Who may request its stream.
+    pub request: RoleAccess,
+}
+
+/// What a route does beyond the draft if its configuration asks for it (our choice). The type doesn't enforce the limits
+/// named below: `in_limits` of an [`Entry`] checks them.
+#[derive(Clone, Copy, Debug, PartialEq, Eq)]
+pub struct Rules {
+    /// Which rules its sessions follow where libsrt's differ from the draft's.
+    pub callers: Callers,
+    /// The number of slots that are kept for publishers: 0 to 2, and fewer than the route's sessions.
+    pub reserved: u32,
+    /// The greatest number of open sessions of one IP address, whatever the ports: 1 to 17; no bound of its own if `None`.
+    pub sessions_per_address: Option<u32>,
+    /// The time without a data packet of the active publisher after which one that stands by takes over, in milliseconds:
+    /// 100 to 5000. Unused in buffer mode. If `None`, it takes over only once the active one's session has ended.
+    pub takeover_ms: Option<u32>,
+    /// The greatest share of a subscriber's new packets that is sent to it again, in percent: 5 to 1000; as many as are
+    /// lost if `None`.
+    pub resend_percent: Option<u32>,
+}
+
 /// The configuration of one route. The type doesn't enforce the limits named below: `in_limits` and `is_name` check
 /// them.
 #[derive(Debug, Drop)]
@@ -62,6 +120,10 @@ pub struct Entry {
     pub inbox: u32,
     /// The greatest number of replies that wait to be sent: 16 to 4096.
     pub outbox: u32,
+    /// Who may call the route.
+    pub access: Access,
+    /// What it does beyond the draft.
+    pub rules: Rules,
 }
 
 /// When a route opens and closes in a run, in rounds of its poller, counted from 0. The type doesn't enforce that it
@@ -101,10 +163,6 @@ pub enum Item {
     },
 }
 
-/// A copy of the bytes that a data packet carries: at most 1456, held inline. A packet that is sent has at least one
-/// byte; the empty payload is only an initial value, to be filled.
-pub type Payload = ArrayVec<u8, 1456>;
-
 /// The bytes that a data packet carries, borrowed from the datagram or the buffer that holds them: 1 to 1456.
 #[derive(Clone, Copy, Debug)]
 pub struct PayloadRef<'a> {
@@ -123,4 +181,15 @@ pub enum OpenFault {
     Limits,
     /// An allocation failed.
     OutOfMemory,
+}
+
+/// Which rules the sessions of a route follow where libsrt, which most callers run, serves its callers better than the
+/// draft does.
+#[derive(Clone, Copy, Debug, PartialEq, Eq)]
+pub enum Callers {
+    /// The draft's rules, to the last byte.
+    Draft,
+    /// The rules that serve libsrt's callers: the first sample of the round-trip time counts as it is, Full ACKs of buffer
+    /// mode say rates, a publisher that leaves drains, and callers are told of ends and of the end of a file.
+    Libsrt,
 }

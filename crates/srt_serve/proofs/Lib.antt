@@ -1,8 +1,9 @@
 pub mod Within
 pub mod Moments
-pub mod Recorded
 pub mod Openings
-pub mod Later
+pub mod NamesAtStart
 pub mod Settlings
+pub mod Callers
 pub mod Routes
 pub mod Ends
+pub mod Sends

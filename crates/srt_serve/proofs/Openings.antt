@@ -1,44 +1,70 @@
 -- Routes are opened one after another.
-use Rattle.std.proofs.Common.{◌≡◌, ◌⊎◌, inl, inr, ℕ, ◌+◌, ◌<◌, ◌≤◌, List, [], ◌∷◌, ◌++◌, length, map, take, get_or, refl, sym, subst, ◌∙◌, arith}
-use Rattle.std.proofs.lemmas.List.{take_more, map-append, length-take, length-map, get_or_append_left, length-append}
+use Rattle.std.proofs.Common.{◌≡◌, inl, inr, ℕ, ◌+◌, ◌<◌, List, [], ◌∷◌, ◌++◌, length, map, take, get_or, slice_get, Some, refl, sym, ap, subst, ◌∙◌, arith}
+use Rattle.std.proofs.Math.Seq.{get_or-append_seam}
+use Rattle.std.proofs.lemmas.Bool.{cases_lt}
+use Rattle.std.proofs.lemmas.List.{take_more, map-append, get_or_append_left, length-append}
 use Rattle.srt_seq.specs.declared.shared.Entry.{Entry}
 use Rattle.srt_seq.specs.Terms.{Terms, terms_of}
-use Rattle.srt_mailbox.specs.Ends.{Producer}
-use Rattle.srt_mailbox.specs.declared.cells.RouteCell.{RouteCell}
+use Rattle.srt_mailbox.specs.Cells.{CellIdentity}
+use Rattle.srt_mailbox.specs.Ends.{Producer, producer, drained}
 use Rattle.srt_poller.specs.declared.ends.Ends.{Ends}
-use Rattle.srt_serve.specs.Opened.{IsOpened, AreOpened}
-
-cases_lt : (k n : ℕ) → (k < n) ⊎ (n ≤ k)
-cases_lt k n = grind arith
+use Rattle.srt_serve.specs.Opened.{IsOpened, AreOpened, terms_in, new_clock, new_clocks}
 
 get_or_push : {X : Type 0} (xs : List X) (x d : X) (k : ℕ) → length xs ≡ k → get_or (xs ++ x ∷ []) k d ≡ x
-get_or_push [] x d k h = rw (← h) refl
-get_or_push (y ∷ ys) x d k h = rw (← h) (get_or_push ys x d (length ys) refl)
+get_or_push xs x d k h = rw (← h) (get_or-append_seam xs x [] d)
 
 length_push : {X : Type 0} (xs : List X) (x : X) → length (xs ++ x ∷ []) ≡ length xs + 1
 length_push xs x = length-append xs (x ∷ [])
 
-pub none_opened : AreOpened [] [] [] []
-none_opened = record { as_many_ends = refl; as_many_clocks = refl; as_many_cells = refl; each = λ r t e c k below. absurd (omega arith) }
+pub none_opened : AreOpened [] []
+none_opened = record { as_many = refl; each = λ r n e below. absurd (omega arith) }
 
-one_more : (entries : List Terms) (ends : List Ends) (clocks : List Producer) (cells : List RouteCell) (t : Terms) (e : Ends) (c : Producer) (k : RouteCell) → IsOpened t (length entries) e c k → AreOpened entries ends clocks cells → AreOpened (entries ++ t ∷ []) (ends ++ e ∷ []) (clocks ++ c ∷ []) (cells ++ k ∷ [])
-one_more entries ends clocks cells t e c k new h = record {
-  as_many_ends = omega (arith, length_push ends e, length_push entries t, h.as_many_ends);
-  as_many_clocks = omega (arith, length_push clocks c, length_push entries t, h.as_many_clocks);
-  as_many_cells = omega (arith, length_push cells k, length_push entries t, h.as_many_cells);
-  each = λ r t' e' c' k' below. elim (cases_lt r (length entries)) [
+pub one_more : (routes : List CellIdentity) (ends : List Ends) (n : CellIdentity) (e : Ends)
+    → IsOpened (length routes) n e → AreOpened routes ends → AreOpened (routes ++ n ∷ []) (ends ++ e ∷ [])
+one_more routes ends n e new h = record {
+  as_many = omega (arith, length_push ends e, length_push routes n, h.as_many);
+  each = λ r n' e' below. elim (cases_lt r (length routes)) [
     | inl lt ↦
-        rw (get_or_append_left entries (t ∷ []) t' r lt, get_or_append_left ends (e ∷ []) e' r (omega (arith, h.as_many_ends)), get_or_append_left clocks (c ∷ []) c' r (omega (arith, h.as_many_clocks)), get_or_append_left cells (k ∷ []) k' r (omega (arith, h.as_many_cells)))
-        (h.each r t' e' c' k' lt)
+        rw (get_or_append_left routes (n ∷ []) n' r lt, get_or_append_left ends (e ∷ []) e' r (omega (arith, h.as_many, lt)))
+        (h.each r n' e' lt)
     | inr le ↦
-        let last : length entries ≡ r = omega (arith, length_push entries t) in
-        rw (get_or_push entries t t' r last, get_or_push ends e e' r (h.as_many_ends ∙ last), get_or_push clocks c c' r (h.as_many_clocks ∙ last), get_or_push cells k k' r (h.as_many_cells ∙ last))
-        (subst (λ (j : ℕ). IsOpened t j e c k) last new)
+        let last : length routes ≡ r = omega (arith, length_push routes n, below, le) in
+        rw (get_or_push routes n n' r last, get_or_push ends e e' r (h.as_many ∙ last))
+        (subst (λ (j : ℕ). IsOpened j n e) last new)
   ];
 }
 
-pub opened_grow : (entries : List Entry) (r i : ℕ) (entry : Entry) (ends : List Ends) (clocks : List Producer) (cells : List RouteCell) (e : Ends) (c : Producer) (k : RouteCell) → r ≡ i → i < length entries → entry ≡ get_or entries i entry → IsOpened (terms_of entry) r e c k → AreOpened (map terms_of (take i entries)) ends clocks cells → AreOpened (map terms_of (take (i + 1) entries)) (ends ++ e ∷ []) (clocks ++ c ∷ []) (cells ++ k ∷ [])
-opened_grow entries r i entry ends clocks cells e c k index below there new h =
-    let places : length (map terms_of (take i entries)) ≡ i = length-map (take i entries) terms_of ∙ omega (arith, length-take i entries) in
+-- the terms of the routes that were opened are those of the entries so far, and of one more
+pub terms_grow : (entries : List Entry) (i : ℕ) (entry : Entry) (routes routes' : List CellIdentity) (n : CellIdentity)
+    → i < length entries → entry ≡ get_or entries i entry → n.terms ≡ terms_of entry → routes' ≡ routes ++ n ∷ []
+    → terms_in routes ≡ map terms_of (take i entries) → terms_in routes' ≡ map terms_of (take (i + 1) entries)
+terms_grow entries i entry routes routes' n below there whose grew h =
     rw (take_more entries i entry below, ← there, map-append terms_of (take i entries) (entry ∷ []))
-    (one_more (map terms_of (take i entries)) ends clocks cells (terms_of entry) e c k (subst (λ (j : ℕ). IsOpened (terms_of entry) j e c k) (index ∙ sym places) new) h)
+    (ap terms_in grew ∙ map-append (λ m. m.terms) routes (n ∷ [])
+    ∙ ap (λ (ts : List Terms). ts ++ n.terms ∷ []) h
+    ∙ ap (λ (t : Terms). map terms_of (take i entries) ++ t ∷ []) whose)
+
+-- the clock's ends are those of the routes to which its reader came, and of one more
+pub clocks_grow : (routes routes' : List CellIdentity) (clocks clocks' : List Producer) (n : CellIdentity)
+    → routes' ≡ routes ++ n ∷ [] → clocks' ≡ clocks ++ new_clock n ∷ [] → clocks ≡ new_clocks routes → clocks' ≡ new_clocks routes'
+clocks_grow routes routes' clocks clocks' n came taken h =
+    taken ∙ ap (λ (cs : List Producer). cs ++ new_clock n ∷ []) h ∙ sym (map-append new_clock routes (n ∷ [])) ∙ ap new_clocks (sym came)
+
+-- the route that was taken from a place is that which was put there
+pub first_taken : (came came' : List CellIdentity) (n there put : CellIdentity) (e : Ends) (i : ℕ)
+    → came' ≡ came ++ n ∷ [] → n.index ≡ length came → e.ingress ≡ producer n.inbox n.terms.inbox []
+    → e.drain ≡ drained n.outbox n.terms.outbox [] e.drain.hand → i ≡ length came → slice_get came' i ≡ Some there → there ≡ put
+    → (came' ≡ came ++ put ∷ []) × IsOpened (length came) put e
+first_taken came came' n there put e i grew index ingress drain at found same =
+    let here : slice_get came' i ≡ Some n = ap (λ ns. slice_get ns i) grew ∙ ap (λ j. slice_get (came ++ n ∷ []) j) at ∙ at_end came n in
+    let whose : n ≡ put = some_same (sym here ∙ found) ∙ same in (
+      grew ∙ ap (λ m. came ++ m ∷ []) whose,
+      subst (λ m. IsOpened (length came) m e) whose (record { index_is = index; ingress = ingress; drain = drain }),
+    )
+  where
+    at_end : (xs : List CellIdentity) (x : CellIdentity) → slice_get (xs ++ x ∷ []) (length xs) ≡ Some x
+    at_end [] x = refl
+    at_end (y ∷ xs) x = at_end xs x
+
+    some_same : {a b : CellIdentity} → Some a ≡ Some b → a ≡ b
+    some_same h = cc

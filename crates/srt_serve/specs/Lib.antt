@@ -1,7 +1,8 @@
+pub mod inside
 pub mod Ticks
-pub mod Later
+pub mod NamesAtStart
 pub mod Opened
-pub mod Polled
 pub mod Settled
+pub mod Callers
 pub mod Ran
 pub mod Refusals

@@ -6,16 +6,20 @@ use Rattle.srt_seq.specs.Terms.{Terms}
 use Rattle.srt_route.specs.declared.replies.Reply.{Reply}
 use Rattle.srt_route.specs.Route.{solo}
 use Rattle.srt_route.specs.Written.{written}
-use Rattle.srt_mailbox.specs.declared.inbox_rule.Marked.{Marked}
+use Rattle.srt_mailbox.specs.declared.inbox_rule.InboxEntry.{InboxEntry}
 use Rattle.srt_mailbox.specs.declared.accounts.Account.{Account}
 use Rattle.srt_mailbox.specs.Inbox.{polled_of, ticked_of, applied}
 use Rattle.srt_mailbox.specs.Counts.{counted}
 use Rattle.srt_poller.specs.declared.report.Report.{Report}
 use Rattle.srt_poller.specs.Devices.{Heard, Carried, joined}
-use Rattle.srt_poller.specs.History.{Sorting, Event, Follow, at_first, state_after, IsOver, kept_after, kept_of, given, calls, handed, datagrams, attempts, of_lobby, of_route, answered, accepted, drained, closes_all_in, waits_in, reads_in, ready_in}
+use Rattle.srt_poller.specs.History.{Sorting, Event, Follow, at_first, state_after, IsOver, kept_after, kept_of, given, calls, handed}
+use Rattle.srt_poller.specs.History.{datagrams, attempts, of_lobby, of_route, answered, accepted, drained, closes_all_in, waits_in}
+use Rattle.srt_poller.specs.History.{reads_in, ready_in}
 use Rattle.srt_poller.specs.Reports.{total}
 use Rattle.srt_poller.specs.Tallies.{TalliesWith}
-use Rattle.srt_serve.specs.Later.{first_names}
+use Rattle.srt_lobby.specs.Names.{RouteName}
+use Rattle.srt_serve.specs.Callers.{CallersMayCall}
+use Rattle.srt_serve.specs.NamesAtStart.{first_names}
 use Rattle.srt_serve.specs.Ticks.{IsWithin, tick}
 
 -- One route, if these events happened at the poller and the ticker gave these moments. The items taken, followed by those left, are, by
@@ -23,8 +27,8 @@ use Rattle.srt_serve.specs.Ticks.{IsWithin, tick}
 -- replies of this route that were sent, then the kept one, those queued and those that wait are all that the route, alone, replies to the items taken. The
 -- account has their numbers
 pub record RouteRan (terms : Terms) (index : ℕ) (events : List Event) (moments : List ℕ) (a : Account) : Type 0 where
-  pub taken : List Marked
-  pub left : List Marked
+  pub taken : List InboxEntry
+  pub left : List InboxEntry
   pub ticks : List ℕ
   pub queued : List Reply
   pub waiting : List Datagram
@@ -48,13 +52,15 @@ abbrev pub told_by : Heard → Carried → Option (List ℕ) → Told
 told_by source wire moments = record { source = source; wire = wire; moments = moments }
 
 -- These events happened at the poller, the oldest first, in whole rounds, and the ticker gave these moments. In each round the routes of its
--- schedules opened and closed; at first those that open later were hidden. The source gave the datagrams of the events, and what happened to each is
+-- schedules opened and closed; at first the names were these. The source gave the datagrams of the events, and what happened to each is
 -- what its class says, with the names then in force; its calls, with its answers, are just those of the events. The wire was handed the datagrams of the
 -- events, and its sends, with their outcomes, are just theirs. The report counts them, and has the numbers of the devices' records. The source waited
--- once a round, and was read at least as often as it waited without a failure. There is an account of each route, in the order of their indexes
-pub record RanBy (class : Sorting) (schedules : List Schedule) (entries : List Terms) (rounds : ℕ) (old new : Told) (report : Report) (accounts : List Account) (events : List Event) (moments : List ℕ) : Type 0 where
-  pub follow : Follow class schedules (at_first (first_names schedules entries)) events
-  pub over : IsOver (state_after schedules (at_first (first_names schedules entries)) events).phase
+-- once a round, and was read at least as often as it waited without a failure. If the datagrams are sorted as the lobby does, each that entered a
+-- route's inbox is of a caller that may call the route. There is an account of each route, in the order of their indexes
+pub record RanFrom (names : List RouteName) (class : Sorting) (schedules : List Schedule) (entries : List Terms) (rounds : ℕ) (old new : Told)
+    (report : Report) (accounts : List Account) (events : List Event) (moments : List ℕ) : Type 0 where
+  pub follow : Follow class schedules (at_first names) events
+  pub over : IsOver (state_after schedules (at_first names) events).phase
   pub gave : new.source.gave ≡ joined old.source.gave (given events)
   pub called : new.source.calls ≡ joined old.source.calls (calls events)
   pub handed_are : new.wire.handed ≡ joined old.wire.handed (datagrams (handed events))
@@ -66,17 +72,32 @@ pub record RanBy (class : Sorting) (schedules : List Schedule) (entries : List T
   pub waits : waits_in events ≡ rounds
   pub reads : ready_in events ≤ reads_in events
   pub few : length events ≤ rounds * (259 + 64 * length entries)
+  pub callers : CallersMayCall class entries events
   pub as_many : length accounts ≡ length entries
-  pub each : (r : ℕ) (terms : Terms) (a : Account) → r < length entries → RouteRan (slice_index_or entries r terms) r events moments (slice_index_or accounts r a)
+  pub each : (r : ℕ) (terms : Terms) (a : Account)
+      → r < length entries → RouteRan (slice_index_or entries r terms) r events moments (slice_index_or accounts r a)
+
+-- the same, and at first those that open later were hidden
+abbrev pub RanBy : Sorting → List Schedule → List Terms → (rounds : ℕ) → (old new : Told) → Report → List Account → List Event → (moments : List ℕ)
+    → Type 0
+RanBy class schedules entries rounds old new report accounts events moments =
+    RanFrom (first_names schedules entries) class schedules entries rounds old new report accounts events moments
 
 -- A run of this many rounds, of which some may have closed all
 abbrev pub RanUntil : Sorting → List Schedule → List Terms → (rounds : ℕ) → (old new : Told) → Report → List Account → Type 0
-RanUntil class schedules entries rounds old new report accounts = (events : List Event) × (moments : List ℕ) × RanBy class schedules entries rounds old new report accounts events moments
+RanUntil class schedules entries rounds old new report accounts =
+    (events : List Event) × (moments : List ℕ) × RanBy class schedules entries rounds old new report accounts events moments
 
--- the same, and a round closed all only if `closes` is known
+-- the same, and a round closed all only if `closes` is known; the names that it began with are given
+abbrev pub RanUnderFrom : (names : List RouteName) → (closes : Type 0) → Sorting → List Schedule → List Terms → (rounds : ℕ) → (old new : Told) → Report
+    → List Account → Type 0
+RanUnderFrom names closes class schedules entries rounds old new report accounts =
+    (events : List Event) × (moments : List ℕ) × RanFrom names class schedules entries rounds old new report accounts events moments ×
+    ((closes_all_in events ≡ 0) ⊎ closes)
+
 abbrev pub RanUnder : (closes : Type 0) → Sorting → List Schedule → List Terms → (rounds : ℕ) → (old new : Told) → Report → List Account → Type 0
 RanUnder closes class schedules entries rounds old new report accounts =
-    (events : List Event) × (moments : List ℕ) × RanBy class schedules entries rounds old new report accounts events moments × ((closes_all_in events ≡ 0) ⊎ closes)
+    RanUnderFrom (first_names schedules entries) closes class schedules entries rounds old new report accounts
 
 -- the same, and none closed all
 abbrev pub Ran : Sorting → List Schedule → List Terms → (rounds : ℕ) → (old new : Told) → Report → List Account → Type 0

@@ -1,29 +1,25 @@
 -- The routes at the end of a run, before and after they are settled.
 use Rattle.std.specs.Prelude.{List, [], ◌∷◌}
 use Rattle.srt_mailbox.specs.declared.accounts.Account.{Account}
-use Rattle.srt_mailbox.specs.declared.cells.RouteCell.{RouteCell}
-use Rattle.srt_mailbox.specs.Cells.{AreEndsOf}
+use Rattle.srt_mailbox.specs.Cells.{CellIdentity, AreEndsOf}
 use Rattle.srt_mailbox.specs.Ends.{Producer}
-use Rattle.srt_mailbox.specs.Names.{name_in}
 use Rattle.srt_mailbox.specs.Settled.{Settles}
 use Rattle.srt_poller.specs.declared.ends.Ends.{Ends}
 
--- the ends of each route are of its queues
-abbrev pub AreJoined : List Ends → List Producer → List RouteCell → Type 0
-AreJoined [] [] [] = Unit {0}
-AreJoined [] [] (k ∷ cells) = ⊥
-AreJoined [] (c ∷ clocks) cells = ⊥
-AreJoined (e ∷ ends) [] cells = ⊥
-AreJoined (e ∷ ends) (c ∷ clocks) [] = ⊥
-AreJoined (e ∷ ends) (c ∷ clocks) (k ∷ cells) = AreEndsOf (name_in k) e.ingress c e.drain × AreJoined ends clocks cells
+-- the ends of each route are of its queues; there may be clock's ends behind those
+abbrev pub AreJoined : List CellIdentity → List Ends → List Producer → Type 0
+AreJoined [] [] clocks = Unit {0}
+AreJoined [] (e ∷ ends) clocks = ⊥
+AreJoined (n ∷ routes) [] clocks = ⊥
+AreJoined (n ∷ routes) (e ∷ ends) [] = ⊥
+AreJoined (n ∷ routes) (e ∷ ends) (c ∷ clocks) = AreEndsOf n e.ingress c e.drain × AreJoined routes ends clocks
 
 -- each account is that of its route
-abbrev pub AreSettled : List Account → List Ends → List Producer → List RouteCell → Type 0
-AreSettled [] [] [] [] = Unit {0}
-AreSettled [] [] [] (k ∷ cells) = ⊥
-AreSettled [] [] (c ∷ clocks) cells = ⊥
-AreSettled [] (e ∷ ends) clocks cells = ⊥
-AreSettled (a ∷ accounts) [] clocks cells = ⊥
-AreSettled (a ∷ accounts) (e ∷ ends) [] cells = ⊥
-AreSettled (a ∷ accounts) (e ∷ ends) (c ∷ clocks) [] = ⊥
-AreSettled (a ∷ accounts) (e ∷ ends) (c ∷ clocks) (k ∷ cells) = Settles a (name_in k) e.ingress c e.drain × AreSettled accounts ends clocks cells
+abbrev pub AreSettled : List Account → List CellIdentity → List Ends → List Producer → Type 0
+AreSettled [] [] [] clocks = Unit {0}
+AreSettled [] [] (e ∷ ends) clocks = ⊥
+AreSettled [] (n ∷ routes) ends clocks = ⊥
+AreSettled (a ∷ accounts) [] ends clocks = ⊥
+AreSettled (a ∷ accounts) (n ∷ routes) [] clocks = ⊥
+AreSettled (a ∷ accounts) (n ∷ routes) (e ∷ ends) [] = ⊥
+AreSettled (a ∷ accounts) (n ∷ routes) (e ∷ ends) (c ∷ clocks) = Settles a n e.ingress c e.drain × AreSettled accounts routes ends clocks

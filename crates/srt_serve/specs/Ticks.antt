@@ -35,6 +35,29 @@ WereTicked inbox tried moments [] (b ∷ bs) = ⊥
 WereTicked inbox tried moments (a ∷ more) [] = ⊥
 WereTicked inbox tried moments (a ∷ more) (b ∷ bs) = WasTicked inbox tried moments a b × WereTicked inbox tried moments more bs
 
--- the ticker gave some moments, and each of these ends was offered a tick of each of them
-abbrev pub Ticked : {E : Type 0} → (inbox : E → Producer) → (tried : E → Option (List ℕ)) → Option (List ℕ) → Option (List ℕ) → List E → List E → Type 0
-Ticked inbox tried gave given old new = (moments : List ℕ) × (given ≡ joined gave moments) × WereTicked inbox tried moments old new
+-- one tick: the ends that came before it, and its moment
+pub record TickOf (E : Type 0) : Type 0 where
+  pub came : List E
+  pub moment : ℕ
+
+-- the moments of these ticks, of which the last stands first, in their order
+abbrev pub moments_of : {E : Type 0} → (ticks : List (TickOf E)) → List ℕ
+moments_of [] = []
+moments_of (t ∷ ticks) = moments_of ticks ++ t.moment ∷ []
+
+-- the ends that came before them, in their order
+abbrev pub came_in : {E : Type 0} → (ticks : List (TickOf E)) → List E
+came_in [] = []
+came_in (t ∷ ticks) = came_in ticks ++ t.came
+
+-- each of the ends that were there was offered a tick of each of these, and so was each end that came, from the tick on before which it came
+abbrev pub WereTickedIn : {E : Type 0} → (inbox : E → Producer) → (tried : E → Option (List ℕ)) → (ticks : List (TickOf E)) → (old new : List E) → Type 0
+WereTickedIn inbox tried [] old new = new ≡ old
+WereTickedIn inbox tried (t ∷ ticks) old new =
+    (earlier : List _) × WereTickedIn inbox tried ticks old earlier × WereTicked inbox tried (t.moment ∷ []) (earlier ++ t.came) new
+
+-- the ticker gave some moments, some ends came, and each end was offered a tick of each moment, or of each since it came
+abbrev pub Ticked : {E : Type 0} → (inbox : E → Producer) → (tried : E → Option (List ℕ)) → Option (List ℕ) → Option (List ℕ)
+    → (came came' : List E) → (old new : List E) → Type 0
+Ticked inbox tried gave given came came' old new =
+    (ticks : List (TickOf _)) × (given ≡ joined gave (moments_of ticks)) × (came' ≡ came ++ came_in ticks) × WereTickedIn inbox tried ticks old new

@@ -4,30 +4,24 @@
 
 ghost use Rattle.std.specs.Prelude.{◌≡◌};
 
-use crate::hall::{Hall, MANY};
+use crate::pacing::{FEW_ROUTES, MANY_DATAGRAMS, POLLER_TURNS};
 use crate::post::Post;
-use crate::refusals::{Refusal, name_asked, refusal_in};
+use crate::refusals::{lobby_refusal, refusal_in, route_refusal};
+use crate::wakeups::Wakeups;
 use crate::working::{is_left, serve_route};
+use srt_lobby::Names;
 use srt_mailbox::{Gate, Serve};
-use srt_poller::{Asked, Signals};
+use srt_poller::{Asked, Report, Signals};
 use srt_seq::Peer;
 use std::cell::Cell;
 use std::sync::Wait;
-
-// The polling thread leaves the datagrams of a round to the workers if they are `MANY`, since it has enough to do with
-// reading and sending, and if they are for more routes than this, since it would wait for the memory of each.
-const FEW_ROUTES: u64 = 8;
-
-// The most turns that the polling thread makes in a round. What is left then it leaves to the workers: meanwhile no
-// route's datagrams are read, so a route with costly ones would delay all others.
-const TURNS: u32 = 256;
 
 /// The poller's hints, and its work for the routes.
 #[derive(Drop)]
 pub struct Helper<'a, R, C, G: Drop> {
     rt: &'a R,
     cells: &'a [C],
-    hall: &'a Hall,
+    wakeups: &'a Wakeups,
     // none if the run isn't watched
     post: Option<&'a Post>,
     // none if the workers alone serve routes, and while it is in use
@@ -40,7 +34,7 @@ impl<'a, R: Wait, C: Serve, G: Gate + Drop> Helper<'a, R, C, G> {
     pub fn new(
         rt: &'a R,
         cells: &'a [C],
-        hall: &'a Hall,
+        wakeups: &'a Wakeups,
         post: Option<&'a Post>,
         gate: Option<G>,
     ) -> Helper<'a, R, C, G>
@@ -49,64 +43,57 @@ impl<'a, R: Wait, C: Serve, G: Gate + Drop> Helper<'a, R, C, G> {
         Helper {
             rt,
             cells,
-            hall,
+            wakeups,
             post,
             gate: Cell::new(gate),
         }
     }
 
-    // Leaves a refusal for the watcher, if there is one and this handshake is a refusal. `conclusion` is what the lobby
-    // answered, and empty if a route did.
-    fn note(&self, route: Option<usize>, peer: Peer, handshake: &[u8], conclusion: &[u8]) {
+    // Where the refusal that this handshake is can be left for the watcher, and its code; none if it isn't a refusal,
+    // if the run isn't watched, and if there is no place, which is counted.
+    fn place_for(&self, handshake: &[u8]) -> Option<(&'a Post, u32)> {
         let Some(post) = self.post else {
-            return;
+            return None;
         };
         let Some(code) = refusal_in(handshake) else {
-            return;
+            return None;
         };
         if post.misses() {
-            return;
+            None
+        } else {
+            Some((post, code))
         }
-        post.leave(
-            self.rt,
-            Refusal {
-                route,
-                peer,
-                code,
-                name: name_asked(conclusion),
-            },
-        );
     }
 
-    // Serves each route to which something was offered, and leaves to the workers what it doesn't get done.
+    // Serves each route that is marked as `polled`, and leaves to the workers what it doesn't finish.
     fn serve(&self, gate: &mut G) {
-        let mut left = TURNS;
+        let mut left = POLLER_TURNS;
         let mut is_done = true;
         let mut route = 0;
         // no route is visited twice
         for _ in 0..self.cells.len() {
-            route = self.hall.next_offered(route);
+            route = self.wakeups.next_polled(route);
             let Some(cell) = self.cells.get(route) else {
                 break;
             };
             if left == 0 {
                 break;
             }
-            self.hall.forget(route);
-            let visit = serve_route(self.rt, cell, route, gate, self.hall, left);
+            self.wakeups.clear_polled(route);
+            let visit = serve_route(self.rt, cell, route, gate, self.wakeups, left);
             left = left.saturating_sub(visit.turns);
             if is_left(visit) {
-                self.hall.ask(route);
+                self.wakeups.set_inbox_ready(route);
                 is_done = false;
             }
             route = route.wrapping_add(1);
         }
         if left == 0 {
-            self.hall.hand_over();
+            self.wakeups.hand_over();
             is_done = false;
         }
         if !is_done {
-            self.hall.share();
+            self.wakeups.wake_resting();
         }
     }
 }
@@ -127,38 +114,49 @@ impl<R: Wait, C: Serve, G: Gate + Drop> Signals for Helper<'_, R, C, G> {
         }
     }
 
-    fn offered(&self, route: usize) {
-        self.hall.offered(route);
+    fn reported(&self, report: &Report) {
+        if let Some(post) = self.post {
+            post.report.leave(report);
+        }
+    }
+
+    fn polled(&self, route: usize) {
+        self.wakeups.set_polled(route);
     }
 
     fn read_ended(&self, datagrams: u32) {
         match self.gate.replace(None) {
-            Some(mut gate) if datagrams < MANY && self.hall.count_offered() <= FEW_ROUTES => {
+            Some(mut gate)
+                if datagrams < MANY_DATAGRAMS && self.wakeups.count_polled() <= FEW_ROUTES => {
                 self.serve(&mut gate);
                 self.gate.set(Some(gate));
             }
             gate => {
                 self.gate.set(gate);
-                let begun = self.hall.hand_over();
-                self.hall.read_ended(datagrams, begun);
+                let begun = self.wakeups.hand_over();
+                self.wakeups.read_ended(datagrams, begun);
             }
         }
     }
 
-    fn may_have(&self, route: usize) -> bool {
-        self.hall.may_have(route)
+    fn take_outbox_ready(&self, route: usize) -> bool {
+        self.wakeups.take_outbox_ready(route)
     }
 
-    fn next_from(&self, route: usize) -> usize {
-        self.hall.next_told(route)
+    fn next_outbox_ready(&self, route: usize) -> usize {
+        self.wakeups.next_outbox_ready(route)
     }
 
-    fn answered(&self, peer: Peer, datagram: &[u8], answer: &[u8]) {
-        self.note(None, peer, answer, datagram);
+    fn answered(&self, names: &Names, peer: Peer, datagram: &[u8], answer: &[u8]) {
+        if let Some((post, code)) = self.place_for(answer) {
+            post.leave(self.rt, lobby_refusal(names, peer, code, datagram));
+        }
     }
 
     fn replied(&self, route: usize, peer: Peer, handshake: &[u8]) {
-        self.note(Some(route), peer, handshake, &[]);
+        if let Some((post, code)) = self.place_for(handshake) {
+            post.leave(self.rt, route_refusal(route, peer, code));
+        }
     }
 
     fn failed(&self) {

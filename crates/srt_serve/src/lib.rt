@@ -1,9 +1,8 @@
 //! The running gateway: it starts the threads, stops them, and settles the routes.
 //!
-//! One thread polls, one ticks, and workers serve the routes; the polling thread serves some of them too. One more watches,
-//! in a run that is watched. The crate reads
-//! no configuration (`srt_gateway` does), binds no socket and reads no clock (the program hands in a source, a wire and
-//! a ticker), and takes no signals.
+//! One thread polls, one ticks, and workers serve the routes; the polling thread serves some of them too. One more
+//! watches, in a run that is watched. The crate reads no configuration (`srt_gateway` does), binds no socket and reads
+//! no clock (the program hands in a source, a wire and a ticker), and takes no signals.
 //!
 //! Types: `Gates` has a gate for each thread that serves routes; a `Ticker` gives the moments at which routes are ticked;
 //! a `Watch` is shown the routes, told each `Refusal`, and ends the run. `Ran` and `Watched` are the outcome of a run, a
@@ -14,23 +13,29 @@
 //! find it and in which it closes.
 //!
 //! Files, in the order of a run: `running.rt` has the whole of it, and hides routes that open later; `opening.rt` opens
-//! all routes; `serving.rt` starts and joins the threads, which are `ticking.rt`, `working.rt`, `watching.rt` and
-//! `srt_poller::pump_under`, with what the polling thread does for routes in `helping.rt`; `settling.rt` settles the
-//! routes. How threads wake each other is `hall.rt`, with `bell.rt` and `marks.rt`; what the polling thread and the
-//! watching one tell each other is `post.rt`, with `refusals.rt`. `specs/Ran.antt` says what a run did.
+//! all routes, in places of their own, to which their owners come by `arrivals.rt`; `serving.rt` starts and joins the
+//! threads, which are `ticking.rt`, `working.rt`, `watching.rt` and `srt_poller::pump_under`, with what the polling thread
+//! does for routes in `helping.rt`; `settling.rt` settles the routes. How threads wake each other is `wakeups.rt`, with
+//! `bit_set.rt` and `notifier.rt`; how long they sleep, and how much work makes them share it, is `pacing.rt`. What the
+//! polling thread and the watching one tell each other is `post.rt`, with `refusals.rt`; `naming.rt` names the threads.
+//! `specs/Ran.antt` says what a run did.
 #![tactic(auto)]
 
-mod bell;
-mod hall;
+mod arrivals;
+mod bit_set;
 mod helping;
-mod marks;
+mod naming;
+mod notifier;
 mod opening;
+mod pacing;
 mod post;
 mod refusals;
 mod running;
 mod serving;
 mod settling;
+mod shared_report;
 mod ticking;
+mod wakeups;
 mod watching;
 mod working;
 

@@ -1,62 +1,110 @@
-//! Opens all routes of a run, before any thread is started.
+//! Opens the routes with which a run begins, before any thread is started.
 
-ghost use Rattle.std.specs.Prelude.{◌≡◌, [], ◌∷◌, ◌++◌, IfOk, OnOk, map, length};
+ghost use Rattle.std.specs.Prelude.{◌≡◌, ◌≤◌, ℕ, [], ◌∷◌, ◌++◌, Some, IfOk, OnOk, map, length};
+ghost use Rattle.std.specs.Vec.{vec_capacity};
 ghost use Rattle.srt_seq.specs.Terms.{terms_of};
-ghost use Rattle.srt_serve.specs.Opened.{AreOpened};
+ghost use Rattle.srt_mailbox.specs.Cells.{CellIdentity};
+ghost use Rattle.srt_mailbox.specs.Identities.{identity_in};
+ghost use Rattle.srt_mailbox.specs.Places.{came, locks_of};
+ghost use Rattle.srt_poller.specs.declared.ends.Ends.{Ends as TheEnds};
+ghost use Rattle.srt_serve.specs.Opened.{IsOpened, AreOpened, terms_in, new_clock, new_clocks};
 
-use srt_mailbox::{ClockEnd, RouteCell, open_route};
+use crate::arrivals::{ClockArrivals, Named, seat_route};
+use srt_mailbox::{ClockEnd, Place, PollerEnds, Seat, SeatReader};
 use srt_poller::Ends;
 use srt_seq::Entry;
 use std::alloc::{AllocError, Global};
 
-/// The ends of all routes, each list in the order of the routes' indexes.
+/// The first routes of a run, which have been taken from their seats. Each list is in the order of their indexes, and has
+/// room for as many as there are places.
 #[derive(Drop)]
-pub struct Opened {
+pub struct Opened<'a> {
+    /// The polling thread's, which has come to all of them.
+    pub routes: SeatReader<'a, Named>,
     /// The poller's ends: of the inbox and of the outbox.
     pub ends: Vec<Ends>,
+    /// The ticking thread's, which has come to all of them.
+    pub arrivals: ClockArrivals<'a>,
     /// The clock's ends of the inboxes.
     pub clocks: Vec<ClockEnd>,
-    /// The cells that workers serve.
-    pub cells: Vec<RouteCell>,
 }
 
-impl Opened {
-    fn empty(alloc: Global, routes: usize) -> Result<Opened, AllocError>
-        ensures { IfOk result (λ o. (o.ends.items ≡ []) × (o.clocks.items ≡ []) × (o.cells.items ≡ [])) }
-    {
-        Ok(Opened {
-            ends: Vec::with_capacity(alloc, routes)?,
-            clocks: Vec::with_capacity(alloc, routes)?,
-            cells: Vec::with_capacity(alloc, routes)?,
-        })
-    }
-
-    // Appends the ends of a route to the lists.
-    fn add(&mut self, ends: Ends, clock: ClockEnd, cell: RouteCell) -> Result<(), AllocError>
-        ensures ends { OnOk result (self.new.ends.items ≡ self.old.ends.items ++ ends ∷ []) }
-        ensures clocks { OnOk result (self.new.clocks.items ≡ self.old.clocks.items ++ clock ∷ []) }
-        ensures cells { OnOk result (self.new.cells.items ≡ self.old.cells.items ++ cell ∷ []) }
-    {
-        self.ends.push(ends)?;
-        self.clocks.push(clock)?;
-        self.cells.push(cell)?;
-        Ok(())
-    }
-}
-
-/// Opens the routes of these entries, in order. Takes all memory that they will ever need. An error means that memory
-/// was refused, or that an entry is out of its limits (`run` requires that none is). Nothing is kept then.
-pub fn open_routes(alloc: Global, entries: &[Entry]) -> Result<Opened, AllocError>
-    ensures { IfOk result (λ o. AreOpened (map terms_of entries.now) o.ends.items o.clocks.items o.cells.items) }
+// Puts a route into the next place, and takes the poller's ends from there.
+fn take_first<'a>(
+    routes: &mut SeatReader<'a, Named>,
+    ends: &mut Vec<Ends>,
+    places: &'a [Place<Named>],
+    seat: Seat<Named>,
+) -> Result<(), AllocError>
+    requires { locks_of routes.old ≡ map (λ p. p.seat.id) places.now }
+    ensures taken { OnOk result ((e : TheEnds) × (came routes.new ≡ came routes.old ++ identity_in seat.cell ∷ [])
+        × (ends.new.items ≡ ends.old.items ++ e ∷ []) × IsOpened (length (came routes.old)) (identity_in seat.cell) e) }
+    ensures places { locks_of routes.new ≡ locks_of routes.old }
+    ensures room { vec_capacity ends.old ≤ vec_capacity ends.new }
 {
-    let mut opened = Opened::empty(alloc, entries.len())?;
+    let index = routes.routes();
+    let Some(place) = places.get(index) else {
+        return Err(AllocError);
+    };
+    let Ok(put) = place.put(seat) else {
+        return Err(AllocError);
+    };
+    let Some(taken) = routes.next_poller() else {
+        return Err(AllocError);
+    };
+    routes.came_to(index, &put);
+    let PollerEnds { ingress, drain, .. } = taken;
+    ends.push(Ends { ingress, drain })?;
+    Ok(())
+}
+
+// Takes the clock's end of the next route.
+fn take_first_clock(
+    arrivals: &mut ClockArrivals<'_>,
+    clocks: &mut Vec<ClockEnd>,
+) -> Result<(), AllocError>
+    ensures taken { OnOk result ((n : CellIdentity) × (came arrivals.new.reader ≡ came arrivals.old.reader ++ n ∷ [])
+        × (clocks.new.items ≡ clocks.old.items ++ new_clock n ∷ [])) }
+    ensures places { locks_of arrivals.new.reader ≡ locks_of arrivals.old.reader }
+{
+    let Some(hand) = arrivals.reader.next_clock() else {
+        return Err(AllocError);
+    };
+    clocks.push(hand.end)?;
+    Ok(())
+}
+
+/// Opens the routes of these entries, in order, in these places, which must be empty. Takes all memory that they will
+/// ever need. An error means that memory was refused, that an entry is out of its limits (`run` requires that none is), or
+/// that there are fewer places.
+pub fn open_routes<'a>(
+    alloc: Global,
+    entries: &[Entry],
+    places: &'a [Place<Named>],
+) -> Result<Opened<'a>, AllocError>
+    ensures entries { IfOk result (λ o. terms_in (came o.routes) ≡ map terms_of entries.now) }
+    ensures opened { IfOk result (λ o. AreOpened (came o.routes) o.ends.items) }
+    ensures clocks { IfOk result (λ o. o.clocks.items ≡ new_clocks (came o.arrivals.reader)) }
+    ensures places { IfOk result (λ o. locks_of o.arrivals.reader ≡ locks_of o.routes) }
+    ensures room { IfOk result (λ o. length places.now ≤ vec_capacity o.ends) }
+{
+    let mut routes = SeatReader::new(alloc, places)?;
+    let mut arrivals = ClockArrivals {
+        reader: SeatReader::new(alloc, places)?,
+    };
+    let mut ends = Vec::with_capacity(alloc, places.len())?;
+    let mut clocks = Vec::with_capacity(alloc, places.len())?;
     let mut index = 0;
     for entry in entries {
-        let Ok((ingress, clock, cell, drain)) = open_route(alloc, entry, index) else {
-            return Err(AllocError);
-        };
-        opened.add(Ends { ingress, drain }, clock, cell)?;
+        let seat = seat_route(alloc, entry, index)?;
+        take_first(&mut routes, &mut ends, places, seat)?;
+        take_first_clock(&mut arrivals, &mut clocks)?;
         index += 1;
     }
-    Ok(opened)
+    Ok(Opened {
+        routes,
+        ends,
+        arrivals,
+        clocks,
+    })
 }

@@ -1,7 +1,9 @@
-//! What the threads of a run that is watched tell each other: what the watcher asks of the poller, and the faults and the
-//! refusals that the polling thread tells. Nothing here is touched for a packet of an open session.
+//! What the threads of a run that is watched tell each other: what the watcher asks of the poller, and the faults, the
+//! refusals and, when the watcher wants them, the counts that the polling thread tells. Nothing here is touched for a
+//! packet of an open session.
 
 use crate::refusals::Refusal;
+use crate::shared_report::SharedReport;
 use crossbeam_queue::ArrayQueue;
 use srt_poller::Asked;
 use std::alloc::{AllocError, Global};
@@ -9,7 +11,7 @@ use std::sync::Wait;
 use std::sync::atomic::{AtomicBool, AtomicU64, Ordering};
 
 // The most refusals that wait for the watcher. It is told many times a second.
-const PLACES: usize = 64;
+const REFUSAL_PLACES: usize = 64;
 
 /// Between the polling thread and the watching one.
 #[derive(Drop)]
@@ -21,20 +23,23 @@ pub struct Post {
     // the number of socket faults
     faults: AtomicU64,
     refusals: ArrayQueue<Refusal>,
-    // the number of refusals for which there was no place
+    // the number of refusals for which there was no place, of all codes together
     missed: AtomicU64,
+    /// The counts of the poller.
+    pub report: SharedReport,
 }
 
 impl Post {
-    /// The poller is asked to go on, and nothing was told. Takes memory for 64 refusals; an error means that it was
-    /// refused.
+    /// The poller is asked to go on, nothing was told, and its first counts are wanted. Allocates room for 64
+    /// refusals; an error means that memory was refused.
     pub fn open(alloc: Global) -> Result<Post, AllocError> {
         Ok(Post {
             closes: AtomicBool::new(false),
             ends: AtomicBool::new(false),
             faults: AtomicU64::new(0),
-            refusals: ArrayQueue::new(alloc, PLACES)?,
+            refusals: ArrayQueue::new(alloc, REFUSAL_PLACES)?,
             missed: AtomicU64::new(0),
+            report: SharedReport::new(),
         })
     }
 

@@ -1,6 +1,8 @@
-//! Refused conclusions: what a watcher is told of one.
+//! Refused conclusions: what a watcher is told about one.
 
-ghost use Rattle.std.specs.Prelude.{◌≡◌, ◌≤◌, Ok, length};
+ghost use Rattle.std.specs.Prelude.{◌≡◌, ◌≤◌, [], Ok, None, Some, length};
+ghost use Rattle.srt_lobby.specs.Names.{names_of};
+ghost use Rattle.srt_lobby.specs.Causes.{cause_of};
 ghost use Rattle.srt_packet.specs.View.{packet_of};
 ghost use Rattle.srt_hs.specs.View.{handshake_of};
 ghost use Rattle.srt_hs.specs.Reading.{handshake_in};
@@ -9,9 +11,10 @@ ghost use Rattle.srt_serve.specs.Refusals.{code_of, cut, refusal_in, name_by_ask
 
 use arrayvec::ArrayVec;
 use srt_hs::{HsRef, stream_id};
+use srt_lobby::{Names, refusal_cause};
 use srt_packet::{Kind, PacketRef, decode};
 use srt_seq::limits::MAX_NAME;
-use srt_seq::{Peer, read_word};
+use srt_seq::{NotAdmitted, Peer, read_word};
 
 /// A conclusion that was refused.
 #[derive(Drop)]
@@ -25,6 +28,8 @@ pub struct Refusal {
     /// If the lobby refused it, the name that its Stream ID asked for, cut to 64 bytes. Empty if the Stream ID asks for
     /// none, and if a route refused it. Any bytes of UTF-8 may stand here.
     pub name: ArrayVec<u8, MAX_NAME>,
+    /// If the lobby refused it with 1002, what stood against the caller.
+    pub cause: Option<NotAdmitted>,
 }
 
 /// The code of a refusal, from a handshake type: one from 1000 on. The draft's other types are 0, 1 and such as are
@@ -117,5 +122,39 @@ pub fn name_asked(datagram: &[u8]) -> ArrayVec<u8, MAX_NAME>
     match decode(datagram) {
         Ok(packet) => name_in_packet(packet),
         Err(_) => ArrayVec::new(),
+    }
+}
+
+/// What a watcher is told of a conclusion that the lobby, which has these names, refused with this code.
+pub fn lobby_refusal(names: &Names, peer: Peer, code: u32, conclusion: &[u8]) -> Refusal
+    ensures route { result.route ≡ None }
+    ensures peer { result.peer ≡ peer }
+    ensures code { result.code ≡ code }
+    ensures name { result.name.items ≡ name_asked conclusion.now }
+    ensures cause { result.cause ≡ cause_of (names_of names.now) (record { peer = peer; bytes = conclusion.now }) }
+{
+    Refusal {
+        route: None,
+        peer,
+        code,
+        name: name_asked(conclusion),
+        cause: refusal_cause(names, peer, conclusion),
+    }
+}
+
+/// What a watcher is told of a conclusion that the route with this index refused with this code.
+pub fn route_refusal(route: usize, peer: Peer, code: u32) -> Refusal
+    ensures route { result.route ≡ Some route }
+    ensures peer { result.peer ≡ peer }
+    ensures code { result.code ≡ code }
+    ensures name { result.name.items ≡ [] }
+    ensures cause { result.cause ≡ None }
+{
+    Refusal {
+        route: Some(route),
+        peer,
+        code,
+        name: ArrayVec::new(),
+        cause: None,
     }
 }

@@ -8,20 +8,20 @@ ghost use Rattle.srt_lobby.specs.Lobby.{class_of};
 ghost use Rattle.srt_lobby.specs.Names.{names_of};
 ghost use Rattle.srt_lobby.specs.Opening.{fault_of};
 ghost use Rattle.srt_poller.specs.Devices.{heard, carried};
-ghost use Rattle.srt_serve.specs.Later.{later_hidden, first_names};
-ghost use Rattle.srt_serve.specs.Opened.{AreOpened};
+ghost use Rattle.srt_serve.specs.NamesAtStart.{later_hidden, first_names};
 ghost use Rattle.srt_serve.specs.Ran.{told_by, RanUntil, RanUnder, Ran as TheRan};
 
-use crate::hall::Hall;
+use crate::arrivals::{Named, open_places};
 use crate::opening::{Opened, open_routes};
 use crate::post::Post;
-use crate::serving::{Context, Crew, Front, serve_routes};
-use crate::settling::settle_routes;
-use crate::ticking::{Clocks, Ticker};
+use crate::serving::{OtherThreads, PollerState, RunContext, serve_routes};
+use crate::settling::{came_to_all, settle_routes};
+use crate::ticking::{Clocks, Ticker, take_new};
+use crate::wakeups::Wakeups;
 use crate::watching::{Nobody, Watch, watch_last};
 use srt_cookie::Secret;
 use srt_lobby::Names;
-use srt_mailbox::{Account, Gate};
+use srt_mailbox::{Account, Gate, Place};
 use srt_poller::{Report, Source, Wire};
 use srt_seq::{Entry, Schedule};
 use std::alloc::{AllocError, Global};
@@ -81,12 +81,12 @@ pub struct Watched<K: Drop, T: Drop> {
     pub watch: T,
 }
 
-// Everything that a run takes memory for.
+// What a run allocates besides its routes.
 #[derive(Drop)]
-struct Stage {
+struct Resources {
     names: Names,
-    routes: Opened,
-    hall: Hall,
+    places: Vec<Place<Named>>,
+    wakeups: Wakeups,
     // none if the run isn't watched
     post: Option<Post>,
     accounts: Vec<Account>,
@@ -104,17 +104,17 @@ fn hide_later(names: &mut Names, schedules: &[Schedule])
     }
 }
 
-fn open_hall(
+fn open_wakeups(
     alloc: Global,
     routes: usize,
     workers: usize,
     is_watched: bool,
-) -> Result<Hall, AllocError> {
-    let hall = Hall::open(alloc, routes, workers)?;
+) -> Result<Wakeups, AllocError> {
+    let wakeups = Wakeups::open(alloc, routes, workers)?;
     if is_watched {
-        hall.await_watcher();
+        wakeups.await_watcher();
     }
-    Ok(hall)
+    Ok(wakeups)
 }
 
 fn open_post(alloc: Global, is_watched: bool) -> Result<Option<Post>, AllocError>
@@ -128,17 +128,15 @@ fn open_post(alloc: Global, is_watched: bool) -> Result<Option<Post>, AllocError
     }
 }
 
-fn open_stage(
+fn open_resources(
     alloc: Global,
     entries: &[Entry],
     schedules: &[Schedule],
     workers: usize,
     is_watched: bool,
-) -> Result<Stage, AllocError>
+) -> Result<Resources, AllocError>
     requires { length schedules.now ≡ length entries.now }
     ensures names { IfOk result (λ s. names_of s.names ≡ first_names schedules.now (map terms_of entries.now)) }
-    ensures routes { IfOk result (λ s. AreOpened (map terms_of entries.now)
-        s.routes.ends.items s.routes.clocks.items s.routes.cells.items) }
     ensures post { IfOk result (λ s. IsSome s.post → is_watched ≡ true) }
     ensures accounts { IfOk result (λ s. (s.accounts.items ≡ []) × (length entries.now ≤ vec_capacity s.accounts)) }
 {
@@ -146,17 +144,17 @@ fn open_stage(
         return Err(AllocError);
     };
     hide_later(&mut names, schedules);
-    Ok(Stage {
+    Ok(Resources {
         names,
-        routes: open_routes(alloc, entries)?,
-        hall: open_hall(alloc, entries.len(), workers, is_watched)?,
+        places: open_places(alloc, entries.len())?,
+        wakeups: open_wakeups(alloc, entries.len(), workers, is_watched)?,
         post: open_post(alloc, is_watched)?,
         accounts: Vec::with_capacity(alloc, entries.len())?,
     })
 }
 
 // Runs the gateway as `run` and `run_until` do. If it isn't watched, the watcher is never asked and sees nothing.
-#[tactic(auto, unfolding(crate::specs::Polled::AreUntouched))]
+#[tactic(auto, unfolding(crate::specs::inside::Polled::AreUntouched))]
 fn run_with<'a, R, S: Source, W: Wire, K, G, T>(
     rt: &'a R,
     alloc: Global,
@@ -182,65 +180,76 @@ where
     requires few { rounds ≤ 2 ^ 48 }
     ensures ran { IfOk result (λ r. RanUnder (is_watched ≡ true) (class_of (secret_bytes secret.now)) schedules.now (map terms_of entries.now) r.rounds
         (told_by (heard (S.gave source.old) (S.calls source.old)) (carried (W.handed wire.old) (W.attempts wire.old)) (K.gave ticker))
-        (told_by (heard (S.gave source.new) (S.calls source.new)) (carried (W.handed wire.new) (W.attempts wire.new)) (K.gave r.ticker)) r.report r.accounts.items) }
+        (told_by (heard (S.gave source.new) (S.calls source.new)) (carried (W.handed wire.new) (W.attempts wire.new)) (K.gave r.ticker))
+        r.report r.accounts.items) }
     ensures rounds { IfOk result (λ r. (r.rounds ≤ rounds) × ((r.rounds ≡ rounds) ⊎ (is_watched ≡ true))) }
     ensures unread { (result ≡ Err RunFault.OutOfMemory) ⊎ (result ≡ Err RunFault.Thread) → (source.new ≡ source.old) × (wire.new ≡ wire.old) }
 {
     let Gates { poller, workers } = gates;
-    let Ok(stage) = open_stage(alloc, entries, schedules, workers.len(), is_watched) else {
+    let Ok(resources) = open_resources(alloc, entries, schedules, workers.len(), is_watched) else {
         return Err(RunFault::OutOfMemory);
     };
-    let Stage {
+    let Resources {
         names,
-        routes,
-        hall,
+        places,
+        wakeups,
         post,
         accounts,
-    } = stage;
+    } = resources;
+    let Ok(opened) = open_routes(alloc, entries, places.as_slice()) else {
+        return Err(RunFault::OutOfMemory);
+    };
     let Opened {
+        routes,
         ends,
+        arrivals,
         clocks,
-        cells,
-    } = routes;
+    } = opened;
     let told = post.as_ref();
-    let context = Context {
+    let context = RunContext {
         rt,
         alloc,
         secret,
         schedules,
-        cells: cells.as_slice(),
-        hall: &hall,
+        cells: places.as_slice(),
+        wakeups: &wakeups,
         post: told,
         rounds,
     };
-    let mut front = Front {
+    let mut polling = PollerState {
         names,
         ends,
         gate: poller,
     };
-    let mut crew = Crew {
+    let mut others = OtherThreads {
         clocks: Clocks {
             ends: clocks,
+            coming: arrivals,
             ticker,
         },
         gates: workers,
         watch,
     };
-    let Some(pumping) = serve_routes(&context, source, wire, &mut front, &mut crew) else {
+    let Some(pumping) = serve_routes(&context, source, wire, &mut polling, &mut others) else {
         return Err(RunFault::Thread);
     };
-    let Crew {
+    let OtherThreads {
         clocks,
         gates: _,
         mut watch,
-    } = crew;
+    } = others;
     let Clocks {
-        ends: clocks,
+        ends: mut clocks,
+        coming: mut arrivals,
         ticker,
     } = clocks;
-    let Front { ends, .. } = front;
-    watch_last(rt, cells.as_slice(), told, &mut watch);
-    let Ok(accounts) = settle_routes(rt, ends, clocks, cells, accounts) else {
+    let PollerState { ends, .. } = polling;
+    watch_last(rt, places.as_slice(), told, &mut watch);
+    take_new(&mut clocks, &mut arrivals);
+    let Ok(()) = came_to_all(&routes, &arrivals.reader) else {
+        return Err(RunFault::Busy);
+    };
+    let Ok(accounts) = settle_routes(rt, &routes, ends, clocks, accounts) else {
         return Err(RunFault::Busy);
     };
     Ok(Watched {
@@ -283,7 +292,8 @@ where
     requires workers { (1 ≤ vec_len gates.workers) × (vec_len gates.workers ≤ 16) }
     ensures ran { IfOk result (λ r. TheRan (class_of (secret_bytes secret.now)) schedules.now (map terms_of entries.now) rounds
         (told_by (heard (S.gave source.old) (S.calls source.old)) (carried (W.handed wire.old) (W.attempts wire.old)) (K.gave ticker))
-        (told_by (heard (S.gave source.new) (S.calls source.new)) (carried (W.handed wire.new) (W.attempts wire.new)) (K.gave r.ticker)) r.report r.accounts.items) }
+        (told_by (heard (S.gave source.new) (S.calls source.new)) (carried (W.handed wire.new) (W.attempts wire.new)) (K.gave r.ticker))
+        r.report r.accounts.items) }
     ensures unread { (result ≡ Err RunFault.OutOfMemory) ⊎ (result ≡ Err RunFault.Thread) → (source.new ≡ source.old) × (wire.new ≡ wire.old) }
 {
     match run_with(
@@ -322,7 +332,7 @@ where
 /// the poller is asked what the watcher said last: in a round that closes all, no route opens, and Close is offered to
 /// each shown one.
 ///
-/// A further thread watches. Over and over it lets the watcher rest (`Watch::next`), tells it what was refused, and shows
+/// A further thread watches. It repeats these steps: it lets the watcher rest (`Watch::next`), tells it what was refused, and shows
 /// it the routes if it looks. After all threads have ended and before the routes are settled, each route is shown once
 /// more, and the refusals that are left are told. The threads end whatever the watcher does; but one that rests for long
 /// delays that, as a ticker that waits does.
@@ -350,7 +360,8 @@ where
     requires few { rounds ≤ 2 ^ 48 }
     ensures ran { IfOk result (λ r. RanUntil (class_of (secret_bytes secret.now)) schedules.now (map terms_of entries.now) r.rounds
         (told_by (heard (S.gave source.old) (S.calls source.old)) (carried (W.handed wire.old) (W.attempts wire.old)) (K.gave ticker))
-        (told_by (heard (S.gave source.new) (S.calls source.new)) (carried (W.handed wire.new) (W.attempts wire.new)) (K.gave r.ticker)) r.report r.accounts.items) }
+        (told_by (heard (S.gave source.new) (S.calls source.new)) (carried (W.handed wire.new) (W.attempts wire.new)) (K.gave r.ticker))
+        r.report r.accounts.items) }
     ensures rounds { IfOk result (λ r. r.rounds ≤ rounds) }
     ensures unread { (result ≡ Err RunFault.OutOfMemory) ⊎ (result ≡ Err RunFault.Thread) → (source.new ≡ source.old) × (wire.new ≡ wire.old) }
 {

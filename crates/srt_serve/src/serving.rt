@@ -6,13 +6,13 @@ ghost use Rattle.srt_lobby.specs.Lobby.{class_of};
 ghost use Rattle.srt_lobby.specs.Names.{names_of};
 ghost use Rattle.srt_poller.specs.Devices.{heard, carried};
 ghost use Rattle.srt_poller.specs.Pumped.{before, after};
-ghost use Rattle.srt_serve.specs.Polled.{AreReady, Polled, AreUntouched};
-ghost use Rattle.srt_serve.specs.Ticks.{Ticked};
+ghost use Rattle.srt_serve.specs.inside.Polled.{AreReady, Polled, AreUntouched};
 
-use crate::hall::Hall;
 use crate::helping::Helper;
+use crate::naming::{ThreadName, name_thread};
 use crate::post::Post;
-use crate::ticking::{Clocks, TickEnd, Ticker, tick};
+use crate::ticking::Clockwork;
+use crate::wakeups::Wakeups;
 use crate::watching::{Watch, watch_routes};
 use crate::working::work;
 use srt_cookie::Secret;
@@ -27,10 +27,10 @@ use std::{mem, thread};
 
 /// What the threads of a run use besides what each has for itself.
 #[derive(Drop)]
-pub struct Context<'a, R, C> {
+pub struct RunContext<'a, R, C> {
     /// The host, which starts threads.
     pub rt: &'a R,
-    /// Gives the memory for threads and for copies of datagrams.
+    /// Allocates what threads need, and copies of datagrams.
     pub alloc: Global,
     /// The secret of the lobby's cookies.
     pub secret: &'a Secret,
@@ -38,8 +38,8 @@ pub struct Context<'a, R, C> {
     pub schedules: &'a [Schedule],
     /// The routes, which all workers serve.
     pub cells: &'a [C],
-    /// The hints, and whether the run is over.
-    pub hall: &'a Hall,
+    /// Which routes may have work, and whether the run is over.
+    pub wakeups: &'a Wakeups,
     /// What the polling thread and the watching one tell each other; none if the run isn't watched.
     pub post: Option<&'a Post>,
     /// The most rounds of the poller; their number if the run isn't watched.
@@ -48,7 +48,7 @@ pub struct Context<'a, R, C> {
 
 /// What the polling thread has for itself: the routes as callers find them.
 #[derive(Drop)]
-pub struct Front<G: Drop> {
+pub struct PollerState<G: Drop> {
     /// The names of the routes, in the order of their indexes. A round shows and hides them.
     pub names: Names,
     /// The poller's ends of all routes, in the same order.
@@ -59,9 +59,9 @@ pub struct Front<G: Drop> {
 
 /// What the threads besides the polling one have for themselves.
 #[derive(Drop)]
-pub struct Crew<K: Ticker + Drop, E: TickEnd + Drop, G: Drop, T: Drop> {
-    /// The ticking thread's: the clock's ends of all routes, and the ticker.
-    pub clocks: Clocks<K, E>,
+pub struct OtherThreads<D: Clockwork + Drop, G: Drop, T: Drop> {
+    /// The ticking thread's.
+    pub clocks: D,
     /// A gate for each worker. `serve_routes` takes them out.
     pub gates: Vec<G>,
     /// The watching thread's, if the run is watched.
@@ -69,16 +69,16 @@ pub struct Crew<K: Ticker + Drop, E: TickEnd + Drop, G: Drop, T: Drop> {
 }
 
 // Starts a worker for each gate, and waits until all have ended. If one can't be started, the run ends.
-fn start_workers<R, G, C>(context: &Context<R, C>, gates: &mut Vec<G>)
+fn start_workers<R, G, C>(context: &RunContext<R, C>, gates: &mut Vec<G>)
 where
     R: Threads + Wait + Sync,
     G: Gate + Send + Drop,
     C: Serve + Sync,
 {
-    let Context {
+    let RunContext {
         rt,
         cells,
-        hall,
+        wakeups,
         ..
     } = *context;
     let gates = mem::replace(gates, Vec::new(context.alloc));
@@ -86,10 +86,13 @@ where
         let mut first = 0usize;
         for gate in gates {
             if scope
-                .spawn(move || work(rt, cells, gate, first, hall))
+                .spawn(move || {
+                    name_thread(ThreadName::Worker(first));
+                    work(rt, cells, gate, first, wakeups)
+                })
                 .is_err()
             {
-                hall.finish();
+                wakeups.finish();
                 return;
             }
             first = first.wrapping_add(1);
@@ -98,20 +101,22 @@ where
 }
 
 // Watches until the run is over, if the run is watched.
-fn watch_over<R: Wait, C: Serve, T: Watch>(context: &Context<R, C>, watch: &mut T) {
+fn watch_over<R: Wait, C: Serve, T: Watch>(context: &RunContext<R, C>, watch: &mut T) {
+    name_thread(ThreadName::Watch);
     if let Some(post) = context.post {
-        watch_routes(context.rt, context.cells, context.hall, post, watch);
+        watch_routes(context.rt, context.cells, context.wakeups, post, watch);
     }
 }
 
 // Starts the workers, and watches in a thread more if the run is watched. Returns when all have ended.
-fn start_all<R, G, C, T>(context: &Context<R, C>, gates: &mut Vec<G>, watch: &mut T)
+fn start_all<R, G, C, T>(context: &RunContext<R, C>, gates: &mut Vec<G>, watch: &mut T)
 where
     R: Threads + Wait + Sync,
     G: Gate + Send + Drop,
     C: Serve + Sync,
     T: Watch + Send,
 {
+    name_thread(ThreadName::Start);
     if context.post.is_none() {
         start_workers(context, gates);
         return;
@@ -124,113 +129,118 @@ where
 }
 
 // Waits until all threads have arrived, polls, and ends the run. `None` if they don't arrive; then nothing was read.
-#[tactic(auto, unfolding(crate::specs::Polled::AreReady, crate::specs::Polled::Polled, crate::specs::Polled::AreUntouched))]
+#[tactic(auto, unfolding(crate::specs::inside::Polled::AreReady, crate::specs::inside::Polled::Polled, crate::specs::inside::Polled::AreUntouched))]
 fn poll<R: Wait, S: Source, W: Wire, C: Serve, G: Gate + Drop>(
-    context: &Context<R, C>,
+    context: &RunContext<R, C>,
     source: &mut S,
     wire: &mut W,
-    front: &mut Front<G>,
+    polling: &mut PollerState<G>,
 ) -> Option<Pumping>
-    requires ready { AreReady context.now.schedules.now (names_of front.old.names) front.old.ends.items }
+    requires ready { AreReady context.now.schedules.now (names_of polling.old.names) polling.old.ends.items }
     requires few { context.now.rounds ≤ 2 ^ 48 }
     ensures pumped { IfSome result (λ pumping.
         Polled (IsSome context.now.post) (class_of (secret_bytes context.now.secret.now)) context.now.schedules.now context.now.rounds pumping.rounds
-        (before (names_of front.old.names) (heard (S.gave source.old) (S.calls source.old)) (carried (W.handed wire.old) (W.attempts wire.old)) front.old.ends.items)
-        (after (names_of front.new.names) (heard (S.gave source.new) (S.calls source.new)) (carried (W.handed wire.new) (W.attempts wire.new)) front.new.ends.items pumping.report)) }
+        (before (names_of polling.old.names) (heard (S.gave source.old) (S.calls source.old))
+        (carried (W.handed wire.old) (W.attempts wire.old)) polling.old.ends.items)
+        (after (names_of polling.new.names) (heard (S.gave source.new) (S.calls source.new))
+        (carried (W.handed wire.new) (W.attempts wire.new)) polling.new.ends.items pumping.report)) }
     ensures unread { IfNone result (AreUntouched source.old source.new wire.old wire.new) }
 {
-    let Context {
+    let RunContext {
         rt,
         alloc,
         secret,
         schedules,
         cells,
-        hall,
+        wakeups,
         post,
         rounds,
     } = *context;
-    if !hall.gather(rt) {
-        hall.finish();
+    if !wakeups.gather(rt) {
+        wakeups.finish();
         return None;
     }
-    let helper = Helper::new(rt, cells, hall, post, front.gate.take());
-    let names = &mut front.names;
-    let ends = &mut front.ends;
+    let helper = Helper::new(rt, cells, wakeups, post, polling.gate.take());
+    let names = &mut polling.names;
+    let ends = &mut polling.ends;
     let pumping = pump_under(
         rt, alloc, secret, names, schedules, source, wire, ends, rounds, &helper,
     );
-    hall.finish();
+    wakeups.finish();
     Some(pumping)
 }
 
 // Ticks in a new thread, and polls in this one. Returns when both have ended.
-fn tick_and_poll<R, S: Source, W: Wire, K, E, C, G>(
-    context: &Context<R, C>,
+fn tick_and_poll<R, S: Source, W: Wire, D, C, G>(
+    context: &RunContext<R, C>,
     source: &mut S,
     wire: &mut W,
-    front: &mut Front<G>,
-    clocks: &mut Clocks<K, E>,
+    polling: &mut PollerState<G>,
+    clocks: &mut D,
 ) -> Option<Pumping>
 where
     R: Threads + Wait + Sync,
-    K: Ticker + Send + Drop,
-    E: TickEnd + Send + Drop,
+    D: Clockwork + Send + Drop,
     C: Serve + Sync,
     G: Gate + Send + Drop,
-    requires ready { AreReady context.now.schedules.now (names_of front.old.names) front.old.ends.items }
+    requires ready { AreReady context.now.schedules.now (names_of polling.old.names) polling.old.ends.items }
     requires few { context.now.rounds ≤ 2 ^ 48 }
     ensures pumped { IfSome result (λ pumping.
         Polled (IsSome context.now.post) (class_of (secret_bytes context.now.secret.now)) context.now.schedules.now context.now.rounds pumping.rounds
-        (before (names_of front.old.names) (heard (S.gave source.old) (S.calls source.old)) (carried (W.handed wire.old) (W.attempts wire.old)) front.old.ends.items)
-        (after (names_of front.new.names) (heard (S.gave source.new) (S.calls source.new)) (carried (W.handed wire.new) (W.attempts wire.new)) front.new.ends.items pumping.report)) }
-    ensures ticked { Ticked E.inbox E.tried (K.gave clocks.old.ticker) (K.gave clocks.new.ticker)
-        clocks.old.ends.items clocks.new.ends.items }
+        (before (names_of polling.old.names) (heard (S.gave source.old) (S.calls source.old))
+        (carried (W.handed wire.old) (W.attempts wire.old)) polling.old.ends.items)
+        (after (names_of polling.new.names) (heard (S.gave source.new) (S.calls source.new))
+        (carried (W.handed wire.new) (W.attempts wire.new)) polling.new.ends.items pumping.report)) }
+    ensures ticked { D.ticked clocks.old clocks.new }
     ensures unread { IfNone result (AreUntouched source.old source.new wire.old wire.new) }
 {
     let (_, pumping) = join_mut(
         context.rt,
-        &mut || tick(context.rt, clocks, context.hall),
-        &mut || poll(context, source, wire, front),
+        &mut || {
+            name_thread(ThreadName::Tick);
+            clocks.tick(context.rt, context.wakeups)
+        },
+        &mut || poll(context, source, wire, polling),
     );
     pumping
 }
 
 /// Starts the workers and the ticking thread, watches in one more if the run is watched, and then polls. All threads have
 /// ended when it returns. `None` if one could not be started, or wasn't running after ten seconds; then nothing was read.
-pub fn serve_routes<R, S: Source, W: Wire, K, E, G, C, T>(
-    context: &Context<R, C>,
+pub fn serve_routes<R, S: Source, W: Wire, D, G, C, T>(
+    context: &RunContext<R, C>,
     source: &mut S,
     wire: &mut W,
-    front: &mut Front<G>,
-    crew: &mut Crew<K, E, G, T>,
+    polling: &mut PollerState<G>,
+    others: &mut OtherThreads<D, G, T>,
 ) -> Option<Pumping>
 where
     R: Threads + Wait + Sync,
-    K: Ticker + Send + Drop,
-    E: TickEnd + Send + Drop,
+    D: Clockwork + Send + Drop,
     G: Gate + Send + Drop,
     C: Serve + Sync,
     T: Watch + Send + Drop,
-    requires ready { AreReady context.now.schedules.now (names_of front.old.names) front.old.ends.items }
+    requires ready { AreReady context.now.schedules.now (names_of polling.old.names) polling.old.ends.items }
     requires few { context.now.rounds ≤ 2 ^ 48 }
     ensures pumped { IfSome result (λ pumping.
         Polled (IsSome context.now.post) (class_of (secret_bytes context.now.secret.now)) context.now.schedules.now context.now.rounds pumping.rounds
-        (before (names_of front.old.names) (heard (S.gave source.old) (S.calls source.old)) (carried (W.handed wire.old) (W.attempts wire.old)) front.old.ends.items)
-        (after (names_of front.new.names) (heard (S.gave source.new) (S.calls source.new)) (carried (W.handed wire.new) (W.attempts wire.new)) front.new.ends.items pumping.report)) }
-    ensures ticked { Ticked E.inbox E.tried (K.gave crew.old.clocks.ticker) (K.gave crew.new.clocks.ticker)
-        crew.old.clocks.ends.items crew.new.clocks.ends.items }
+        (before (names_of polling.old.names) (heard (S.gave source.old) (S.calls source.old))
+        (carried (W.handed wire.old) (W.attempts wire.old)) polling.old.ends.items)
+        (after (names_of polling.new.names) (heard (S.gave source.new) (S.calls source.new))
+        (carried (W.handed wire.new) (W.attempts wire.new)) polling.new.ends.items pumping.report)) }
+    ensures ticked { D.ticked others.old.clocks others.new.clocks }
     ensures unread { IfNone result (AreUntouched source.old source.new wire.old wire.new) }
 {
-    let gates = &mut crew.gates;
-    let clocks = &mut crew.clocks;
-    let watch = &mut crew.watch;
+    let gates = &mut others.gates;
+    let clocks = &mut others.clocks;
+    let watch = &mut others.watch;
     let (_, pumping) = join_mut(
         context.rt,
         &mut || start_all(context, gates, watch),
         &mut ||
-            requires ready { AreReady context.now.schedules.now (names_of front.now.names) front.now.ends.items }
+            requires ready { AreReady context.now.schedules.now (names_of polling.now.names) polling.now.ends.items }
             requires few { context.now.rounds ≤ 2 ^ 48 }
-        { tick_and_poll(context, source, wire, front, clocks) },
+        { tick_and_poll(context, source, wire, polling, clocks) },
     );
     pumping
 }

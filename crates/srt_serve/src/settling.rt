@@ -1,10 +1,13 @@
 //! Settles all routes at the end of a run.
 
-ghost use Rattle.std.specs.Prelude.{◌≡◌, ◌≤◌, [], IfOk, length};
+ghost use Rattle.std.specs.Prelude.{◌≡◌, ◌≤◌, List, [], ◌++◌, IfOk, OnOk, length};
 ghost use Rattle.std.specs.Vec.{vec_capacity};
+ghost use Rattle.srt_mailbox.specs.Cells.{CellIdentity};
+ghost use Rattle.srt_mailbox.specs.Places.{came, locks_of};
 ghost use Rattle.srt_serve.specs.Settled.{AreJoined, AreSettled};
 
-use srt_mailbox::{Account, ClockEnd, RouteCell, settle};
+use crate::arrivals::Named;
+use srt_mailbox::{Account, ClockEnd, SeatReader};
 use srt_poller::Ends;
 use std::sync::Wait;
 
@@ -12,27 +15,45 @@ use std::sync::Wait;
 #[derive(Clone, Copy)]
 pub struct Busy;
 
-/// Settles all routes and returns their accounts, in the order of their indexes. The lists must be in that order too.
-/// `accounts` must be empty and have room for all of them, so that no memory is taken.
+/// That the ticking thread's reader came to all routes to which the polling thread's did, the same at each index. It may
+/// have come to more. If it hasn't come to all, the routes can't be settled.
+pub fn came_to_all<'a>(
+    routes: &SeatReader<'a, Named>,
+    arrivals: &SeatReader<'a, Named>,
+) -> Result<(), Busy>
+    requires { locks_of arrivals.now ≡ locks_of routes.now }
+    ensures { OnOk result ((more : List CellIdentity) × (came arrivals.now ≡ came routes.now ++ more)) }
+{
+    if arrivals.routes() < routes.routes() {
+        return Err(Busy);
+    }
+    for r in 0..routes.routes() {
+        routes.agree(arrivals, r);
+    }
+    Ok(())
+}
+
+/// Settles all routes to which this reader came and returns their accounts, in the order of their indexes. The lists must
+/// be in that order too; there may be more clock's ends. `accounts` must be empty and have room for all of them, so that
+/// no memory is taken.
 pub fn settle_routes<R: Wait>(
     rt: &R,
+    routes: &SeatReader<'_, Named>,
     ends: Vec<Ends>,
     clocks: Vec<ClockEnd>,
-    cells: Vec<RouteCell>,
     mut accounts: Vec<Account>,
 ) -> Result<Vec<Account>, Busy>
-    requires joined { AreJoined ends.items clocks.items cells.items }
-    requires room { (accounts.items ≡ []) × (length cells.items ≤ vec_capacity accounts) }
-    ensures { IfOk result (λ done. AreSettled done.items ends.items clocks.items cells.items) }
+    requires joined { AreJoined (came routes.now) ends.items clocks.items }
+    requires room { (accounts.items ≡ []) × (length (came routes.now) ≤ vec_capacity accounts) }
+    ensures { IfOk result (λ done. AreSettled done.items (came routes.now) ends.items clocks.items) }
 {
     let mut ends = ends.into_iter();
     let mut clocks = clocks.into_iter();
-    let mut cells = cells.into_iter();
-    while let Some(cell) = cells.next() {
+    for r in 0..routes.routes() {
         let (Some(end), Some(clock)) = (ends.next(), clocks.next()) else {
             unreachable!();
         };
-        let Ok(account) = settle(rt, end.ingress, clock, cell, end.drain) else {
+        let Some(account) = routes.seat(r).settle(rt, end.ingress, clock, end.drain) else {
             return Err(Busy);
         };
         let Ok(()) = accounts.push(account) else {

@@ -1,19 +1,22 @@
-//! Runs of the gateway over devices in memory. The cookie in the conclusions was computed by Python's hashlib; the other
-//! bytes are worked out from the rules by hand.
+//! Runs of the gateway over devices in memory. What is expected was worked out from the rules by hand.
 
 ghost use Rattle.std.specs.Prelude.{◌≡◌, ◌<◌, ◌≤◌, ◌^◌, None, map, length};
 ghost use Rattle.std.specs.Vec.{vec_len};
 ghost use Rattle.srt_seq.specs.Terms.{terms_of};
 ghost use Rattle.srt_lobby.specs.Opening.{fault_of};
 
-use crate::hall::Hall;
-use crate::ticking::{Clocks, tick};
+use crate::tests::datagrams::{
+    FIRST, SECOND, STUDIA, STUDIO, conclusion_answer, conclusion_of, refusal,
+};
+use crate::ticking::{Clocks, TickEnds, tick};
+use crate::wakeups::Wakeups;
 use crate::{Gates, Ran, RunFault, Ticker, run};
 use srt_cookie::Secret;
 use srt_lobby::Names;
 use srt_mailbox::{ClockEnd, Gate, RouteCell, Serve, Ungated, open_route};
 use srt_poller::{Polled, Read, Report, Sent, Source, Wire};
-use srt_seq::{Entry, Mode, Peer, Schedule};
+use srt_samples::{Difference, Sample, first_difference, shutdown};
+use srt_seq::{Access, Entry, Mode, Peer, Rules, Schedule};
 use std::alloc::Global;
 use std::process::Abort;
 use std::sync::atomic::{AtomicBool, AtomicU64, Ordering};
@@ -22,28 +25,11 @@ use std::test::Fail;
 use std::thread;
 use std::thread::Threads;
 
+mod counts;
+mod datagrams;
 mod posts;
 mod watched;
 mod workers;
-
-/// A CONCLUSION from port 5000 with caller ID 1 that asks to publish on the route `studio`.
-const STUDIO: &str =
-    "80000000000000000000000000000000000000050000000500000005000005dc00002000ffffffff00000001ecc958a6000000000000000000000000000000000001000300010500000000bf00780078000500063a3a212374733d726f696475703d6d2c696c627500006873";
-
-/// The same with caller ID 2, on the route `studia`.
-const STUDIA: &str =
-    "80000000000000000000000000000000000000050000000500000005000005dc00002000ffffffff00000002ecc958a6000000000000000000000000000000000001000300010500000000bf00780078000500063a3a212374733d7261696475703d6d2c696c627500006873";
-
-/// The answer to the first one, from the route `studio` with a window of 1024 packets.
-const ANSWER: &str =
-    "80000000000000000000000000000001000000050000000100000005000005dc00000400ffffffff00100000000000000000000000000000000000000000000000020003000105000000003f00780078";
-
-/// The lobby's answer to the first one while there is no route `studio`: 1002.
-const REFUSAL: &str =
-    "80000000000000000000000000000001000000050000000000000005000005dc00002000000003ea000000010000000000000000000000000000000000000000";
-
-/// The SHUTDOWN that the first caller gets at its own moment.
-const SHUTDOWN: &str = "80050000000000000000000000000001";
 
 /// When all datagrams and ticks come, in microseconds.
 const MOMENT: u64 = 1_000_000;
@@ -51,11 +37,18 @@ const MOMENT: u64 = 1_000_000;
 /// The most rounds of a run, and the most turns that a gate waits.
 const LIMIT: u32 = 1_000_000;
 
+/// The most yields of a thread that waits for another one, which may have to wait for a processor itself. Only a wrong body
+/// makes as many.
+const YIELDS: u32 = 100_000_000;
+
 /// The number of waits without an answer after which a conclusion comes again.
 const PAUSE: u64 = 1_000;
 
 /// The number of answers after which no conclusion comes again.
 const ANSWERS: u64 = 100;
+
+/// The number of datagrams that a route accepted once no conclusion comes again for a watcher.
+const ARRIVALS: u64 = 10;
 
 /// The most workers that a run has.
 const WORKERS: u64 = 16;
@@ -75,8 +68,13 @@ struct Meeting {
     entered: AtomicBool,
     /// The wire took a reply for the second caller.
     answered: AtomicBool,
+    /// The source's second wait may end.
+    freed: AtomicBool,
     /// A thread waited too long.
     is_late: AtomicBool,
+    /// The number of datagrams that the watcher was told of, and how many of them a route accepted.
+    told: AtomicU64,
+    accepted: AtomicU64,
     /// The number of replies that the wire took.
     taken: AtomicU64,
     /// The number of gates that were asked.
@@ -91,7 +89,10 @@ impl Meeting {
                 waited: AtomicBool::new(false),
                 entered: AtomicBool::new(false),
                 answered: AtomicBool::new(false),
+                freed: AtomicBool::new(false),
                 is_late: AtomicBool::new(false),
+                told: AtomicU64::new(0),
+                accepted: AtomicU64::new(0),
                 taken: AtomicU64::new(0),
                 inside: AtomicU64::new(0),
             },
@@ -108,6 +109,17 @@ impl Meeting {
                 }
             }
             if is_set {
+                return;
+            }
+            thread::yield_now();
+        }
+        self.is_late.store(true, Ordering::SeqCst);
+    }
+
+    /// Waits until the second wait may end.
+    fn await_freed(&self) {
+        for _ in 0..YIELDS {
+            if self.freed.load(Ordering::SeqCst) {
                 return;
             }
             thread::yield_now();
@@ -137,28 +149,33 @@ enum Again {
     Answered,
     /// Never; but the second wait ends once as many gates were asked as there can be workers.
     Inside,
+    /// Once the watcher was told of all datagrams that came, until `ARRIVALS` were accepted: ticks may fill an inbox.
+    Told,
+    /// Never; but the second wait ends once it may.
+    Freed,
 }
 
-/// A source whose waits yield. In its first round it gives one datagram of each of these texts, and later the first of
-/// them again.
+/// A source whose waits yield. In its first round it gives each of these datagrams, and later the first of them again.
 #[derive(Drop)]
 struct Callers {
     meeting: Arc<Meeting>,
-    texts: Vec<Vec<u8>>,
+    datagrams: Vec<Vec<u8>>,
     waits: u64,
     given: usize,
+    came: u64,
     seen: u64,
     quiet: u64,
     again: Again,
 }
 
 impl Callers {
-    fn new(meeting: Arc<Meeting>, texts: Vec<Vec<u8>>, again: Again) -> Callers {
+    fn new(meeting: Arc<Meeting>, datagrams: Vec<Vec<u8>>, again: Again) -> Callers {
         Callers {
             meeting,
-            texts,
+            datagrams,
             waits: 0,
             given: 0,
+            came: 0,
             seen: 0,
             quiet: 0,
             again,
@@ -168,9 +185,13 @@ impl Callers {
     /// Whether the first datagram comes again now.
     fn is_time(&mut self) -> bool {
         match self.again {
-            Again::Never | Again::Inside => false,
+            Again::Never | Again::Inside | Again::Freed => false,
             Again::InWait(wait) => self.waits == wait,
             Again::Answered => self.is_answered(),
+            Again::Told => {
+                self.meeting.told.load(Ordering::SeqCst) >= self.came
+                    && self.meeting.accepted.load(Ordering::SeqCst) < ARRIVALS
+            }
         }
     }
 
@@ -209,20 +230,23 @@ impl Source for Callers {
         if self.waits > 1 && self.is_time() {
             self.given = 0;
         }
-        if let (2, Again::Inside) = (self.waits, self.again) {
-            self.meeting.await_inside(WORKERS);
+        match (self.waits, self.again) {
+            (2, Again::Inside) => self.meeting.await_inside(WORKERS),
+            (2, Again::Freed) => self.meeting.await_freed(),
+            _ => {}
         }
         thread::yield_now();
         Polled::Ready
     }
 
     fn next(&mut self, buffer: &mut [u8; 2048]) -> Read {
-        let Some(text) = self.texts.get(self.given) else {
+        let Some(datagram) = self.datagrams.get(self.given) else {
             return Read::Empty;
         };
-        let len = text.len().min(2048);
-        buffer[..len].copy_from_slice(&text.as_slice()[..len]);
+        let len = datagram.len().min(2048);
+        buffer[..len].copy_from_slice(&datagram.as_slice()[..len]);
         self.given = self.given.saturating_add(1);
+        self.came = self.came.saturating_add(1);
         Read::Datagram(peer(), len, MOMENT)
     }
 
@@ -260,20 +284,32 @@ struct Listener {
     shutdowns: u64,
     /// It took `shutdown`, after at least `ANSWERS` answers.
     is_closed: bool,
+    /// Where the first datagram to the first caller that was none of these three differs from `answer`.
+    difference: Option<Difference>,
 }
 
 impl Listener {
     fn open(alloc: Global, meeting: &Arc<Meeting>) -> Result<Listener, Fail> {
         Ok(Listener {
             meeting: Arc::try_clone(meeting)?,
-            refusal: hex::decode(alloc, REFUSAL)?,
-            answer: hex::decode(alloc, ANSWER)?,
-            shutdown: hex::decode(alloc, SHUTDOWN)?,
+            refusal: refusal().bytes(alloc)?,
+            answer: conclusion_answer().bytes(alloc)?,
+            shutdown: shutdown().to(FIRST).bytes(alloc)?,
             refusals: 0,
             answers: 0,
             shutdowns: 0,
             is_closed: false,
+            difference: None,
         })
+    }
+
+    /// Notes where a datagram to the first caller that is none of the three differs from the answer.
+    fn compare(&mut self, bytes: &[u8]) {
+        let is_to_the_first = bytes.len() >= 16 && bytes[15] == 1;
+        let is_known = bytes == self.refusal.as_slice() || bytes == self.shutdown.as_slice();
+        if is_to_the_first && !is_known && self.difference.is_none() {
+            self.difference = first_difference(bytes, &self.answer);
+        }
     }
 }
 
@@ -299,6 +335,7 @@ impl Wire for Listener {
             self.shutdowns = self.shutdowns.saturating_add(1);
             self.is_closed = self.answers >= ANSWERS;
         }
+        self.compare(bytes);
         Sent::Taken
     }
 
@@ -332,7 +369,7 @@ impl Gate for Member {
 
     ghost asked = { λ gate. None };
 
-    fn pass(&mut self, route: usize) -> bool {
+    fn allows(&mut self, route: usize) -> bool {
         let meeting = &self.meeting;
         if route == 0 {
             meeting.entered.store(true, Ordering::SeqCst);
@@ -362,7 +399,7 @@ impl Gate for Door {
 
     ghost asked = { λ gate. None };
 
-    fn pass(&mut self, _route: usize) -> bool {
+    fn allows(&mut self, _route: usize) -> bool {
         if !self.is_inside {
             self.is_inside = true;
             self.meeting.inside.fetch_add(1, Ordering::SeqCst);
@@ -419,6 +456,8 @@ impl Routes {
             sessions: 1,
             inbox: 16,
             outbox: 16,
+            access: Access::anyone(),
+            rules: Rules::DRAFT,
         })?;
         self.schedules.push(schedule)?;
         Ok(())
@@ -441,12 +480,12 @@ struct Scene {
     wire: Listener,
 }
 
-/// Callers that send these texts.
-fn scene_of(alloc: Global, texts: &[&str], again: Again) -> Result<Scene, Fail> {
+/// Callers that send these datagrams.
+fn scene_of(alloc: Global, samples: &[Sample<'_>], again: Again) -> Result<Scene, Fail> {
     let meeting = Meeting::open(alloc)?;
     let mut datagrams = Vec::new(alloc);
-    for text in texts {
-        datagrams.push(hex::decode(alloc, text)?)?;
+    for sample in samples {
+        datagrams.push(sample.bytes(alloc)?)?;
     }
     let source = Callers::new(Arc::try_clone(&meeting)?, datagrams, again);
     let wire = Listener::open(alloc, &meeting)?;
@@ -518,7 +557,14 @@ fn with_nobody_calling_nothing_is_counted(rt: HostRuntime) -> Result<(), Fail> {
 fn two_routes_are_served_at_once(rt: HostRuntime) -> Result<(), Fail> {
     let alloc = rt.alloc();
     let routes = Routes::two(alloc, ALWAYS)?;
-    let mut scene = scene_of(alloc, &[STUDIO, STUDIA], Again::Never)?;
+    let mut scene = scene_of(
+        alloc,
+        &[
+            conclusion_of(FIRST, &STUDIO),
+            conclusion_of(SECOND, &STUDIA),
+        ],
+        Again::Never,
+    )?;
     let workers = vec![in alloc; Member::of(&scene.meeting)?, Member::of(&scene.meeting)?]?;
     let ran = run_of(&rt, &routes, &mut scene, None, workers, LIMIT)?;
     assert!(rt; !scene.meeting.is_late.load(Ordering::SeqCst));
@@ -543,9 +589,10 @@ fn two_routes_are_served_at_once(rt: HostRuntime) -> Result<(), Fail> {
 fn an_answer_leaves_in_the_round_of_its_datagram(rt: HostRuntime) -> Result<(), Fail> {
     let alloc = rt.alloc();
     let routes = Routes::two(alloc, ALWAYS)?;
-    let mut scene = scene_of(alloc, &[STUDIO], Again::Never)?;
+    let mut scene = scene_of(alloc, &[conclusion_of(FIRST, &STUDIO)], Again::Never)?;
     let workers = vec![in alloc; Ungated]?;
     let ran = run_of(&rt, &routes, &mut scene, Some(Ungated), workers, 1)?;
+    assert_eq!(rt; scene.wire.difference, None);
     assert_eq!(rt; scene.wire.answers, 1);
     assert_eq!(rt;
         ran.report,
@@ -582,9 +629,10 @@ where
         close_round: Some(LIMIT / 2),
     };
     let routes = Routes::two(alloc, closes)?;
-    let mut scene = scene_of(alloc, &[STUDIO], Again::Answered)?;
+    let mut scene = scene_of(alloc, &[conclusion_of(FIRST, &STUDIO)], Again::Answered)?;
     let workers = vec![in alloc; Ungated, Ungated]?;
     let ran = run_of(rt, &routes, &mut scene, poller, workers, LIMIT)?;
+    assert_eq!(rt; scene.wire.difference, None);
     assert!(rt; scene.wire.answers >= ANSWERS && scene.wire.is_closed);
     assert_eq!(rt; ran.report.faults, 0);
     let (Some(studio), Some(studia)) = (ran.accounts.get(0), ran.accounts.get(1)) else {
@@ -604,9 +652,10 @@ fn a_route_is_found_from_its_round_on(rt: HostRuntime) -> Result<(), Fail> {
         close_round: None,
     };
     let routes = Routes::two(alloc, opens)?;
-    let mut scene = scene_of(alloc, &[STUDIO], Again::InWait(3))?;
+    let mut scene = scene_of(alloc, &[conclusion_of(FIRST, &STUDIO)], Again::InWait(3))?;
     let workers = vec![in alloc; Ungated]?;
     let ran = run_of(&rt, &routes, &mut scene, None, workers, 4)?;
+    assert_eq!(rt; scene.wire.difference, None);
     assert_eq!(rt; scene.wire.refusals, 1);
     assert!(rt; ran.report.read == 2 && ran.report.answered == 1 && ran.report.accepted == 1);
     Ok(())
@@ -622,7 +671,7 @@ fn as_many_routes_and_workers_as_there_can_be_run(rt: HostRuntime) -> Result<(),
         routes.add(alloc, &name, 32, ALWAYS)?;
     }
     routes.add(alloc, "studio", 32, ALWAYS)?;
-    let mut scene = scene_of(alloc, &[STUDIO], Again::Never)?;
+    let mut scene = scene_of(alloc, &[conclusion_of(FIRST, &STUDIO)], Again::Never)?;
     let workers = vec![in alloc; Ungated; 16]?;
     let ran = run_of(&rt, &routes, &mut scene, None, workers, 2_000)?;
     assert_eq!(rt; scene.source.waits, 2_000);
@@ -666,7 +715,7 @@ fn as_many_routes_are_served_at_once_as_there_are_workers(rt: HostRuntime) -> Re
 /// A ticker that ends the run with its last moment.
 #[derive(Drop)]
 struct Times<'a> {
-    hall: &'a Hall,
+    wakeups: &'a Wakeups,
     left: u32,
 }
 
@@ -676,9 +725,25 @@ impl Ticker for Times<'_> {
     fn next(&mut self) -> u64 {
         self.left = self.left.saturating_sub(1);
         if self.left == 0 {
-            self.hall.finish();
+            self.wakeups.finish();
         }
         MOMENT
+    }
+}
+
+/// For clocks to which no end comes.
+#[derive(Drop)]
+struct NoEnds;
+
+impl<E> TickEnds<E> for NoEnds {
+    ghost use Rattle.std.specs.Prelude.{[]};
+
+    ghost came = { λ _. [] };
+
+    ghost places = { λ _. [] };
+
+    fn next(&mut self) -> Option<E> {
+        None
     }
 }
 
@@ -705,15 +770,20 @@ fn turns_after<R: AllocGlobal + Wait>(
 ) -> Result<Vec<u32>, Fail> {
     let alloc = rt.alloc();
     let (ends, cells) = clocked(alloc, routes)?;
-    let hall = Hall::open(alloc, cells.len(), 1)?;
+    let wakeups = Wakeups::open(alloc, cells.len(), 1)?;
     for route in asking {
-        hall.ask(*route);
+        wakeups.set_inbox_ready(*route);
     }
     let ticker = Times {
-        hall: &hall,
+        wakeups: &wakeups,
         left: ticks,
     };
-    tick(rt, &mut Clocks { ends, ticker }, &hall);
+    let mut clocks = Clocks {
+        ends,
+        coming: NoEnds,
+        ticker,
+    };
+    tick(rt, &mut clocks, &wakeups);
     let mut turns = Vec::new(alloc);
     for cell in &cells {
         turns.push(cell.visit(rt, &mut Ungated, 64).turns)?;

@@ -1,9 +1,9 @@
 //! The ticking thread: it offers the time to all routes.
 
-ghost use Rattle.std.specs.Prelude.{◌<◌, ◌^◌, [], ◌∷◌};
+ghost use Rattle.std.specs.Prelude.{◌≡◌, ◌<◌, ◌^◌, List, [], ◌∷◌, ◌++◌};
 ghost use Rattle.srt_serve.specs.Ticks.{WereTicked, Ticked};
 
-use crate::hall::Hall;
+use crate::wakeups::Wakeups;
 use srt_mailbox::ClockEnd;
 use srt_seq::Item;
 use std::sync::Wait;
@@ -64,13 +64,70 @@ impl TickEnd for ClockEnd {
     }
 }
 
+/// Gives the clock's ends of routes that come while others are ticked.
+pub trait TickEnds<E> {
+    ghost use Rattle.std.specs.Prelude.{◌≡◌, ℕ, List, [], ◌∷◌, ◌++◌, IfSome, IfNone};
+
+    /// All ends that it gave, in their order.
+    ghost came: { Self → List E };
+
+    /// The names of the places from which it takes them. No call changes that.
+    ghost places: { Self → List ℕ };
+
+    /// The next end, if one has come. Asked before each tick, so it may not wait, and should cost no more than a load or
+    /// two if none has.
+    fn next(&mut self) -> Option<E>
+        ensures some { IfSome result (λ end. came self.new ≡ came self.old ++ end ∷ []) }
+        ensures none { IfNone result (came self.new ≡ came self.old) }
+        ensures same { places self.new ≡ places self.old };
+}
+
 /// The clock's ends of all routes, and their ticker.
 #[derive(Drop)]
-pub struct Clocks<K: Ticker + Drop, E: TickEnd + Drop> {
-    /// In the order of the routes' indexes.
+pub struct Clocks<K: Drop, E: Drop, A: Drop> {
+    /// In the order of the routes' indexes. No more come than this has room for.
     pub ends: Vec<E>,
+    /// Gives those that come.
+    pub coming: A,
     /// Gives the moments.
     pub ticker: K,
+}
+
+/// Takes the ends that have come, as long as there is room for them.
+pub fn take_new<E: Drop, A: TickEnds<E>>(ends: &mut Vec<E>, coming: &mut A)
+    ensures taken { (more : List E) × (A.came coming.new ≡ A.came coming.old ++ more) × (ends.new.items ≡ ends.old.items ++ more) }
+    ensures same { A.places coming.new ≡ A.places coming.old }
+{
+    for at in ends.len()..ends.capacity() {
+        let Some(end) = coming.next() else {
+            return;
+        };
+        let Ok(()) = ends.push(end) else {
+            unreachable!();
+        };
+    }
+}
+
+/// What a ticking thread does until the run is over. Code that starts threads is generic over this trait.
+pub trait Clockwork {
+    /// What becomes of a clock that ticks.
+    ghost ticked: { Self → Self → Type 0 };
+
+    /// Ticks until the run is over.
+    fn tick<R: Wait>(&mut self, rt: &R, wakeups: &Wakeups)
+        ensures { ticked self.old self.new };
+}
+
+impl<K: Ticker + Drop, E: TickEnd + Drop, A: TickEnds<E> + Drop> Clockwork for Clocks<K, E, A> {
+    ghost use Rattle.srt_serve.specs.Ticks.{Ticked};
+    ghost use Rattle.std.specs.Prelude.{◌≡◌};
+
+    ghost ticked = { λ a b. (A.places b.coming ≡ A.places a.coming)
+        × Ticked E.inbox E.tried (K.gave a.ticker) (K.gave b.ticker) (A.came a.coming) (A.came b.coming) a.ends.items b.ends.items };
+
+    fn tick<R: Wait>(&mut self, rt: &R, wakeups: &Wakeups) {
+        tick(rt, self, wakeups);
+    }
 }
 
 // Looks at all ends. They are mostly out of the caches, and here the processor fetches those of several routes at the
@@ -102,24 +159,42 @@ fn tick_all<R: Wait, E: TickEnd>(rt: &R, ends: &mut [E], moment: u64)
     tick_each(rt, ends, moment);
 }
 
-/// Offers a tick to every route at each moment that the ticker gives, until the run is over. No route is left out: one
-/// that asks for a worker gets its tick too, and one whose inbox is full is offered it in vain.
-pub fn tick<R: Wait, K: Ticker + Drop, E: TickEnd + Drop>(
+// Takes the ends that have come, and offers a tick to every route, in the order of their indexes.
+fn tick_with_new<R: Wait, E: TickEnd + Drop, A: TickEnds<E>>(
     rt: &R,
-    clocks: &mut Clocks<K, E>,
-    hall: &Hall,
+    ends: &mut Vec<E>,
+    coming: &mut A,
+    moment: u64,
 )
-    ensures { Ticked E.inbox E.tried (K.gave clocks.old.ticker) (K.gave clocks.new.ticker)
-        clocks.old.ends.items clocks.new.ends.items }
+    requires { moment < 2 ^ 62 }
+    ensures ticked { (more : List E) × (A.came coming.new ≡ A.came coming.old ++ more)
+        × WereTicked E.inbox E.tried (moment ∷ []) (ends.old.items ++ more) ends.new.items }
+    ensures same { A.places coming.new ≡ A.places coming.old }
 {
-    hall.arrive();
+    take_new(ends, coming);
+    tick_all(rt, ends, moment);
+}
+
+/// Offers a tick to every route at each moment that the ticker gives, until the run is over. No route is left out: one
+/// that asks for a worker gets its tick too, and one whose inbox is full is offered it in vain. The routes that have come
+/// by then get the tick as well.
+pub fn tick<R: Wait, K: Ticker + Drop, E: TickEnd + Drop, A: TickEnds<E> + Drop>(
+    rt: &R,
+    clocks: &mut Clocks<K, E, A>,
+    wakeups: &Wakeups,
+)
+    ensures ticked { Ticked E.inbox E.tried (K.gave clocks.old.ticker) (K.gave clocks.new.ticker) (A.came clocks.old.coming) (A.came clocks.new.coming)
+        clocks.old.ends.items clocks.new.ends.items }
+    ensures same { A.places clocks.new.coming ≡ A.places clocks.old.coming }
+{
+    wakeups.arrive();
     for _ in rt.forever() {
-        if hall.is_done() {
+        if wakeups.is_done() {
             return;
         }
         let moment = clocks.ticker.next();
-        tick_all(rt, &mut clocks.ends, moment);
-        hall.ticked();
+        tick_with_new(rt, &mut clocks.ends, &mut clocks.coming, moment);
+        wakeups.ticked();
         thread::yield_now();
     }
 }

@@ -1,18 +1,18 @@
 //! The watching thread of a run: it shows the routes to a watcher, tells it what was refused, and hands on to the poller
 //! what the watcher asks of it.
 
-use crate::hall::Hall;
 use crate::post::Post;
 use crate::refusals::Refusal;
+use crate::wakeups::Wakeups;
 use srt_mailbox::{Look, Serve};
-use srt_poller::Asked;
+use srt_poller::{Asked, Report};
 use srt_route::Route;
 use srt_seq::limits::MAX_SESSIONS;
 use std::sync::Wait;
 use std::thread;
 
 // The most refusals that a watcher is told between two of its rests.
-const REFUSALS: u32 = 1024;
+const REFUSALS_PER_REST: u32 = 1024;
 
 // The number of looks in a row that find all quiet before a watcher is told so. A hint is cleared before its outbox is
 // drained, so that one look alone may miss replies that are being sent.
@@ -26,8 +26,16 @@ pub struct Told {
     pub is_quiet: bool,
     /// The number of socket faults so far: of waits, reads and sends that failed.
     pub faults: u64,
-    /// The number of refusals so far that `refused` isn't told, since too many waited.
+    /// The number of refusals so far that `refused` isn't told, since too many waited. They are counted together: no count
+    /// is kept for each code.
     pub missed: u64,
+    /// The counts of the poller at the beginning of a round, as it told them last; all 0 before it told any. A reply that
+    /// is kept counts neither as sent nor as lost.
+    pub counts: Report,
+    /// How often the poller has told its counts. Before each rest it is asked for them, unless it still owes those that
+    /// it was asked for before, and it tells them at the beginning of its next round. So if this number stays the same
+    /// over several rests, no round began in them; a round takes some 10 milliseconds if nothing comes.
+    pub reports: u64,
 }
 
 /// Who watches a run, in a thread of its own.
@@ -121,11 +129,28 @@ fn look_at_all<R: Wait, C: Serve, T: Watch>(
 
 // Tells the watcher the refusals that wait.
 fn tell_refusals<R: Wait, T: Watch>(rt: &R, post: &Post, watch: &mut T) {
-    for _ in 0..REFUSALS {
+    for _ in 0..REFUSALS_PER_REST {
         let Some(refusal) = post.take(rt) else {
             return;
         };
         watch.refused(&refusal);
+    }
+}
+
+// What the poller told of its counts: the last ones, and how often it told any.
+#[derive(Clone, Copy)]
+struct Counted {
+    counts: Report,
+    reports: u64,
+}
+
+impl Counted {
+    // Takes the counts that were left since, if there are any.
+    fn take(&mut self, post: &Post) {
+        if let Some(counts) = post.report.take() {
+            self.counts = counts;
+            self.reports = self.reports.saturating_add(1);
+        }
     }
 }
 
@@ -134,27 +159,34 @@ fn tell_refusals<R: Wait, T: Watch>(rt: &R, post: &Post, watch: &mut T) {
 pub fn watch_routes<R: Wait, C: Serve, T: Watch>(
     rt: &R,
     cells: &[C],
-    hall: &Hall,
+    wakeups: &Wakeups,
     post: &Post,
     watch: &mut T,
 ) {
-    hall.arrive();
+    wakeups.arrive();
+    let mut counted = Counted {
+        counts: Report::NOTHING,
+        reports: 0,
+    };
     let mut quiet = 0u32;
     for _ in rt.forever() {
-        if hall.is_done() {
+        if wakeups.is_done() {
             return;
         }
+        counted.take(post);
         let asked = watch.next(Told {
             is_quiet: quiet >= QUIET_LOOKS,
             faults: post.faults(),
             missed: post.missed(),
+            counts: counted.counts,
+            reports: counted.reports,
         });
         post.ask(asked);
         tell_refusals(rt, post, watch);
         let looks = watch.looks();
         let closes = !matches!(asked, Asked::GoOn);
         let is_quiet = (looks || closes) && look_at_all(rt, cells, watch, looks);
-        quiet = if is_quiet && closes && !hall.any_told() {
+        quiet = if is_quiet && closes && !wakeups.any_outbox_ready() {
             quiet.saturating_add(1)
         } else {
             0

@@ -1,26 +1,15 @@
-//! A worker thread: it goes round the routes and serves those that may have work.
+//! A worker thread: round after round it serves the routes that may have work.
 
 ghost use Rattle.std.specs.Prelude.{◌≡◌, ◌≢◌, ◌≤◌, true, false, Some, None};
 ghost use Rattle.srt_mailbox.specs.Counts.{Grew};
-ghost use Rattle.srt_mailbox.specs.declared.gates.Served.TheVariants.{Turned as TurnedAs, Held, Busy};
+ghost use Rattle.srt_mailbox.specs.declared.gates.Served.TheVariants.{Turned as TurnedAs, GateRefused, ClaimedElsewhere};
 ghost use Rattle.srt_seq.specs.declared.shared.Turned.TheVariants.{Idle};
 
-use crate::hall::Hall;
+use crate::pacing::{MANY_REPLIES, THIN_ROUTES, THIN_TURNS, WORKER_TURNS};
+use crate::wakeups::Wakeups;
 use srt_mailbox::{Gate, Serve, Served, Visit};
 use srt_seq::Turned;
 use std::sync::Wait;
-
-// The most turns that a worker makes at a route before it goes on to the next.
-const TURNS: u32 = 64;
-
-// A worker wakes another one if its round has moved at least this many replies and a further route asks. Routes that
-// only apply a tick move none, so one worker serves them all: for so little work the caches of one processor do best.
-const MANY: u32 = 32;
-
-// Work is spread thinly if a round served at least `MANY_ROUTES` routes and made at most `FEW_TURNS` turns at each.
-const MANY_ROUTES: u32 = 32;
-
-const FEW_TURNS: u32 = 16;
 
 // What a worker did in a round.
 #[derive(Clone, Copy)]
@@ -52,7 +41,7 @@ impl Round {
 
     // Whether there was a little to do at each of many routes.
     fn is_thin(&self) -> bool {
-        self.served >= MANY_ROUTES && self.most <= FEW_TURNS
+        self.served >= THIN_ROUTES && self.most <= THIN_TURNS
     }
 }
 
@@ -63,43 +52,43 @@ pub fn serve_route<R: Wait, C: Serve, G: Gate>(
     cell: &C,
     route: usize,
     gate: &mut G,
-    hall: &Hall,
+    wakeups: &Wakeups,
     most: u32,
 ) -> Visit
     ensures most { result.turns ≤ most }
     ensures moved { result.moved ≤ result.turns }
     ensures all { result.end ≡ None → result.turns ≡ most }
-    ensures held { result.end ≡ Some Held → Grew (G.held gate.old) (G.held gate.new) }
-    ensures passed { result.end ≢ Some Held → G.held gate.new ≡ G.held gate.old }
-    ensures busy { result.end ≡ Some Busy → (result.turns ≡ 0) × (gate.new ≡ gate.old) }
+    ensures held { result.end ≡ Some GateRefused → Grew (G.held gate.old) (G.held gate.new) }
+    ensures passed { result.end ≢ Some GateRefused → G.held gate.new ≡ G.held gate.old }
+    ensures busy { result.end ≡ Some ClaimedElsewhere → (result.turns ≡ 0) × (gate.new ≡ gate.old) }
 {
     let visit = cell.visit(rt, gate, most);
     if visit.moved > 0 {
-        hall.moved(route);
+        wakeups.set_outbox_ready(route);
     }
     visit
 }
 
-/// Whether more may be left to do after a visit, so that the route is to ask again.
+/// Whether more may be left to do after a visit, so that the route's inbox is to be marked as ready again.
 pub fn is_left(visit: Visit) -> bool
     ensures idle { visit.end ≡ Some (TurnedAs Idle) → result ≡ false }
-    ensures held { visit.end ≡ Some Held → result ≡ false }
-    ensures left { visit.end ≢ Some (TurnedAs Idle) → visit.end ≢ Some Held → result ≡ true }
+    ensures held { visit.end ≡ Some GateRefused → result ≡ false }
+    ensures left { visit.end ≢ Some (TurnedAs Idle) → visit.end ≢ Some GateRefused → result ≡ true }
 {
     match visit.end {
-        Some(Served::Turned(Turned::Idle)) | Some(Served::Held) => false,
+        Some(Served::Turned(Turned::Idle)) | Some(Served::GateRefused) => false,
         _ => true,
     }
 }
 
-// Goes once round the routes, from the route `first`, and serves each that asks and has no visitor. If there is much to
-// do, it wakes another worker.
-fn go_round<R: Wait, C: Serve, G: Gate>(
+// Passes once over all routes, from the route `first` on, and serves each whose inbox is ready and that no other worker
+// serves. If there is much to do, it wakes another worker.
+fn serve_round<R: Wait, C: Serve, G: Gate>(
     rt: &R,
     cells: &[C],
     first: usize,
     gate: &mut G,
-    hall: &Hall,
+    wakeups: &Wakeups,
 ) -> Round {
     let mut round = Round::new();
     let mut is_shared = false;
@@ -107,25 +96,25 @@ fn go_round<R: Wait, C: Serve, G: Gate>(
     let mut route = first;
     // no route is visited twice
     for _ in 0..cells.len() {
-        route = hall.next_that_asks(route);
+        route = wakeups.next_inbox_ready(route);
         if route >= cells.len() {
             if is_past_the_end {
                 return round;
             }
             is_past_the_end = true;
-            route = hall.next_that_asks(0);
+            route = wakeups.next_inbox_ready(0);
         }
         if is_past_the_end && route >= first {
             return round;
         }
-        if round.moved >= MANY && !is_shared {
+        if round.moved >= MANY_REPLIES && !is_shared {
             is_shared = true;
-            hall.share();
+            wakeups.wake_resting();
         }
         if let Some(cell) = cells.get(route) {
-            if hall.enter(route) {
-                let visit = serve_route(rt, cell, route, gate, hall, TURNS);
-                hall.leave(route, is_left(visit));
+            if wakeups.enter(route) {
+                let visit = serve_route(rt, cell, route, gate, wakeups, WORKER_TURNS);
+                wakeups.leave(route, is_left(visit));
                 round.count(visit);
             }
         }
@@ -134,19 +123,19 @@ fn go_round<R: Wait, C: Serve, G: Gate>(
     round
 }
 
-/// Serves the routes that ask, round after round from the route `first` on, until the run is over. After a round that
-/// found nothing to do it sleeps for at most 500 microseconds, and after each further one until the bell is called.
-/// After a round that found a little to do at each of many routes it sleeps for at most 10 microseconds for each, so that
-/// more gathers there: a visit costs nearly the same for one item as for several. Only one worker dozes at a time; a
-/// second waits in reserve, until a round that has much to do calls it in (`Hall::call_in`).
+/// Serves the routes whose inboxes are ready, round after round from the route `first` on, until the run is over. After a
+/// round that found nothing to do it naps, and after each further one it rests. After a thin round, which found a little
+/// to do at each of many routes, it dozes, so that more gathers there: a visit costs nearly the same for one item as for
+/// several. Only one worker dozes at a time; a second waits in reserve, until a round that has much to do wakes it
+/// (`Wakeups::wake_reserve`).
 pub fn work<R: Wait, C: Serve, G: Gate + Drop>(
     rt: &R,
     cells: &[C],
     mut gate: G,
     first: usize,
-    hall: &Hall,
+    wakeups: &Wakeups,
 ) {
-    hall.arrive();
+    wakeups.arrive();
     let first = if cells.is_empty() {
         0
     } else {
@@ -154,23 +143,23 @@ pub fn work<R: Wait, C: Serve, G: Gate + Drop>(
     };
     let mut napped = false;
     for _ in rt.forever() {
-        if hall.is_done() {
+        if wakeups.is_done() {
             return;
         }
-        let heard = hall.heard();
-        let round = go_round(rt, cells, first, &mut gate, hall);
+        let seen = wakeups.notifications();
+        let round = serve_round(rt, cells, first, &mut gate, wakeups);
         if round.is_thin() {
-            hall.doze(rt, heard, round.served);
+            wakeups.doze(rt, seen, round.served);
             napped = true;
         } else if round.served > 0 {
-            if round.moved >= MANY {
-                hall.call_in();
+            if round.moved >= MANY_REPLIES {
+                wakeups.wake_reserve();
             }
             napped = false;
         } else if napped {
-            hall.rest(rt, heard);
+            wakeups.rest(rt, seen);
         } else {
-            hall.nap(rt, heard);
+            wakeups.nap(rt, seen);
             napped = true;
         }
     }

@@ -1,5 +1,7 @@
 -- What is read is what the Stream ID asks for, and a fault that is read is one that it has.
-use Rattle.std.proofs.Common.{◌≡◌, ℕ, ◌<◌, ◌==◌, Bool, true, false, if◌then◌else◌, List, [], ◌∷◌, ◌++◌, Option, None, Some, unwrap_or, Result, Ok, Err, MatchResult, length, take, drop, codes, nat_eq, ◌⊎◌, inl, inr, refl, sym, ap, subst, ◌∙◌, arith, Decides}
+use Rattle.std.proofs.Common.{◌≡◌, ℕ, ◌<◌, ◌==◌, Bool, true, false, if◌then◌else◌, List, [], ◌∷◌, ◌++◌, Option, None, Some, unwrap_or}
+use Rattle.std.proofs.Common.{Result, Ok, Err, MatchResult, length, take, drop, codes, nat_eq, ◌⊎◌, inl, inr, refl, sym, ap, subst, ◌∙◌}
+use Rattle.std.proofs.Common.{arith, Decides}
 use Rattle.std.proofs.lemmas.Bool.{false≢true}
 use Rattle.std.specs.List.{starts_with, AllByRecursion}
 use Rattle.std.specs.Str.{IsUtf8, is_utf8}
@@ -43,9 +45,13 @@ some_bytes : (n : ℕ) → (n == 0) ≡ false → 0 < n
 some_bytes n e = grind (arith, nat_tests)
 
 -- a list with one name
-one_told_if : (none : Bool) (bytes : List ℕ) (start : ℕ) (text : List ℕ) (role : Option Role) → (length text == 0) ≡ none → NoneIsAtFault [] (parts_of bytes) → names_in (parts_of bytes) ≡ record { start = start; text = text } ∷ [] → text ≡ take (length text) (drop start bytes) → RoleStands (modes_in (parts_of bytes)) role
+one_told_if : (none : Bool) (bytes : List ℕ) (start : ℕ) (text : List ℕ) (role : Option Role) → (length text == 0) ≡ none
+    → NoneIsAtFault [] (parts_of bytes) → names_in (parts_of bytes) ≡ record { start = start; text = text } ∷ []
+    → text ≡ take (length text) (drop start bytes)
+    → RoleStands (modes_in (parts_of bytes)) role
     → ListTold bytes (if none then Err NoRoute else Ok (record { start = start; len = length text; role = unwrap_or role Request }))
-one_told_if true bytes start text role e clean names stands r = record { faultless = clean; nameless = subst NameNothing (sym names) (nil_from_length text (no_bytes (length text) e)) }
+one_told_if true bytes start text role e clean names stands r =
+    record { faultless = clean; nameless = subst NameNothing (sym names) (nil_from_length text (no_bytes (length text) e)) }
 one_told_if false bytes start text role e clean names stands r = (
   record {
     name = names ∙ ap (λ text. record { start = start; text = text } ∷ []) stands;
@@ -55,11 +61,15 @@ one_told_if false bytes start text role e clean names stands r = (
   some_bytes (length text) e,
 )
 
-one_told : (bytes : List ℕ) (start : ℕ) (text : List ℕ) (role : Option Role) → NoneIsAtFault [] (parts_of bytes) → names_in (parts_of bytes) ≡ record { start = start; text = text } ∷ [] → text ≡ take (length text) (drop start bytes) → RoleStands (modes_in (parts_of bytes)) role
+one_told : (bytes : List ℕ) (start : ℕ) (text : List ℕ) (role : Option Role) → NoneIsAtFault [] (parts_of bytes)
+    → names_in (parts_of bytes) ≡ record { start = start; text = text } ∷ [] → text ≡ take (length text) (drop start bytes)
+    → RoleStands (modes_in (parts_of bytes)) role
     → ListTold bytes (named start (length text) (unwrap_or role Request))
 one_told bytes start text role clean names stands r = one_told_if (length text == 0) bytes start text role refl clean names stands r
 
-name_told : (bytes : List ℕ) (names : List Piece) (name : Option Span) (role : Option Role) → NoneIsAtFault [] (parts_of bytes) → names_in (parts_of bytes) ≡ names → NameStands names name → RoleStands (modes_in (parts_of bytes)) role → AllByRecursion (StandsIn bytes) names
+name_told : (bytes : List ℕ) (names : List Piece) (name : Option Span) (role : Option Role) → NoneIsAtFault [] (parts_of bytes)
+    → names_in (parts_of bytes) ≡ names → NameStands names name → RoleStands (modes_in (parts_of bytes)) role
+    → AllByRecursion (StandsIn bytes) names
     → ListTold bytes (asked (record { name = name; role = role }))
 name_told bytes [] None role clean names n r stand = record { faultless = clean; nameless = subst NameNothing (sym names) tt }
 name_told bytes (one ∷ []) (Some span) role clean names n r stand =
@@ -83,7 +93,9 @@ first_list_fault bytes BadMode h = h
 first_list_fault bytes RepeatedKey h = h
 
 asked_told : (bytes : List ℕ) (read : Result Found AskFault) → PartsTold [] (parts_of bytes) read → ListTold bytes (read >>= asked)
-asked_told bytes (Ok found) h = name_told bytes _ found.name found.role h.0 refl h.1.name h.1.role (values_stand (codes "r") bytes (parts_of bytes) (parts_stand bytes 4))
+asked_told bytes (Ok found) h =
+    name_told bytes _ found.name found.role h.0 refl h.1.name h.1.role
+    (values_stand (codes "r") bytes (parts_of bytes) (parts_stand bytes 4))
 asked_told bytes (Err fault) h = first_list_fault bytes fault h
 
 pub list_told : (bytes : List ℕ) → ListTold bytes (list_in bytes)
@@ -115,15 +127,25 @@ told_list : (bytes : List ℕ) (read : Result Ask AskFault) → IsUtf8 bytes →
 told_list bytes (Ok ask) u l h = record { utf8 = u; some = h.1; list = λ is. h.0; plain = λ plain. absurd (plain l) }
 told_list bytes (Err fault) u l h = list_fault bytes fault u l h
 
-told_plain : (none : Bool) (bytes : List ℕ) → (length bytes == 0) ≡ none → IsUtf8 bytes → ¬ (IsList bytes) → Told bytes (if none then Err NoRoute else Ok (record { start = 0; len = length bytes; role = Request }))
+told_plain : (none : Bool) (bytes : List ℕ) → (length bytes == 0) ≡ none → IsUtf8 bytes → ¬ (IsList bytes)
+    → Told bytes (if none then Err NoRoute else Ok (record { start = 0; len = length bytes; role = Request }))
 told_plain true bytes e u l = record { utf8 = u; list = λ is. absurd (l is); plain = λ plain. nil_from_length bytes (no_bytes (length bytes) e) }
-told_plain false bytes e u l = record { utf8 = u; some = some_bytes (length bytes) e; list = λ is. absurd (l is); plain = λ plain. record { start = refl; len = refl; role = refl } }
+told_plain false bytes e u l =
+    record {
+      utf8 = u;
+      some = some_bytes (length bytes) e;
+      list = λ is. absurd (l is);
+      plain = λ plain. record { start = refl; len = refl; role = refl };
+    }
 
-told_text : (list : Bool) (bytes : List ℕ) → starts_with nat_eq bytes (codes "#!::") ≡ list → IsUtf8 bytes → Told bytes (if list then list_in bytes else named 0 (length bytes) Request)
+told_text : (list : Bool) (bytes : List ℕ) → starts_with nat_eq bytes (codes "#!::") ≡ list → IsUtf8 bytes
+    → Told bytes (if list then list_in bytes else named 0 (length bytes) Request)
 told_text true bytes e u = told_list bytes (list_in bytes) u (sym ((list_tested bytes).0 e)) (list_told bytes)
 told_text false bytes e u = told_plain (length bytes == 0) bytes refl u (λ h. false≢true (sym e ∙ (list_tested bytes).1 (sym h)))
 
-told_if : (text : Bool) (bytes : List ℕ) → is_utf8 bytes ≡ text → Told bytes (if text then (if starts_with nat_eq bytes (codes "#!::") then list_in bytes else named 0 (length bytes) Request) else Err NotUtf8)
+told_if : (text : Bool) (bytes : List ℕ) → is_utf8 bytes ≡ text
+    → Told bytes
+    (if text then (if starts_with nat_eq bytes (codes "#!::") then list_in bytes else named 0 (length bytes) Request) else Err NotUtf8)
 told_if true bytes e = told_text (starts_with nat_eq bytes (codes "#!::")) bytes refl (IsUtf8-from_is_utf8 bytes e)
 told_if false bytes e = λ u. false≢true (sym e ∙ is_utf8-from_IsUtf8 bytes u)
 

@@ -1,12 +1,14 @@
 -- The first comma splits a list into its first part and the others.
-use Rattle.std.proofs.Common.{◌≡◌, ℕ, suc, ◌+◌, Bool, true, false, cond, not, nat_lt, ◌==◌, List, [], ◌∷◌, Option, None, Some, option_map, length, take, drop, position, refl, ap, sym, ◌∙◌, arith, add-one, ◌-◌, ◌<◌, length-drop}
-use Rattle.std.proofs.Math.Seq.{take-length}
-use Rattle.std.proofs.lemmas.List.{length-take-le}
+use Rattle.std.proofs.Common.{◌≡◌, ℕ, suc, ◌+◌, Bool, true, false, cond, not, nat_lt, ◌==◌, List, [], ◌∷◌, Option, None, Some, option_map}
+use Rattle.std.proofs.Common.{length, take, drop, position, refl, ap, sym, ◌∙◌, arith, add-one, ◌-◌, ◌<◌}
+use Rattle.std.proofs.lemmas.List.{length-take-le, take_rest}
 use Rattle.std.specs.Str.{byte}
 use Rattle.std.proofs.lemmas.Bool.Decides.{nat_tests}
 use Rattle.srt_streamid.specs.Parts.{Piece, joined, parts_from}
 
-placed : (here : Bool) (n len : ℕ) → cond (nat_lt (cond (not here) (1 + n) 0) (suc len)) (Some (cond (not here) (1 + n) 0)) None ≡ cond here (Some 0) (option_map (λ k. k + 1) (cond (nat_lt n len) (Some n) None))
+placed : (here : Bool) (n len : ℕ)
+    → cond (nat_lt (cond (not here) (1 + n) 0) (suc len)) (Some (cond (not here) (1 + n) 0)) None
+    ≡ cond here (Some 0) (option_map (λ k. k + 1) (cond (nat_lt n len) (Some n) None))
 placed true n len = grind (arith, nat_tests)
 placed false n len = grind (arith, nat_tests)
 
@@ -27,7 +29,9 @@ joined_cut at b bs (Some n) =
     let place : at + 1 + (n + 1) ≡ at + (n + 1 + 1) = omega arith in
     rw (place, add-one, add-one) refl
 
-cut_here : (here : Bool) (at b : ℕ) (bs : List ℕ) → parts_from (at + 1) bs ≡ cut_at (at + 1) bs (position is_comma bs) → cond here (record { start = at; text = [] } ∷ parts_from (at + 1) bs) (joined at b (parts_from (at + 1) bs)) ≡ cut_at at (b ∷ bs) (cond here (Some 0) (option_map (λ k. k + 1) (position is_comma bs)))
+cut_here : (here : Bool) (at b : ℕ) (bs : List ℕ) → parts_from (at + 1) bs ≡ cut_at (at + 1) bs (position is_comma bs)
+    → cond here (record { start = at; text = [] } ∷ parts_from (at + 1) bs) (joined at b (parts_from (at + 1) bs))
+    ≡ cut_at at (b ∷ bs) (cond here (Some 0) (option_map (λ k. k + 1) (position is_comma bs)))
 cut_here true at b bs e = refl
 cut_here false at b bs e = ap (joined at b) e ∙ joined_cut at b bs (position is_comma bs)
 
@@ -35,12 +39,10 @@ pub cuts : (at : ℕ) (bs : List ℕ) → parts_from at bs ≡ cut_at at bs (pos
 cuts at [] = refl
 cuts at (b ∷ bs) = rw (position_step is_comma b bs) (cut_here (is_comma b) at b bs (cuts (at + 1) bs))
 
--- the rest of a list, in the form of a slice up to its end
-pub slice_rest : (k : ℕ) (bs : List ℕ) → take (length bs - k) (drop k bs) ≡ drop k bs
-slice_rest k bs = ap (λ n. take n (drop k bs)) (sym (length-drop k bs)) ∙ take-length (drop k bs)
-
 -- the part before the first comma and the parts after it, in the form of slices
-pub cut_there : (at n : ℕ) (bs : List ℕ) → n < length bs → position is_comma bs ≡ Some n → parts_from at bs ≡ record { start = at; text = take n bs } ∷ parts_from (at + (length (take n bs) + 1)) (take (length bs - (n + 1)) (drop (n + 1) bs))
+pub cut_there : (at n : ℕ) (bs : List ℕ) → n < length bs → position is_comma bs ≡ Some n
+    → parts_from at bs
+    ≡ record { start = at; text = take n bs } ∷ parts_from (at + (length (take n bs) + 1)) (take (length bs - (n + 1)) (drop (n + 1) bs))
 cut_there at n bs inside e =
     let cut = cuts at bs ∙ ap (cut_at at bs) e in
-    rw (slice_rest (n + 1) bs, length-take-le n bs (omega arith)) cut
+    rw (take_rest bs (n + 1), length-take-le n bs (omega arith)) cut

@@ -1,5 +1,6 @@
 -- A Stream ID asks for at most one thing, or has one fault.
-use Rattle.std.proofs.Common.{◌≡◌, ◌≢◌, ℕ, ◌+◌, ◌<◌, ◌≤◌, List, [], ◌∷◌, ◌++◌, Option, None, Some, Result, Ok, Err, length, take, drop, map, inl, inr, refl, sym, ap, subst, ◌∙◌, arith, append_assoc, length-take, length-drop}
+use Rattle.std.proofs.Common.{◌≡◌, ◌≢◌, ℕ, ◌+◌, ◌<◌, ◌≤◌, List, [], ◌∷◌, ◌++◌, Option, None, Some, Result, Ok, Err, length, take, drop, map}
+use Rattle.std.proofs.Common.{inl, inr, refl, sym, ap, subst, ◌∙◌, arith, append_assoc, length-take, length-drop}
 use Rattle.std.proofs.Math.Seq.{take-length}
 use Rattle.std.specs.List.{cons_option}
 use Rattle.std.proofs.lemmas.List.Elements.{filter_map-append}
@@ -10,7 +11,8 @@ use Rattle.srt_streamid.specs.declared.reading.AskFault.{AskFault}
 use Rattle.srt_streamid.specs.declared.reading.AskFault.TheVariants.{NotUtf8, NoRoute, BadMode, RepeatedKey}
 use Rattle.srt_streamid.specs.Parts.{Piece, name_in, mode_in, names_in, modes_in, parts_of}
 use Rattle.srt_streamid.specs.Reading.{role_in, ask_in, name_of}
-use Rattle.srt_streamid.specs.Spelling.{mode_of, SayRole, ListAsks, NameAsks, Asks, IsBadMode, IsSaidAgain, HasValueFault, NoneIsAtFault, HasFirstFault, NameNothing, ListNamesNothing, HasFault}
+use Rattle.srt_streamid.specs.Spelling.{mode_of, SayRole, ListAsks, NameAsks, Asks, IsBadMode, IsSaidAgain, HasValueFault, NoneIsAtFault}
+use Rattle.srt_streamid.specs.Spelling.{HasFirstFault, NameNothing, ListNamesNothing, HasFault}
 use Rattle.srt_streamid.specs.Laws.{AskIsRead, FaultIsRead, NameIsInside, NameIsSaid}
 use Rattle.srt_streamid.proofs.Asked.{list_or_not, Told, told}
 
@@ -49,7 +51,9 @@ one_name bytes a b x y = same_ask a b (x.start ∙ sym y.start) (x.len ∙ sym y
 
 -- at most one thing is asked for
 one_ask : (bytes : List ℕ) (a b : Ask) → Asks bytes a → Asks bytes b → a ≡ b
-one_ask bytes a b x y = elim (list_or_not bytes) [ inl list ↦ one_list bytes a b (x.list list) (y.list list) | inr plain ↦ one_name bytes a b (x.plain plain) (y.plain plain) ]
+one_ask bytes a b x y =
+    elim (list_or_not bytes)
+    [ inl list ↦ one_list bytes a b (x.list list) (y.list list) | inr plain ↦ one_name bytes a b (x.plain plain) (y.plain plain) ]
 
 -- a list that spells a role has no bad mode and no second mode
 good_mode : (modes more : List Piece) (mode : Option Piece) (role : Role) → IsBadMode mode → ¬ (SayRole (modes ++ cons_option mode more) role)
@@ -71,7 +75,9 @@ once_name [] more (Some name) one again e = again
 once_name (first ∷ []) more (Some name) one again e = cc
 once_name (first ∷ second ∷ names) more (Some name) one again e = cc
 
-value_faultless : (names modes more_names more_modes : List Piece) (name mode : Option Piece) (fault : AskFault) (one : Piece) (role : Role) → names ++ cons_option name more_names ≡ one ∷ [] → SayRole (modes ++ cons_option mode more_modes) role → ¬ (HasValueFault names modes name mode fault)
+value_faultless : (names modes more_names more_modes : List Piece) (name mode : Option Piece) (fault : AskFault) (one : Piece) (role : Role)
+    → names ++ cons_option name more_names ≡ one ∷ [] → SayRole (modes ++ cons_option mode more_modes) role
+    → ¬ (HasValueFault names modes name mode fault)
 value_faultless names modes more_names more_modes name mode NotUtf8 one role n s h = h
 value_faultless names modes more_names more_modes name mode NoRoute one role n s h = h
 value_faultless names modes more_names more_modes name mode BadMode one role n s h = good_mode modes more_modes mode role h s
@@ -79,13 +85,16 @@ value_faultless names modes more_names more_modes name mode RepeatedKey one role
     elim h.1 [ inl again ↦ once_name names more_names name one again n | inr again ↦ once_mode modes more_modes mode role again s ]
 
 -- a list that asks for a route has no part with a fault
-asks_faultless : (before parts : List Piece) (fault : AskFault) (one : Piece) (role : Role) → names_in (before ++ parts) ≡ one ∷ [] → SayRole (modes_in (before ++ parts)) role → ¬ (HasFirstFault before parts fault)
+asks_faultless : (before parts : List Piece) (fault : AskFault) (one : Piece) (role : Role)
+    → names_in (before ++ parts) ≡ one ∷ [] → SayRole (modes_in (before ++ parts)) role → ¬ (HasFirstFault before parts fault)
 asks_faultless before [] fault one role n s h = h
 asks_faultless before (part ∷ parts) fault one role n s h = elim h [
   | inl here ↦ value_faultless (names_in before) (modes_in before) (names_in parts) (modes_in parts) (name_in part) (mode_in part) fault one role
-      (sym (filter_map-append name_in before (part ∷ parts)) ∙ n) (subst (λ (modes : List Piece). SayRole modes role) (filter_map-append mode_in before (part ∷ parts)) s) here
+      (sym (filter_map-append name_in before (part ∷ parts)) ∙ n)
+      (subst (λ (modes : List Piece). SayRole modes role) (filter_map-append mode_in before (part ∷ parts)) s) here
   | inr later ↦ asks_faultless (before ++ part ∷ []) parts fault one role
-      (ap names_in (append_assoc before (part ∷ []) parts) ∙ n) (subst (λ (all : List Piece). SayRole (modes_in all) role) (sym (append_assoc before (part ∷ []) parts)) s) later.1
+      (ap names_in (append_assoc before (part ∷ []) parts) ∙ n)
+      (subst (λ (all : List Piece). SayRole (modes_in all) role) (sym (append_assoc before (part ∷ []) parts)) s) later.1
 ]
 
 -- a list that names nothing asks for nothing
@@ -105,7 +114,11 @@ name_names bytes ask some a none = let size : length bytes ≡ 0 = ap length non
 -- a Stream ID that asks for something has no fault
 no_fault : (bytes : List ℕ) (ask : Ask) (fault : AskFault) → Asks bytes ask → ¬ (HasFault bytes fault)
 no_fault bytes ask NotUtf8 a h = h a.utf8
-no_fault bytes ask NoRoute a h = elim (list_or_not bytes) [ inl list ↦ list_names bytes ask a.some (a.list list) (h.list list) | inr plain ↦ name_names bytes ask a.some (a.plain plain) (h.plain plain) ]
+no_fault bytes ask NoRoute a h =
+    elim (list_or_not bytes) [
+      | inl list ↦ list_names bytes ask a.some (a.list list) (h.list list)
+      | inr plain ↦ name_names bytes ask a.some (a.plain plain) (h.plain plain)
+    ]
 no_fault bytes ask BadMode a h = let l = a.list h.1 in asks_faultless [] (parts_of bytes) BadMode _ ask.role l.name l.role h.2
 no_fault bytes ask RepeatedKey a h = let l = a.list h.1 in asks_faultless [] (parts_of bytes) RepeatedKey _ ask.role l.name l.role h.2
 

@@ -1,5 +1,6 @@
 -- What was found is right for the parts so far, and each fault is the first of the parts.
-use Rattle.std.proofs.Common.{◌≡◌, ◌≢◌, ℕ, Bool, true, false, if◌then◌else◌, List, [], ◌∷◌, ◌++◌, Option, None, Some, is_some, Result, Ok, Err, MatchResult, length, take, codes, inl, inr, refl, sym, ap, ◌∙◌, append_assoc, append-nil, Decides, subst}
+use Rattle.std.proofs.Common.{◌≡◌, ◌≢◌, ℕ, Bool, true, false, if◌then◌else◌, List, [], ◌∷◌, ◌++◌, Option, None, Some, is_some, Result, Ok}
+use Rattle.std.proofs.Common.{Err, MatchResult, length, take, codes, inl, inr, refl, sym, ap, ◌∙◌, append_assoc, append-nil, Decides, subst}
 use Rattle.std.specs.Bool.{⊤}
 use Rattle.std.specs.List.{cons_option}
 use Rattle.std.specs.Str.{bytes_eq}
@@ -46,7 +47,8 @@ neither text p q Request = q
 RoleTold : List ℕ → Result Role AskFault → Type 0
 RoleTold text read = MatchResult read (λ role. text ≡ mode_of role) (λ fault. (fault ≡ BadMode) × ((role : Role) → text ≢ mode_of role))
 
-role_cases : (text : List ℕ) (p q : Bool) → Decides p (text ≡ codes "publish") → Decides q (text ≡ codes "request") → RoleTold text (if p then Ok Publish else (if q then Ok Request else Err BadMode))
+role_cases : (text : List ℕ) (p q : Bool) → Decides p (text ≡ codes "publish") → Decides q (text ≡ codes "request")
+    → RoleTold text (if p then Ok Publish else (if q then Ok Request else Err BadMode))
 unfolding RoleTold
 role_cases text true q d e = d.0 refl
 role_cases text false true d e = e.0 refl
@@ -56,7 +58,9 @@ role_told : (text : List ℕ) → RoleTold text (role_in text)
 role_told text = role_cases text _ _ (bytes_eq-Decides text (codes "publish")) (bytes_eq-Decides text (codes "request"))
 
 -- no fault, if the mode isn't bad and nothing is given twice
-faultless : (names modes : List Piece) (name mode : Option Piece) → ¬ (IsBadMode mode) → ¬ (IsSaidAgain names name) → ¬ (IsSaidAgain modes mode) → (fault : AskFault) → ¬ (HasValueFault names modes name mode fault)
+faultless : (names modes : List Piece) (name mode : Option Piece) → ¬ (IsBadMode mode) → ¬ (IsSaidAgain names name)
+    → ¬ (IsSaidAgain modes mode) → (fault : AskFault)
+    → ¬ (HasValueFault names modes name mode fault)
 faultless names modes name mode good once first NotUtf8 = λ h. h
 faultless names modes name mode good once first NoRoute = λ h. h
 faultless names modes name mode good once first BadMode = good
@@ -64,7 +68,11 @@ faultless names modes name mode good once first RepeatedKey = λ h. elim h.1 [ i
 
 -- what follows from the result of reading one part
 abbrev PartTold : (names modes : List Piece) (name mode : Option Piece) → Result Found AskFault → Type 0
-PartTold names modes name mode read = MatchResult read (λ more. ((fault : AskFault) → ¬ (HasValueFault names modes name mode fault)) × Stands (names ++ cons_option name []) (modes ++ cons_option mode []) more) (HasValueFault names modes name mode)
+PartTold names modes name mode read =
+    MatchResult read
+    (λ more. ((fault : AskFault) → ¬ (HasValueFault names modes name mode fault)) ×
+    Stands (names ++ cons_option name []) (modes ++ cons_option mode []) more)
+    (HasValueFault names modes name mode)
 
 -- a part gives a name, or a mode, or neither
 abbrev pub Alone : Option Piece → Option Piece → Type 0
@@ -72,27 +80,34 @@ Alone None mode = ⊤
 Alone (Some name) None = ⊤
 Alone (Some name) (Some mode) = ⊥
 
-name_told : (names modes : List Piece) (span : Option Span) (role : Option Role) (name : Piece) → NameStands names span → RoleStands modes role → PartTold names modes (Some name) None (with_name (record { name = span; role = role }) name)
+name_told : (names modes : List Piece) (span : Option Span) (role : Option Role) (name : Piece) → NameStands names span
+    → RoleStands modes role
+    → PartTold names modes (Some name) None (with_name (record { name = span; role = role }) name)
 name_told [] modes None role name n r = (faultless [] modes (Some name) None (λ h. h) (λ h. h) (λ h. h), record { name = refl; role = rw append-nil r })
 name_told (one ∷ []) modes (Some span) role name n r = ((λ h. h), inl tt)
 name_told [] modes (Some span) role name n r = absurd n
 name_told (one ∷ []) modes None role name n r = absurd n
 name_told (one ∷ again ∷ names) modes span role name n r = absurd n
 
-mode_told : (names modes : List Piece) (span : Option Span) (role : Option Role) (mode : Piece) (read : Result Role AskFault) → NameStands names span → RoleStands modes role → RoleTold mode.text read
+mode_told : (names modes : List Piece) (span : Option Span) (role : Option Role) (mode : Piece) (read : Result Role AskFault)
+    → NameStands names span → RoleStands modes role → RoleTold mode.text read
     → PartTold names modes None (Some mode) (read >>= λ said. if is_some role then Err RepeatedKey else Ok (record { name = span; role = Some said }))
 unfolding RoleTold
-mode_told names [] span None mode (Ok said) n r t = (faultless names [] None (Some mode) (λ bad. bad said t) (λ h. h) (λ h. h), record { name = rw append-nil n; role = t })
+mode_told names [] span None mode (Ok said) n r t =
+    (faultless names [] None (Some mode) (λ bad. bad said t) (λ h. h) (λ h. h), record { name = rw append-nil n; role = t })
 mode_told names (one ∷ []) span (Some role) mode (Ok said) n r t = ((λ bad. bad said t), inr tt)
 mode_told names [] span (Some role) mode (Ok said) n r t = absurd r
 mode_told names (one ∷ []) span None mode (Ok said) n r t = absurd r
 mode_told names (one ∷ again ∷ modes) span role mode (Ok said) n r t = absurd r
 mode_told names modes span role mode (Err fault) n r t = subst (HasValueFault names modes None (Some mode)) (sym t.0) t.1
 
-values_told : (names modes : List Piece) (found : Found) (name mode : Option Piece) → Alone name mode → Stands names modes found → PartTold names modes name mode (with_values found name mode)
-values_told names modes found None None alone s = (faultless names modes None None (λ h. h) (λ h. h) (λ h. h), record { name = rw append-nil s.name; role = rw append-nil s.role })
+values_told : (names modes : List Piece) (found : Found) (name mode : Option Piece)
+    → Alone name mode → Stands names modes found → PartTold names modes name mode (with_values found name mode)
+values_told names modes found None None alone s =
+    (faultless names modes None None (λ h. h) (λ h. h) (λ h. h), record { name = rw append-nil s.name; role = rw append-nil s.role })
 values_told names modes found (Some name) None alone s = name_told names modes found.name found.role name s.name s.role
-values_told names modes found None (Some mode) alone s = mode_told names modes found.name found.role mode (role_in mode.text) s.name s.role (role_told mode.text)
+values_told names modes found None (Some mode) alone s =
+    mode_told names modes found.name found.role mode (role_in mode.text) s.name s.role (role_told mode.text)
 values_told names modes found (Some name) (Some mode) alone s = absurd alone
 
 -- no key is both r and m
@@ -114,23 +129,33 @@ alone_behind part (Some at) = alone_tests _ _ _ _ (keys_differ (take at part.tex
 
 -- reading one part of a list
 part_told : (before : List Piece) (part : Piece) (found : Found) → Stands (names_in before) (modes_in before) found
-    → MatchResult (with_part found part) (λ more. ((fault : AskFault) → ¬ (HasPartFault before part fault)) × Stands (names_in (before ++ part ∷ [])) (modes_in (before ++ part ∷ [])) more) (HasPartFault before part)
+    → MatchResult (with_part found part)
+    (λ more. ((fault : AskFault) → ¬ (HasPartFault before part fault)) ×
+    Stands (names_in (before ++ part ∷ [])) (modes_in (before ++ part ∷ [])) more)
+    (HasPartFault before part)
 unfolding with_part
 part_told before part found s =
     let told = values_told (names_in before) (modes_in before) found (name_in part) (mode_in part) (alone_behind part (equals_in part)) s in
     rw (filter_map-append name_in before (part ∷ []), filter_map-append mode_in before (part ∷ [])) told
 
-matched : {T : Type 0} (read : Result T AskFault) (P Q : T → Type 0) (R S : AskFault → Type 0) → MatchResult read P R → ((x : T) → P x → Q x) → ((e : AskFault) → R e → S e) → MatchResult read Q S
+matched : {T : Type 0} (read : Result T AskFault) (P Q : T → Type 0) (R S : AskFault → Type 0)
+    → MatchResult read P R → ((x : T) → P x → Q x) → ((e : AskFault) → R e → S e) → MatchResult read Q S
 matched (Ok x) P Q R S h p r = p x h
 matched (Err e) P Q R S h p r = r e h
 
 -- what follows from the result of reading the parts that follow the parts before them
 abbrev pub PartsTold : (before parts : List Piece) → Result Found AskFault → Type 0
-PartsTold before parts read = MatchResult read (λ more. NoneIsAtFault before parts × Stands (names_in (before ++ parts)) (modes_in (before ++ parts)) more) (HasFirstFault before parts)
+PartsTold before parts read =
+    MatchResult read (λ more. NoneIsAtFault before parts × Stands (names_in (before ++ parts)) (modes_in (before ++ parts)) more)
+    (HasFirstFault before parts)
 
 one_more : (before : List Piece) (part : Piece) (parts : List Piece) (read : Result Found AskFault)
-    → MatchResult read (λ more. ((fault : AskFault) → ¬ (HasPartFault before part fault)) × Stands (names_in (before ++ part ∷ [])) (modes_in (before ++ part ∷ [])) more) (HasPartFault before part)
-    → ((more : Found) → Stands (names_in (before ++ part ∷ [])) (modes_in (before ++ part ∷ [])) more → PartsTold (before ++ part ∷ []) parts (with_parts more parts))
+    → MatchResult read
+    (λ more. ((fault : AskFault) → ¬ (HasPartFault before part fault)) ×
+    Stands (names_in (before ++ part ∷ [])) (modes_in (before ++ part ∷ [])) more)
+    (HasPartFault before part)
+    → ((more : Found) → Stands (names_in (before ++ part ∷ [])) (modes_in (before ++ part ∷ [])) more
+    → PartsTold (before ++ part ∷ []) parts (with_parts more parts))
     → PartsTold before (part ∷ parts) (read >>= λ more. with_parts more parts)
 one_more before part parts (Err fault) h rest = inl h
 one_more before part parts (Ok more) h rest =
@@ -138,6 +163,9 @@ one_more before part parts (Ok more) h rest =
     (λ last s. ((h.0, s.0), subst (λ (all : List Piece). Stands (names_in all) (modes_in all) last) (append_assoc before (part ∷ []) parts) s.1))
     (λ fault first. inr (h.0, first))
 
-pub parts_told : (before parts : List Piece) (found : Found) → Stands (names_in before) (modes_in before) found → PartsTold before parts (with_parts found parts)
+pub parts_told : (before parts : List Piece) (found : Found)
+    → Stands (names_in before) (modes_in before) found → PartsTold before parts (with_parts found parts)
 parts_told before [] found s = (tt, rw append-nil s)
-parts_told before (part ∷ parts) found s = one_more before part parts (with_part found part) (part_told before part found s) (λ more h. parts_told (before ++ part ∷ []) parts more h)
+parts_told before (part ∷ parts) found s =
+    one_more before part parts (with_part found part) (part_told before part found s)
+    (λ more h. parts_told (before ++ part ∷ []) parts more h)

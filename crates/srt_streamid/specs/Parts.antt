@@ -30,7 +30,8 @@ equals_in part = position (λ b. b == byte "=") part.text
 -- what follows the = at this offset, if the key before it is this one
 abbrev pub value_behind : (key : List ℕ) → Piece → Option ℕ → Option Piece
 value_behind key part None = None
-value_behind key part (Some at) = if bytes_eq (take at part.text) key then Some (record { start = part.start + at + 1; text = drop (at + 1) part.text }) else None
+value_behind key part (Some at) =
+    if bytes_eq (take at part.text) key then Some (record { start = part.start + at + 1; text = drop (at + 1) part.text }) else None
 
 -- the value of a part, if its key is this one
 abbrev pub value_of : (key : List ℕ) → Piece → Option Piece
@@ -52,3 +53,15 @@ modes_in parts = filter_map mode_in parts
 -- the parts of a list, which follow its first four bytes
 abbrev pub parts_of : List ℕ → List Piece
 parts_of bytes = parts_from 4 (drop 4 bytes)
+
+-- the text of the first of these parts, if there is one
+abbrev pub first_text : List Piece → Option (List ℕ)
+first_text [] = None
+first_text (part ∷ parts) = Some part.text
+
+-- the key of admission that a part brings, if it brings one; all of them, in order (our choice)
+abbrev pub key_in : Piece → Option Piece
+key_in part = value_of (codes "k") part
+
+abbrev pub keys_in : List Piece → List Piece
+keys_in parts = filter_map key_in parts

@@ -9,7 +9,7 @@ use Rattle.srt_streamid.specs.declared.keys.Span.{Span}
 use Rattle.srt_streamid.specs.declared.reading.Ask.{Ask}
 use Rattle.srt_streamid.specs.declared.reading.AskFault.{AskFault}
 use Rattle.srt_streamid.specs.declared.reading.AskFault.TheVariants.{NotUtf8, NoRoute, BadMode, RepeatedKey}
-use Rattle.srt_streamid.specs.Parts.{Piece, name_in, mode_in, parts_of}
+use Rattle.srt_streamid.specs.Parts.{Piece, name_in, mode_in, keys_in, first_text, parts_of}
 
 infixl 10 ◌>>=◌
 abbrev pub ◌>>=◌ : {A B : Type 0} → Result A AskFault → (A → Result B AskFault) → Result B AskFault
@@ -63,10 +63,14 @@ nothing = record { name = None; role = None }
 unfoldable pub list_in : List ℕ → Result Ask AskFault
 list_in bytes = with_parts nothing (parts_of bytes) >>= asked
 
--- what a Stream ID asks for: a text that is no list is itself the name (this profile)
+-- what a Stream ID asks for: a text that is no list is itself the name (our choice)
 unfoldable pub ask_in : List ℕ → Result Ask AskFault
 ask_in bytes = if is_utf8 bytes then (if starts_with nat_eq bytes (codes "#!::") then list_in bytes else named 0 (length bytes) Request) else Err NotUtf8
 
 -- the route's name
 abbrev pub name_of : List ℕ → Ask → List ℕ
 name_of bytes ask = take ask.len (drop ask.start bytes)
+
+-- the key that a Stream ID brings: in a list the value of the first part that has one, in another text none (our choice)
+unfoldable pub key_of : List ℕ → Option (List ℕ)
+key_of bytes = if starts_with nat_eq bytes (codes "#!::") then first_text (keys_in (parts_of bytes)) else None

@@ -31,7 +31,7 @@ pub record ListAsks (bytes : List ℕ) (ask : Ask) : Type 0 where
   pub len : length (name_of bytes ask) ≡ ask.len
   pub role : SayRole (modes_in (parts_of bytes)) ask.role
 
--- any other text is itself the name (this profile)
+-- any other text is itself the name (our choice)
 pub record NameAsks (bytes : List ℕ) (ask : Ask) : Type 0 where
   pub start : ask.start ≡ 0
   pub len : ask.len ≡ length bytes
@@ -73,7 +73,9 @@ NoneIsAtFault before (part ∷ parts) = ((fault : AskFault) → ¬ (HasPartFault
 -- the first part, from the left, that has a fault has this one
 abbrev pub HasFirstFault : (before parts : List Piece) → AskFault → Type 0
 HasFirstFault before [] fault = ⊥
-HasFirstFault before (part ∷ parts) fault = HasPartFault before part fault ⊎ (((other : AskFault) → ¬ (HasPartFault before part other)) × HasFirstFault (before ++ part ∷ []) parts fault)
+HasFirstFault before (part ∷ parts) fault =
+    HasPartFault before part fault ⊎
+    (((other : AskFault) → ¬ (HasPartFault before part other)) × HasFirstFault (before ++ part ∷ []) parts fault)
 
 -- there is no name, or the only name is empty
 abbrev pub NameNothing : (names : List Piece) → Type 0
@@ -92,7 +94,7 @@ pub record NamesNothing (bytes : List ℕ) : Type 0 where
   pub list : IsList bytes → ListNamesNothing bytes
   pub plain : ¬ (IsList bytes) → bytes ≡ []
 
--- the fault of a Stream ID (this profile)
+-- the fault of a Stream ID (our choice)
 abbrev pub HasFault : List ℕ → AskFault → Type 0
 HasFault bytes NotUtf8 = ¬ (IsUtf8 bytes)
 HasFault bytes NoRoute = NamesNothing bytes

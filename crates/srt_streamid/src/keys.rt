@@ -1,10 +1,10 @@
 //! The keys of a list, read from left to right: the parts between its commas, the name that `r` gives and the role that
-//! `m` gives, and the fault of a repeated key (draft-sharabayko-srt-01, appendix B.2; the order of faults is this
-//! profile's).
+//! `m` gives, and the fault of a repeated key (draft-sharabayko-srt-01, appendix B.2; the order of faults is our
+//! choice).
 
-ghost use Rattle.std.specs.Prelude.{◌≡◌, ℕ, ◌+◌, ◌<◌, ◌≤◌, ◌^◌, ◌==◌, ◌∷◌, List, length, position, IfSome, MatchOption};
+ghost use Rattle.std.specs.Prelude.{◌≡◌, ℕ, ◌+◌, ◌<◌, ◌≤◌, ◌^◌, ◌==◌, ◌∷◌, List, length, position, IfSome, MatchOption, option_map};
 ghost use Rattle.std.specs.Option.{option_copied};
-ghost use Rattle.srt_streamid.specs.Parts.{parts_from, parts_behind};
+ghost use Rattle.srt_streamid.specs.Parts.{parts_from, parts_behind, keys_in, first_text, parts_of, key_in};
 ghost use Rattle.srt_streamid.specs.Reading.{role_in, list_in};
 
 use crate::reading::{Ask, AskFault, named};
@@ -33,6 +33,9 @@ const RESOURCE: &[u8] = b"r";
 
 /// The key of a mode (appendix B.2).
 const MODE: &[u8] = b"m";
+
+/// The key of admission that a route may ask for (our choice).
+const ADMISSION: &[u8] = b"k";
 
 /// The mode of a caller that sends the stream (appendix B.2).
 const PUBLISH: &[u8] = b"publish";
@@ -164,6 +167,37 @@ pub fn read_list(bytes: &[u8]) -> Result<Ask, AskFault>
             return found.asked();
         };
         start += part.len() + 1;
+        list = more;
+    }
+}
+
+/// The key that a part brings; None if the part has no `=`, or another name before it.
+fn key_of_part(part: &[u8]) -> Option<&[u8]>
+    ensures { (start : ℕ) → option_copied result ≡ option_map (λ value. value.text) (key_in (record { start = start; text = part.now })) }
+{
+    let equals = place_of(b'=', part)?;
+    if &part[..equals] == ADMISSION {
+        Some(&part[equals + 1..])
+    } else {
+        None
+    }
+}
+
+/// The key that a list brings: that of its first part that has one. `bytes` begins with the four bytes `#!::`.
+#[tactic(auto, using(crate::proofs::Anywhere::anywhere))]
+pub fn key_of_list(bytes: &[u8]) -> Option<&[u8]>
+    requires { 4 ≤ length bytes.now }
+    ensures { option_copied result ≡ first_text (keys_in (parts_of bytes.now)) }
+{
+    let mut list = &bytes[4..];
+    loop {
+        let (part, more) = first_part(list);
+        if let Some(key) = key_of_part(part) {
+            return Some(key);
+        }
+        let Some(more) = more else {
+            return None;
+        };
         list = more;
     }
 }

@@ -2,13 +2,14 @@
 //! appendix B).
 
 ghost use Rattle.std.specs.Prelude.{◌≡◌, ◌+◌, ◌≤◌, ◌↔◌, length, IfOk, Ok, Err};
+ghost use Rattle.std.specs.Option.{option_copied};
 ghost use Rattle.std.specs.Str.{is_utf8};
-ghost use Rattle.srt_streamid.specs.Reading.{ask_in, named};
+ghost use Rattle.srt_streamid.specs.Reading.{ask_in, key_of, named};
 ghost use Rattle.srt_streamid.specs.Spelling.{Asks, HasFault};
 ghost use Rattle.srt_streamid.specs.declared.reading.Ask.{Ask as TheAsk};
 ghost use Rattle.srt_streamid.specs.declared.reading.AskFault.{AskFault as TheFault};
 
-use crate::keys::read_list;
+use crate::keys::{key_of_list, read_list};
 use srt_seq::Role;
 use std::str;
 
@@ -24,7 +25,7 @@ pub struct Ask {
 }
 
 /// Why a Stream ID asks for nothing. `NotUtf8` comes first, then the first `BadMode` or `RepeatedKey` from the left,
-/// and `NoRoute` only if there is no other fault (this profile's order).
+/// and `NoRoute` only if there is no other fault (the order is our choice).
 #[derive(Clone, Copy, Debug, PartialEq, Eq)]
 pub enum AskFault {
     /// The bytes aren't UTF-8.
@@ -64,7 +65,7 @@ fn ask_of(bytes: &[u8]) -> Result<Ask, AskFault>
 
 /// Reads a Stream ID. `bytes` is its text without the zeros that pad it in a handshake, of any length. A text that
 /// begins with `#!::` is a list of parts; keys and modes are case-sensitive, and other keys than `r` and `m` are
-/// skipped. Any other text is a route's name, with the role request (this profile). Linear in the number of bytes;
+/// skipped. Any other text is a route's name, with the role request (our choice). Linear in the number of bytes;
 /// copies nothing.
 pub fn read(bytes: &[u8]) -> Result<Ask, AskFault>
     // The result is what the Stream ID asks for, and nothing else.
@@ -75,6 +76,20 @@ pub fn read(bytes: &[u8]) -> Result<Ask, AskFault>
     ensures value { result ≡ ask_in bytes.now }
 {
     ask_of(bytes)
+}
+
+/// The key that a Stream ID brings, for a route that asks for one: in a list the value of the first part with the key
+/// `k` and an `=`, which may be empty; None in a list without such a part, and in any other text (our choice). Linear
+/// in the number of bytes; copies nothing.
+#[tactic(auto, unfolding(crate::specs::Reading::key_of))]
+pub fn key(bytes: &[u8]) -> Option<&[u8]>
+    ensures { option_copied result ≡ key_of bytes.now }
+{
+    if bytes.starts_with(LIST) {
+        key_of_list(bytes)
+    } else {
+        None
+    }
 }
 
 /// What a name with this offset and length asks for in this role. `NoRoute` if it is empty.

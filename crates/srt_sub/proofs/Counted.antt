@@ -1,11 +1,14 @@
 -- The number of packets that an event sends.
-use Rattle.std.proofs.Common.{◌≡◌, ℕ, zero, suc, ◌+◌, ◌-◌, ◌≤◌, ◌==◌, min, Bool, true, false, if◌then◌else◌, Option, None, Some, List, [], ◌∷◌, ◌++◌, length, refl, ap, arith, length-append, length-take}
+use Rattle.std.proofs.Common.{◌≡◌, ℕ, zero, suc, ◌+◌, ◌-◌, ◌≤◌, ◌==◌, min, Bool, true, false, if◌then◌else◌, Option, None, Some, List, []}
+use Rattle.std.proofs.Common.{◌∷◌, ◌++◌, length, refl, ap, arith, length-append, length-take}
 use Rattle.std.specs.Prelude.{slice_get, nat_le}
 use Rattle.srt_seq.specs.Runs.{Run, numbers_from}
 use Rattle.srt_sendbuf.specs.Sending.{Queued, front, next, lost}
-use Rattle.srt_sub.specs.Heard.{Heard, Ack, Nak, Other}
-use Rattle.srt_sub.specs.Subscribing.{Terms, Report, Acked, KeepAlive, Note, Subscribing, last_sent, flow_window, untold, drops_of, media, media_of, again_of, new_of, keep_alives, due_of, most, presumed, reports, answers, ack_reports}
-use Rattle.srt_sub.specs.Few.{FewPackets}
+use Rattle.srt_sub.specs.Heard.{Heard, Ack, Nak, Data, Other}
+use Rattle.srt_sub.specs.Subscribing.{Terms, Report, Acked, KeepAlive, Note, Subscribing, last_sent, flow_window, untold, drops_of, media}
+use Rattle.srt_sub.specs.Subscribing.{media_of, again_of, new_of, keep_alives, due_of, most, prepared, resends, reports, answers, ack_reports}
+use Rattle.srt_sub.specs.EventPackets.{SendsAtMost66}
+use Rattle.srt_sub.proofs.Credits.{resends_few}
 
 one_media : (b : Bool) (n : ℕ) (o : Option Queued) → length (media_of b n o) ≤ 1
 one_media b n None = omega arith
@@ -27,20 +30,22 @@ one_drop : (o : Option Run) → length (drops_of o) ≤ 1
 one_drop None = omega arith
 one_drop (Some run) = omega arith
 
-few_due : (places : ℕ) (terms : Terms) (s : Subscribing) → length (due_of places terms s) ≤ 1 + places
-few_due places terms s =
+few_due : (places again : ℕ) (terms : Terms) (s : Subscribing) → again ≤ places → length (due_of places again terms s) ≤ 1 + places
+few_due places again terms s le =
     let queue = s.sending.queue in
     let d = drops_of (untold s.notes) in
-    let old = again_of places s.sending in
-    let fresh = new_of places (flow_window terms.window s.notes) s.sending in
+    let old = again_of again s.sending in
+    let fresh = new_of places again (flow_window terms.window s.notes) s.sending in
     let a = one_drop (untold s.notes) in
     let b = few_media true old queue in
     let c = few_media false fresh queue in
-    let taken : length old ≡ min places (length (lost s.sending)) = length-take places (lost s.sending) in
-    let new = counted (next s.sending) (min (places - length old) (min (flow_window terms.window s.notes - (next s.sending - front s.sending)) (length queue - next s.sending))) in
+    let taken : length old ≡ min again (length (lost s.sending)) = length-take again (lost s.sending) in
+    let new = counted (next s.sending)
+    (min (places - length old)
+    (min (flow_window terms.window s.notes - (next s.sending - front s.sending)) (length queue - next s.sending))) in
     let first = length-append d (media true old queue) in
     let all = length-append (d ++ media true old queue) (media false fresh queue) in
-    omega (arith, a, b, c, taken, new, first, all)
+    omega (arith, a, b, c, taken, new, first, all, le)
 
 one_alive : (time : ℕ) (notes : List Note) → length (keep_alives time [] notes) ≤ 1
 one_alive time notes = by (nat_le 1_000_000 (time - last_sent notes))
@@ -54,7 +59,10 @@ few places time [] notes le = let one = one_alive time notes in omega (arith, on
 few places time (r ∷ due) notes le = let all = length-append (r ∷ due) [] in omega (arith, le, all)
 
 few_reports : (terms : Terms) (time : ℕ) (s : Subscribing) → length (reports terms time s) ≤ 65
-few_reports terms time s = few most time (due_of most terms (presumed time s)) (presumed time s).notes (few_due most terms (presumed time s))
+few_reports terms time s =
+    let t = prepared terms time s in
+    let again = resends terms.resend_percent most t.notes in
+    few most time (due_of most again terms t) t.notes (few_due most again terms t (resends_few terms.resend_percent most t.notes))
 
 one_acked : (mark : ℕ) → length (ack_reports mark) ≤ 1
 one_acked mark = by (mark == 0)
@@ -66,7 +74,8 @@ one_acked mark = by (mark == 0)
 few_answers : (h : Heard) → length (answers h) ≤ 1
 few_answers (Ack mark number more) = one_acked mark
 few_answers (Nak asked) = omega arith
+few_answers Data = omega arith
 few_answers Other = omega arith
 
-pub few_packets : FewPackets
-few_packets = record { reports = few_reports; answers = few_answers }
+pub sends_at_most_66 : SendsAtMost66
+sends_at_most_66 = record { reports = few_reports; answers = few_answers }

@@ -1,12 +1,15 @@
 -- The counts of a session follow what it is fed, sends and hears.
-use Rattle.std.proofs.Common.{◌≡◌, ℕ, ◌+◌, Bool, true, false, ◌&&◌, not, if◌then◌else◌, Option, Some, None, List, [], ◌∷◌, ◌++◌, length, length-append, sym, ap, subst, ◌∙◌, arith}
+use Rattle.std.proofs.Common.{◌≡◌, ℕ, ◌+◌, Bool, true, false, ◌&&◌, not, if◌then◌else◌, Option, Some, None, List, [], ◌∷◌, ◌++◌, length}
+use Rattle.std.proofs.Common.{length-append, refl, sym, ap, subst, ◌∙◌, arith}
 use Rattle.std.specs.Prelude.{nat_lt, slice_get}
 use Rattle.std.proofs.lemmas.Bool.{lt-ltb}
 use Rattle.srt_sendbuf.specs.Sending.{Queued, Sending, Due, due, due_at, due_number, due_of, in_flight, lost, next, queued}
 use Rattle.srt_seq.specs.Runs.{Range}
 use Rattle.srt_sendbuf.specs.Sending.{asked}
-use Rattle.srt_sub.specs.Counting.{AreSendings, Counted, capped, bytes_in, fresh_in, again_in, is_again, naks_in, one_if, with_payload, with_list, with_expired, with_sent}
-use Rattle.srt_sub.specs.Subscribing.{Note, Report, Sent, is_media}
+use Rattle.srt_sub.specs.Counting.{AreSendings, Counted, capped, bytes_in, fresh_in, again_in, is_again, naks_in, one_if, with_payload}
+use Rattle.srt_sub.specs.Counting.{with_list, with_expired, with_misdirected, with_sent, misdirected_in}
+use Rattle.srt_sub.specs.Subscribing.{Renewed, renewal_due, renewed_notes}
+use Rattle.srt_sub.specs.Subscribing.{Subscribing, Note, Report, Sent, Misdirected, is_media, told, grown, with_ack}
 use Rattle.srt_sub.specs.declared.counts.Counts.{Counts}
 use Rattle.srt_sub.specs.declared.counts.Sendings.{Sendings}
 
@@ -18,8 +21,10 @@ bytes_put : (queue : List Queued) (q : Queued) → bytes_in (queue ++ q ∷ []) 
 bytes_put [] q = omega arith
 bytes_put (x ∷ queue) q = let h = bytes_put queue q in omega (arith, h)
 
-pub counts_fed : (time : ℕ) (payload : List ℕ) (c : Counts) (s : Sending) → Counted c s → Counted (with_payload (length payload) c) (queued time payload s)
-counts_fed time payload c s h =
+pub counts_fed : (time : ℕ) (payload : List ℕ) (c : Counts) (m : Subscribing)
+    → Counted c m → Counted (with_payload (length payload) c) (record m { sending = queued time payload m.sending })
+counts_fed time payload c m h =
+    let s = m.sending in
     let q : Queued = record { origin = time; payload = payload } in
     let bytes = bytes_put s.queue q in
     let count = length-append s.queue (q ∷ []) in
@@ -27,21 +32,65 @@ counts_fed time payload c s h =
       queued_is = more c.queued (length s.queue) 1 h.queued_is ∙ ap capped (sym count);
       bytes_is = more c.bytes (bytes_in s.queue) (length payload) h.bytes_is ∙ ap capped (sym bytes);
       naks_is = h.naks_is;
+      misdirected_is = h.misdirected_is;
     }
 
-pub counts_asked : (ranges : List Range) (c : Counts) (s : Sending) → Counted c s → Counted (with_list c) (asked ranges s)
-counts_asked ranges c s h = record { queued_is = h.queued_is; bytes_is = h.bytes_is; naks_is = more c.naks (naks_in s.marks) 1 h.naks_is }
+pub counts_asked : (ranges : List Range) (c : Counts) (m : Subscribing) → Counted c m → Counted (with_list c) (record m { sending = asked ranges m.sending })
+counts_asked ranges c m h =
+    record {
+      queued_is = h.queued_is;
+      bytes_is = h.bytes_is;
+      naks_is = more c.naks (naks_in m.sending.marks) 1 h.naks_is;
+      misdirected_is = h.misdirected_is;
+    }
 
-pub counts_expired : (count : ℕ) (c : Counts) (s : Sending) → Counted c s → Counted (with_expired count c) s
-counts_expired count c s h = record { queued_is = h.queued_is; bytes_is = h.bytes_is; naks_is = h.naks_is }
+pub counts_expired : (count : ℕ) (c : Counts) (m : Subscribing) → Counted c m → Counted (with_expired count c) m
+counts_expired count c m h = record { queued_is = h.queued_is; bytes_is = h.bytes_is; naks_is = h.naks_is; misdirected_is = h.misdirected_is }
+
+pub counts_misdirected : (c : Counts) (m : Subscribing) → Counted c m → Counted (with_misdirected c) (record m { notes = Misdirected ∷ m.notes })
+counts_misdirected c m h =
+    record {
+      queued_is = h.queued_is;
+      bytes_is = h.bytes_is;
+      naks_is = h.naks_is;
+      misdirected_is = more c.misdirected (misdirected_in m.notes) 1 h.misdirected_is;
+    }
+
+-- an ACK changes no count
+told_none : (rest : List ℕ) (notes : List Note) → misdirected_in (told rest ++ notes) ≡ misdirected_in notes
+told_none [] notes = refl
+told_none (rtt ∷ []) notes = refl
+told_none (rtt ∷ variance ∷ []) notes = refl
+told_none (rtt ∷ variance ∷ window ∷ rest) notes = refl
+
+grown_none : (time : ℕ) (grows : Bool) (notes : List Note) → misdirected_in (grown time grows ++ notes) ≡ misdirected_in notes
+grown_none time true notes = refl
+grown_none time false notes = refl
+
+pub counts_acked : (time : ℕ) (rest : List ℕ) (n : ℕ) (c : Counts) (m : Subscribing) → Counted c m → Counted c (with_ack time rest (Some n) m)
+counts_acked time rest n c m h =
+    let grows = nat_lt m.sending.acked n in
+    record {
+      queued_is = h.queued_is;
+      bytes_is = h.bytes_is;
+      naks_is = h.naks_is;
+      misdirected_is = h.misdirected_is ∙ ap capped (sym (told_none rest (grown time grows ++ m.notes) ∙ grown_none time grows m.notes));
+    }
 
 -- a data packet is sent
-sent_more : (again : Bool) (c : Sendings) (r : Report) (notes : List Note) → is_again r ≡ again → AreSendings c (fresh_in notes) (again_in notes) → AreSendings (with_sent again c) (fresh_in notes + one_if (not (is_again r))) (again_in notes + one_if (is_again r))
+sent_more : (again : Bool) (c : Sendings) (r : Report) (notes : List Note) → is_again r ≡ again
+    → AreSendings c (fresh_in notes) (again_in notes)
+    → AreSendings (with_sent again c) (fresh_in notes + one_if (not (is_again r))) (again_in notes + one_if (is_again r))
 sent_more again c r notes e h =
     subst (λ (b : Bool). AreSendings (with_sent b c) (fresh_in notes + one_if (not (is_again r))) (again_in notes + one_if (is_again r))) e
-    (record { fresh_is = more c.fresh (fresh_in notes) (one_if (not (is_again r))) h.fresh_is; again_is = more c.again (again_in notes) (one_if (is_again r)) h.again_is })
+    (record {
+      fresh_is = more c.fresh (fresh_in notes) (one_if (not (is_again r))) h.fresh_is;
+      again_is = more c.again (again_in notes) (one_if (is_again r)) h.again_is;
+    })
 
-pub sends : (time : ℕ) (again : Bool) (c : Sendings) (r : Report) (notes : List Note) → is_media r ≡ true → is_again r ≡ again → AreSendings c (fresh_in notes) (again_in notes) → AreSendings (with_sent again c) (fresh_in (Sent time r ∷ notes)) (again_in (Sent time r ∷ notes))
+pub sends : (time : ℕ) (again : Bool) (c : Sendings) (r : Report) (notes : List Note) → is_media r ≡ true → is_again r ≡ again
+    → AreSendings c (fresh_in notes) (again_in notes)
+    → AreSendings (with_sent again c) (fresh_in (Sent time r ∷ notes)) (again_in (Sent time r ∷ notes))
 sends time again c r notes m e h = rw m (sent_more again c r notes e h)
 
 -- a data packet that is due is sent again if a packet counts as lost
@@ -62,3 +111,12 @@ again_is w s d e = by (lost s) e
     by : (ns : List ℕ) → due_at s.queue (due_number w ns s) ≡ Some d → d.again ≡ nat_lt 0 (length ns)
     by [] k = fresh (nat_lt (in_flight s) w && nat_lt (next s) (length s.queue)) k
     by (n ∷ ns) k = again_of n true (slice_get s.queue n) d k ∙ sym (lt-ltb 0 (length (n ∷ ns)) (omega arith))
+
+-- that the credit for resends is raised changes no count
+pub counts_renewed : (percent : Option ℕ) (time : ℕ) (c : Counts) (m : Subscribing)
+    → Counted c m → Counted c (record m { notes = renewed_notes percent time m.notes })
+counts_renewed percent time c m h = by (renewal_due percent time m.notes)
+  where
+    by : (b : Bool) → Counted c (record m { notes = if b then Renewed time ∷ m.notes else m.notes })
+    by true = record { queued_is = h.queued_is; bytes_is = h.bytes_is; naks_is = h.naks_is; misdirected_is = h.misdirected_is }
+    by false = h

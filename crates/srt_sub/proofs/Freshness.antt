@@ -9,14 +9,15 @@ use Rattle.srt_seq.specs.declared.shared.Mode.TheVariants.{Live, Buffer}
 use Rattle.srt_tsbpd.specs.Deadline.{too_late_at, threshold}
 use Rattle.srt_sendbuf.specs.Sending.{Queued, Mark, Sending, queued, queued_before, asked, acknowledged, acknowledged_by}
 use Rattle.srt_sendbuf.proofs.Fronts.{test, many, many_is}
-use Rattle.srt_sub.specs.Heard.{Heard, Ack, Nak, Other}
-use Rattle.srt_sub.specs.Subscribing.{Terms, Note, Subscribing, expired, expired_in, took, with_ack, with_nak, fed, fed_all, fits}
+use Rattle.srt_sub.specs.Heard.{Heard, Ack, Nak, Data, Other}
+use Rattle.srt_sub.specs.Subscribing.{Misdirected, Terms, Note, Subscribing, expired, expired_in, took, with_ack, with_nak, fed, fed_all, fits}
 use Rattle.srt_sub.specs.Fresh.{IsFresh, ExpiresOnce}
 
 abbrev remade : Sending → (acked expired : ℕ) → List Mark → List Queued → Sending
 remade s acked expired marks queue = record { queue = queue; acked = acked; expired = expired; marks = marks }
 
-fresh_kept : (mode : Mode) (terms : Terms) (time : ℕ) (s : Sending) (acked : ℕ) (marks : List Mark) → expired_in mode terms time s ≡ s → expired_in mode terms time (remade s acked s.expired marks s.queue) ≡ remade s acked s.expired marks s.queue
+fresh_kept : (mode : Mode) (terms : Terms) (time : ℕ) (s : Sending) (acked : ℕ) (marks : List Mark) → expired_in mode terms time s ≡ s
+    → expired_in mode terms time (remade s acked s.expired marks s.queue) ≡ remade s acked s.expired marks s.queue
 fresh_kept Live terms time s acked marks e = ap (λ x. remade s acked x.expired marks s.queue) e
 fresh_kept Buffer terms time s acked marks e = refl
 
@@ -24,14 +25,16 @@ young : (before : ℤ) (qs : List Queued) (q : Queued) → test before q ≡ fal
 young before [] q e = rw e refl
 young before (p ∷ qs) q e = by (test before p) (young before qs q e)
   where
-    by : (b : Bool) → many before (qs ++ q ∷ []) ≡ many before qs → cond b (1 + many before (qs ++ q ∷ [])) (many before (qs ++ q ∷ [])) ≡ cond b (1 + many before qs) (many before qs)
+    by : (b : Bool) → many before (qs ++ q ∷ []) ≡ many before qs
+        → cond b (1 + many before (qs ++ q ∷ [])) (many before (qs ++ q ∷ [])) ≡ cond b (1 + many before qs) (many before qs)
     by true h = ap (λ n. 1 + n) h
     by false h = h
 
 not_old : (a t : ℕ) → int_lt (pos a) (pos a -ℤ pos t) ≡ false
 not_old a t = grind (arith, nat_tests, ints)
 
-fresh_queued : (mode : Mode) (terms : Terms) (time : ℕ) (payload : List ℕ) (s : Sending) → expired_in mode terms time s ≡ s → expired_in mode terms time (queued time payload s) ≡ queued time payload s
+fresh_queued : (mode : Mode) (terms : Terms) (time : ℕ) (payload : List ℕ) (s : Sending)
+    → expired_in mode terms time s ≡ s → expired_in mode terms time (queued time payload s) ≡ queued time payload s
 fresh_queued Live terms time payload s e =
     let q : Queued = record { origin = time; payload = payload } in
     let before = too_late_at time terms.delay in
@@ -46,23 +49,28 @@ of sending notes = record { sending = sending; notes = notes }
 fresh_of : (terms : Terms) (time : ℕ) (s : Sending) (notes : List Note) → expired_in terms.mode terms time s ≡ s → IsFresh terms time (of s notes)
 fresh_of terms time s notes e = ap (λ x. of x notes) e
 
-once : (mode : Mode) (terms : Terms) (time : ℕ) (s : Sending) → expired_in mode terms time (expired_in mode terms time s) ≡ expired_in mode terms time s
-once Live terms time s = refl
-once Buffer terms time s = refl
+pub fresh_twice : (mode : Mode) (terms : Terms) (time : ℕ) (s : Sending)
+    → expired_in mode terms time (expired_in mode terms time s) ≡ expired_in mode terms time s
+fresh_twice Live terms time s = refl
+fresh_twice Buffer terms time s = refl
 
-acked : (terms : Terms) (time : ℕ) (more : List ℕ) (o : Option ℕ) (s : Subscribing) → expired_in terms.mode terms time s.sending ≡ s.sending → expired_in terms.mode terms time (with_ack time more o s).sending ≡ (with_ack time more o s).sending
+acked : (terms : Terms) (time : ℕ) (more : List ℕ) (o : Option ℕ) (s : Subscribing) → expired_in terms.mode terms time s.sending ≡ s.sending
+    → expired_in terms.mode terms time (with_ack time more o s).sending ≡ (with_ack time more o s).sending
 acked terms time more None s e = e
 acked terms time more (Some n) s e = fresh_kept terms.mode terms time s.sending (acknowledged n s.sending).acked s.sending.marks e
 
 missed : (terms : Terms) (time : ℕ) (o : Option (List Range)) (s : Subscribing) → IsFresh terms time s → IsFresh terms time (with_nak o s)
 missed terms time None s e = e
 missed terms time (Some ranges) s e =
-    fresh_of terms time (asked ranges s.sending) (with_nak (Some ranges) s).notes (fresh_kept terms.mode terms time s.sending s.sending.acked (asked ranges s.sending).marks (ap (λ x. x.sending) e))
+    fresh_of terms time (asked ranges s.sending) (with_nak (Some ranges) s).notes
+    (fresh_kept terms.mode terms time s.sending s.sending.acked (asked ranges s.sending).marks (ap (λ x. x.sending) e))
 
 heard : (terms : Terms) (time : ℕ) (h : Heard) (s : Subscribing) → IsFresh terms time s → IsFresh terms time (took time h s)
 heard terms time (Ack mark number more) s e =
-    fresh_of terms time (with_ack time more (acknowledged_by number s.sending) s).sending (took time (Ack mark number more) s).notes (acked terms time more (acknowledged_by number s.sending) s (ap (λ x. x.sending) e))
+    fresh_of terms time (with_ack time more (acknowledged_by number s.sending) s).sending (took time (Ack mark number more) s).notes
+    (acked terms time more (acknowledged_by number s.sending) s (ap (λ x. x.sending) e))
 heard terms time (Nak o) s e = missed terms time o s e
+heard terms time Data s e = fresh_of terms time s.sending (Misdirected ∷ s.notes) (ap (λ x. x.sending) e)
 heard terms time Other s e = e
 
 fed_one : (terms : Terms) (time : ℕ) (payload : List ℕ) (s : Subscribing) → IsFresh terms time s → IsFresh terms time (fed terms time payload s)
@@ -79,7 +87,7 @@ fed_each terms time (x ∷ xs) s e = fed_each terms time xs (fed terms time x s)
 pub expires_once : ExpiresOnce
 expires_once =
     record {
-      once = λ terms time s. fresh_of terms time (expired_in terms.mode terms time s.sending) s.notes (once terms.mode terms time s.sending);
+      once = λ terms time s. fresh_of terms time (expired_in terms.mode terms time s.sending) s.notes (fresh_twice terms.mode terms time s.sending);
       heard = heard;
       fed = fed_one;
       fed_all = fed_each;

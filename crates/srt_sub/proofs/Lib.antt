@@ -7,3 +7,4 @@ pub mod Freshness
 pub mod Counted
 pub mod Counting
 pub mod Rows
+pub mod Credits

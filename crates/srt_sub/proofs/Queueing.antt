@@ -12,18 +12,23 @@ roomy Live terms time s e some = absurd cc
 roomy Buffer terms time s e some = some
 
 -- in buffer mode nothing is too late, so if there was no room, there is none after expiry
-pub still_full : (mode : Mode) (terms : Terms) (time : ℕ) (s : Sending) → mode ≡ Buffer → room terms.width s ≡ 0 → room terms.width (expired_in mode terms time s) ≡ 0
+pub still_full : (mode : Mode) (terms : Terms) (time : ℕ) (s : Sending)
+    → mode ≡ Buffer → room terms.width s ≡ 0 → room terms.width (expired_in mode terms time s) ≡ 0
 still_full Live terms time s e none = absurd cc
 still_full Buffer terms time s e none = none
 
 -- no place is free
-pub full : (mode : Mode) (terms : Terms) (time : ℕ) (payload : List ℕ) (s : Sending) → (mode ≡ Buffer → 0 < room terms.width s) → room terms.width (expired_in mode terms time s) ≡ 0 → fits mode terms payload (expired_in mode terms time s) ≡ false
+pub full : (mode : Mode) (terms : Terms) (time : ℕ) (payload : List ℕ) (s : Sending) → (mode ≡ Buffer → 0 < room terms.width s)
+    → room terms.width (expired_in mode terms time s) ≡ 0
+    → fits mode terms payload (expired_in mode terms time s) ≡ false
 full Live terms time payload s some none = has_no_room terms payload (expired_in Live terms time s) none
 full Buffer terms time payload s some none = let k = some refl in absurd (omega (arith, k, none))
 
 -- a payload that fits is queued, and one that doesn't isn't
-pub fed_if : (terms : Terms) (time : ℕ) (payload : List ℕ) (s : Subscribing) → fits terms.mode terms payload s.sending ≡ true → fed terms time payload s ≡ record s { sending = queued time payload s.sending }
+pub fed_if : (terms : Terms) (time : ℕ) (payload : List ℕ) (s : Subscribing)
+    → fits terms.mode terms payload s.sending ≡ true → fed terms time payload s ≡ record s { sending = queued time payload s.sending }
 fed_if terms time payload s e = rw e refl
 
-pub not_fed_if : (terms : Terms) (time : ℕ) (payload : List ℕ) (s : Subscribing) → fits terms.mode terms payload s.sending ≡ false → fed terms time payload s ≡ s
+pub not_fed_if : (terms : Terms) (time : ℕ) (payload : List ℕ) (s : Subscribing)
+    → fits terms.mode terms payload s.sending ≡ false → fed terms time payload s ≡ s
 not_fed_if terms time payload s e = rw e refl

@@ -1,5 +1,5 @@
 -- What a session sends, computed from bytes.
-use Rattle.std.proofs.Common.{◌≡◌, ℕ, List, [], ◌∷◌, ◌++◌, refl}
+use Rattle.std.proofs.Common.{◌≡◌, ℕ, None, List, [], ◌∷◌, ◌++◌, refl}
 use Rattle.std.specs.Prelude.{map}
 use Rattle.srt_seq.specs.declared.shared.Mode.TheVariants.{Live}
 use Rattle.srt_seq.specs.Window.{in_window}
@@ -9,7 +9,7 @@ use Rattle.srt_sub.specs.Heard.{heard_from}
 use Rattle.srt_sub.specs.Subscribing.{Terms, Subscribing, opened, expired, took, answers, fed_all, reports, reported}
 use Rattle.srt_sub.specs.Says.{says}
 
--- an event: its time since the opening, what came, and what is fed
+-- an event: its time since the opening, what was received, and what is fed
 record Event : Type 0 where
   time : ℕ
   body : Body
@@ -29,7 +29,7 @@ sends terms initial caller (e ∷ events) =
     map (says caller initial e.time) (answers (heard_from initial e.body) ++ reports terms e.time (before_reports terms initial e (after terms initial events)))
 
 abbrev live : (delay : ℕ) → Terms
-live delay = record { mode = Live; width = 1024; delay = delay; mtu = 1500; window = 8192 }
+live delay = record { mode = Live; width = 1024; delay = delay; mtu = 1500; window = 8192; resend_percent = None }
 
 abbrev still : (time : ℕ) → Event
 still time = record { time = time; body = KeepAlive; payloads = [] }
@@ -41,26 +41,36 @@ abbrev asks : (time : ℕ) → Event
 asks time = record { time = time; body = Nak (0 ∷ 0 ∷ 0 ∷ 9 ∷ []); payloads = [] }
 
 -- a packet, and the same again
-fed_packet : sends (live 120_000) 9 2 (feeds 1_000_000 ∷ []) ≡ (0 ∷ 0 ∷ 0 ∷ 9 ∷ 0xe0 ∷ 0 ∷ 0 ∷ 1 ∷ 0 ∷ 0xf ∷ 0x42 ∷ 0x40 ∷ 0 ∷ 0 ∷ 0 ∷ 2 ∷ 0x68 ∷ 0x69 ∷ []) ∷ []
+fed_packet : sends (live 120_000) 9 2 (feeds 1_000_000 ∷ [])
+    ≡ (0 ∷ 0 ∷ 0 ∷ 9 ∷ 0xe0 ∷ 0 ∷ 0 ∷ 1 ∷ 0 ∷ 0xf ∷ 0x42 ∷ 0x40 ∷ 0 ∷ 0 ∷ 0 ∷ 2 ∷ 0x68 ∷ 0x69 ∷ []) ∷ []
 unfolding in_window
 fed_packet = refl
 
-resent_packet : sends (live 120_000) 9 2 (asks 2_000_000 ∷ feeds 1_000_000 ∷ []) ≡ (0 ∷ 0 ∷ 0 ∷ 9 ∷ 0xe4 ∷ 0 ∷ 0 ∷ 1 ∷ 0 ∷ 0xf ∷ 0x42 ∷ 0x40 ∷ 0 ∷ 0 ∷ 0 ∷ 2 ∷ 0x68 ∷ 0x69 ∷ []) ∷ []
+resent_packet : sends (live 120_000) 9 2 (asks 2_000_000 ∷ feeds 1_000_000 ∷ [])
+    ≡ (0 ∷ 0 ∷ 0 ∷ 9 ∷ 0xe4 ∷ 0 ∷ 0 ∷ 1 ∷ 0 ∷ 0xf ∷ 0x42 ∷ 0x40 ∷ 0 ∷ 0 ∷ 0 ∷ 2 ∷ 0x68 ∷ 0x69 ∷ []) ∷ []
 unfolding in_window
 resent_packet = refl
 
 -- a microsecond later it is expired
-gone_packet : sends (live 120_000) 9 2 (asks 2_000_001 ∷ asks 2_000_000 ∷ feeds 1_000_000 ∷ []) ≡ (0x80 ∷ 7 ∷ 0 ∷ 0 ∷ 0 ∷ 0 ∷ 0 ∷ 1 ∷ 0 ∷ 0x1e ∷ 0x84 ∷ 0x81 ∷ 0 ∷ 0 ∷ 0 ∷ 2 ∷ 0 ∷ 0 ∷ 0 ∷ 9 ∷ 0 ∷ 0 ∷ 0 ∷ 9 ∷ []) ∷ []
+gone_packet : sends (live 120_000) 9 2 (asks 2_000_001 ∷ asks 2_000_000 ∷ feeds 1_000_000 ∷ [])
+    ≡ (0x80 ∷ 7 ∷ 0 ∷ 0 ∷ 0 ∷ 0 ∷ 0 ∷ 1 ∷ 0 ∷ 0x1e ∷ 0x84 ∷ 0x81 ∷ 0 ∷ 0 ∷ 0 ∷ 2 ∷ 0 ∷ 0 ∷ 0 ∷ 9 ∷ 0 ∷ 0 ∷ 0 ∷ 9 ∷ []) ∷ []
 unfolding in_window
 gone_packet = refl
 
 -- the last moment at which it is kept and the first at which it is expired, with a delay of 2 s
-kept_then_gone : (front (after (live 2_000_000) 9 (still 3_500_000 ∷ feeds 1_000_000 ∷ [])).sending ≡ 0) × (front (after (live 2_000_000) 9 (still 3_500_001 ∷ feeds 1_000_000 ∷ [])).sending ≡ 1)
+kept_then_gone : (front (after (live 2_000_000) 9 (still 3_500_000 ∷ feeds 1_000_000 ∷ [])).sending ≡ 0) ×
+    (front (after (live 2_000_000) 9 (still 3_500_001 ∷ feeds 1_000_000 ∷ [])).sending ≡ 1)
 unfolding in_window
 kept_then_gone = (refl, refl)
 
 abbrev full_ack : (time mark number : ℕ) → Event
-full_ack time mark number = record { time = time; body = Ack mark (0 ∷ 0 ∷ 0 ∷ number ∷ 0 ∷ 0 ∷ 0x4e ∷ 0x20 ∷ 0 ∷ 0 ∷ 0x27 ∷ 0x10 ∷ 0 ∷ 0 ∷ 0 ∷ 0x10 ∷ 0 ∷ 0 ∷ 0 ∷ 0 ∷ 0 ∷ 0 ∷ 0 ∷ 0 ∷ 0 ∷ 0 ∷ 0 ∷ 0 ∷ []); payloads = [] }
+full_ack time mark number =
+    record {
+      time = time;
+      body = Ack mark
+          (0 ∷ 0 ∷ 0 ∷ number ∷ 0 ∷ 0 ∷ 0x4e ∷ 0x20 ∷ 0 ∷ 0 ∷ 0x27 ∷ 0x10 ∷ 0 ∷ 0 ∷ 0 ∷ 0x10 ∷ 0 ∷ 0 ∷ 0 ∷ 0 ∷ 0 ∷ 0 ∷ 0 ∷ 0 ∷ 0 ∷ 0 ∷ 0 ∷ 0 ∷ []);
+      payloads = [];
+    }
 
 abbrev acknowledged : List Event
 acknowledged = full_ack 1_020_000 1 10 ∷ feeds 1_000_000 ∷ []
@@ -89,7 +99,8 @@ too_early : sends (live 120_000) 9 2 (still 1_109_999 ∷ second) ≡ []
 unfolding in_window
 too_early = refl
 
-in_time : sends (live 120_000) 9 2 (still 1_110_000 ∷ still 1_109_999 ∷ second) ≡ (0 ∷ 0 ∷ 0 ∷ 10 ∷ 0xe4 ∷ 0 ∷ 0 ∷ 2 ∷ 0 ∷ 0xf ∷ 0xb7 ∷ 0x70 ∷ 0 ∷ 0 ∷ 0 ∷ 2 ∷ 0x68 ∷ 0x69 ∷ []) ∷ []
+in_time : sends (live 120_000) 9 2 (still 1_110_000 ∷ still 1_109_999 ∷ second)
+    ≡ (0 ∷ 0 ∷ 0 ∷ 10 ∷ 0xe4 ∷ 0 ∷ 0 ∷ 2 ∷ 0 ∷ 0xf ∷ 0xb7 ∷ 0x70 ∷ 0 ∷ 0 ∷ 0 ∷ 2 ∷ 0x68 ∷ 0x69 ∷ []) ∷ []
 unfolding in_window
 in_time = refl
 
@@ -98,7 +109,8 @@ not_yet : sends (live 120_000) 9 2 (still 319_999 ∷ feeds 0 ∷ []) ≡ []
 unfolding in_window
 not_yet = refl
 
-all_again : sends (live 120_000) 9 2 (still 320_000 ∷ still 319_999 ∷ feeds 0 ∷ []) ≡ (0 ∷ 0 ∷ 0 ∷ 9 ∷ 0xe4 ∷ 0 ∷ 0 ∷ 1 ∷ 0 ∷ 0 ∷ 0 ∷ 0 ∷ 0 ∷ 0 ∷ 0 ∷ 2 ∷ 0x68 ∷ 0x69 ∷ []) ∷ []
+all_again : sends (live 120_000) 9 2 (still 320_000 ∷ still 319_999 ∷ feeds 0 ∷ [])
+    ≡ (0 ∷ 0 ∷ 0 ∷ 9 ∷ 0xe4 ∷ 0 ∷ 0 ∷ 1 ∷ 0 ∷ 0 ∷ 0 ∷ 0 ∷ 0 ∷ 0 ∷ 0 ∷ 2 ∷ 0x68 ∷ 0x69 ∷ []) ∷ []
 unfolding in_window
 all_again = refl
 
@@ -111,7 +123,8 @@ alive = refl
 abbrev asks_many : (last : ℕ) → Event
 asks_many last = record { time = 1_100_000; body = Nak (0x80 ∷ 0 ∷ 0 ∷ 9 ∷ 0x40 ∷ 0 ∷ 0 ∷ last ∷ []); payloads = [] }
 
-many_asked : sends (live 120_000) 9 2 (asks_many 8 ∷ feeds 1_000_000 ∷ []) ≡ (0 ∷ 0 ∷ 0 ∷ 9 ∷ 0xe4 ∷ 0 ∷ 0 ∷ 1 ∷ 0 ∷ 0xf ∷ 0x42 ∷ 0x40 ∷ 0 ∷ 0 ∷ 0 ∷ 2 ∷ 0x68 ∷ 0x69 ∷ []) ∷ []
+many_asked : sends (live 120_000) 9 2 (asks_many 8 ∷ feeds 1_000_000 ∷ [])
+    ≡ (0 ∷ 0 ∷ 0 ∷ 9 ∷ 0xe4 ∷ 0 ∷ 0 ∷ 1 ∷ 0 ∷ 0xf ∷ 0x42 ∷ 0x40 ∷ 0 ∷ 0 ∷ 0 ∷ 2 ∷ 0x68 ∷ 0x69 ∷ []) ∷ []
 unfolding in_window
 many_asked = refl
 
@@ -134,6 +147,7 @@ not_put_off : (sends (live 120_000) 9 2 (still 2_219_999 ∷ gone_first) ≡ [])
 unfolding in_window
 not_put_off = (refl, refl)
 
-put_off : (sends (live 120_000) 9 2 (still 2_419_999 ∷ light_ack 2_100_000 10 ∷ gone_first) ≡ []) × (sends (live 120_000) 9 2 (still 2_420_000 ∷ light_ack 2_100_000 10 ∷ gone_first) ≡ second_again)
+put_off : (sends (live 120_000) 9 2 (still 2_419_999 ∷ light_ack 2_100_000 10 ∷ gone_first) ≡ []) ×
+    (sends (live 120_000) 9 2 (still 2_420_000 ∷ light_ack 2_100_000 10 ∷ gone_first) ≡ second_again)
 unfolding in_window
 put_off = (refl, refl)

@@ -1,5 +1,5 @@
 -- What always holds of a session keeps holding.
-use Rattle.std.proofs.Common.{◌≡◌, ℕ, ◌-◌, ◌^◌, ◌<◌, ◌≤◌, Bool, true, false, Option, None, Some, List, [], length, refl, sym, ap, subst, ◌∙◌, arith}
+use Rattle.std.proofs.Common.{◌≡◌, ℕ, ◌-◌, ◌^◌, ◌<◌, ◌≤◌, Bool, true, false, Option, None, Some, List, [], ◌∷◌, length, refl, sym, ap, subst, ◌∙◌, arith}
 use Rattle.std.specs.Prelude.{◌≤ℤ◌, nat_lt}
 use Rattle.std.proofs.lemmas.Bool.{lt-ltb}
 use Rattle.std.proofs.lemmas.Bool.Decides.{nat_tests}
@@ -11,15 +11,18 @@ use Rattle.srt_seq.specs.Window.{counted_from, in_window}
 use Rattle.srt_tsbpd.specs.Deadline.{too_late_at}
 use Rattle.srt_sendbuf.specs.Sending.{Queued, Sending, nothing_yet, queued}
 use Rattle.srt_sendbuf.proofs.OneByOne.{times_go_on, expiry_goes_on}
-use Rattle.srt_sub.specs.Subscribing.{Terms, Subscribing, opened, expired_in, fits}
+use Rattle.srt_sub.specs.Subscribing.{Terms, Note, Misdirected, Subscribing, opened, expired, expired_in, fits, reports}
 use Rattle.srt_sub.specs.Counting.{Counted}
 use Rattle.srt_sub.specs.declared.counts.Counts.{Counts}
-use Rattle.srt_sub.specs.Stands.{IsHistory, IsSound, StandsIn, run_gone}
+use Rattle.srt_sub.specs.Stands.{AreCredited, IsHistory, IsSound, StandsIn, run_gone}
+use Rattle.srt_sub.specs.declared.session.Phase.{Phase}
+use Rattle.srt_sub.specs.declared.session.Phase.TheVariants.{Lost}
+use Rattle.srt_sub.proofs.Credits.{credited_first, credited_later}
 use Rattle.srt_sendbuf.specs.Stands as places
 use Rattle.srt_sendbuf.specs.declared.buffer.SendBuf.{SendBuf}
 use Rattle.srt_sub.specs.declared.history.History.{History}
 use Rattle.srt_sub.specs.declared.session.Subscriber.{Subscriber}
-use Rattle.srt_sub.specs.Emission.{EmissionBegins, StandsLater}
+use Rattle.srt_sub.specs.Emission.{EmissionBegins, IsLeft, StandsLater}
 use Rattle.srt_sub.specs.Endings.{is_short}
 use Rattle.srt_sendbuf.specs.Told.{Gone}
 use Rattle.srt_seq.specs.Runs.{Run}
@@ -51,8 +54,11 @@ sound_at_first terms time =
     }
 
 -- a session whose fields are those of an opening
-pub stands_at_first : (terms : Terms) (initial opening caller time : ℕ) (s : Subscriber) → places.StandsFor terms.width initial s.buffer nothing_yet → IsHistory initial terms.window s.history [] → s.mode ≡ terms.mode → s.delay ≡ terms.delay → s.mtu ≡ terms.mtu → s.opening ≡ opening → s.caller ≡ caller → s.given ≡ 0 → Counted s.counts nothing_yet → StandsIn terms initial opening caller time 0 s opened
-stands_at_first terms initial opening caller time s buffer history mode delay mtu moment socket given counts =
+pub stands_at_first : (terms : Terms) (initial opening caller time : ℕ) (s : Subscriber)
+    → places.StandsFor terms.width initial s.buffer nothing_yet → IsHistory initial terms s.history [] → s.mode ≡ terms.mode
+    → s.delay ≡ terms.delay → s.mtu ≡ terms.mtu → s.opening ≡ opening → s.caller ≡ caller → s.given ≡ 0 → s.phase ≡ Lost → Counted s.counts opened
+    → StandsIn terms initial opening caller time 0 s opened
+stands_at_first terms initial opening caller time s buffer history mode delay mtu moment socket given phase counts =
     record {
       buffer_is = buffer;
       history_is = history;
@@ -62,6 +68,8 @@ stands_at_first terms initial opening caller time s buffer history mode delay mt
       opening_is = moment;
       caller_is = socket;
       given_is = given;
+      phase_is = λ e. phase;
+      credited = credited_first terms.resend_percent time;
       sound = sound_at_first terms time;
       counts_are = counts;
     }
@@ -84,7 +92,8 @@ sound_expired Live terms time s h =
     }
 sound_expired Buffer terms time s h = h
 
-pub sound_queued : (terms : Terms) (time : ℕ) (payload : List ℕ) (s : Sending) → 0 < length payload → IsSound terms time s → IsSound terms time (queued time payload s)
+pub sound_queued : (terms : Terms) (time : ℕ) (payload : List ℕ) (s : Sending)
+    → 0 < length payload → IsSound terms time s → IsSound terms time (queued time payload s)
 sound_queued terms time payload s some h =
     record {
       timely = times_go_on.queue time payload s h.timely;
@@ -114,8 +123,12 @@ told_run initial g None e = absurd cc
 told_run initial g (Some r) e = (r, refl, cc)
 
 -- the parts of a session that may change
-pub changed : (terms : Terms) (initial opening caller time given : ℕ) (s : Subscriber) (m : Subscribing) → StandsIn terms initial opening caller time given s m → (later count g : ℕ) (b : SendBuf) (x : History) (n : Subscribing) → g ≡ count → places.StandsFor terms.width initial b n.sending → IsHistory initial terms.window x n.notes → IsSound terms later n.sending → (k : Counts) → Counted k n.sending → StandsIn terms initial opening caller later count (record s { buffer = b; history = x; given = g; counts = k }) n
-changed terms initial opening caller time given s m h later count g b x n given_is buffer history sound k counts =
+pub rephased : (terms : Terms) (initial opening caller time given : ℕ) (s : Subscriber) (m : Subscribing)
+    → StandsIn terms initial opening caller time given s m → (later count g : ℕ) (b : SendBuf) (x : History) (n : Subscribing) → g ≡ count
+    → places.StandsFor terms.width initial b n.sending → IsHistory initial terms x n.notes → IsSound terms later n.sending → (k : Counts)
+    → Counted k n → (f : Phase) → (count ≡ 0 → f ≡ Lost) → AreCredited terms.resend_percent later n.notes
+    → StandsIn terms initial opening caller later count (record s { buffer = b; history = x; given = g; counts = k; phase = f }) n
+rephased terms initial opening caller time given s m h later count g b x n given_is buffer history sound k counts f phase credited =
     record {
       buffer_is = buffer;
       history_is = history;
@@ -125,20 +138,50 @@ changed terms initial opening caller time given s m h later count g b x n given_
       opening_is = h.opening_is;
       caller_is = h.caller_is;
       given_is = given_is;
+      phase_is = phase;
+      credited = credited;
       sound = sound;
       counts_are = counts;
     }
 
+-- the same in the same phase
+pub changed : (terms : Terms) (initial opening caller time given : ℕ) (s : Subscriber) (m : Subscribing)
+    → StandsIn terms initial opening caller time given s m → (later count g : ℕ) (b : SendBuf) (x : History) (n : Subscribing) → g ≡ count
+    → places.StandsFor terms.width initial b n.sending → IsHistory initial terms x n.notes → IsSound terms later n.sending → (k : Counts)
+    → Counted k n → (count ≡ 0 → s.phase ≡ Lost) → AreCredited terms.resend_percent later n.notes
+    → StandsIn terms initial opening caller later count (record s { buffer = b; history = x; given = g; counts = k }) n
+changed terms initial opening caller time given s m h later count g b x n given_is buffer history sound k counts phase credited =
+    rephased terms initial opening caller time given s m h later count g b x n given_is buffer history sound k counts s.phase phase credited
+
+-- a data packet that comes changes nothing in what is remembered
+pub history_misdirected : (initial : ℕ) (agreed : Terms) (x : History) (notes : List Note)
+    → IsHistory initial agreed x notes → IsHistory initial agreed x (Misdirected ∷ notes)
+history_misdirected initial agreed x notes h =
+    record {
+      window_is = h.window_is;
+      round_trip_is = h.round_trip_is;
+      sent_is = h.sent_is;
+      media_is = h.media_is;
+      growth_is = h.growth_is;
+      missed_is = h.missed_is;
+      sendings_are = h.sendings_are;
+      credit_is = record { percent_is = h.credit_is.percent_is; hundredths_are = h.credit_is.hundredths_are };
+    }
+
 pub stands_later : StandsLater
 stands_later terms initial opening caller last later s m h le =
-    changed terms initial opening caller (last - opening) 0 s m h (later - opening) 0 s.given s.buffer s.history m h.given_is h.buffer_is h.history_is (sound_later terms (last - opening) (later - opening) m.sending (omega (arith, le)) h.sound) s.counts h.counts_are
+    changed terms initial opening caller (last - opening) 0 s m h (later - opening) 0 s.given s.buffer s.history m h.given_is h.buffer_is
+    h.history_is (sound_later terms (last - opening) (later - opening) m.sending (omega (arith, le)) h.sound) s.counts h.counts_are h.phase_is
+    (credited_later terms.resend_percent (last - opening) (later - opening) m.notes (omega (arith, le)) h.credited)
 
 -- the session at its own time, which is the moment less the opening
 pub record IsAtTime (terms : Terms) (initial opening caller now time : ℕ) (s : Subscriber) (m : Subscribing) : Type 0 where
   pub time_is : time ≡ now - opening
   pub stands : StandsIn terms initial opening caller time 0 s m
 
-pub at_time : (terms : Terms) (initial opening caller now time : ℕ) (s : Subscriber) (m : Subscribing) → time ≡ now - s.opening → StandsIn terms initial opening caller (now - opening) 0 s m → IsAtTime terms initial opening caller now time s m
+pub at_time : (terms : Terms) (initial opening caller now time : ℕ) (s : Subscriber) (m : Subscribing) → time ≡ now - s.opening
+    → StandsIn terms initial opening caller (now - opening) 0 s m
+    → IsAtTime terms initial opening caller now time s m
 at_time terms initial opening caller now time s m is h =
     let same : time ≡ now - opening = is ∙ ap (λ o. now - o) h.opening_is in
     record { time_is = same; stands = subst (λ (t : ℕ). StandsIn terms initial opening caller t 0 s m) (sym same) h }
@@ -149,7 +192,9 @@ begins terms initial opening caller last now s m h le =
       given = 0;
       middle = m;
       stands = stands_later terms initial opening caller last now s m h le;
-      left_is = record { few = omega arith; left_is = refl; end_is = refl };
+      left_is = subst (λ (f : Phase). IsLeft terms (now - opening) 0 f (expired terms (now - opening) m) m
+          (reports terms (now - opening) (expired terms (now - opening) m)))
+          (sym (h.phase_is refl)) (record { few = omega arith; left_is = refl; end_is = refl });
     }
 
 false_last : (a : Bool) → (a && false) ≡ false
@@ -161,7 +206,8 @@ pub doesnt_fit : (mode : Mode) (terms : Terms) (payload : List ℕ) (s : Sending
 doesnt_fit Live terms payload s e = rw e (false_last _)
 doesnt_fit Buffer terms payload s e = absurd cc
 
-pub does_fit : (mode : Mode) (terms : Terms) (payload : List ℕ) (s : Sending) → is_short mode terms.mtu payload ≡ true → 0 < room terms.width s → fits mode terms payload s ≡ true
+pub does_fit : (mode : Mode) (terms : Terms) (payload : List ℕ) (s : Sending)
+    → is_short mode terms.mtu payload ≡ true → 0 < room terms.width s → fits mode terms payload s ≡ true
 does_fit Live terms payload s e some = let b : nat_lt 0 (room terms.width s) ≡ true = lt-ltb _ _ some in rw (b, e) refl
 does_fit Buffer terms payload s e some = refl
 

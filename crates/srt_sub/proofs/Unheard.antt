@@ -6,6 +6,7 @@ use Rattle.std.proofs.lemmas.Bool.Decides.{nat_tests}
 use Rattle.srt_packet.specs.declared.reading.Kind.{Kind}
 use Rattle.srt_packet.specs.declared.reading.Kind.TheVariants as kinds
 use Rattle.srt_packet.specs.View.{body_of}
+use Rattle.srt_seq.specs.declared.shared.PayloadRef.{PayloadRef}
 use Rattle.srt_sub.specs.Heard.{Ack, Other, heard_from, more_of}
 use Rattle.srt_sub.specs.Endings.{is_shutdown}
 use Rattle.srt_seq.specs.Window.{counted_from}
@@ -15,21 +16,25 @@ pub record IsUnheard (initial : ℕ) (k : Kind) : Type 0 where
   pub heard : heard_from initial (body_of k) ≡ Other
   pub ends : false ≡ is_shutdown (body_of k)
 
-pub unheard : (initial : ℕ) (k : Kind) → ((number : ℕ) (info : Bor (List ℕ)) → k ≡ kinds.Ack number info → ⊥) → ((info : Bor (List ℕ)) → k ≡ kinds.Nak info → ⊥) → (k ≡ kinds.Shutdown → ⊥) → IsUnheard initial k
-unheard initial (kinds.Data number encryption payload) a n s = record { heard = refl; ends = refl }
-unheard initial (kinds.Handshake info) a n s = record { heard = refl; ends = refl }
-unheard initial kinds.KeepAlive a n s = record { heard = refl; ends = refl }
-unheard initial (kinds.Ack number info) a n s = absurd (a number info refl)
-unheard initial (kinds.Nak info) a n s = absurd (n info refl)
-unheard initial kinds.CongestionWarning a n s = record { heard = refl; ends = refl }
-unheard initial kinds.Shutdown a n s = absurd (s refl)
-unheard initial (kinds.AckAck number) a n s = record { heard = refl; ends = refl }
-unheard initial (kinds.DropRequest message first last) a n s = record { heard = refl; ends = refl }
-unheard initial kinds.PeerError a n s = record { heard = refl; ends = refl }
-unheard initial kinds.UserDefined a n s = record { heard = refl; ends = refl }
+pub unheard : (initial : ℕ) (k : Kind) → ((number : ℕ) (info : Bor (List ℕ)) → k ≡ kinds.Ack number info → ⊥)
+    → ((info : Bor (List ℕ)) → k ≡ kinds.Nak info → ⊥) → (k ≡ kinds.Shutdown → ⊥)
+    → ((number encryption : ℕ) (payload : PayloadRef) → k ≡ kinds.Data number encryption payload → ⊥)
+    → IsUnheard initial k
+unheard initial (kinds.Data number encryption payload) a n s d = absurd (d number encryption payload refl)
+unheard initial (kinds.Handshake info) a n s d = record { heard = refl; ends = refl }
+unheard initial kinds.KeepAlive a n s d = record { heard = refl; ends = refl }
+unheard initial (kinds.Ack number info) a n s d = absurd (a number info refl)
+unheard initial (kinds.Nak info) a n s d = absurd (n info refl)
+unheard initial kinds.CongestionWarning a n s d = record { heard = refl; ends = refl }
+unheard initial kinds.Shutdown a n s d = absurd (s refl)
+unheard initial (kinds.AckAck number) a n s d = record { heard = refl; ends = refl }
+unheard initial (kinds.DropRequest message first last) a n s d = record { heard = refl; ends = refl }
+unheard initial kinds.PeerError a n s d = record { heard = refl; ends = refl }
+unheard initial kinds.UserDefined a n s d = record { heard = refl; ends = refl }
 
 -- an ACK with and without a whole first word
-pub heard_ack : (initial number : ℕ) (info : Bor (List ℕ)) → 4 ≤ length info.now → heard_from initial (body_of (kinds.Ack number info)) ≡ Ack number (counted_from initial (word_at info.now 0)) (more_of info.now)
+pub heard_ack : (initial number : ℕ) (info : Bor (List ℕ)) → 4 ≤ length info.now
+    → heard_from initial (body_of (kinds.Ack number info)) ≡ Ack number (counted_from initial (word_at info.now 0)) (more_of info.now)
 heard_ack initial number info le = let b : nat_le 4 (length info.now) ≡ true = grind (arith, nat_tests, le) in rw b refl
 
 pub unheard_ack : (initial number : ℕ) (info : Bor (List ℕ)) → length info.now < 4 → heard_from initial (body_of (kinds.Ack number info)) ≡ Other

@@ -1,17 +1,10 @@
 -- What a subscriber's session counts, as numbers of all that it was fed, sent and heard.
 use Rattle.std.specs.Prelude.{◌≡◌, ℕ, ◌+◌, ◌-◌, ◌^◌, Bool, true, false, List, [], ◌∷◌, length, min, not, if◌then◌else◌}
-use Rattle.srt_sendbuf.specs.Sending.{Queued, Sending, Mark, Sent as MarkSent, Asked, All_of}
-use Rattle.srt_sub.specs.Subscribing.{Report, Media, Note, Sent, Grew, Told, Opened, Missed, is_media}
+pub use Rattle.srt_seq.specs.Capped.{capped, one_if}
+use Rattle.srt_sendbuf.specs.Sending.{Queued, Mark, Sent as MarkSent, Asked, All_of}
+use Rattle.srt_sub.specs.Subscribing.{Subscribing, Report, Media, Note, Sent, Grew, Told, Opened, Missed, Misdirected, Renewed, is_media}
 use Rattle.srt_sub.specs.declared.counts.Counts.{Counts}
 use Rattle.srt_sub.specs.declared.counts.Sendings.{Sendings}
-
-abbrev pub one_if : Bool → ℕ
-one_if true = 1
-one_if false = 0
-
--- a count as it is kept: it stops at 2^64 - 1
-abbrev pub capped : ℕ → ℕ
-capped n = min n (2 ^ 64 - 1)
 
 -- the bytes of all queued payloads
 abbrev pub bytes_in : List Queued → ℕ
@@ -38,6 +31,8 @@ fresh_in (Grew time ∷ notes) = fresh_in notes
 fresh_in (Told r ∷ notes) = fresh_in notes
 fresh_in (Opened w ∷ notes) = fresh_in notes
 fresh_in (Missed run ∷ notes) = fresh_in notes
+fresh_in (Misdirected ∷ notes) = fresh_in notes
+fresh_in (Renewed time ∷ notes) = fresh_in notes
 
 -- and of those that were sent again
 abbrev pub again_in : List Note → ℕ
@@ -47,20 +42,45 @@ again_in (Grew time ∷ notes) = again_in notes
 again_in (Told r ∷ notes) = again_in notes
 again_in (Opened w ∷ notes) = again_in notes
 again_in (Missed run ∷ notes) = again_in notes
+again_in (Misdirected ∷ notes) = again_in notes
+again_in (Renewed time ∷ notes) = again_in notes
+
+-- how often the credit for resends was raised to one packet
+abbrev pub renewals_in : List Note → ℕ
+renewals_in [] = 0
+renewals_in (Sent time report ∷ notes) = renewals_in notes
+renewals_in (Grew time ∷ notes) = renewals_in notes
+renewals_in (Told r ∷ notes) = renewals_in notes
+renewals_in (Opened w ∷ notes) = renewals_in notes
+renewals_in (Missed run ∷ notes) = renewals_in notes
+renewals_in (Misdirected ∷ notes) = renewals_in notes
+renewals_in (Renewed time ∷ notes) = renewals_in notes + 1
+
+-- the number of data packets that came from the caller
+abbrev pub misdirected_in : List Note → ℕ
+misdirected_in [] = 0
+misdirected_in (Misdirected ∷ notes) = misdirected_in notes + 1
+misdirected_in (Sent time report ∷ notes) = misdirected_in notes
+misdirected_in (Grew time ∷ notes) = misdirected_in notes
+misdirected_in (Told r ∷ notes) = misdirected_in notes
+misdirected_in (Opened w ∷ notes) = misdirected_in notes
+misdirected_in (Missed run ∷ notes) = misdirected_in notes
+misdirected_in (Renewed time ∷ notes) = misdirected_in notes
 
 -- these numbers are counted
-pub record AreCounts (c : Counts) (fed fed_bytes asked : ℕ) : Type 0 where
+pub record AreCounts (c : Counts) (fed fed_bytes asked misdirected : ℕ) : Type 0 where
   pub queued_is : c.queued ≡ capped fed
   pub bytes_is : c.bytes ≡ capped fed_bytes
   pub naks_is : c.naks ≡ capped asked
+  pub misdirected_is : c.misdirected ≡ capped misdirected
 
 pub record AreSendings (c : Sendings) (first repeated : ℕ) : Type 0 where
   pub fresh_is : c.fresh ≡ capped first
   pub again_is : c.again ≡ capped repeated
 
--- these are the counts of what was queued and of the loss lists
-abbrev pub Counted : Counts → Sending → Type 0
-Counted c s = AreCounts c (length s.queue) (bytes_in s.queue) (naks_in s.marks)
+-- these are the counts of what was queued, of the loss lists, and of the data packets that came
+abbrev pub Counted : Counts → Subscribing → Type 0
+Counted c m = AreCounts c (length m.sending.queue) (bytes_in m.sending.queue) (naks_in m.sending.marks) (misdirected_in m.notes)
 
 -- the counts after a payload of this length was queued
 abbrev pub with_payload : (length : ℕ) → Counts → Counts
@@ -69,6 +89,10 @@ with_payload length c = record c { queued = capped (c.queued + 1); bytes = cappe
 -- after a loss list was taken
 abbrev pub with_list : Counts → Counts
 with_list c = record c { naks = capped (c.naks + 1) }
+
+-- after a data packet came from the caller
+abbrev pub with_misdirected : Counts → Counts
+with_misdirected c = record c { misdirected = capped (c.misdirected + 1) }
 
 -- after this many packets expired
 abbrev pub with_expired : (count : ℕ) → Counts → Counts

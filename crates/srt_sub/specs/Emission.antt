@@ -1,25 +1,36 @@
 -- The packets of an event's end, one by one.
-use Rattle.std.specs.Prelude.{◌≡◌, ℕ, ◌-◌, ◌≤◌, List, [], ◌∷◌}
+use Rattle.std.specs.Prelude.{◌≡◌, ℕ, ◌-◌, ◌≤◌, Option, List, [], ◌∷◌}
 use Rattle.srt_packet.specs.Encoded.{bytes_of}
 use Rattle.srt_packet.specs.declared.encoded.EncodedPacket.{EncodedPacket}
-use Rattle.srt_sub.specs.Subscribing.{Terms, Report, Subscribing, most, expired, presumed, reports_of, sent_of, reports, reported}
+use Rattle.srt_sub.specs.Subscribing.{Terms, Note, Report, Subscribing, most, expired, prepared, resends, reports_of, sent_of, reports, reported}
 use Rattle.srt_sub.specs.Says.{says}
+use Rattle.srt_sub.specs.declared.session.Phase.TheVariants.{Lost, New}
+use Rattle.srt_sub.specs.declared.session.Phase.{Phase}
 use Rattle.srt_sub.specs.Stands.{StandsIn, StandsFor}
 use Rattle.srt_sub.specs.declared.session.Subscriber.{Subscriber}
 
--- after `given` data packets of an event these reports are left, and sending them ends the event with the same result
--- as sending all at once; m is the session before the first of them
-pub record IsLeft (terms : Terms) (time given : ℕ) (middle m : Subscribing) (left : List Report) : Type 0 where
+-- the most lost packets that the rest of an event may send, of this many places for data packets
+abbrev pub resends_in : Phase → Option ℕ → (places : ℕ) → List Note → ℕ
+resends_in New percent places notes = 0
+resends_in Lost percent places notes = resends percent places notes
+
+-- after `given` data packets of an event these reports are left, in this phase, and sending them ends the event with
+-- the same result as sending all at once; m is the session before the first of them
+pub record IsLeft (terms : Terms) (time given : ℕ) (phase : Phase) (middle m : Subscribing) (left : List Report) : Type 0 where
   pub few : given ≤ most
-  pub left_is : reports_of (most - given) terms time (presumed time middle) ≡ left
-  pub end_is : sent_of (most - given) terms time (presumed time middle) ≡ reported terms time (expired terms time m)
+  pub left_is : reports_of (most - given) (resends_in phase terms.resend_percent (most - given) (prepared terms time middle).notes) terms time
+      (prepared terms time middle)
+      ≡ left
+  pub end_is : sent_of (most - given) (resends_in phase terms.resend_percent (most - given) (prepared terms time middle).notes) terms time
+      (prepared terms time middle)
+      ≡ reported terms time (expired terms time m)
 
 -- the session writes the packets of an event's end, at a time since its opening; these are left
 pub record EmittingAt (terms : Terms) (initial opening caller time : ℕ) (s : Subscriber) (m : Subscribing) (left : List Report) : Type 0 where
   pub given : ℕ
   pub middle : Subscribing
   pub stands : StandsIn terms initial opening caller time given s middle
-  pub left_is : IsLeft terms time given (expired terms time middle) m left
+  pub left_is : IsLeft terms time given s.phase (expired terms time middle) m left
 
 -- the same at a moment
 abbrev pub Emitting : (terms : Terms) (initial opening caller now : ℕ) → Subscriber → Subscribing → (left : List Report) → Type 0
@@ -47,7 +58,7 @@ abbrev pub WritesNextAt : (time : ℕ) → (before after : Subscriber) → Encod
 WritesNextAt time before after p =
     (terms : Terms) (initial opening caller given : ℕ) (middle m : Subscribing) (left : List Report)
     → StandsIn terms initial opening caller time given before (expired terms time middle)
-    → IsLeft terms time given (expired terms time middle) m left
+    → IsLeft terms time given before.phase (expired terms time middle) m left
     → IsNextAt terms initial opening caller time p after m left
 
 -- a call found none left, and ended the event
@@ -55,7 +66,7 @@ abbrev pub EndsAt : (time : ℕ) → (before after : Subscriber) → Type 0
 EndsAt time before after =
     (terms : Terms) (initial opening caller given : ℕ) (middle m : Subscribing) (left : List Report)
     → StandsIn terms initial opening caller time given before (expired terms time middle)
-    → IsLeft terms time given (expired terms time middle) m left
+    → IsLeft terms time given before.phase (expired terms time middle) m left
     → IsOverAt terms initial opening caller time after m left
 
 -- a call at a moment wrote the first of the packets that are left

@@ -12,4 +12,5 @@ pub record ExpiresOnce : Type 0 where
   pub once : (terms : Terms) (time : ℕ) (s : Subscribing) → IsFresh terms time (expired terms time s)
   pub heard : (terms : Terms) (time : ℕ) (h : Heard) (s : Subscribing) → IsFresh terms time s → IsFresh terms time (took time h s)
   pub fed : (terms : Terms) (time : ℕ) (payload : List ℕ) (s : Subscribing) → IsFresh terms time s → IsFresh terms time (fed terms time payload s)
-  pub fed_all : (terms : Terms) (time : ℕ) (payloads : List (List ℕ)) (s : Subscribing) → IsFresh terms time s → IsFresh terms time (fed_all terms time payloads s)
+  pub fed_all : (terms : Terms) (time : ℕ) (payloads : List (List ℕ)) (s : Subscribing)
+      → IsFresh terms time s → IsFresh terms time (fed_all terms time payloads s)

@@ -9,17 +9,19 @@ use Rattle.srt_packet.specs.declared.reading.Kind.{Kind}
 use Rattle.srt_loss.specs.Reading.{losses_in}
 use Rattle.srt_loss.specs.declared.reading.LossFault.{LossFault}
 
--- an ACK, a NAK, or another kind
+-- an ACK, a NAK, a data packet, or another kind
 pub data Heard : Type 0 where
   -- an ACK: its own number (0 in a Light ACK), the sequence number that it names, and the words after that
   Ack : (mark number : ℕ) (more : List ℕ) → Heard
   -- a NAK: the ranges of its loss list; None if the list has a fault
   Nak : (asked : Option (List Range)) → Heard
+  -- a data packet, which isn't taken: the session sends data, and its caller receives
+  Data : Heard
   -- all other kinds, which change nothing
   Other : Heard
 
 -- what an ACK's body has after its first word: from 12 bytes on a round-trip time and its variance, from 16 on a flow
--- window (section 3.2.4). The bytes after these aren't read, and the last word needn't be whole (this profile)
+-- window (section 3.2.4). The bytes after these aren't read, and the last word needn't be whole (our choice)
 abbrev pub more_of : List ℕ → List ℕ
 more_of info =
     if nat_le 16 (length info) then word_at info 4 ∷ word_at info 8 ∷ word_at info 12 ∷ []
@@ -36,6 +38,7 @@ abbrev pub heard_from : (initial : ℕ) → grammar.Body → Heard
 heard_from initial (grammar.Ack mark info) =
     if nat_le 4 (length info) then Ack mark (counted_from initial (word_at info 0)) (more_of info) else Other
 heard_from initial (grammar.Nak info) = Nak (asked_from initial (losses_in info))
+heard_from initial (grammar.Data number encryption payload) = Data
 heard_from initial _ = Other
 
 -- a packet that was read, as a session takes it

@@ -6,7 +6,8 @@ pub mod Stands
 pub mod Viewing
 pub mod Endings
 pub mod Feeding
-pub mod Turns
 pub mod Emission
 pub mod Fresh
-pub mod Few
+pub mod EventPackets
+pub mod ResendLimit
+pub mod inside

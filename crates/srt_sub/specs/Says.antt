@@ -15,5 +15,6 @@ packet_text word0 word1 stamp caller rest = word word0 ++ word word1 ++ word sta
 abbrev pub says : (caller initial time : ℕ) → Report → List ℕ
 says d i t (Acked mark) = packet_text 0x8006_0000 mark (t % 2 ^ 32) d []
 says d i t (Dropped run) = packet_text 0x8007_0000 (message_number run.low) (t % 2 ^ 32) d (words (number_word i run.low ∷ number_word i run.high ∷ []))
-says d i t (Media number again origin payload) = packet_text (number_word i number) ((if again then 0xe400_0000 else 0xe000_0000) + message_number number) (origin % 2 ^ 32) d payload
+says d i t (Media number again origin payload) =
+    packet_text (number_word i number) ((if again then 0xe400_0000 else 0xe000_0000) + message_number number) (origin % 2 ^ 32) d payload
 says d i t KeepAlive = packet_text 0x8001_0000 0 (t % 2 ^ 32) d []

@@ -1,7 +1,8 @@
 -- What the fields of a subscriber's session represent.
-use Rattle.std.specs.Prelude.{◌≡◌, ℕ, ◌-◌, ◌<◌, ◌≤◌, Bool, true, false, option_map, List, [], ◌∷◌, All, map, length}
+use Rattle.std.specs.Prelude.{◌≡◌, ℕ, ◌+◌, ◌-◌, ◌*◌, ◌<◌, ◌≤◌, Option, None, Some, Bool, true, false, option_map, List, [], ◌∷◌, All, map, length}
 use Rattle.srt_seq.specs.Counts.{message_number}
 use Rattle.srt_seq.specs.Runs.{Run}
+use Rattle.srt_seq.specs.declared.shared.Mode.TheVariants.{Live}
 use Rattle.srt_rtt.specs.RoundTrip.{round_trip_of}
 use Rattle.srt_tsbpd.specs.Deadline.{too_late_at}
 use Rattle.srt_packet.specs.Encoded.{bytes_of}
@@ -10,12 +11,15 @@ use Rattle.srt_sendbuf.specs.Sending.{Sending, IsTimely, IsLater}
 use Rattle.srt_seq.specs.Window.{word_of, number_word}
 use Rattle.srt_sendbuf.specs.Told.{Gone, gone_by}
 use Rattle.srt_sendbuf.specs.Stands as places
-use Rattle.srt_sub.specs.Subscribing.{Terms, Note, Report, Sent, Missed, Subscribing, opened, is_media, is_drop, last_sent, last_media, last_growth, round_trip, flow_window, untold}
+use Rattle.srt_sub.specs.Subscribing.{Terms, Note, Report, Sent, Missed, Subscribing, opened, is_media, is_drop, last_sent, last_media}
+use Rattle.srt_sub.specs.Subscribing.{last_growth, round_trip, flow_window, untold, credit, renewed_notes}
 use Rattle.srt_sub.specs.Says.{says}
-use Rattle.srt_sub.specs.Counting.{AreSendings, Counted, fresh_in, again_in, is_again}
+use Rattle.srt_sub.specs.Counting.{AreSendings, Counted, fresh_in, again_in, is_again, renewals_in}
+use Rattle.srt_sub.specs.declared.credit.Credit.{Credit}
 use Rattle.srt_sub.specs.declared.history.History.{History}
 use Rattle.srt_sub.specs.declared.session.Opening.{Opening}
 use Rattle.srt_sub.specs.declared.session.Subscriber.{Subscriber}
+use Rattle.srt_sub.specs.declared.session.Phase.TheVariants.{Lost}
 use Rattle.srt_sub.specs.declared.hearing.Took.{Took}
 use Rattle.srt_sub.specs.declared.hearing.Took.TheVariants.{Nothing, Answer, Ended}
 
@@ -23,16 +27,21 @@ use Rattle.srt_sub.specs.declared.hearing.Took.TheVariants.{Nothing, Answer, End
 abbrev pub run_gone : (initial : ℕ) → Run → Gone
 run_gone initial run = record { first = number_word initial run.low; last = number_word initial run.high; message = message_number run.low }
 
--- the fields keep of these notes what the definitions give, in a session with this initial number and this agreed
--- flow window
-pub record IsHistory (initial agreed : ℕ) (h : History) (notes : List Note) : Type 0 where
-  pub window_is : h.window ≡ flow_window agreed notes
+-- the fields are the credit for resends, where a new packet brings this many hundredths of one (None: no limit)
+pub record IsCredit (percent : Option ℕ) (c : Credit) (notes : List Note) : Type 0 where
+  pub percent_is : c.percent ≡ percent
+  pub hundredths_are : (p : ℕ) → percent ≡ Some p → c.hundredths ≡ credit p notes
+
+-- the fields keep of these notes what the definitions give, in a session with this initial number and these terms
+pub record IsHistory (initial : ℕ) (terms : Terms) (h : History) (notes : List Note) : Type 0 where
+  pub window_is : h.window ≡ flow_window terms.window notes
   pub round_trip_is : round_trip_of h.round_trip ≡ round_trip notes
   pub sent_is : h.sent ≡ last_sent notes
   pub media_is : h.media ≡ last_media notes
   pub growth_is : h.growth ≡ last_growth notes
   pub missed_is : option_map gone_by h.missed ≡ option_map (run_gone initial) (untold notes)
   pub sendings_are : AreSendings h.sendings (fresh_in notes) (again_in notes)
+  pub credit_is : IsCredit terms.resend_percent h.credit notes
 
 -- no payload that is queued is empty
 abbrev pub HasBytes : Sending → Type 0
@@ -45,19 +54,34 @@ pub record IsSound (terms : Terms) (time : ℕ) (s : Sending) : Type 0 where
   pub later : IsLater (too_late_at time terms.delay) s
   pub some : HasBytes s
 
+-- the bound on the packets that were sent again, of which the record's numbers are these, and what it rests on: when
+-- credit was raised last, at least 20 ms passed before, and a packet was sent again since if there is less now
+pub record IsCredited (percent : Option ℕ) (time last again fresh renewals : ℕ) (credit : ℕ → ℕ) : Type 0 where
+  pub before : last ≤ time
+  pub rare : renewals * 20_000 ≤ time
+  pub bounded : (p : ℕ) → percent ≡ Some p → 100 * again + credit p ≤ 6_400 + p * fresh + 100 * renewals
+  pub spent : (p : ℕ) → percent ≡ Some p → credit p < 100 → renewals * 20_000 ≤ last
+
+-- the same of these notes
+abbrev pub AreCredited : (percent : Option ℕ) → (time : ℕ) → List Note → Type 0
+AreCredited percent time notes =
+    IsCredited percent time (last_media notes) (again_in notes) (fresh_in notes) (renewals_in notes) (λ p. credit p notes)
+
 -- the fields represent a session of these terms, with this initial number, opened at a moment by a caller with this
 -- socket ID; its last call was at this time since the opening, and `given` data packets were sent in this event
 pub record StandsIn (terms : Terms) (initial opening caller time given : ℕ) (s : Subscriber) (m : Subscribing) : Type 0 where
   pub buffer_is : places.StandsFor terms.width initial s.buffer m.sending
-  pub history_is : IsHistory initial terms.window s.history m.notes
+  pub history_is : IsHistory initial terms s.history m.notes
   pub mode_is : s.mode ≡ terms.mode
   pub delay_is : s.delay ≡ terms.delay
   pub mtu_is : s.mtu ≡ terms.mtu
   pub opening_is : s.opening ≡ opening
   pub caller_is : s.caller ≡ caller
   pub given_is : s.given ≡ given
+  pub phase_is : given ≡ 0 → s.phase ≡ Lost
+  pub credited : AreCredited terms.resend_percent time m.notes
   pub sound : IsSound terms time m.sending
-  pub counts_are : Counted s.counts m.sending
+  pub counts_are : Counted s.counts m
 
 -- the same between two events; `last` is the moment of the last call
 abbrev pub StandsFor : (terms : Terms) (initial opening caller last : ℕ) → Subscriber → Subscribing → Type 0
@@ -75,7 +99,11 @@ texts_of Ended packet = []
 
 -- the terms of a session that was opened with this, in a subscriber with `width` places
 abbrev pub terms_of : (width : ℕ) → Opening → Terms
-terms_of width o = record { mode = o.mode; width = width; delay = o.delay; mtu = o.mtu; window = o.window }
+terms_of width o = record { mode = o.mode; width = width; delay = o.delay; mtu = o.mtu; window = o.window; resend_percent = o.resend_percent }
+
+-- the terms of a subscriber with `width` places that wasn't started yet
+abbrev pub unstarted : (width : ℕ) → Terms
+unstarted width = record { mode = Live; width = width; delay = 0; mtu = 0; window = 0; resend_percent = None }
 
 -- a session begins with this
 abbrev pub HasBegun : (width : ℕ) → Opening → Subscriber → Type 0
@@ -125,25 +153,25 @@ WritesBy now before written reports =
     → written ≡ map (says caller initial (now - opening)) (reports initial)
 
 -- this holds of all notes that the fields of a history represent
-abbrev pub ForWhateverNotes : History → (P : (initial agreed : ℕ) → List Note → Type 0) → Type 0
-ForWhateverNotes h P = (initial agreed : ℕ) (notes : List Note) → IsHistory initial agreed h notes → P initial agreed notes
+abbrev pub ForWhateverNotes : History → (P : (initial : ℕ) → Terms → List Note → Type 0) → Type 0
+ForWhateverNotes h P = (initial : ℕ) (agreed : Terms) (notes : List Note) → IsHistory initial agreed h notes → P initial agreed notes
 
 -- whatever notes the fields of a history represented before a call, they represent this function of them after it
 abbrev pub NotesBecome : (before after : History) → (f : List Note → List Note) → Type 0
 NotesBecome before after f =
-    (initial agreed : ℕ) (notes : List Note) → IsHistory initial agreed before notes → IsHistory initial agreed after (f notes)
+    (initial : ℕ) (agreed : Terms) (notes : List Note) → IsHistory initial agreed before notes → IsHistory initial agreed after (f notes)
 
 -- a call noted that a packet was sent at this time, whichever it is of those that are a data packet or not, and a drop
 -- request or not
 abbrev pub NotesSent : (media drop : Bool) (time : ℕ) → (before after : History) → Type 0
 NotesSent media drop time before after =
-    (initial agreed : ℕ) (notes : List Note) (r : Report) → is_media r ≡ media → is_drop r ≡ drop
+    (initial : ℕ) (agreed : Terms) (notes : List Note) (r : Report) → is_media r ≡ media → is_drop r ≡ drop
     → IsHistory initial agreed before notes → IsHistory initial agreed after (Sent time r ∷ notes)
 
 -- of a data packet, sent for the first time or again
 abbrev pub NotesMedia : (again : Bool) → (time : ℕ) → (before after : History) → Type 0
 NotesMedia again time before after =
-    (initial agreed : ℕ) (notes : List Note) (r : Report) → is_media r ≡ true → is_drop r ≡ false → is_again r ≡ again
+    (initial : ℕ) (agreed : Terms) (notes : List Note) (r : Report) → is_media r ≡ true → is_drop r ≡ false → is_again r ≡ again
     → IsHistory initial agreed before notes → IsHistory initial agreed after (Sent time r ∷ notes)
 
 -- of a drop request
@@ -157,5 +185,11 @@ NotesOther time before after = NotesSent false false time before after
 -- a call noted that a NAK asked for these numbers, which are expired
 abbrev pub NotesMissed : Gone → (before after : History) → Type 0
 NotesMissed gone before after =
-    (initial agreed : ℕ) (notes : List Note) (r : Run) → gone ≡ run_gone initial r
+    (initial : ℕ) (agreed : Terms) (notes : List Note) (r : Run) → gone ≡ run_gone initial r
     → IsHistory initial agreed before notes → IsHistory initial agreed after (Missed r ∷ notes)
+
+-- a call at a time raised the credit for resends, if that is due
+abbrev pub NotesRenewal : (time : ℕ) → (before after : History) → Type 0
+NotesRenewal time before after =
+    (initial : ℕ) (agreed : Terms) (notes : List Note)
+    → IsHistory initial agreed before notes → IsHistory initial agreed after (renewed_notes agreed.resend_percent time notes)

@@ -1,23 +1,27 @@
 -- A subscriber's session, defined by what it was fed, what it received and what it sent. It counts from its own
 -- beginning: times in microseconds from its opening, and numbers from its initial number.
-use Rattle.std.specs.Prelude.{ℕ, ◌-◌, Bool, true, false, Option, None, Some, List, [], ◌∷◌, ◌++◌, take, min, max, length, slice_get, nat_lt, nat_le, ◌==◌, ◌&&◌, if◌then◌else◌}
+use Rattle.std.specs.Prelude.{ℕ, ◌+◌, ◌-◌, ◌/◌, Bool, true, false, Option, None, Some, List, [], ◌∷◌, ◌++◌, take, min, max, length, slice_get, nat_lt}
+use Rattle.std.specs.Prelude.{nat_le, ◌==◌, ◌&&◌, if◌then◌else◌}
 use Rattle.srt_seq.specs.Limits.{keep_alive_after_us}
 use Rattle.srt_seq.specs.declared.shared.Mode.{Mode}
 use Rattle.srt_seq.specs.declared.shared.Mode.TheVariants.{Live, Buffer}
 use Rattle.srt_seq.specs.Runs.{Range, Run, numbers_from}
 use Rattle.srt_rtt.specs.RoundTrip.{RoundTrip, start, resend_after}
 use Rattle.srt_tsbpd.specs.Deadline.{too_late_at}
-use Rattle.srt_sendbuf.specs.Sending.{Queued, Sending, nothing_yet, front, base, next, room, lost, acknowledged_by, acknowledged, asked, asks_for_gone, all_lost, queued, expired_before, sent}
-use Rattle.srt_sub.specs.Heard.{Heard, Ack, Nak, Other}
+use Rattle.srt_sendbuf.specs.Sending.{Queued, Sending, nothing_yet, front, base, next, room, lost, acknowledged_by, acknowledged, asked}
+use Rattle.srt_sendbuf.specs.Sending.{asks_for_gone, all_lost, queued, expired_before, sent}
+use Rattle.srt_sub.specs.Heard.{Heard, Ack, Nak, Data, Other}
 
 -- what was agreed: the mode, the window's width in packets, the delay in microseconds, the most bytes of a packet
--- with all headers (the MTU), and the flow window in packets
+-- with all headers (the MTU), the flow window in packets, and how many packets may be sent again for each 100 new ones
+-- (None: any number)
 pub record Terms : Type 0 where
   pub mode : Mode
   pub width : ℕ
   pub delay : ℕ
   pub mtu : ℕ
   pub window : ℕ
+  pub resend_percent : Option ℕ
 
 -- a packet that a session sends
 pub data Report : Type 0 where
@@ -41,6 +45,10 @@ pub data Note : Type 0 where
   Opened : (window : ℕ) → Note
   -- a NAK asked for expired numbers
   Missed : (run : Run) → Note
+  -- a data packet came from the caller
+  Misdirected : Note
+  -- the credit for resends, which was less, was raised to one packet
+  Renewed : (time : ℕ) → Note
 
 -- all that was queued and all that happened, the newest note first
 pub record Subscribing : Type 0 where
@@ -60,6 +68,8 @@ last_sent (Grew time ∷ notes) = last_sent notes
 last_sent (Told r ∷ notes) = last_sent notes
 last_sent (Opened w ∷ notes) = last_sent notes
 last_sent (Missed run ∷ notes) = last_sent notes
+last_sent (Misdirected ∷ notes) = last_sent notes
+last_sent (Renewed time ∷ notes) = last_sent notes
 
 abbrev pub is_media : Report → Bool
 is_media (Media number again origin payload) = true
@@ -72,6 +82,8 @@ last_media (Grew time ∷ notes) = last_media notes
 last_media (Told r ∷ notes) = last_media notes
 last_media (Opened w ∷ notes) = last_media notes
 last_media (Missed run ∷ notes) = last_media notes
+last_media (Misdirected ∷ notes) = last_media notes
+last_media (Renewed time ∷ notes) = last_media notes
 
 abbrev pub last_growth : List Note → ℕ
 last_growth [] = 0
@@ -80,6 +92,8 @@ last_growth (Grew time ∷ notes) = time
 last_growth (Told r ∷ notes) = last_growth notes
 last_growth (Opened w ∷ notes) = last_growth notes
 last_growth (Missed run ∷ notes) = last_growth notes
+last_growth (Misdirected ∷ notes) = last_growth notes
+last_growth (Renewed time ∷ notes) = last_growth notes
 
 -- the round-trip time and its variance, as the last ACK reported them (section 4.10)
 abbrev pub round_trip : List Note → RoundTrip
@@ -89,6 +103,8 @@ round_trip (Grew time ∷ notes) = round_trip notes
 round_trip (Told r ∷ notes) = r
 round_trip (Opened w ∷ notes) = round_trip notes
 round_trip (Missed run ∷ notes) = round_trip notes
+round_trip (Misdirected ∷ notes) = round_trip notes
+round_trip (Renewed time ∷ notes) = round_trip notes
 
 -- the flow window: the available buffer size that the last ACK reported, or the agreed one (section 3.2.4)
 abbrev pub flow_window : (agreed : ℕ) → List Note → ℕ
@@ -98,6 +114,8 @@ flow_window agreed (Grew time ∷ notes) = flow_window agreed notes
 flow_window agreed (Told r ∷ notes) = flow_window agreed notes
 flow_window agreed (Opened w ∷ notes) = w
 flow_window agreed (Missed run ∷ notes) = flow_window agreed notes
+flow_window agreed (Misdirected ∷ notes) = flow_window agreed notes
+flow_window agreed (Renewed time ∷ notes) = flow_window agreed notes
 
 -- after what is older than the threshold was dropped; in buffer mode nothing is (section 4.6)
 abbrev pub expired_in : Mode → Terms → (time : ℕ) → Sending → Sending
@@ -151,6 +169,7 @@ took time (Ack mark number more) s =
     let heard = with_ack time more (acknowledged_by number s.sending) s in
     record heard { notes = noted time (ack_reports mark) heard.notes }
 took time (Nak ranges) s = with_nak ranges s
+took time Data s = record s { notes = Misdirected ∷ s.notes }
 took time Other s = s
 
 -- the packets that are sent at once
@@ -185,6 +204,8 @@ untold (Grew time ∷ notes) = untold notes
 untold (Told r ∷ notes) = untold notes
 untold (Opened w ∷ notes) = untold notes
 untold (Missed run ∷ notes) = Some run
+untold (Misdirected ∷ notes) = untold notes
+untold (Renewed time ∷ notes) = untold notes
 
 -- the drop request for a NAK that asked for expired numbers (section 3.2.9)
 abbrev pub drops_of : Option Run → List Report
@@ -194,12 +215,59 @@ drops_of (Some run) = Dropped run ∷ []
 abbrev pub drops : List Note → List Report
 drops notes = drops_of (untold notes)
 
--- whether both the last data packet and the last growth are long ago (this profile)
+-- the most credit, in hundredths of a packet, and the first (our choice)
+abbrev pub most_credit : ℕ
+most_credit = 819_200
+
+abbrev pub first_credit : ℕ
+first_credit = 6_400
+
+-- the credit after a packet: a new one brings this many hundredths, and one that is sent again costs a whole packet
+abbrev pub credit_after : (percent : ℕ) → Report → ℕ → ℕ
+credit_after percent (Acked mark) c = c
+credit_after percent (Dropped run) c = c
+credit_after percent (Media number true origin payload) c = c - 100
+credit_after percent (Media number false origin payload) c = min (c + percent) most_credit
+credit_after percent KeepAlive c = c
+
+-- the credit for packets that are sent again, in hundredths of a packet (our choice)
+abbrev pub credit : (percent : ℕ) → List Note → ℕ
+credit percent [] = first_credit
+credit percent (Sent time report ∷ notes) = credit_after percent report (credit percent notes)
+credit percent (Grew time ∷ notes) = credit percent notes
+credit percent (Told r ∷ notes) = credit percent notes
+credit percent (Opened w ∷ notes) = credit percent notes
+credit percent (Missed run ∷ notes) = credit percent notes
+credit percent (Misdirected ∷ notes) = credit percent notes
+credit percent (Renewed time ∷ notes) = 100
+
+-- whether a lost packet may be sent again
+abbrev pub may_resend : Option ℕ → List Note → Bool
+may_resend None notes = true
+may_resend (Some percent) notes = nat_le 100 (credit percent notes)
+
+-- the most packets that an event may send again, of this many places for data packets
+abbrev pub resends : Option ℕ → (places : ℕ) → List Note → ℕ
+resends None places notes = places
+resends (Some percent) places notes = min places (credit percent notes / 100)
+
+-- whether the credit is raised to one packet: it is less, and no data packet was sent for 20 ms (our choice)
+abbrev pub renewal_due : Option ℕ → (time : ℕ) → List Note → Bool
+renewal_due None time notes = false
+renewal_due (Some percent) time notes = nat_lt (credit percent notes) 100 && nat_le 20_000 (time - last_media notes)
+
+abbrev pub renewed_notes : Option ℕ → (time : ℕ) → List Note → List Note
+renewed_notes percent time notes = if renewal_due percent time notes then Renewed time ∷ notes else notes
+
+abbrev pub renewed : Terms → (time : ℕ) → Subscribing → Subscribing
+renewed terms time s = record s { notes = renewed_notes terms.resend_percent time s.notes }
+
+-- whether both the last data packet and the last growth are long ago (our choice)
 abbrev pub has_waited : (time : ℕ) → List Note → Bool
 has_waited time notes = nat_le (resend_after (round_trip notes)) (time - max (last_media notes) (last_growth notes))
 
 -- whether it is time to resend all: packets are in flight, none of them is lost, and both the last data packet and
--- the last growth are long ago (this profile)
+-- the last growth are long ago (our choice)
 abbrev pub resend_due : (time : ℕ) → Subscribing → Bool
 resend_due time s =
     nat_lt (front s.sending) (next s.sending) && (length (lost s.sending) == 0)
@@ -209,23 +277,21 @@ resend_due time s =
 abbrev pub presumed : (time : ℕ) → Subscribing → Subscribing
 presumed time s = if resend_due time s then record s { sending = all_lost s.sending } else s
 
--- the most data packets that an event sends (this profile)
+-- the session at the beginning of an event's end
+abbrev pub prepared : Terms → (time : ℕ) → Subscribing → Subscribing
+prepared terms time s = presumed time (renewed terms time s)
+
+-- the most data packets that an event sends (our choice)
 abbrev pub most : ℕ
 most = 64
 
--- the numbers that are sent again: the lowest lost ones, at most `places` (section 4.8.2)
-abbrev pub again_of : (places : ℕ) → Sending → List ℕ
-again_of places s = take places (lost s)
-
-abbrev pub again : Sending → List ℕ
-again s = again_of most s
+-- the numbers that are sent again: the lowest lost ones, at most `again` (section 4.8.2)
+abbrev pub again_of : (again : ℕ) → Sending → List ℕ
+again_of again s = take again (lost s)
 
 -- the new numbers that are sent: as many as the places left, the flow window and the queue allow (section 3.2.4)
-abbrev pub new_of : (places window : ℕ) → Sending → List ℕ
-new_of places window s = numbers_from (next s) (min (places - length (again_of places s)) (min (window - (next s - front s)) (length s.queue - next s)))
-
-abbrev pub new : (window : ℕ) → Sending → List ℕ
-new window s = new_of most window s
+abbrev pub new_of : (places again window : ℕ) → Sending → List ℕ
+new_of places again window s = numbers_from (next s) (min (places - length (again_of again s)) (min (window - (next s - front s)) (length s.queue - next s)))
 
 abbrev pub media_of : Bool → ℕ → Option Queued → List Report
 media_of repeat n None = []
@@ -240,19 +306,21 @@ abbrev pub keep_alives : (time : ℕ) → List Report → List Note → List Rep
 keep_alives time (r ∷ rs) notes = []
 keep_alives time [] notes = if nat_le keep_alive_after_us (time - last_sent notes) then KeepAlive ∷ [] else []
 
--- all packets but the KEEPALIVE, with at most `places` data packets: a drop request, those sent again, new ones
-abbrev pub due_of : (places : ℕ) → Terms → Subscribing → List Report
-due_of places terms s =
-    drops s.notes ++ media true (again_of places s.sending) s.sending.queue ++ media false (new_of places (flow_window terms.window s.notes) s.sending) s.sending.queue
+-- all packets but the KEEPALIVE, with at most `places` data packets, of which at most `again` are sent again: a drop
+-- request, those sent again, new ones
+abbrev pub due_of : (places again : ℕ) → Terms → Subscribing → List Report
+due_of places again terms s =
+    drops s.notes ++ media true (again_of again s.sending) s.sending.queue
+    ++ media false (new_of places again (flow_window terms.window s.notes) s.sending) s.sending.queue
 
--- all packets, with at most `places` data packets
-abbrev pub reports_of : (places : ℕ) → Terms → (time : ℕ) → Subscribing → List Report
-reports_of places terms time s = due_of places terms s ++ keep_alives time (due_of places terms s) s.notes
+-- all packets, with at most `places` data packets, of which at most `again` are sent again
+abbrev pub reports_of : (places again : ℕ) → Terms → (time : ℕ) → Subscribing → List Report
+reports_of places again terms time s = due_of places again terms s ++ keep_alives time (due_of places again terms s) s.notes
 
 -- the packets that an event sends at its end, in order; if it is time to resend all, all in flight count as lost
 -- first
 abbrev pub reports : Terms → (time : ℕ) → Subscribing → List Report
-reports terms time s = reports_of most terms time (presumed time s)
+reports terms time s = reports_of most (resends terms.resend_percent most (prepared terms time s).notes) terms time (prepared terms time s)
 
 -- after these numbers were sent, the first of them first
 abbrev pub sent_each : List ℕ → Sending → Sending
@@ -260,10 +328,13 @@ sent_each [] s = s
 sent_each (n ∷ ns) s = sent_each ns (sent n s)
 
 -- the session after these packets were sent
-abbrev pub sent_of : (places : ℕ) → Terms → (time : ℕ) → Subscribing → Subscribing
-sent_of places terms time s =
-    record { sending = sent_each (again_of places s.sending ++ new_of places (flow_window terms.window s.notes) s.sending) s.sending; notes = noted time (reports_of places terms time s) s.notes }
+abbrev pub sent_of : (places again : ℕ) → Terms → (time : ℕ) → Subscribing → Subscribing
+sent_of places again terms time s =
+    record {
+      sending = sent_each (again_of again s.sending ++ new_of places again (flow_window terms.window s.notes) s.sending) s.sending;
+      notes = noted time (reports_of places again terms time s) s.notes;
+    }
 
 -- the session after an event's end
 abbrev pub reported : Terms → (time : ℕ) → Subscribing → Subscribing
-reported terms time s = sent_of most terms time (presumed time s)
+reported terms time s = sent_of most (resends terms.resend_percent most (prepared terms time s).notes) terms time (prepared terms time s)

@@ -11,7 +11,7 @@ shown_round_trip x = record { time = x.rtt; variance = x.variance }
 
 -- these are the counts and the state of a session
 pub record AreStatistics (terms : Terms) (m : Subscribing) (x : Statistics) : Type 0 where
-  pub counts_are : Counted x.counts m.sending
+  pub counts_are : Counted x.counts m
   pub sendings_are : AreSendings x.sendings (fresh_in m.notes) (again_in m.notes)
   pub room_is : x.room ≡ room terms.width m.sending
   pub in_flight_is : x.in_flight ≡ in_flight m.sending

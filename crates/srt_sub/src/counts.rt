@@ -1,10 +1,8 @@
-//! What a subscriber's session counts: payloads that it is fed, data packets that it sends, loss lists, and packets that
-//! expire.
+//! What a subscriber's session counts: payloads that it is fed, data packets that it sends, loss lists, packets that
+//! expire, and data packets that come though nobody takes them.
 
 ghost use Rattle.std.specs.Prelude.{◌≡◌, length};
 ghost use Rattle.srt_sub.specs.Counting.{one_if};
-
-use srt_seq::Payload;
 
 /// Counts of a session since its opening. Each stops at 2^64 - 1.
 #[derive(Clone, Copy, Debug, PartialEq, Eq)]
@@ -18,26 +16,30 @@ pub struct Counts {
     /// Packets that were dropped since they were too late, sent or not (section 4.6), and weren't acknowledged before.
     /// No clause says what this counts; tests do.
     pub given_up: u64,
+    /// Data packets that came from the caller, encrypted or not. Nobody takes them: the caller asked to receive, as an
+    /// encoder does that leaves `m=publish` out of its Stream ID.
+    pub misdirected: u64,
 }
 
 impl Counts {
-    ghost use Rattle.srt_sub.specs.Counting.{AreCounts, with_payload, with_list, with_expired};
+    ghost use Rattle.srt_sub.specs.Counting.{AreCounts, with_payload, with_list, with_expired, with_misdirected};
 
     /// The counts of a session that has just begun.
     pub(crate) fn none() -> Counts
-        ensures { AreCounts result 0 0 0 }
+        ensures { AreCounts result 0 0 0 0 }
     {
         Counts {
             queued: 0,
             bytes: 0,
             naks: 0,
             given_up: 0,
+            misdirected: 0,
         }
     }
 
     /// Counts a payload that is queued.
-    pub(crate) fn feed(&mut self, payload: &Payload)
-        ensures { self.new ≡ with_payload (length payload.now.items) self.old }
+    pub(crate) fn feed(&mut self, payload: &[u8])
+        ensures { self.new ≡ with_payload (length payload.now) self.old }
     {
         self.queued = self.queued.saturating_add(1);
         self.bytes = self.bytes.saturating_add(payload.len() as u64);
@@ -48,6 +50,13 @@ impl Counts {
         ensures { self.new ≡ with_list self.old }
     {
         self.naks = self.naks.saturating_add(1);
+    }
+
+    /// Counts a data packet that came from the caller.
+    pub(crate) fn misdirect(&mut self)
+        ensures { self.new ≡ with_misdirected self.old }
+    {
+        self.misdirected = self.misdirected.saturating_add(1);
     }
 
     /// Counts packets that expire.

@@ -15,7 +15,7 @@ use srt_sendbuf::DropRun;
 
 impl Subscriber {
     ghost use Rattle.srt_sub.specs.Stands.{BecomesAt, WritesAt};
-    ghost use Rattle.srt_sub.specs.Turns.{texts};
+    ghost use Rattle.srt_sub.specs.inside.Turns.{texts};
 
     /// Writes the drop request that is to be sent. Returns whether there is one; if not, `packet` is unchanged.
     pub(crate) fn next_drop(&mut self, time: u64, packet: &mut EncodedPacket) -> bool
@@ -23,6 +23,7 @@ impl Subscriber {
         ensures answer { WritesAt time self.old (texts (written result packet.new)) (λ m. drops m.notes) }
         ensures packet { result ≡ true → IsPacketText (bytes_of packet.new) }
         ensures kept { result ≡ false → packet.new ≡ packet.old }
+        ensures phase { self.new.phase ≡ self.old.phase }
     {
         let Some(run) = self.history.take_missed(time) else {
             return false;

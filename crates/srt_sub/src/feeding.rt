@@ -1,12 +1,12 @@
 //! Which payloads a subscriber is sent: those that fit in the agreed MTU less 44; and which packets are dropped since
 //! they are too late (draft-sharabayko-srt-01, section 4.6).
 
-ghost use Rattle.std.specs.Prelude.{◌≡◌, ◌^◌, ◌<◌};
+ghost use Rattle.std.specs.Prelude.{◌≡◌, ◌^◌, ◌<◌, ◌≤◌, length};
 ghost use Rattle.srt_sub.specs.Subscribing.{expired};
 
 use crate::session::Subscriber;
+use srt_seq::Mode;
 use srt_seq::limits::HEADERS;
-use srt_seq::{Mode, Payload};
 use srt_tsbpd::too_late_before;
 
 impl Subscriber {
@@ -18,11 +18,12 @@ impl Subscriber {
     /// get it: in live mode if no place is free, or if it is longer than the agreed MTU less 44. In buffer mode the
     /// caller asks for `room` first; without room it returns false there too. If false, the session is as after
     /// `expire`. One copy.
-    pub fn feed(&mut self, payload: &Payload, now: u64) -> bool
-        requires { now < 2 ^ 62 }
-        ensures stands { IsFed now payload.now.items self.old self.new }
+    pub fn feed(&mut self, payload: &[u8], now: u64) -> bool
+        requires early { now < 2 ^ 62 }
+        requires fits { length payload.now ≤ 1456 }
+        ensures stands { IsFed now payload.now self.old self.new }
         ensures full { IsRefused now result self.old self.new }
-        ensures answer { TellsWhetherFed now payload.now.items result self.old }
+        ensures answer { TellsWhetherFed now payload.now result self.old }
     {
         self.expire(now);
         if !self.is_short(payload) {
@@ -40,8 +41,8 @@ impl Subscriber {
 
     /// Whether a payload fits in a packet of the agreed MTU. In buffer mode it always does: a smaller MTU than 1500
     /// isn't accepted there.
-    fn is_short(&self, payload: &Payload) -> bool
-        ensures { result ≡ is_short self.now.mode self.now.mtu payload.now.items }
+    fn is_short(&self, payload: &[u8]) -> bool
+        ensures { result ≡ is_short self.now.mode self.now.mtu payload.now }
     {
         match self.mode {
             Mode::Live => payload.len() <= (self.mtu as usize).saturating_sub(HEADERS),
@@ -60,9 +61,11 @@ impl Subscriber {
     }
 
     /// Drops the packets that are too late at a moment; in buffer mode none are.
+    #[inline(always)]
     pub(crate) fn drop_old(&mut self, now: u64)
         requires { now < 2 ^ 62 }
-        ensures { DropsTooLate now self.old self.new }
+        ensures stands { DropsTooLate now self.old self.new }
+        ensures phase { self.new.phase ≡ self.old.phase }
     {
         let time = self.time(now);
         match self.mode {

@@ -1,4 +1,4 @@
-//! What a session takes from its caller: ACK, NAK and SHUTDOWN.
+//! What a session takes from its caller: ACK, NAK and SHUTDOWN. Data packets, which it doesn't take, are counted.
 
 ghost use Rattle.std.specs.Prelude.{◌≡◌, ◌^◌, ◌<◌, ◌≤◌, length, false};
 ghost use Rattle.srt_seq.specs.Words.{word_at};
@@ -76,11 +76,11 @@ impl Subscriber {
         }
     }
 
-    /// Takes a packet from the caller, after dropping what is too late: an ACK, a NAK or a SHUTDOWN; other kinds
-    /// change nothing. An ACK whose second header word isn't 0 is answered by an ACKACK with that word, even if its
-    /// number is outside the range that an ACK may name (section 3.2.8). The answer is written into `answer`, which
-    /// is otherwise unchanged. Linear in the packets that it acknowledges, or in the loss list and the numbers in
-    /// flight that it names; takes no memory.
+    /// Takes a packet from the caller, after dropping what is too late: an ACK, a NAK or a SHUTDOWN. A data packet is
+    /// counted and not taken; other kinds change nothing. An ACK whose second header word isn't 0 is answered by an
+    /// ACKACK with that word, even if its number is outside the range that an ACK may name (section 3.2.8). The answer
+    /// is written into `answer`, which is otherwise unchanged. Linear in the packets that it acknowledges, or in the
+    /// loss list and the numbers in flight that it names; doesn't allocate.
     pub fn datagram(&mut self, packet: &PacketRef<'_>, now: u64, answer: &mut EncodedPacket) -> Took
         requires { now < 2 ^ 62 }
         ensures stands { BecomesBy now self.old self.new (λ terms initial time m. took time (heard_of initial packet.now.kind) (expired terms time m)) }
@@ -101,6 +101,14 @@ impl Subscriber {
             }
             Kind::Nak { info } => {
                 self.take_losses(info);
+                Took::Nothing
+            }
+            Kind::Data {
+                number: _,
+                encryption: _,
+                payload: _,
+            } => {
+                self.counts.misdirect();
                 Took::Nothing
             }
             Kind::Shutdown => Took::Ended,

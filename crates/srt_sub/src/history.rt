@@ -1,14 +1,18 @@
 //! What a session remembers of its events, with what an ACK reports (draft-sharabayko-srt-01, section 3.2.4). Times are
 //! microseconds since the opening.
 
-ghost use Rattle.std.specs.Prelude.{ℕ, [], ◌++◌};
+ghost use Rattle.std.specs.Prelude.{◌≡◌, ℕ, [], ◌++◌};
 ghost use Rattle.srt_sub.specs.Heard.{more_of};
-ghost use Rattle.srt_sub.specs.Subscribing.{grown, told};
+ghost use Rattle.srt_sub.specs.Subscribing.{Terms, grown, told};
 
 use crate::counts::Sendings;
+use crate::credit::Credit;
 use srt_rtt::Rtt;
 use srt_sendbuf::DropRun;
 use srt_seq::read_word;
+
+/// The time without a data packet sent after which a packet may be sent again, in microseconds (our choice).
+const RENEWAL_AFTER_US: u64 = 20_000;
 
 /// What the last ACKs reported, and when packets were last sent. Times are microseconds since the opening, which
 /// counts as the last packet, data packet and growth at first.
@@ -30,14 +34,17 @@ pub struct History {
     pub missed: Option<DropRun>,
     /// The data packets that were sent.
     pub sendings: Sendings,
+    /// How many packets may be sent again.
+    pub credit: Credit,
 }
 
 impl History {
-    ghost use Rattle.srt_sub.specs.Stands.{IsHistory, NotesBecome, NotesMedia, NotesOther};
+    ghost use Rattle.srt_sub.specs.Stands.{IsHistory, NotesBecome, NotesMedia, NotesOther, NotesRenewal};
 
-    /// A session in which nothing has happened yet, with the agreed flow window in packets.
-    pub fn start(window: u32) -> History
-        ensures { (initial : ℕ) → IsHistory initial window result [] }
+    /// A session in which nothing has happened yet, with the agreed flow window in packets, and with how many packets
+    /// may be sent again for each 100 new ones.
+    pub fn start(window: u32, resend_percent: Option<u32>) -> History
+        ensures { (initial : ℕ) (agreed : Terms) → agreed.window ≡ window → agreed.resend_percent ≡ resend_percent → IsHistory initial agreed result [] }
     {
         History {
             window,
@@ -47,6 +54,7 @@ impl History {
             growth: 0,
             missed: None,
             sendings: Sendings::none(),
+            credit: Credit::start(resend_percent),
         }
     }
 
@@ -64,6 +72,17 @@ impl History {
         self.sent = time;
         self.media = time;
         self.sendings.send(again);
+        self.credit.note_sent(again);
+    }
+
+    /// Raises the credit for resends to one packet, if it is less and no data packet was sent for 20 ms.
+    pub fn renew(&mut self, time: u64)
+        ensures { NotesRenewal time self.old self.new }
+    {
+        if time.saturating_sub(self.media) < RENEWAL_AFTER_US {
+            return;
+        }
+        self.credit.renew();
     }
 
     /// Notes whether an ACK acknowledged more than those before.

@@ -14,7 +14,7 @@ use srt_seq::limits::KEEP_ALIVE_AFTER_US;
 
 impl Subscriber {
     ghost use Rattle.srt_sub.specs.Stands.{BecomesAt, WritesAt};
-    ghost use Rattle.srt_sub.specs.Turns.{texts};
+    ghost use Rattle.srt_sub.specs.inside.Turns.{texts};
 
     /// Writes a KEEPALIVE if nothing was sent for a second. Returns whether it does; if not, `packet` is unchanged.
     pub(crate) fn next_keep_alive(&mut self, time: u64, packet: &mut EncodedPacket) -> bool
@@ -22,6 +22,7 @@ impl Subscriber {
         ensures answer { WritesAt time self.old (texts (written result packet.new)) (λ m. keep_alives time [] m.notes) }
         ensures packet { result ≡ true → IsPacketText (bytes_of packet.new) }
         ensures kept { result ≡ false → packet.new ≡ packet.old }
+        ensures phase { self.new.phase ≡ self.old.phase }
     {
         if !self.history.keep_alive_due(time) {
             return false;

@@ -1,8 +1,11 @@
-//! Facts about the definitions. The function has an empty body: its contract is the fact.
+//! Facts about the definitions. Each function has an empty body: its contract is the fact.
 
 ghost use Rattle.srt_sub.specs.Emission.{EmissionBegins, StandsLater};
-ghost use Rattle.srt_sub.specs.Few.{FewPackets};
+ghost use Rattle.srt_sub.specs.ResendLimit.{KeepsResendLimit};
+ghost use Rattle.srt_sub.specs.EventPackets.{SendsAtMost66};
 ghost use Rattle.srt_sub.specs.Fresh.{ExpiresOnce};
+
+use crate::Subscriber;
 
 /// At the beginning of an event's end, all its packets are still to be written. A session that represents a record at
 /// one moment represents it at later ones too. Dropping what is too late a second time in one event, as each call
@@ -11,5 +14,11 @@ pub fn sessions()
     ensures emission { EmissionBegins }
     ensures later { StandsLater }
     ensures expiry { ExpiresOnce }
-    ensures few { FewPackets }
+    ensures most { SendsAtMost66 }
+{}
+
+/// A session with a limit on resends keeps it at every moment: a hundred times the packets that it sent again are at
+/// most 6400, the limit times its new packets, and a hundred for each 20 ms since its opening (our choice).
+pub fn resends(subscriber: &Subscriber)
+    ensures { KeepsResendLimit subscriber.now }
 {}

@@ -12,14 +12,15 @@
 //! came, `feed` for each payload of the route, and `emit` until it returns false, which writes one packet each time.
 //!
 //! Files: `feeding.rt` has the rules of feeding and of the too-late drop; `hearing.rt` of ACK, NAK and SHUTDOWN;
-//! `emission.rt` of the packets at an event's end and their order; `drop_request.rt` of drop requests;
-//! `resend_all.rt` of resending all; `keep_alive.rt` of KEEPALIVEs; `history.rt` of the flow window and of what else is
-//! remembered; `counts.rt` of what is counted, which `statistics.rt` shows; `session.rt` begins a session; `packets.rt`
-//! writes packets. `specs/Subscribing.antt` defines what a session sends, `specs/Says.antt` its bytes,
-//! `specs/Counting.antt` its counts; `laws.rt` has facts about these.
+//! `emission.rt` of the packets at an event's end and their order; `drop_request.rt` of drop requests; `resend_all.rt`
+//! of resending all; `credit.rt` of how many packets may be sent again; `keep_alive.rt` of KEEPALIVEs; `history.rt` of
+//! the flow window and of what else is remembered; `counts.rt` of what is counted, which `statistics.rt` shows;
+//! `session.rt` begins a session; `packets.rt` writes packets. `specs/Subscribing.antt` defines what a session sends,
+//! `specs/Says.antt` its bytes, `specs/Counting.antt` its counts; `laws.rt` has facts about these.
 #![tactic(auto)]
 
 mod counts;
+mod credit;
 mod drop_request;
 mod emission;
 mod feeding;

@@ -1,8 +1,7 @@
 //! A subscriber's session: its beginning, what is agreed, its room and its time.
 
 ghost use Rattle.std.specs.Prelude.{◌≡◌, ℕ, ◌-◌, ◌≤◌, IfOk};
-ghost use Rattle.srt_seq.specs.declared.shared.Mode.TheVariants.{Live};
-ghost use Rattle.srt_sendbuf.specs.Sending.{room};
+ghost use Rattle.srt_sendbuf.specs.Sending.{is_all_acknowledged, room};
 ghost use Rattle.srt_sub.specs.Subscribing.{opened};
 
 use crate::counts::Counts;
@@ -28,6 +27,18 @@ pub struct Opening {
     pub mtu: u32,
     /// The caller's flow window, in packets, until an ACK reports another.
     pub window: u32,
+    /// How many packets may be sent again for each 100 new ones, beside 64 to begin with; None if there is no limit
+    /// (our choice).
+    pub resend_percent: Option<u32>,
+}
+
+/// Which data packets an event sends: those that are lost come first.
+#[derive(Clone, Copy, Debug, PartialEq, Eq)]
+pub enum Phase {
+    /// Lost ones, as far as the credit for resends goes, and then new ones.
+    Lost,
+    /// New ones alone: the event has sent one.
+    New,
 }
 
 /// A subscriber's session. Moments are microseconds of the route's clock, below 2^62, and don't go back. A *time* of
@@ -51,31 +62,34 @@ pub struct Subscriber {
     pub(crate) caller: u32,
     /// The number of data packets that this event has sent so far, at most 64.
     pub(crate) given: u32,
+    /// Which of them come next.
+    pub(crate) phase: Phase,
     /// What was counted since the opening, but for the data packets sent.
     pub(crate) counts: Counts,
 }
 
 impl Subscriber {
-    ghost use Rattle.srt_sub.specs.Stands.{StandsFor, IsWide, HasBegun, ForWhatever};
+    ghost use Rattle.srt_sub.specs.Stands.{StandsFor, IsWide, HasBegun, ForWhatever, unstarted};
 
-    /// A session with places for `width` packets, 32 to 8192; `start` begins it. The only call that takes memory; the
+    /// A session with places for `width` packets, 32 to 8192; `start` begins it. The only call that allocates; the
     /// error is a refused allocation. O(width).
     pub fn open(alloc: Global, width: u32) -> Result<Subscriber, AllocError>
         requires some { 32 ≤ width }
         requires narrow { width ≤ 8192 }
         ensures wide { IfOk result (λ s. IsWide width s) }
-        ensures stands { IfOk result (λ s. StandsFor (record { mode = Live; width = width; delay = 0; mtu = 0; window = 0 }) 0 0 0 0 s opened) }
+        ensures stands { IfOk result (λ s. StandsFor (unstarted width) 0 0 0 0 s opened) }
     {
         let buffer = SendBuf::open(alloc, width)?;
         Ok(Subscriber {
             buffer,
-            history: History::start(0),
+            history: History::start(0, None),
             mode: Mode::Live,
             delay: 0,
             mtu: 0,
             opening: 0,
             caller: 0,
             given: 0,
+            phase: Phase::Lost,
             counts: Counts::none(),
         })
     }
@@ -85,13 +99,14 @@ impl Subscriber {
         ensures { (width : ℕ) → IsWide width self.old → HasBegun width opening self.new }
     {
         self.buffer.start(opening.initial);
-        self.history = History::start(opening.window);
+        self.history = History::start(opening.window, opening.resend_percent);
         self.mode = opening.mode;
         self.delay = opening.delay;
         self.mtu = opening.mtu;
         self.opening = opening.now;
         self.caller = opening.caller;
         self.given = 0;
+        self.phase = Phase::Lost;
         self.counts = Counts::none();
     }
 
@@ -100,6 +115,13 @@ impl Subscriber {
         ensures { ForWhatever self.now (λ terms initial opening caller last m. result ≡ room terms.width m.sending) }
     {
         self.buffer.room()
+    }
+
+    /// Whether everything that was queued is acknowledged. O(1).
+    pub fn is_all_acknowledged(&self) -> bool
+        ensures { ForWhatever self.now (λ terms initial opening caller last m. result ≡ is_all_acknowledged m.sending) }
+    {
+        self.buffer.is_all_acknowledged()
     }
 
     /// The session's time at a moment: microseconds since the opening.

@@ -3,13 +3,41 @@
 ghost use Rattle.std.specs.Prelude.{◌^◌, ◌<◌};
 
 use crate::{Counts, Opening, Sendings, Statistics, Subscriber, Took};
+use arrayvec::ArrayVec;
 use srt_packet::{EncodedPacket, decode};
-use srt_seq::{MOMENT_END, Mode, Payload, Seq31};
+use srt_samples::{
+    Difference, Loss, Sample, ack, ack_ack, data_packet, drop_request, first_difference,
+    keep_alive, light_ack, nak, shutdown,
+};
+use srt_seq::{MOMENT_END, Mode, Seq31};
 use std::alloc::Global;
 use std::test::Fail;
 
+/// The socket ID of the session, which what comes is for.
+const SESSION: u32 = 0x10_0000;
+
+/// The socket ID of the caller, which what is sent is for.
+const CALLER: u32 = 2;
+
+/// The loss list of the first packet of most sessions.
+const LOST: [Loss; 1] = [Loss::Single(9)];
+
+/// A data packet that is sent to the caller, with this sequence number, message number and timestamp in microseconds.
+fn media<'a>(number: u32, message: u32, stamp: u32) -> Sample<'a> {
+    data_packet(number)
+        .flags(0xe000_0000 | message)
+        .stamp(stamp)
+        .to(CALLER)
+        .payload(b"a")
+}
+
+/// The same, sent again.
+fn media_again<'a>(number: u32, message: u32, stamp: u32) -> Sample<'a> {
+    media(number, message, stamp).flags(0xe400_0000 | message)
+}
+
 #[derive(Clone, Copy)]
-enum Step {
+enum Step<'a> {
     /// Opened now, with this initial number, delay and MTU. The caller's socket ID is 2 and the flow window 8192.
     Start(u64, u32, u32, u32),
     /// The same in buffer mode.
@@ -17,7 +45,7 @@ enum Step {
     /// A payload of this many bytes `61`.
     Feed(usize),
     /// A datagram comes.
-    Hear(&'static str),
+    Hear(Sample<'a>),
     Emit,
     Expire,
     Room,
@@ -26,10 +54,10 @@ enum Step {
 }
 
 #[derive(Clone, Copy)]
-enum Answer {
+enum Answer<'a> {
     Nothing,
     Is(bool),
-    Sends(&'static str),
+    Sends(Sample<'a>),
     Ends,
     Count(u32),
 }
@@ -41,30 +69,34 @@ fn number(word: u32) -> Result<Seq31, Fail> {
     }
 }
 
-fn payload(bytes: usize) -> Payload {
-    let mut payload = Payload::new();
+/// A payload of this many letters, at most 1456.
+fn payload(bytes: usize) -> ArrayVec<u8, 1456> {
+    let mut payload = ArrayVec::new();
     for _ in 0..bytes {
         let _ = payload.try_push(0x61);
     }
     payload
 }
 
-fn sends(alloc: Global, packet: &EncodedPacket, answer: Answer) -> Result<bool, Fail> {
-    match answer {
-        Answer::Sends(text) => {
-            let bytes = hex::decode(alloc, text)?;
-            Ok(packet.bytes() == bytes.as_slice())
-        }
-        _ => Ok(false),
-    }
-}
-
-/// A session, and the packet that its calls write.
+/// A session, the packet that its calls write, and how the last one that was asked for differs from what was wanted.
 #[derive(Drop)]
 struct Trial {
     alloc: Global,
     session: Subscriber,
     place: EncodedPacket,
+    difference: Option<Difference>,
+}
+
+/// Whether the packet that was written is the wanted one.
+fn sends(trial: &mut Trial, answer: Answer<'_>) -> Result<bool, Fail> {
+    match answer {
+        Answer::Sends(sample) => {
+            let bytes = sample.bytes(trial.alloc)?;
+            trial.difference = first_difference(trial.place.bytes(), &bytes);
+            Ok(trial.difference.is_none())
+        }
+        _ => Ok(false),
+    }
 }
 
 /// A session with 128 places that wasn't started yet.
@@ -73,19 +105,20 @@ fn unstarted(alloc: Global) -> Result<Trial, Fail> {
         alloc,
         session: Subscriber::open(alloc, 128)?,
         place: EncodedPacket::new(),
+        difference: None,
     })
 }
 
-fn hears(trial: &mut Trial, text: &str, now: u64, answer: Answer) -> Result<bool, Fail>
+fn hears(trial: &mut Trial, sample: Sample<'_>, now: u64, answer: Answer<'_>) -> Result<bool, Fail>
     requires { now < 2 ^ 62 }
 {
-    let bytes = hex::decode(trial.alloc, text)?;
+    let bytes = sample.bytes(trial.alloc)?;
     let Ok(packet) = decode(&bytes) else {
         return Err(Fail::from("a packet"));
     };
     match trial.session.datagram(&packet, now, &mut trial.place) {
         Took::Nothing => Ok(matches!(answer, Answer::Nothing)),
-        Took::Answer => sends(trial.alloc, &trial.place, answer),
+        Took::Answer => sends(trial, answer),
         Took::Ended => Ok(matches!(answer, Answer::Ends)),
     }
 }
@@ -101,7 +134,7 @@ fn drained(trial: &mut Trial, now: u64) -> u32
     100
 }
 
-fn agrees(trial: &mut Trial, now: u64, step: Step, answer: Answer) -> Result<bool, Fail>
+fn agrees(trial: &mut Trial, now: u64, step: Step<'_>, answer: Answer<'_>) -> Result<bool, Fail>
     requires { now < 2 ^ 62 }
 {
     match step {
@@ -109,11 +142,12 @@ fn agrees(trial: &mut Trial, now: u64, step: Step, answer: Answer) -> Result<boo
             trial.session.start(Opening {
                 now,
                 initial: number(initial)?,
-                caller: 2,
+                caller: CALLER,
                 delay,
                 mode: Mode::Live,
                 mtu,
                 window: 8192,
+                resend_percent: None,
             });
             Ok(true)
         }
@@ -121,25 +155,26 @@ fn agrees(trial: &mut Trial, now: u64, step: Step, answer: Answer) -> Result<boo
             trial.session.start(Opening {
                 now,
                 initial: number(initial)?,
-                caller: 2,
+                caller: CALLER,
                 delay: 0,
                 mode: Mode::Buffer,
                 mtu: 1500,
                 window: 8192,
+                resend_percent: None,
             });
             Ok(true)
         }
         Step::Feed(bytes) => {
-            let took = trial.session.feed(&payload(bytes), now);
+            let took = trial.session.feed(payload(bytes).as_slice(), now);
             match answer {
                 Answer::Is(fits) => Ok(took == fits),
                 _ => Ok(false),
             }
         }
-        Step::Hear(text) => hears(trial, text, now, answer),
+        Step::Hear(sample) => hears(trial, sample, now, answer),
         Step::Emit => {
             if trial.session.emit(now, &mut trial.place) {
-                sends(trial.alloc, &trial.place, answer)
+                sends(trial, answer)
             } else {
                 Ok(matches!(answer, Answer::Nothing))
             }
@@ -165,48 +200,53 @@ fn agrees(trial: &mut Trial, now: u64, step: Step, answer: Answer) -> Result<boo
     }
 }
 
-/// The index of the first row, of a moment, a step and its expected result, for which the session gives another result.
-fn other_in(trial: &mut Trial, rows: &[(u64, Step, Answer)]) -> Result<Option<usize>, Fail> {
+/// The first row, of a moment, a step and its expected result, for which the session gives another result: its index,
+/// and how a packet that was sent differs from the wanted one.
+type Other = Option<(usize, Option<Difference>)>;
+
+fn other_in(trial: &mut Trial, rows: &[(u64, Step<'_>, Answer<'_>)]) -> Result<Other, Fail> {
     for at in 0..rows.len() {
         let (now, step, answer) = rows[at];
         if now >= MOMENT_END || !agrees(trial, now, step, answer)? {
-            return Ok(Some(at));
+            return Ok(Some((at, trial.difference)));
         }
     }
     Ok(None)
 }
 
 /// The same for a session of width 128.
-fn other(alloc: Global, rows: &[(u64, Step, Answer)]) -> Result<Option<usize>, Fail> {
+fn other(alloc: Global, rows: &[(u64, Step<'_>, Answer<'_>)]) -> Result<Other, Fail> {
     let mut trial = unstarted(alloc)?;
     other_in(&mut trial, rows)
 }
-
-const NAK: &str = "8003000000000000000000000010000000000009";
 
 #[test]
 fn a_packet_again_and_gone(rt: HostRuntime) -> Result<(), Fail> {
     let rows = [
         (0, Step::Start(4_000_000, 9, 120_000, 1500), Answer::Nothing),
         (5_000_000, Step::Feed(1), Answer::Is(true)),
-        (
-            5_000_000,
-            Step::Emit,
-            Answer::Sends("00000009e0000001000f42400000000261"),
-        ),
+        (5_000_000, Step::Emit, Answer::Sends(media(9, 1, 1_000_000))),
         (5_000_000, Step::Emit, Answer::Nothing),
-        (6_000_000, Step::Hear(NAK), Answer::Nothing),
+        (
+            6_000_000,
+            Step::Hear(nak(&LOST).to(SESSION)),
+            Answer::Nothing,
+        ),
         (
             6_000_000,
             Step::Emit,
-            Answer::Sends("00000009e4000001000f42400000000261"),
+            Answer::Sends(media_again(9, 1, 1_000_000)),
         ),
         (6_000_000, Step::Emit, Answer::Nothing),
-        (6_000_001, Step::Hear(NAK), Answer::Nothing),
+        (
+            6_000_001,
+            Step::Hear(nak(&LOST).to(SESSION)),
+            Answer::Nothing,
+        ),
         (
             6_000_001,
             Step::Emit,
-            Answer::Sends("8007000000000001001e8481000000020000000900000009"),
+            Answer::Sends(drop_request(1, 9, 9).stamp(2_000_001).to(CALLER)),
         ),
         (6_000_001, Step::Emit, Answer::Nothing),
         (6_000_002, Step::Emit, Answer::Nothing),
@@ -222,11 +262,7 @@ fn a_packet_again_and_gone(rt: HostRuntime) -> Result<(), Fail> {
         (7_500_001, Step::Expire, Answer::Nothing),
         (7_500_001, Step::Expire, Answer::Nothing),
         (7_500_001, Step::Room, Answer::Count(128)),
-        (
-            7_500_001,
-            Step::Hear("80050000000000000000000000100000"),
-            Answer::Ends,
-        ),
+        (7_500_001, Step::Hear(shutdown().to(SESSION)), Answer::Ends),
         // In buffer mode nothing is ever too late, and sequence numbers wrap.
         (
             0,
@@ -238,13 +274,13 @@ fn a_packet_again_and_gone(rt: HostRuntime) -> Result<(), Fail> {
         (5_000_000, Step::Drain, Answer::Count(2)),
         (
             99_000_000,
-            Step::Hear("80030000000000000000000000100000ffffffff00000005"),
+            Step::Hear(nak(&[Loss::Range(0x7fff_ffff, 5)]).to(SESSION)),
             Answer::Nothing,
         ),
         (
             99_000_000,
             Step::Emit,
-            Answer::Sends("7fffffffe4000001000f42400000000261"),
+            Answer::Sends(media_again(0x7fff_ffff, 1, 1_000_000)),
         ),
         (99_000_000, Step::Drain, Answer::Count(1)),
     ];
@@ -260,42 +296,38 @@ fn acknowledgements(rt: HostRuntime) -> Result<(), Fail> {
         (5_000_000, Step::Drain, Answer::Count(1)),
         (
             5_020_000,
-            Step::Hear(
-                "800200000000000100000000001000000000000a00004e200000271000000010000000000000000000000000",
-            ),
-            Answer::Sends("8006000000000001000f906000000002"),
+            Step::Hear(ack(1, &[10, 20_000, 10_000, 16, 0, 0, 0]).to(SESSION)),
+            Answer::Sends(ack_ack(1).stamp(1_020_000).to(CALLER)),
         ),
         // A number that no ACK may name: it is answered, and nothing changes.
         (
             5_020_000,
-            Step::Hear(
-                "800200000000000200000000001000000000000c000000000000000000000000000000000000000000000000",
-            ),
-            Answer::Sends("8006000000000002000f906000000002"),
+            Step::Hear(ack(2, &[12, 0, 0, 0, 0, 0, 0]).to(SESSION)),
+            Answer::Sends(ack_ack(2).stamp(1_020_000).to(CALLER)),
         ),
         (
             5_020_000,
-            Step::Hear("800200000000000300000000001000008000000a"),
-            Answer::Sends("8006000000000003000f906000000002"),
+            Step::Hear(ack(3, &[0x8000_000a]).to(SESSION)),
+            Answer::Sends(ack_ack(3).stamp(1_020_000).to(CALLER)),
         ),
         (5_020_000, Step::Emit, Answer::Nothing),
         (5_030_000, Step::Feed(1), Answer::Is(true)),
         (
             5_030_000,
             Step::Emit,
-            Answer::Sends("0000000ae0000002000fb7700000000261"),
+            Answer::Sends(media(10, 2, 1_030_000)),
         ),
         (5_030_000, Step::Emit, Answer::Nothing),
         (5_109_999, Step::Emit, Answer::Nothing),
         (
             5_110_000,
             Step::Emit,
-            Answer::Sends("0000000ae4000002000fb7700000000261"),
+            Answer::Sends(media_again(10, 2, 1_030_000)),
         ),
         // An ACK of 16 bytes: a round-trip time of 0, and a flow window of 0.
         (
             5_110_000,
-            Step::Hear("800200000000000000000000001000000000000a000000000000000000000000"),
+            Step::Hear(ack(0, &[10, 0, 0, 0]).to(SESSION)),
             Answer::Nothing,
         ),
         (5_120_000, Step::Feed(1), Answer::Is(true)),
@@ -303,35 +335,35 @@ fn acknowledgements(rt: HostRuntime) -> Result<(), Fail> {
         (
             5_130_000,
             Step::Emit,
-            Answer::Sends("0000000ae4000002000fb7700000000261"),
+            Answer::Sends(media_again(10, 2, 1_030_000)),
         ),
         (5_130_000, Step::Emit, Answer::Nothing),
         // An ACK of 13 bytes has a round-trip time, and one of 8 doesn't.
         (
             5_130_000,
-            Step::Hear("800200000000000000000000001000000000000a000027100000000000"),
+            Step::Hear(ack(0, &[10, 10_000, 0]).payload(&[0]).to(SESSION)),
             Answer::Nothing,
         ),
         (
             5_130_000,
-            Step::Hear("800200000000000000000000001000000000000affffffff"),
+            Step::Hear(ack(0, &[10, 0xffff_ffff]).to(SESSION)),
             Answer::Nothing,
         ),
         (5_159_999, Step::Emit, Answer::Nothing),
         (
             5_160_000,
             Step::Emit,
-            Answer::Sends("0000000ae4000002000fb7700000000261"),
+            Answer::Sends(media_again(10, 2, 1_030_000)),
         ),
         (
             5_160_000,
-            Step::Hear("800200000000000000000000001000000000000affffffffffffffff00000002"),
+            Step::Hear(ack(0, &[10, 0xffff_ffff, 0xffff_ffff, 2]).to(SESSION)),
             Answer::Nothing,
         ),
         (
             5_160_000,
             Step::Emit,
-            Answer::Sends("0000000be0000003001117000000000261"),
+            Answer::Sends(media(11, 3, 1_120_000)),
         ),
         (5_160_000, Step::Emit, Answer::Nothing),
     ];
@@ -346,18 +378,14 @@ fn silence(rt: HostRuntime) -> Result<(), Fail> {
         (1_000_000, Step::Feed(1), Answer::Is(true)),
         (1_000_000, Step::Drain, Answer::Count(1)),
         (1_319_999, Step::Emit, Answer::Nothing),
-        (
-            1_320_000,
-            Step::Emit,
-            Answer::Sends("00000009e4000001000000000000000261"),
-        ),
+        (1_320_000, Step::Emit, Answer::Sends(media_again(9, 1, 0))),
         (1_320_000, Step::Emit, Answer::Nothing),
         (0, Step::Start(1_000_000, 9, 120_000, 1500), Answer::Nothing),
         (1_999_999, Step::Emit, Answer::Nothing),
         (
             2_000_000,
             Step::Emit,
-            Answer::Sends("8001000000000000000f424000000002"),
+            Answer::Sends(keep_alive().stamp(1_000_000).to(CALLER)),
         ),
         (2_000_000, Step::Emit, Answer::Nothing),
     ];
@@ -373,43 +401,43 @@ fn hostile_loss_lists(rt: HostRuntime) -> Result<(), Fail> {
         (5_000_000, Step::Drain, Answer::Count(1)),
         (
             5_100_000,
-            Step::Hear("800300000000000000000000001000008000000940000009"),
+            Step::Hear(nak(&[Loss::Range(9, 0x4000_0009)]).to(SESSION)),
             Answer::Nothing,
         ),
         (5_100_000, Step::Emit, Answer::Nothing),
         (
             5_100_000,
-            Step::Hear("800300000000000000000000001000000000000900"),
+            Step::Hear(nak(&LOST).payload(&[0]).to(SESSION)),
             Answer::Nothing,
         ),
         (5_100_000, Step::Emit, Answer::Nothing),
         (
             5_100_000,
-            Step::Hear("800300000000000000000000001000008000000940000008"),
+            Step::Hear(nak(&[Loss::Range(9, 0x4000_0008)]).to(SESSION)),
             Answer::Nothing,
         ),
         (
             5_100_000,
             Step::Emit,
-            Answer::Sends("00000009e4000001000f42400000000261"),
+            Answer::Sends(media_again(9, 1, 1_000_000)),
         ),
         (5_100_000, Step::Emit, Answer::Nothing),
         // The second range counts too.
         (
             5_100_000,
-            Step::Hear("80030000000000000000000000100000000000080000000a00000009"),
+            Step::Hear(nak(&[Loss::Single(8), Loss::Single(10), Loss::Single(9)]).to(SESSION)),
             Answer::Nothing,
         ),
         (5_100_000, Step::Drain, Answer::Count(1)),
         // Kinds that change nothing for a subscriber.
         (
             5_100_000,
-            Step::Hear("8006000000000001000000000010000000000009"),
+            Step::Hear(ack_ack(1).to(SESSION).payload(&[0, 0, 0, 9])),
             Answer::Nothing,
         ),
         (
             5_100_000,
-            Step::Hear("00000009e0000001000000000010000061"),
+            Step::Hear(data_packet(9).flags(0xe000_0001).to(SESSION).payload(b"a")),
             Answer::Nothing,
         ),
         (5_100_000, Step::Emit, Answer::Nothing),
@@ -424,16 +452,17 @@ fn many_packets(rt: HostRuntime) -> Result<(), Fail> {
     trial.session.start(Opening {
         now: 1_000_000,
         initial: number(9)?,
-        caller: 2,
+        caller: CALLER,
         delay: 120_000,
         mode: Mode::Live,
         mtu: 76,
         window: 100,
+        resend_percent: None,
     });
     // The MTU of 76 bytes counts all headers.
-    assert!(rt; !trial.session.feed(&payload(33), 1_000_000));
+    assert!(rt; !trial.session.feed(payload(33).as_slice(), 1_000_000));
     for _ in 0..70 {
-        assert!(rt; trial.session.feed(&payload(32), 1_000_000));
+        assert!(rt; trial.session.feed(payload(32).as_slice(), 1_000_000));
     }
     assert_eq!(rt; trial.session.room(), 58);
     assert_eq!(rt; drained(&mut trial, 1_000_000), 64);
@@ -441,7 +470,7 @@ fn many_packets(rt: HostRuntime) -> Result<(), Fail> {
     assert_eq!(rt; drained(&mut trial, 1_000_000), 0);
     let rows = [
         (
-            Step::Hear("800300000000000000000000001000008000000900000060"),
+            Step::Hear(nak(&[Loss::Range(9, 96)]).to(SESSION)),
             Answer::Nothing,
         ),
         (Step::Feed(32), Answer::Is(true)),
@@ -455,13 +484,14 @@ fn many_packets(rt: HostRuntime) -> Result<(), Fail> {
         assert!(rt; agrees(&mut trial, 1_000_001, step, answer)?, "{at}");
     }
     for _ in 0..57 {
-        assert!(rt; trial.session.feed(&payload(32), 1_000_001));
+        assert!(rt; trial.session.feed(payload(32).as_slice(), 1_000_001));
     }
-    assert!(rt; !trial.session.feed(&payload(32), 1_000_001));
+    assert!(rt; !trial.session.feed(payload(32).as_slice(), 1_000_001));
     Ok(())
 }
 
-/// Of two packets, 9 is sent again and acknowledged, and 10 expires. A loss list with a fault isn't counted.
+/// Of two packets, 9 is sent again and acknowledged, and 10 expires. A loss list with a fault isn't counted. Its caller
+/// sends two data packets, the second encrypted.
 #[test]
 fn what_a_session_counts(rt: HostRuntime) -> Result<(), Fail> {
     let rows = [
@@ -469,16 +499,42 @@ fn what_a_session_counts(rt: HostRuntime) -> Result<(), Fail> {
         (5_000_000, Step::Feed(1), Answer::Is(true)),
         (5_000_000, Step::Feed(3), Answer::Is(true)),
         (5_000_000, Step::Drain, Answer::Count(2)),
-        (5_100_000, Step::Hear(NAK), Answer::Nothing),
         (
             5_100_000,
-            Step::Hear("800300000000000000000000001000000000000900"),
+            Step::Hear(nak(&LOST).to(SESSION)),
+            Answer::Nothing,
+        ),
+        (
+            5_100_000,
+            Step::Hear(nak(&LOST).payload(&[0]).to(SESSION)),
             Answer::Nothing,
         ),
         (5_100_000, Step::Drain, Answer::Count(1)),
         (
             5_100_000,
-            Step::Hear("800200000000000000000000001000000000000a"),
+            Step::Hear(light_ack(10).to(SESSION)),
+            Answer::Nothing,
+        ),
+        (
+            5_100_000,
+            Step::Hear(
+                data_packet(9)
+                    .flags(0xe000_0003)
+                    .stamp(1_000)
+                    .to(SESSION)
+                    .payload(b"a"),
+            ),
+            Answer::Nothing,
+        ),
+        (
+            5_100_000,
+            Step::Hear(
+                data_packet(10)
+                    .flags(0xe800_0004)
+                    .stamp(1_000)
+                    .to(SESSION)
+                    .payload(b"a"),
+            ),
             Answer::Nothing,
         ),
     ];
@@ -492,6 +548,7 @@ fn what_a_session_counts(rt: HostRuntime) -> Result<(), Fail> {
                 bytes: 4,
                 naks: 1,
                 given_up: 0,
+                misdirected: 2,
             },
             sendings: Sendings { fresh: 2, again: 1 },
             room: 127,
@@ -507,5 +564,82 @@ fn what_a_session_counts(rt: HostRuntime) -> Result<(), Fail> {
         (after.counts.given_up, after.room, after.in_flight),
         (1, 128, 0)
     );
+    Ok(())
+}
+
+/// A session in buffer mode that was opened at 0 with the initial number 5, and in which each new packet brings half a
+/// packet that may be sent again.
+fn limited(alloc: Global) -> Result<Trial, Fail> {
+    let mut trial = unstarted(alloc)?;
+    trial.session.start(Opening {
+        now: 0,
+        initial: number(5)?,
+        caller: 2,
+        delay: 0,
+        mode: Mode::Buffer,
+        mtu: 1500,
+        window: 8192,
+        resend_percent: Some(50),
+    });
+    Ok(trial)
+}
+
+/// Feeds this many payloads, and counts the packets that the event then sends.
+fn fed_and_drained(trial: &mut Trial, payloads: u32, now: u64) -> u32
+    requires { now < 2 ^ 62 }
+{
+    for _ in 0..payloads {
+        let _ = trial.session.feed(b"a", now);
+    }
+    drained(trial, now)
+}
+
+/// All numbers from 5 to 74 are asked for.
+const ALL_70: [Loss; 1] = [Loss::Range(5, 74)];
+
+/// Of 6400 hundredths, 50 come for each new packet and 100 go for each that is sent again.
+#[test]
+fn limited_resends(rt: HostRuntime) -> Result<(), Fail> {
+    let mut trial = limited(rt.alloc())?;
+    assert!(rt; trial.session.is_all_acknowledged());
+    assert_eq!(rt; fed_and_drained(&mut trial, 70, 1_000), 64);
+    assert_eq!(rt; drained(&mut trial, 2_000), 6);
+    assert!(rt; !trial.session.is_all_acknowledged());
+    assert!(rt; hears(&mut trial, nak(&ALL_70).to(SESSION), 3_000, Answer::Nothing)?);
+    assert_eq!(rt; drained(&mut trial, 3_000), 64);
+    assert_eq!(rt; drained(&mut trial, 4_000), 6);
+    assert!(rt; hears(&mut trial, nak(&ALL_70).to(SESSION), 5_000, Answer::Nothing)?);
+    assert_eq!(rt; drained(&mut trial, 5_000), 29);
+    Ok(())
+}
+
+/// Without credit, lost packets stay lost until new ones bring some, in the next event, or until 20 ms have passed.
+#[test]
+fn spent_credit(rt: HostRuntime) -> Result<(), Fail> {
+    let mut trial = limited(rt.alloc())?;
+    assert_eq!(rt; fed_and_drained(&mut trial, 70, 1_000), 64);
+    assert_eq!(rt; drained(&mut trial, 2_000), 6);
+    assert!(rt; hears(&mut trial, nak(&ALL_70).to(SESSION), 3_000, Answer::Nothing)?);
+    assert_eq!(rt; drained(&mut trial, 3_000), 64);
+    assert!(rt; hears(&mut trial, nak(&ALL_70).to(SESSION), 4_000, Answer::Nothing)?);
+    assert_eq!(rt; drained(&mut trial, 4_000), 35);
+    assert_eq!(rt; drained(&mut trial, 6_000), 0);
+    assert_eq!(rt; fed_and_drained(&mut trial, 2, 7_000), 2);
+    assert_eq!(rt; drained(&mut trial, 8_000), 1);
+    assert_eq!(rt; drained(&mut trial, 27_999), 0);
+    assert_eq!(rt; drained(&mut trial, 28_000), 1);
+    assert_eq!(rt; drained(&mut trial, 28_001), 0);
+    let sendings = trial.session.statistics().sendings;
+    assert_eq!(rt; (sendings.fresh, sendings.again), (72, 101));
+    // All numbers below 77 are acknowledged.
+    assert!(rt;
+        hears(
+            &mut trial,
+            light_ack(77).to(SESSION),
+            29_000,
+            Answer::Nothing
+        )?
+    );
+    assert!(rt; trial.session.is_all_acknowledged());
     Ok(())
 }

@@ -21,8 +21,10 @@ deadlines_from_opening opening first word time delay =
     rw e (omega (arith, ints, t))
 
 -- the three forms of the deadline of a packet
-pub due_from_opening : (opening first word now delay : ℕ) (due : ℤ) → due ≡ pos opening +ℤ (lift (stamped_from first word) (pos now -ℤ pos opening) +ℤ pos delay) →
-    IsDeadline opening first word now delay due × (due ≡ deadline_at opening first word now delay) × (opening ≤ now → due ≡ pos opening +ℤ due_time delay (now - opening) (stamped_from first word))
+pub due_from_opening : (opening first word now delay : ℕ) (due : ℤ)
+    → due ≡ pos opening +ℤ (lift (stamped_from first word) (pos now -ℤ pos opening) +ℤ pos delay) →
+    IsDeadline opening first word now delay due × (due ≡ deadline_at opening first word now delay) ×
+    (opening ≤ now → due ≡ pos opening +ℤ due_time delay (now - opening) (stamped_from first word))
 due_from_opening opening first word now delay due e =
     let t = times_from_first first word (pos now -ℤ pos opening) in
     let same : due ≡ deadline_at opening first word now delay = omega (arith, ints, t, e) in

@@ -16,7 +16,7 @@ abbrev pub sender_time : (opening first now : ℕ) → ℤ
 sender_time opening first now = pos first +ℤ (pos now -ℤ pos opening)
 
 -- of the times that the packet's timestamp can mean, the one nearest to the sender's time counts; the packet is due one
--- delay after that time, on our clock; clock drift is 0 (section 4.5.1; the drift is this profile's)
+-- delay after that time, on our clock; clock drift is 0 (section 4.5.1; the drift is our choice)
 abbrev pub IsDeadline : (opening first word now delay : ℕ) → ℤ → Type 0
 IsDeadline opening first word now delay due =
     (time : ℤ) × IsLift word (sender_time opening first now) time × (due ≡ pos opening -ℤ pos first +ℤ time +ℤ pos delay)

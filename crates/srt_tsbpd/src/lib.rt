@@ -3,7 +3,7 @@
 //!
 //! It only computes moments. It holds no packet and reads no clock: `srt_recvbuf` and `srt_pub` deliver what is due,
 //! and `srt_sendbuf` and `srt_sub` drop what is too late. Clock drift is taken as 0. Buffer mode uses none of these
-//! moments. No call takes memory, and each is O(1).
+//! moments. No call allocates, and each is O(1).
 //!
 //! [`Base`] in `deadlines.rt` ties the sender's clock to ours. Make it with `Base::new` when a session opens; then
 //! `Base::deadline` gives the moment at which a packet is due. [`too_late_before`] in `thresholds.rt` gives the cut-off

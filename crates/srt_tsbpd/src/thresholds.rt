@@ -3,7 +3,7 @@
 ghost use Rattle.std.specs.Prelude.{◌≡◌, ℕ, ◌^◌, ◌<◌, ◌↔◌, pos, ◌-ℤ◌, ◌<ℤ◌};
 ghost use Rattle.srt_tsbpd.specs.Deadline.{IsTooLate, too_late_at};
 
-use srt_seq::limits::TLPKTDROP_MIN_US;
+use srt_seq::limits::MIN_TLPKTDROP_US;
 
 /// The cut-off of too-late packet drop: a packet that was queued before the returned moment is too late at `now`. That
 /// is `now` less the greater of 1.25 times the session's delay `latency` and one second (section 4.6). All are
@@ -13,6 +13,6 @@ pub fn too_late_before(now: u64, latency: u32) -> i64
     ensures too_late { (origin : ℕ) → (pos origin <ℤ result) ↔ IsTooLate latency (pos now -ℤ pos origin) }
     ensures value { result ≡ too_late_at now latency }
 {
-    let threshold = (u64::from(latency) * 5 / 4).max(TLPKTDROP_MIN_US);
+    let threshold = (u64::from(latency) * 5 / 4).max(MIN_TLPKTDROP_US);
     now as i64 - threshold as i64
 }

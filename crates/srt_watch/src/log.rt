@@ -19,7 +19,7 @@ const SECOND: u64 = 1_000_000;
 
 /// A log, and how many lines its present second has.
 #[derive(Drop)]
-pub(crate) struct Log<W: Drop> {
+pub(crate) struct LogWriter<W: Drop> {
     pub(crate) out: W,
     is_timed: bool,
     limit: LineLimit,
@@ -29,10 +29,10 @@ pub(crate) struct Log<W: Drop> {
     second: u64,
 }
 
-impl<W: Write + Drop> Log<W> {
+impl<W: Write + Drop> LogWriter<W> {
     /// A log without lines. Lines begin with their time if it `is_timed`.
-    pub fn new(out: W, is_timed: bool) -> Log<W> {
-        Log {
+    pub fn new(out: W, is_timed: bool) -> LogWriter<W> {
+        LogWriter {
             out,
             is_timed,
             limit: LineLimit::new(),
@@ -85,12 +85,12 @@ impl<W: Write + Drop> Log<W> {
     /// Writes the line of an event whether its second has room or not: one that comes once in a run, or twice a second at
     /// most.
     pub fn tell_always(&mut self, when: When, event: LogEvent<'_>) {
-        self.pass(when);
+        self.end_second(when);
         self.write(when, event);
     }
 
     /// Tells how many lines the second before left out, if that is over and they weren't told yet.
-    pub fn pass(&mut self, when: When) {
+    pub fn end_second(&mut self, when: When) {
         let count = self.limit.look(when.moment);
         let missed = self.missed_by(when.moment);
         self.tell_left_out(when, count.saturating_add(missed));
@@ -98,7 +98,7 @@ impl<W: Write + Drop> Log<W> {
 
     /// Tells how many lines the present second has left out so far, at the end of the log.
     pub fn end(&mut self, when: When) {
-        self.pass(when);
+        self.end_second(when);
         let missed = mem::replace(&mut self.missed, 0);
         let left_out = self.limit.left_out();
         self.tell_left_out(when, left_out.saturating_add(missed));

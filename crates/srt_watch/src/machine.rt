@@ -5,6 +5,9 @@ pub trait Machine {
     /// Rests for some milliseconds.
     fn rest(&self);
 
+    /// Rests for a millisecond.
+    fn nap(&self);
+
     /// The present moment, in microseconds of the clock that the routes have.
     fn moment(&mut self) -> u64;
 
@@ -14,9 +17,10 @@ pub trait Machine {
     /// Whether the gateway is asked to stop.
     fn stop_asked(&self) -> bool;
 
-    /// The memory that the gateway has, in bytes; 0 if that isn't known.
-    fn memory(&self) -> u64;
+    /// The memory that the gateway has, in bytes; `None` if that isn't known.
+    fn memory(&self) -> Option<u64>;
 
-    /// The number of datagrams so far that the kernel dropped at the gateway's socket; 0 if that isn't known.
-    fn drops(&self) -> u64;
+    /// The number of datagrams so far that the kernel dropped at the gateway's socket; `None` if that isn't
+    /// known.
+    fn drops(&self) -> Option<u64>;
 }

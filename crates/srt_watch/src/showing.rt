@@ -1,9 +1,9 @@
 //! What a look has of the sessions of a route.
 
 ghost use Rattle.std.specs.Prelude.{◌≡◌};
-ghost use Rattle.srt_watch.specs.Showing.{reason_of, counts_of, latency_of, look_of, end_of, slot_of};
+ghost use Rattle.srt_watch.specs.Showing.{reason_of, counts_of, troubles_of, latency_of, look_of, end_of, slot_of};
 
-use srt_log::{EndReason, RouteLook, SLOTS, SessionCounts, SessionEnd, SessionLook};
+use srt_log::{EndReason, RouteLook, SLOTS, SessionCounts, SessionEnd, SessionLook, Troubles};
 use srt_route::{EndCause, EndedSession, Route, SessionView, Traffic};
 
 /// Why a session ended, for a log.
@@ -11,9 +11,11 @@ fn reason_of(stops: bool, cause: EndCause) -> EndReason
     ensures { result ≡ reason_of stops cause }
 {
     match cause {
-        EndCause::Shutdown => EndReason::Shutdown,
+        EndCause::Shutdown | EndCause::Drained => EndReason::Shutdown,
+        EndCause::DrainedTooLong => EndReason::DrainedTooLong,
         EndCause::Silence => EndReason::Silence,
         EndCause::WindowLost => EndReason::WindowLost,
+        EndCause::FileEnded => EndReason::StreamEnd,
         EndCause::Closed => {
             if stops {
                 EndReason::GatewayStops
@@ -24,7 +26,7 @@ fn reason_of(stops: bool, cause: EndCause) -> EndReason
     }
 }
 
-/// What a session took and gave. Of a publisher's, `resent` counts packets that came beside those that were received:
+/// What a session took and gave. Of a publisher's, `resent` counts packets that arrived beside those that were received:
 /// again, too late, or too far ahead.
 fn counts_of(traffic: &Traffic) -> SessionCounts
     ensures { result ≡ counts_of traffic.now }
@@ -48,8 +50,27 @@ fn counts_of(traffic: &Traffic) -> SessionCounts
     }
 }
 
+/// What is wrong with a session's stream. Packets of a publisher that arrived after their place was passed are too late if
+/// as many numbers were given up; else they were sent again though they had come.
+fn troubles_of(traffic: &Traffic) -> Troubles
+    ensures { result ≡ troubles_of traffic.now }
+{
+    match traffic {
+        Traffic::Received(statistics) => Troubles {
+            misdirected: 0,
+            full_window: statistics.counts.full_windows,
+            late: statistics.counts.late.min(statistics.counts.given_up),
+        },
+        Traffic::Sent(statistics) => Troubles {
+            misdirected: statistics.counts.misdirected,
+            full_window: 0,
+            late: 0,
+        },
+    }
+}
+
 /// A latency in milliseconds; `None` for 0, which only a route in buffer mode has.
-fn latency_of(latency_ms: u16) -> Option<u32>
+pub(crate) fn latency_of(latency_ms: u16) -> Option<u32>
     ensures { result ≡ latency_of latency_ms }
 {
     if latency_ms == 0 {
@@ -71,6 +92,7 @@ fn look_of(view: &SessionView, end: Option<SessionEnd>) -> SessionLook
         latency_ms: latency_of(view.latency_ms),
         end,
         counts: counts_of(&view.traffic),
+        troubles: troubles_of(&view.traffic),
     }
 }
 

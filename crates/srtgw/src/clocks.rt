@@ -52,20 +52,20 @@ impl<R: Clock> srt_poller::Clock for Since<'_, R> {
 
 /// The same clock, but each call sleeps 10 ms first. The contracts don't state which moments it gives.
 #[derive(Drop)]
-pub struct Ticks<'a, R> {
+pub struct ClockTicker<'a, R> {
     since: Since<'a, R>,
 }
 
-impl<'a, R: Clock> Ticks<'a, R> {
+impl<'a, R: Clock> ClockTicker<'a, R> {
     /// A clock whose moment 0 was this one.
-    pub fn new(rt: &'a R, start: Option<Instant>) -> Ticks<'a, R> {
-        Ticks {
+    pub fn new(rt: &'a R, start: Option<Instant>) -> ClockTicker<'a, R> {
+        ClockTicker {
             since: Since::new(rt, start),
         }
     }
 }
 
-impl<R: Clock> Ticker for Ticks<'_, R> {
+impl<R: Clock> Ticker for ClockTicker<'_, R> {
     ghost use Rattle.std.specs.Prelude.{None};
 
     ghost gave = { λ s. None };

@@ -7,10 +7,10 @@ use std::rt::Files;
 use thiserror::Error;
 
 /// The greatest size of a configuration's file, in bytes.
-pub const CONFIG_MAX: u64 = 65_536;
+pub const MAX_CONFIG: u64 = 65_536;
 
 /// The greatest size of a tape's file, in bytes: 64 MiB.
-pub const TAPE_MAX: u64 = 67_108_864;
+pub const MAX_TAPE: u64 = 67_108_864;
 
 /// Why a file wasn't read. Its text tells it to a person.
 #[derive(Debug, Drop, Error)]
@@ -44,7 +44,7 @@ fn cause_of(error: io::Error) -> Unread {
     Unread::System(error)
 }
 
-/// Reads a whole file of at most `limit` bytes, and takes memory for them. At most `limit` + 1 bytes are read.
+/// Reads a whole file of at most `limit` bytes, and allocates room for them. At most `limit` + 1 bytes are read.
 pub fn read_file(
     rt: &(impl Files + AllocGlobal),
     path: &str,

@@ -10,7 +10,10 @@ use std::time::{Clock, Duration, Instant, SystemTime};
 use std::{str, thread};
 
 /// The time between two questions of a watcher, in milliseconds.
-const REST: u64 = 20;
+const REST_MS: u64 = 20;
+
+/// The time between two looks at connections of the status page, in milliseconds.
+const NAP_MS: u64 = 1;
 
 /// The present time, in microseconds since 1970; 0 if the system's clock can't be read.
 pub fn time_now(clock: &impl Clock) -> u64 {
@@ -44,7 +47,11 @@ impl<'a, R: Clock> Host<'a, R> {
 
 impl<R: Clock + Files + AllocGlobal> Machine for Host<'_, R> {
     fn rest(&self) {
-        thread::sleep(self.rt, Duration::from_millis(REST));
+        thread::sleep(self.rt, Duration::from_millis(REST_MS));
+    }
+
+    fn nap(&self) {
+        thread::sleep(self.rt, Duration::from_millis(NAP_MS));
     }
 
     fn moment(&mut self) -> u64 {
@@ -59,12 +66,12 @@ impl<R: Clock + Files + AllocGlobal> Machine for Host<'_, R> {
         stop_asked(self.rt)
     }
 
-    fn memory(&self) -> u64 {
-        resident_memory(self.rt).unwrap_or(0)
+    fn memory(&self) -> Option<u64> {
+        resident_memory(self.rt)
     }
 
-    fn drops(&self) -> u64 {
-        kernel_drops(self.rt, self.bind.ip, self.bind.port).unwrap_or(0)
+    fn drops(&self) -> Option<u64> {
+        kernel_drops(self.rt, self.bind.ip, self.bind.port)
     }
 }
 

@@ -4,13 +4,14 @@
 //! It has no rules of the protocol or of the configuration: these are in `srt_gateway` and below. Nothing is kept on
 //! disk. A run ends with status 0 when its work is done, 1 with a fault, 2 with a wrong command line.
 //!
-//! Types: `Task` (`words.rt`), what the command line asks for; `Fault` (`faults.rt`), why a run ended early.
+//! Types: `Task` (`command_line.rt`), what the command line asks for; `Fault` (`faults.rt`), why a run ended early.
 //!
 //! Calls: `main` reads the words, `command` and `given_in` make a task of them, and `run` does it: `check` reads a
-//! configuration (what `--explain` tells is `srt_explain`'s), `replay` runs a tape, `serve` (`serving.rt`) binds the UDP
-//! socket and runs threads until the rounds are over, `run` (`running.rt`) until it is told to stop, with a watcher
-//! (`srt_watch`) to which `host.rt` is the machine. `clocks.rt` has the routes' clock, `files.rt` reads whole files up to a
-//! limit. docs/OPERATING.md has the commands, docs/PROTOCOL.md each line of output and each status.
+//! configuration (what `--explain` tells is `srt_explain`'s), `replay` runs a tape, `serve` (`serving.rt`) binds the
+//! UDP socket and runs threads until the rounds are over, `run` (`running.rt`) until it is told to stop, with a watcher
+//! (`srt_watch`) to which `host.rt` is the machine and `status_page.rt` the page. `clocks.rt` has the routes' clock,
+//! `files.rt` reads whole files up to a limit. docs/OPERATING.md has the commands, docs/PROTOCOL.md each line of output
+//! and each status.
 #![tactic(auto)]
 
 ghost use Rattle.std.specs.Prelude.{◌≡◌};
@@ -18,17 +19,19 @@ ghost use Rattle.std.specs.Process.{exit_status};
 ghost use Rattle.srtgw.specs.Ends.{status_after};
 
 mod clocks;
+mod command_line;
 mod faults;
 mod files;
 mod host;
 mod running;
 mod serving;
+mod status_page;
 #[cfg(test)]
 mod tests;
-mod words;
 
+use command_line::{Given, Task, command, given_in, wrong_duration};
 use faults::Fault;
-use files::{CONFIG_MAX, TAPE_MAX, read_file};
+use files::{MAX_CONFIG, MAX_TAPE, read_file};
 use running::{Manner, run_gateway};
 use serving::{print_report, serve};
 use srt_explain::{Explained, explain};
@@ -40,7 +43,6 @@ use std::rt::{Clock, Env, Files};
 use std::sync::Wait;
 use std::thread::Threads;
 use std::{env, str};
-use words::{Given, Task, command, given_in, wrong_duration};
 
 /// Reads a whole file of at most `limit` bytes.
 fn bytes_at(rt: &(impl Files + AllocGlobal), path: &str, limit: u64) -> Result<Vec<u8>, Fault> {
@@ -52,7 +54,7 @@ fn bytes_at(rt: &(impl Files + AllocGlobal), path: &str, limit: u64) -> Result<V
 
 /// Reads a configuration's file, at most 65,536 bytes. A file that isn't UTF-8 isn't TOML.
 fn config_at(rt: &(impl Files + AllocGlobal), path: &str) -> Result<Config, Fault> {
-    let bytes = bytes_at(rt, path, CONFIG_MAX)?;
+    let bytes = bytes_at(rt, path, MAX_CONFIG)?;
     match str::from_utf8(&bytes) {
         Ok(text) => read_config(rt.alloc(), text).map_err(Fault::Config),
         Err(_) => Err(Fault::Config(ConfigFault::Toml)),
@@ -66,7 +68,7 @@ fn replay_file(
     tape: &str,
 ) -> Result<(), Fault> {
     let config = config_at(rt, config)?;
-    let bytes = bytes_at(rt, tape, TAPE_MAX)?;
+    let bytes = bytes_at(rt, tape, MAX_TAPE)?;
     match BufWriter::new(rt.alloc(), io::writer(rt)) {
         Ok(writer) => {
             let mut reader = CountedReader::new(bytes.as_slice());
@@ -102,7 +104,7 @@ fn print_warnings(rt: &impl Eprint, path: &str, explained: &Explained) {
 
 /// Reads a configuration's file with what is unwise in it. What is wrong is explained on standard error.
 fn explained_at(rt: &(impl Eprint + Files + AllocGlobal), path: &str) -> Result<Explained, Fault> {
-    let bytes = match read_file(rt, path, CONFIG_MAX) {
+    let bytes = match read_file(rt, path, MAX_CONFIG) {
         Ok(bytes) => bytes,
         Err(unread) => {
             let why = &unread;

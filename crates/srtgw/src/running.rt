@@ -1,9 +1,11 @@
 //! `srtgw run`: the gateway at a UDP socket, until it is told to stop.
 
-use crate::clocks::Ticks;
+use crate::clocks::ClockTicker;
+use crate::command_line::VERSION;
 use crate::faults::Fault;
 use crate::host::{Errors, Host, time_now};
 use crate::serving::{bind, gates, print_report};
+use crate::status_page::StatusPage;
 use srt_explain::Explained;
 use srt_gateway::Config;
 use srt_mailbox::Account;
@@ -11,15 +13,15 @@ use srt_operate::signals_are_blocked;
 use srt_poller::BindFault;
 use srt_serve::{RunFault, Watched, run_until};
 use srt_watch::{Start, Watcher};
-use std::io;
+use std::io::{self, ErrorKind};
 use std::net::{Ipv4Addr, Net};
 use std::rt::{Clock, Files};
 use std::sync::Wait;
 use std::thread::Threads;
 use std::time::Instant;
 
-/// The most rounds of a run: at one a microsecond they last nine years.
-const ROUNDS_MAX: u64 = 1 << 48;
+/// The most rounds of `run`: at one a microsecond they last nine years.
+const MAX_RUN_ROUNDS: u64 = 1 << 48;
 
 /// How a gateway runs.
 #[derive(Clone, Copy, Debug)]
@@ -43,6 +45,27 @@ fn explain_bind(rt: &impl Eprint, config: &Config, fault: BindFault) {
         BindFault::Socket(None) => eprintln!(rt; "srtgw: {ip}:{port}: the socket can't be used"),
         BindFault::OutOfMemory => eprintln!(rt; "srtgw: {ip}:{port}: memory was refused"),
     };
+}
+
+/// Binds the address of the status page, if the configuration has one. Says on standard error why it can't be bound.
+fn open_page(
+    rt: &(impl Eprint + AllocGlobal),
+    machine: &HostRuntime,
+    config: &Config,
+) -> Result<StatusPage, Fault> {
+    match StatusPage::bind(machine, rt.alloc(), config.status) {
+        Ok(page) => Ok(page),
+        Err(error) if error.kind() == ErrorKind::OutOfMemory => Err(Fault::Memory),
+        Err(error) => {
+            if let Some(address) = config.status {
+                let [a, b, c, d] = address.ip;
+                let ip = Ipv4Addr::new(a, b, c, d);
+                let port = address.port;
+                let _ = eprintln!(rt; "srtgw: status page at {ip}:{port}: {error}");
+            }
+            Err(Fault::Bind(BindFault::Socket(error.raw_os_error())))
+        }
+    }
 }
 
 /// Says on standard error why the routes weren't served.
@@ -75,10 +98,10 @@ fn print_accounts(rt: &impl Print, config: &Config, accounts: &[Account]) -> io:
     Ok(())
 }
 
-/// Serves the routes of an explained configuration until SIGINT or SIGTERM is pending or its time is over, and tells a log
-/// on standard error what happens. Then every route is closed, and what is left is sent, for a second at most. Prints
-/// the report and an account of each route. `path` is that of the configuration. The watcher, which has a thread of its
-/// own, asks `machine`.
+/// Serves the routes of an explained configuration until SIGINT or SIGTERM is pending or its time is over, and tells a
+/// log on standard error what happens. Then every route is closed, and what is left is sent, for a second at most.
+/// Prints the report and an account of each route. `path` is that of the configuration. The watcher, which has a thread
+/// of its own, asks `machine`.
 pub fn run_gateway<R>(
     rt: &R,
     machine: &HostRuntime,
@@ -105,12 +128,15 @@ where
         workers: config.workers,
         is_blocked: signals_are_blocked(rt),
         lasts: manner.lasts,
+        version: VERSION,
     };
+    let page = open_page(rt, machine, config)?;
     let host = Host::new(machine, start, config.bind);
     let entries = config.entries.as_slice();
     let Ok(mut watcher) = Watcher::open(
         rt.alloc(),
         host,
+        page,
         Errors::new(machine),
         manner.is_timed,
         entries,
@@ -131,10 +157,10 @@ where
         config.schedules.as_slice(),
         &mut source,
         &mut wire,
-        Ticks::new(rt, start),
+        ClockTicker::new(rt, start),
         gates,
         watcher,
-        ROUNDS_MAX,
+        MAX_RUN_ROUNDS,
     );
     let Watched {
         report,

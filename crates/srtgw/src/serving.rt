@@ -3,7 +3,7 @@
 ghost use Rattle.std.specs.Prelude.{◌≡◌, IfOk};
 ghost use Rattle.std.specs.Vec.{vec_len};
 
-use crate::clocks::{Since, Ticks};
+use crate::clocks::{ClockTicker, Since};
 use crate::faults::Fault;
 use srt_gateway::Config;
 use srt_poller::{BindFault, MioSource, MioWire, Report, Ungated};
@@ -66,7 +66,7 @@ pub fn serve<R: AllocGlobal + Net + Clock + Threads + Wait + Sync>(
         config.schedules.as_slice(),
         &mut source,
         &mut wire,
-        Ticks::new(rt, start),
+        ClockTicker::new(rt, start),
         gates,
         rounds,
     ) {
@@ -75,7 +75,7 @@ pub fn serve<R: AllocGlobal + Net + Clock + Threads + Wait + Sync>(
     }
 }
 
-/// Prints a report as one line on standard output: each count after its name.
+/// Prints a report as one line on standard output: each count after its name. What was dropped is one count.
 pub fn print_report(rt: &impl Print, report: &Report) -> io::Result<()> {
     let Report {
         read,
@@ -83,6 +83,7 @@ pub fn print_report(rt: &impl Print, report: &Report) -> io::Result<()> {
         accepted,
         full,
         dropped,
+        not_allowed: _,
         memory,
         sent,
         lost,

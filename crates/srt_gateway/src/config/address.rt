@@ -1,40 +1,19 @@
-//! The address to bind.
+//! Addresses with a port.
 
 ghost use Rattle.std.specs.Prelude.{◌≡◌, ◌^◌, ◌<◌, option_map, IfSome};
-ghost use Rattle.srt_gateway.specs.Address.{parted, octet_to, address_in};
-ghost use Rattle.srt_gateway.specs.AddressParts.{both, octet_seen, address_of};
+ghost use Rattle.srt_gateway.specs.Address.{octet_to, address_in};
+ghost use Rattle.srt_gateway.specs.AddressParts.{octet_seen, address_of};
 
 use crate::numbers::read_number;
-use memchr::memchr;
+use crate::splitting::parted;
 
 /// An IPv4 address and a port.
 #[derive(Clone, Copy, Debug, PartialEq, Eq)]
 pub struct BindAddress {
     /// The four octets as they are written, the first one first.
     pub ip: [u8; 4],
-    /// The UDP port; 0 if the system may choose one.
+    /// The port; 0 if the system may choose one.
     pub port: u16,
-}
-
-/// A text split at the first byte of some value, which belongs to neither part.
-#[derive(Clone, Copy)]
-pub(crate) struct Parts<'a> {
-    /// The text before the byte.
-    pub(crate) before: &'a [u8],
-    /// The text after the byte.
-    pub(crate) behind: &'a [u8],
-}
-
-fn parted(at: u8, text: &[u8]) -> Option<Parts<'_>>
-    ensures { option_map both result ≡ parted at text.now }
-{
-    match memchr(at, text) {
-        Some(k) => Some(Parts {
-            before: &text[..k],
-            behind: &text[k + 1..],
-        }),
-        None => None,
-    }
 }
 
 /// An octet, and the text after the byte that ends it.
@@ -46,8 +25,10 @@ pub(crate) struct Octet<'a> {
     pub(crate) behind: &'a [u8],
 }
 
+/// The octet before the first byte of this value, in decimal digits without leading zeros, and the text behind that byte;
+/// None if the text has another form.
 #[tactic(auto, unfolding(crate::specs::Address::octet_to))]
-fn octet_to(end: u8, text: &[u8]) -> Option<Octet<'_>>
+pub(crate) fn octet_to(end: u8, text: &[u8]) -> Option<Octet<'_>>
     ensures { option_map octet_seen result ≡ octet_to end text.now }
 {
     let parts = parted(end, text)?;
@@ -60,7 +41,7 @@ fn octet_to(end: u8, text: &[u8]) -> Option<Octet<'_>>
 
 /// Reads `a.b.c.d:port` in decimal digits without leading zeros; None if the text has another form.
 #[tactic(auto, unfolding(crate::specs::Address::address_in))]
-pub(crate) fn read_bind(text: &[u8]) -> Option<BindAddress>
+pub(crate) fn read_address(text: &[u8]) -> Option<BindAddress>
     ensures { option_map address_of result ≡ address_in text.now }
 {
     let a = octet_to(b'.', text)?;

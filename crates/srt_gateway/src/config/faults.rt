@@ -14,6 +14,8 @@ pub enum Key {
     Bind,
     /// `workers`: the number of threads that serve routes, 1 to 16.
     Workers,
+    /// `status`: the IPv4 address and TCP port of the status page; there is none if it is missing.
+    Status,
     /// `route`: the tables of the routes, 1 to 511.
     Route,
     /// `name`: a route's name, 1 to 64 bytes.
@@ -35,6 +37,27 @@ pub enum Key {
     /// `close_round`: the poller's round in which the route closes, after `open_round` and at most 1,000,000,000; it
     /// stays open if it is missing.
     CloseRound,
+    /// `callers`: which rules the sessions of a route follow, `draft` or `libsrt`; the draft's if it is missing.
+    Callers,
+    /// `publish_from`: the networks that publishers may call from, 1 to 16; from anywhere if it is missing.
+    PublishFrom,
+    /// `request_from`: the networks that subscribers may call from, 1 to 16; from anywhere if it is missing.
+    RequestFrom,
+    /// `publish_key`: the key that a publisher's Stream ID has to bring, 1 to 64 bytes; none if it is missing.
+    PublishKey,
+    /// `request_key`: the key that a subscriber's Stream ID has to bring, 1 to 64 bytes; none if it is missing.
+    RequestKey,
+    /// `reserved`: the number of slots that are kept for publishers, 0 to 2 and below `sessions`; 0 if it is missing.
+    Reserved,
+    /// `sessions_per_address`: the greatest number of sessions of one IP address, 1 to 17; no limit of its own if it is
+    /// missing.
+    SessionsPerAddress,
+    /// `takeover_ms`: the time without a data packet of the active publisher after which the one that stands by takes over,
+    /// 100 to 5000 ms; if it is missing, it takes over only once the active one's session has ended.
+    TakeoverMs,
+    /// `resend_percent`: the greatest share of a subscriber's new packets that is sent again, in percent, 5 to 1000; no
+    /// limit if it is missing.
+    ResendPercent,
 }
 
 impl Key {
@@ -46,6 +69,7 @@ impl Key {
             Key::Secret => "secret",
             Key::Bind => "bind",
             Key::Workers => "workers",
+            Key::Status => "status",
             Key::Route => "route",
             Key::Name => "name",
             Key::Mode => "mode",
@@ -56,6 +80,15 @@ impl Key {
             Key::Outbox => "outbox",
             Key::OpenRound => "open_round",
             Key::CloseRound => "close_round",
+            Key::Callers => "callers",
+            Key::PublishFrom => "publish_from",
+            Key::RequestFrom => "request_from",
+            Key::PublishKey => "publish_key",
+            Key::RequestKey => "request_key",
+            Key::Reserved => "reserved",
+            Key::SessionsPerAddress => "sessions_per_address",
+            Key::TakeoverMs => "takeover_ms",
+            Key::ResendPercent => "resend_percent",
         }
     }
 }
@@ -72,8 +105,9 @@ pub enum ConfigFault {
     Missing(Key),
     /// The key's value has the wrong type.
     WrongKind(Key),
-    /// The key's value is outside its limits; for `route` the number of routes, for `mode` a text other than `live` and
-    /// `buffer`, for `close_round` also a round that isn't after `open_round`.
+    /// The key's value is outside its limits; for `route` the number of routes, for `mode` and `callers` a text that is none
+    /// of their two, for `close_round` also a round that isn't after `open_round`, for `reserved` also a number that isn't
+    /// below `sessions`, for a list of networks their number, for the key of a role a text of another form.
     OutOfRange(Key),
     /// A route's name has a wrong form.
     BadName,
@@ -81,8 +115,9 @@ pub enum ConfigFault {
     RepeatedName,
     /// The secret is not 64 hexadecimal digits.
     BadSecret,
-    /// The address to bind isn't of the form `a.b.c.d:port`.
-    BadAddress,
+    /// The address at this key isn't of the form `a.b.c.d:port`, or one of its networks not of the form `a.b.c.d` or
+    /// `a.b.c.d/n`.
+    BadAddress(Key),
     /// Memory was refused.
     OutOfMemory,
 }
@@ -101,7 +136,7 @@ impl ConfigFault {
             ConfigFault::BadName => 6,
             ConfigFault::RepeatedName => 7,
             ConfigFault::BadSecret => 8,
-            ConfigFault::BadAddress => 9,
+            ConfigFault::BadAddress(_) => 9,
             ConfigFault::OutOfMemory => 10,
         }
     }
@@ -115,10 +150,10 @@ impl ConfigFault {
             ConfigFault::UnknownKey(key) => key.as_str(),
             ConfigFault::Missing(key)
             | ConfigFault::WrongKind(key)
-            | ConfigFault::OutOfRange(key) => key.name(),
+            | ConfigFault::OutOfRange(key)
+            | ConfigFault::BadAddress(key) => key.name(),
             ConfigFault::BadName | ConfigFault::RepeatedName => Key::Name.name(),
             ConfigFault::BadSecret => Key::Secret.name(),
-            ConfigFault::BadAddress => Key::Bind.name(),
         }
     }
 }

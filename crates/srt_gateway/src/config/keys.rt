@@ -6,9 +6,11 @@ ghost use Rattle.toml.specs.View.{view, table_view};
 ghost use Rattle.srt_seq.specs.Entries.{is_between};
 ghost use Rattle.srt_gateway.specs.Faults.{key_name};
 ghost use Rattle.srt_gateway.specs.FirstFault.{seen, Gives};
-ghost use Rattle.srt_gateway.specs.Keys.{is_key, least_unknown, known, value_at, value_seen, text_at, within, number_at, optional_in, optional_at};
+ghost use Rattle.srt_gateway.specs.Keys.{is_key, least_unknown, known, value_at, value_seen, text_value, text_at, within, number_value};
+ghost use Rattle.srt_gateway.specs.Keys.{number_at, optional_number_at};
 
 use super::faults::{ConfigFault, Key};
+use srt_seq::is_between;
 use std::alloc::Global;
 use toml::{Table, Value};
 
@@ -31,7 +33,7 @@ fn least_unknown<'a>(keys: &[Key], table: &'a Table) -> Option<&'a str>
 }
 
 /// Checks that a table has no key but these. The error is `UnknownKey` with the first other key in the order of bytes;
-/// takes memory for its name alone.
+/// allocates its name alone.
 #[tactic(auto, unfolding(crate::specs::Keys::known))]
 pub(crate) fn only_known(alloc: Global, keys: &[Key], table: &Table) -> Result<(), ConfigFault>
     ensures { Gives (λ u. u) result (known keys.now (table_view table.now)) }
@@ -45,7 +47,8 @@ pub(crate) fn only_known(alloc: Global, keys: &[Key], table: &Table) -> Result<(
     }
 }
 
-fn found_at(table: &Table, key: Key) -> Option<&Value>
+/// The value at a key, if there is one.
+pub(crate) fn found_at(table: &Table, key: Key) -> Option<&Value>
     ensures { option_map value_seen result ≡ get_member (key_name key) (table_view table.now) }
 {
     table.get(key.name())
@@ -62,65 +65,78 @@ pub(crate) fn value_at(table: &Table, key: Key) -> Result<&Value, ConfigFault>
     }
 }
 
-/// The text at a key, or `Missing` or `WrongKind`.
-#[tactic(auto, unfolding(crate::specs::Keys::text_at))]
-pub(crate) fn text_at(table: &Table, key: Key) -> Result<&str, ConfigFault>
-    ensures { seen (λ t. t.now) result ≡ text_at key (table_view table.now) }
+/// The text that the value of a key is, or `WrongKind`.
+#[tactic(auto, unfolding(crate::specs::Keys::text_value))]
+pub(crate) fn text_value(key: Key, value: &Value) -> Result<&str, ConfigFault>
+    ensures { seen (λ t. t.now) result ≡ text_value key (view value.now) }
 {
-    match value_at(table, key)?.as_str() {
+    match value.as_str() {
         Some(text) => Ok(text),
         None => Err(ConfigFault::WrongKind(key)),
     }
 }
 
-fn within(key: Key, low: u32, high: u32, number: i64) -> Result<u32, ConfigFault>
+/// The text at a key, or `Missing` or `WrongKind`.
+#[tactic(auto, unfolding(crate::specs::Keys::text_at))]
+pub(crate) fn text_at(table: &Table, key: Key) -> Result<&str, ConfigFault>
+    ensures { seen (λ t. t.now) result ≡ text_at key (table_view table.now) }
+{
+    text_value(key, value_at(table, key)?)
+}
+
+fn within(key: Key, low: usize, high: usize, number: i64) -> Result<u32, ConfigFault>
+    requires { high < 2 ^ 32 }
     ensures value { seen (λ n. n) result ≡ within key low high number }
     ensures inside { IfOk result (λ n. is_between low high n ≡ true) }
 {
-    if number < i64::from(low) || i64::from(high) < number {
-        return Err(ConfigFault::OutOfRange(key));
+    match u32::try_from(number) {
+        Ok(number) if is_between(low, high, number as usize) => Ok(number),
+        _ => Err(ConfigFault::OutOfRange(key)),
     }
-    Ok(number as u32)
 }
 
-/// The number at a key, from `low` to `high`, or `Missing`, `WrongKind` or `OutOfRange`.
-#[tactic(auto, unfolding(crate::specs::Keys::number_at))]
-pub(crate) fn number_at(table: &Table, key: Key, low: u32, high: u32) -> Result<u32, ConfigFault>
-    ensures value { seen (λ n. n) result ≡ number_at key low high (table_view table.now) }
+/// The number that the value of a key is, from `low` to `high`, or `WrongKind` or `OutOfRange`.
+#[tactic(auto, unfolding(crate::specs::Keys::number_value))]
+fn number_value(key: Key, low: usize, high: usize, value: &Value) -> Result<u32, ConfigFault>
+    requires { high < 2 ^ 32 }
+    ensures value { seen (λ n. n) result ≡ number_value key low high (view value.now) }
     ensures inside { IfOk result (λ n. is_between low high n ≡ true) }
 {
-    match value_at(table, key)?.as_integer() {
+    match value.as_integer() {
         Some(number) => within(key, low, high, number),
         None => Err(ConfigFault::WrongKind(key)),
     }
 }
 
-fn optional_in(value: &Value, key: Key, low: u32, high: u32) -> Result<Option<u32>, ConfigFault>
-    ensures value { seen (λ n. n) result ≡ optional_in key low high (Some (view value.now)) }
-    ensures inside { IfOk result (λ found. IfSome found (λ n. is_between low high n ≡ true)) }
+/// The number at a key, from `low` to `high`, or `Missing`, `WrongKind` or `OutOfRange`.
+#[tactic(auto, unfolding(crate::specs::Keys::number_at))]
+pub(crate) fn number_at(
+    table: &Table,
+    key: Key,
+    low: usize,
+    high: usize,
+) -> Result<u32, ConfigFault>
+    requires { high < 2 ^ 32 }
+    ensures value { seen (λ n. n) result ≡ number_at key low high (table_view table.now) }
+    ensures inside { IfOk result (λ n. is_between low high n ≡ true) }
 {
-    let Some(number) = value.as_integer() else {
-        return Err(ConfigFault::WrongKind(key));
-    };
-    match within(key, low, high, number) {
-        Ok(number) => Ok(Some(number)),
-        Err(fault) => Err(fault),
-    }
+    number_value(key, low, high, value_at(table, key)?)
 }
 
 /// The number at a key that may be missing, from `low` to `high`, or `WrongKind` or `OutOfRange`.
-#[tactic(auto, unfolding(crate::specs::Keys::optional_at))]
-pub(crate) fn optional_at(
+#[tactic(auto, unfolding(crate::specs::Keys::optional_number_at))]
+pub(crate) fn optional_number_at(
     table: &Table,
     key: Key,
-    low: u32,
-    high: u32,
+    low: usize,
+    high: usize,
 ) -> Result<Option<u32>, ConfigFault>
-    ensures value { seen (λ n. n) result ≡ optional_at key low high (table_view table.now) }
+    requires { high < 2 ^ 32 }
+    ensures value { seen (λ n. n) result ≡ optional_number_at key low high (table_view table.now) }
     ensures inside { IfOk result (λ found. IfSome found (λ n. is_between low high n ≡ true)) }
 {
     match found_at(table, key) {
-        Some(value) => optional_in(value, key, low, high),
+        Some(value) => Ok(Some(number_value(key, low, high, value)?)),
         None => Ok(None),
     }
 }

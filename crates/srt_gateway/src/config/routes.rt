@@ -3,23 +3,30 @@
 ghost use Rattle.std.specs.Prelude.{◌≡◌, length, map, true, None, Ok, IfOk};
 ghost use Rattle.std.specs.List.{list_all};
 ghost use Rattle.toml.specs.View.{table_view, items_view};
+ghost use Rattle.srt_seq.specs.Access.{access_of};
 ghost use Rattle.srt_seq.specs.Terms.{terms_of};
 ghost use Rattle.srt_seq.specs.Entries.{is_between};
 ghost use Rattle.srt_lobby.specs.Opening.{fault_of};
 ghost use Rattle.srt_gateway.specs.FirstFault.{seen, Gives};
-ghost use Rattle.srt_gateway.specs.Routes.{name_in, name_at, mode_in, mode_at, numbers_at, schedule_at, closes_later, terms_with, route_at, no_routes, are_tables, count, routes_from, routes_in, routes_at};
-ghost use Rattle.srt_gateway.specs.RouteParts.{numbers_of, route_seen, routes_seen};
+ghost use Rattle.srt_gateway.specs.Routes.{name_in, name_at, mode_in, mode_at, numbers_at, schedule_at, closes_later, terms_with, with_access};
+ghost use Rattle.srt_gateway.specs.Routes.{with_rules, route_at, no_routes, are_tables, count, routes_from, routes_in, routes_at};
+ghost use Rattle.srt_gateway.specs.inside.RouteParts.{numbers_of, route_seen, routes_seen};
 
+use super::access::access_at;
 use super::faults::{ConfigFault, Key};
-use super::keys::{number_at, only_known, optional_at, text_at, value_at};
+use super::keys::{number_at, only_known, optional_number_at, text_at, value_at};
+use super::rules::{callers_at, rules_at};
 use srt_lobby::is_taken;
-use srt_seq::limits::MAX_ROUTES;
-use srt_seq::{Entry, Mode, Schedule, is_between, is_name};
+use srt_seq::limits::{
+    MAX_LATENCY_MS, MAX_QUEUE, MAX_ROUTES, MAX_SESSIONS, MAX_WINDOW, MIN_LATENCY_MS, MIN_QUEUE,
+    MIN_WINDOW,
+};
+use srt_seq::{Access, Callers, Entry, Mode, Rules, Schedule, is_between, is_name};
 use std::alloc::Global;
 use toml::{Table, Value};
 
 /// The keys of a route.
-pub const ROUTE_KEYS: [Key; 9] = [
+pub const ROUTE_KEYS: [Key; 18] = [
     Key::Name,
     Key::Mode,
     Key::LatencyMs,
@@ -29,10 +36,19 @@ pub const ROUTE_KEYS: [Key; 9] = [
     Key::Outbox,
     Key::OpenRound,
     Key::CloseRound,
+    Key::Callers,
+    Key::PublishFrom,
+    Key::RequestFrom,
+    Key::PublishKey,
+    Key::RequestKey,
+    Key::Reserved,
+    Key::SessionsPerAddress,
+    Key::TakeoverMs,
+    Key::ResendPercent,
 ];
 
 /// The last round in which a route may open or close.
-const ROUND_MAX: u32 = 1_000_000_000;
+pub const MAX_ROUND: usize = 1_000_000_000;
 
 /// Checks a name: `BadName` if it has a wrong form, else `RepeatedName` if an earlier route has it.
 #[tactic(auto, unfolding(crate::specs::Routes::name_in))]
@@ -95,22 +111,24 @@ fn numbers_at(table: &Table) -> Result<RouteNumbers, ConfigFault>
     ensures { seen numbers_of result ≡ numbers_at (table_view table.now) }
 {
     Ok(RouteNumbers {
-        latency_ms: number_at(table, Key::LatencyMs, 20, 8000)?,
-        buffer: number_at(table, Key::Buffer, 32, 8192)?,
-        sessions: number_at(table, Key::Sessions, 1, 17)?,
-        inbox: number_at(table, Key::Inbox, 16, 4096)?,
-        outbox: number_at(table, Key::Outbox, 16, 4096)?,
+        latency_ms: number_at(table, Key::LatencyMs, MIN_LATENCY_MS, MAX_LATENCY_MS)?,
+        buffer: number_at(table, Key::Buffer, MIN_WINDOW, MAX_WINDOW)?,
+        sessions: number_at(table, Key::Sessions, 1, MAX_SESSIONS)?,
+        inbox: number_at(table, Key::Inbox, MIN_QUEUE, MAX_QUEUE)?,
+        outbox: number_at(table, Key::Outbox, MIN_QUEUE, MAX_QUEUE)?,
     })
 }
 
-/// The entry with this name, mode and numbers. Takes memory for a copy of the name.
+/// The entry with this name, mode, numbers, callers and rules. Allocates a copy of the name.
 fn entry_with(
     alloc: Global,
     name: &str,
     mode: Mode,
     numbers: RouteNumbers,
+    access: Access,
+    rules: Rules,
 ) -> Result<Entry, ConfigFault>
-    ensures { Gives terms_of result (Ok (terms_with name.now mode (numbers_of numbers))) }
+    ensures { Gives terms_of result (Ok (with_rules rules (with_access (access_of access) (terms_with name.now mode (numbers_of numbers))))) }
 {
     match String::from_str(alloc, name) {
         Ok(name) => Ok(Entry {
@@ -121,6 +139,8 @@ fn entry_with(
             sessions: numbers.sessions,
             inbox: numbers.inbox,
             outbox: numbers.outbox,
+            access,
+            rules,
         }),
         Err(_) => Err(ConfigFault::OutOfMemory),
     }
@@ -130,8 +150,9 @@ fn entry_with(
 fn schedule_at(table: &Table) -> Result<Schedule, ConfigFault>
     ensures { seen (λ s. s) result ≡ schedule_at (table_view table.now) }
 {
-    let open_round = optional_at(table, Key::OpenRound, 0, ROUND_MAX)?.unwrap_or(0);
-    let close_round = optional_at(table, Key::CloseRound, open_round + 1, ROUND_MAX)?;
+    let open_round = optional_number_at(table, Key::OpenRound, 0, MAX_ROUND)?.unwrap_or(0);
+    let first = open_round as usize + 1;
+    let close_round = optional_number_at(table, Key::CloseRound, first, MAX_ROUND)?;
     Ok(Schedule {
         open_round,
         close_round,
@@ -157,7 +178,10 @@ fn route_at(alloc: Global, before: &[Entry], table: &Table) -> Result<ReadRoute,
     let mode = mode_at(table)?;
     let numbers = numbers_at(table)?;
     let schedule = schedule_at(table)?;
-    let entry = entry_with(alloc, name, mode, numbers)?;
+    let callers = callers_at(table)?.unwrap_or(Callers::Draft);
+    let access = access_at(alloc, table)?;
+    let rules = rules_at(numbers.sessions, callers, table)?;
+    let entry = entry_with(alloc, name, mode, numbers, access, rules)?;
     Ok(ReadRoute { entry, schedule })
 }
 

@@ -1,17 +1,17 @@
-//! The secret and the address.
+//! The secret and the addresses.
 
-ghost use Rattle.std.specs.Prelude.{◌≡◌};
-ghost use Rattle.toml.specs.View.{table_view};
+ghost use Rattle.std.specs.Prelude.{◌≡◌, option_map};
+ghost use Rattle.toml.specs.View.{view, table_view};
 ghost use Rattle.srt_cookie.specs.Cookie.{secret_bytes};
 ghost use Rattle.srt_gateway.specs.FirstFault.{seen};
 ghost use Rattle.srt_gateway.specs.AddressParts.{address_of};
-ghost use Rattle.srt_gateway.specs.Config.{secret_in, secret_at, bind_at};
+ghost use Rattle.srt_gateway.specs.Config.{secret_in, secret_at, address_value, address_at, optional_address_at};
 
-use super::address::{BindAddress, read_bind};
+use super::address::{BindAddress, read_address};
 use super::faults::{ConfigFault, Key};
-use super::keys::text_at;
+use super::keys::{found_at, text_at, text_value, value_at};
 use srt_cookie::Secret;
-use toml::Table;
+use toml::{Table, Value};
 
 /// Reads a secret: 32 bytes in 64 hexadecimal digits, of either case.
 #[tactic(auto, unfolding(crate::specs::Config::secret_in))]
@@ -33,13 +33,35 @@ pub(crate) fn secret_at(table: &Table) -> Result<Secret, ConfigFault>
     read_secret(text_at(table, Key::Secret)?)
 }
 
-/// The address of a configuration's table.
-#[tactic(auto, unfolding(crate::specs::Config::bind_at))]
-pub(crate) fn bind_at(table: &Table) -> Result<BindAddress, ConfigFault>
-    ensures { seen address_of result ≡ bind_at (table_view table.now) }
+/// The address that the value of a key is, or `WrongKind` or `BadAddress`.
+#[tactic(auto, unfolding(crate::specs::Config::address_value))]
+fn address_value(key: Key, value: &Value) -> Result<BindAddress, ConfigFault>
+    ensures { seen address_of result ≡ address_value key (view value.now) }
 {
-    match read_bind(text_at(table, Key::Bind)?.as_bytes()) {
-        Some(bind) => Ok(bind),
-        None => Err(ConfigFault::BadAddress),
+    match read_address(text_value(key, value)?.as_bytes()) {
+        Some(address) => Ok(address),
+        None => Err(ConfigFault::BadAddress(key)),
+    }
+}
+
+/// The address at a key, or `Missing`, `WrongKind` or `BadAddress`.
+#[tactic(auto, unfolding(crate::specs::Config::address_at))]
+pub(crate) fn address_at(table: &Table, key: Key) -> Result<BindAddress, ConfigFault>
+    ensures { seen address_of result ≡ address_at key (table_view table.now) }
+{
+    address_value(key, value_at(table, key)?)
+}
+
+/// The address at a key that may be missing, or `WrongKind` or `BadAddress`.
+#[tactic(auto, unfolding(crate::specs::Config::optional_address_at))]
+pub(crate) fn optional_address_at(
+    table: &Table,
+    key: Key,
+) -> Result<Option<BindAddress>, ConfigFault>
+    ensures { seen (option_map address_of) result ≡ optional_address_at key (table_view table.now) }
+{
+    match found_at(table, key) {
+        Some(value) => Ok(Some(address_value(key, value)?)),
+        None => Ok(None),
     }
 }

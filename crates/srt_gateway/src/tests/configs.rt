@@ -1,29 +1,11 @@
 //! Configurations.
 
-use super::{RIGHT, config_of};
-use crate::{Config, ConfigFault};
+use super::{RIGHT, changed, config_of};
+use crate::{BindAddress, Config, ConfigFault};
 use srt_cookie::{Secret, cookie};
-use srt_seq::{Entry, Mode, Peer, Schedule};
+use srt_seq::{Callers, Entry, Mode, Peer, Rules, Schedule};
 use std::process::Abort;
 use std::test::Fail;
-
-/// The text, with the first occurrence of one line replaced by another.
-fn changed(
-    rt: &(impl AllocGlobal + Abort),
-    text: &str,
-    from: &str,
-    to: &str,
-) -> Result<String, Fail> {
-    match text.split_once(from) {
-        Some((before, behind)) => {
-            let mut out = String::from_str(rt.alloc(), before)?;
-            out.push_str(to)?;
-            out.push_str(behind)?;
-            Ok(out)
-        }
-        None => Err(Fail::from("nothing to change")),
-    }
-}
 
 /// The numbers of an entry: latency, buffer, sessions, inbox and outbox.
 fn numbers_of(entry: &Entry) -> [u32; 5] {
@@ -194,6 +176,21 @@ fn names_and_addresses_are_read(rt: HostRuntime) -> Result<(), Fail> {
     Ok(())
 }
 
+#[test]
+fn a_status_page_may_have_an_address(rt: HostRuntime) -> Result<(), Fail> {
+    let config = config_of(&rt, RIGHT)?;
+    assert_eq!(rt; config.status, None);
+    let both = "workers = 1\nstatus = \"10.1.2.3:9001\"\n";
+    let text = changed(&rt, RIGHT, "workers = 1\n", both)?;
+    let config = config_of(&rt, text.as_str())?;
+    let address = BindAddress {
+        ip: [10, 1, 2, 3],
+        port: 9001,
+    };
+    assert_eq!(rt; config.status, Some(address));
+    Ok(())
+}
+
 /// What may stand after the first route's outbox, and the route's schedule.
 type ScheduleRow = (&'static str, u32, Option<u32>);
 
@@ -232,6 +229,60 @@ fn assert_schedules(rt: &(impl AllocGlobal + Abort), row: &ScheduleRow) -> Resul
 fn routes_may_open_and_close_in_rounds(rt: HostRuntime) -> Result<(), Fail> {
     for row in &SCHEDULES {
         assert_schedules(&rt, row)?;
+    }
+    Ok(())
+}
+
+/// What may stand after the first route's outbox, and the route's rules.
+type RulesRow = (&'static str, Rules);
+
+const RULES: [RulesRow; 3] = [
+    ("", Rules::DRAFT),
+    (
+        "callers = \"libsrt\"\nreserved = 2\nsessions_per_address = 17\ntakeover_ms = 5000\nresend_percent = 5\n",
+        Rules {
+            callers: Callers::Libsrt,
+            reserved: 2,
+            sessions_per_address: Some(17),
+            takeover_ms: Some(5000),
+            resend_percent: Some(5),
+        },
+    ),
+    (
+        "resend_percent = 1000\ntakeover_ms = 100\nsessions_per_address = 1\nreserved = 0\ncallers = \"draft\"\n",
+        Rules {
+            callers: Callers::Draft,
+            reserved: 0,
+            sessions_per_address: Some(1),
+            takeover_ms: Some(100),
+            resend_percent: Some(1000),
+        },
+    ),
+];
+
+/// Asserts an entry's rules.
+fn assert_has_rules(rt: &(impl AllocGlobal + Abort), entry: Option<&Entry>, rules: Rules) {
+    match entry {
+        Some(entry) => assert_eq!(rt; entry.rules, rules),
+        None => assert!(rt; false, "no entry"),
+    }
+}
+
+/// Asserts the rules of the right configuration with this text after the first route's outbox.
+fn assert_rules(rt: &(impl AllocGlobal + Abort), row: &RulesRow) -> Result<(), Fail> {
+    let both = format!(in rt.alloc(); "outbox = 16\n{}", row.0)?;
+    let text = changed(rt, RIGHT, "outbox = 16\n", both.as_str())?;
+    let config = config_of(rt, text.as_str())?;
+    assert_eq!(rt; config.entries.len(), 2);
+    assert_has_rules(rt, config.entries.as_slice().first(), row.1);
+    assert_has_rules(rt, config.entries.as_slice().last(), Rules::DRAFT);
+    Ok(())
+}
+
+#[test]
+fn a_route_may_have_rules_beyond_the_draft(rt: HostRuntime) -> Result<(), Fail> {
+    for row in &RULES {
+        assert_rules(&rt, row)?;
     }
     Ok(())
 }

@@ -1,4 +1,4 @@
-//! How many boxes go round: the route finds a free one wherever it needs one, so that no turn waits.
+//! How many boxes circulate: the route finds a free one wherever it needs one, so that no turn waits.
 
 use crate::spares::{Boxes, Spent, open_boxes};
 use srt_route::Reply;

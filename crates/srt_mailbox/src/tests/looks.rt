@@ -2,9 +2,8 @@
 
 use crate::gates::Served;
 use crate::looks::Look;
-use crate::tests::{
-    APPLIED, Fixed, IDLE, MOVED, PUBLISHER, assert_served, offer_times, peer, studio, tick,
-};
+use crate::tests::datagrams::publisher_conclusion;
+use crate::tests::{APPLIED, Fixed, IDLE, MOVED, assert_served, offer_times, peer, studio, tick};
 use crate::{RouteCell, Serve};
 use srt_route::Route;
 use srt_seq::{Peer, Role};
@@ -14,7 +13,7 @@ use std::test::Fail;
 
 /// What the last look saw.
 #[derive(Drop)]
-struct Eye {
+pub struct Eye {
     looks: u32,
     clock: u64,
     waiting: usize,
@@ -23,7 +22,7 @@ struct Eye {
 }
 
 impl Eye {
-    fn new() -> Eye {
+    pub fn new() -> Eye {
         Eye {
             looks: 0,
             clock: 0,
@@ -67,7 +66,7 @@ fn assert_seen<C: Serve>(
 #[test]
 fn a_look_sees_the_session_and_makes_no_turn(rt: HostRuntime) -> Result<(), Fail> {
     let (mut ingress, mut clock, cell, _drain) = studio(rt.alloc())?;
-    offer_times(&rt, &mut ingress, PUBLISHER, 1)?;
+    offer_times(&rt, &mut ingress, publisher_conclusion(), 1)?;
     let publisher = Some((peer(5000), true));
     assert_seen(&rt, &cell, 0, 0, None);
     assert_served(&rt, &cell, &[APPLIED]);
@@ -106,7 +105,7 @@ impl<R: Wait> Look for Inside<'_, R> {
 #[test]
 fn a_route_that_is_looked_at_is_busy(rt: HostRuntime) -> Result<(), Fail> {
     let (mut ingress, _clock, cell, _drain) = studio(rt.alloc())?;
-    offer_times(&rt, &mut ingress, PUBLISHER, 1)?;
+    offer_times(&rt, &mut ingress, publisher_conclusion(), 1)?;
     let mut inside = Inside {
         rt: &rt,
         cell: &cell,
@@ -115,7 +114,9 @@ fn a_route_that_is_looked_at_is_busy(rt: HostRuntime) -> Result<(), Fail> {
         eye: Eye::new(),
     };
     assert!(rt; cell.show(&rt, &mut inside));
-    assert!(rt; inside.served == Some(Served::Busy) && !inside.shown && inside.eye.looks == 0);
+    assert!(rt;
+        inside.served == Some(Served::ClaimedElsewhere) && !inside.shown && inside.eye.looks == 0
+    );
     assert_served(&rt, &cell, &[APPLIED, MOVED, IDLE]);
     Ok(())
 }

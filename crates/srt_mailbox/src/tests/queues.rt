@@ -6,7 +6,11 @@ ghost use Rattle.std.specs.Prelude.{◌<◌, ◌^◌, IfOk};
 ghost use Rattle.srt_seq.specs.Items.{told, moment_of};
 
 use crate::gates::{Served, Visit};
-use crate::tests::{ANSWER, Coming, Expected, Fixed, PUBLISHER, REPLIES, SUBSCRIBER, entry, peer};
+use crate::tests::datagrams::{
+    Coming, Expected, publisher_answer, publisher_conclusion, subscriber_answer,
+    subscriber_conclusion,
+};
+use crate::tests::{Fixed, entry, peer};
 use crate::{ClockEnd, Drain, Ingress, RouteCell, open_route};
 use srt_seq::{Item, Turned};
 use std::alloc::{AllocError, Global};
@@ -128,8 +132,8 @@ struct Caller {
 }
 
 impl Caller {
-    fn new(alloc: Global, coming: Coming, answer: Expected) -> Result<Caller, Fail> {
-        let bytes = hex::decode(alloc, coming.text)?;
+    fn new(alloc: Global, coming: Coming<'_>, answer: Expected<'_>) -> Result<Caller, Fail> {
+        let bytes = coming.sample.bytes(alloc)?;
         if bytes.len() < 16 {
             return Err(Fail::from("a header"));
         }
@@ -139,7 +143,7 @@ impl Caller {
             port: coming.port,
             head,
             body: Vec::from_slice(alloc, &bytes[16..])?,
-            answer: hex::decode(alloc, answer.1)?,
+            answer: answer.sample.bytes(alloc)?,
         })
     }
 
@@ -214,8 +218,8 @@ impl Both {
                 alloc,
                 dice: Dice { state: seed },
                 callers: Callers {
-                    publisher: Caller::new(alloc, PUBLISHER, ANSWER)?,
-                    subscriber: Caller::new(alloc, SUBSCRIBER, REPLIES[1])?,
+                    publisher: Caller::new(alloc, publisher_conclusion(), publisher_answer())?,
+                    subscriber: Caller::new(alloc, subscriber_conclusion(), subscriber_answer())?,
                 },
                 ingress,
                 clock,
@@ -246,7 +250,7 @@ impl Both {
         Ok(went_in == self.plain.offer(asks)?)
     }
 
-    /// Offers a conclusion as an item. What comes back must be as it was offered.
+    /// Offers a conclusion as an item. What is returned must be as it was offered.
     fn offer_item<R: Wait>(&mut self, rt: &R, asks: Asks) -> Result<bool, Fail> {
         let moment = self.moment();
         let item = self.callers.of(asks).item(self.alloc, moment)?;

@@ -35,7 +35,7 @@ impl Gate for Noting {
 
     ghost asked = { λ _. None };
 
-    fn pass(&mut self, route: usize) -> bool {
+    fn allows(&mut self, route: usize) -> bool {
         self.noted = self.noted.wrapping_mul(10).wrapping_add(route as u64);
         if self.left == 0 {
             self.held = self.held.saturating_add(1);
@@ -87,9 +87,9 @@ fn assert_noted<C: Serve>(
 fn a_visit_asks_before_each_turn_and_ends_at_a_refusal(rt: HostRuntime) -> Result<(), Fail> {
     let (_ingress, mut clock, cell, _drain) = wide(rt.alloc(), 4)?;
     tick_times(&rt, &mut clock, 7);
-    assert_noted(&rt, &cell, 3, (3, Some(Served::Held)), 4444);
-    assert_noted(&rt, &cell, 0, (0, Some(Served::Held)), 4);
-    assert_noted(&rt, &cell, 1, (1, Some(Served::Held)), 44);
+    assert_noted(&rt, &cell, 3, (3, Some(Served::GateRefused)), 4444);
+    assert_noted(&rt, &cell, 0, (0, Some(Served::GateRefused)), 4);
+    assert_noted(&rt, &cell, 1, (1, Some(Served::GateRefused)), 44);
     assert_noted(&rt, &cell, 9, (3, Some(IDLE)), 4444);
     Ok(())
 }
@@ -118,7 +118,7 @@ fn assert_asked_about(
     tick_times(rt, &mut clock, 2);
     let mut gate = Noting::new(1);
     assert_eq!(rt; cell.serve(rt, &mut gate), APPLIED);
-    assert_eq!(rt; cell.serve(rt, &mut gate), Served::Held);
+    assert_eq!(rt; cell.serve(rt, &mut gate), Served::GateRefused);
     assert_eq!(rt; gate.noted, twice);
     assert_noted(rt, &cell, 9, (1, Some(IDLE)), twice);
     Ok(())

@@ -1,7 +1,9 @@
 //! Signals that ask what they are told to ask, and note what they are told.
 
 use super::peer;
-use crate::{Asked, Signals};
+use crate::{Asked, Report, Signals};
+use srt_lobby::Names;
+use srt_samples::{Difference, first_difference};
 use srt_seq::Peer;
 use std::alloc::Global;
 use std::cell::Cell;
@@ -24,8 +26,13 @@ pub struct Asking<'a> {
     /// The number of calls of `answered` and `replied`, and of those that told just what was expected.
     pub told: Cell<usize>,
     pub right: Cell<usize>,
+    /// Where the first datagram or answer that was not as expected differs from what was.
+    pub difference: Cell<Option<Difference>>,
     /// The number of calls of `failed`.
     pub failed: Cell<u64>,
+    /// The number of calls of `reported`, and the counts that the last one told.
+    pub reports: Cell<u64>,
+    pub counts: Cell<Report>,
 }
 
 impl<'a> Asking<'a> {
@@ -36,7 +43,10 @@ impl<'a> Asking<'a> {
             expected,
             told: Cell::new(0),
             right: Cell::new(0),
+            difference: Cell::new(None),
             failed: Cell::new(0),
+            reports: Cell::new(0),
+            counts: Cell::new(Report::NOTHING),
         }
     }
 
@@ -45,12 +55,20 @@ impl<'a> Asking<'a> {
         Asking::new(asked, Vec::new(alloc))
     }
 
+    fn compare(&self, came: &[u8], wanted: &[u8]) {
+        if self.difference.get().is_none() {
+            self.difference.set(first_difference(came, wanted));
+        }
+    }
+
     fn note(&self, route: usize, to: Peer, datagram: &[u8], answer: &[u8]) {
         let at = self.told.get();
         self.told.set(at.wrapping_add(1));
         let Some(told) = self.expected.get(at) else {
             return;
         };
+        self.compare(datagram, &told.datagram);
+        self.compare(answer, &told.answer);
         let is_right = told.route == route
             && to == peer(5000)
             && told.datagram.as_slice() == datagram
@@ -74,19 +92,24 @@ impl Signals for Asking<'_> {
         self.asked.get(at).copied().unwrap_or(Asked::GoOn)
     }
 
-    fn offered(&self, _route: usize) {}
+    fn reported(&self, report: &Report) {
+        self.reports.set(self.reports.get().wrapping_add(1));
+        self.counts.set(*report);
+    }
+
+    fn polled(&self, _route: usize) {}
 
     fn read_ended(&self, _datagrams: u32) {}
 
-    fn may_have(&self, _route: usize) -> bool {
+    fn take_outbox_ready(&self, _route: usize) -> bool {
         true
     }
 
-    fn next_from(&self, route: usize) -> usize {
+    fn next_outbox_ready(&self, route: usize) -> usize {
         route
     }
 
-    fn answered(&self, peer: Peer, datagram: &[u8], answer: &[u8]) {
+    fn answered(&self, _names: &Names, peer: Peer, datagram: &[u8], answer: &[u8]) {
         self.note(0, peer, datagram, answer);
     }
 

@@ -3,15 +3,17 @@
 //! send loses that datagram alone. A send that returns Later loses an answer, and delays a reply by a round.
 
 use super::asking::Asking;
-use super::{
-    ALWAYS, CONCLUSION, CONCLUSION_ANSWER, INDUCTION, INDUCTION_ANSWER, REFUSAL, STANDBY, STRAY,
-    Serving, comes, comes_of, open_routes, pumped_under, with,
-};
+use super::datagrams::{STUDIO, conclusion_of, induction_answer, induction_of, stray_shutdown};
+use super::{ALWAYS, Serving, comes, open_routes, pumped_under, reply_to};
 use crate::{Report, Sent, Source, SourceStep, Wire, WireScript};
+use srt_samples::Sample;
 use std::alloc::Global;
 use std::process::Abort;
 use std::sync::Wait;
 use std::test::Fail;
+
+/// The socket ID in the first round's INDUCTION. Those of the next two rounds follow.
+const FIRST_CALLER: u32 = 0xbc_6101;
 
 /// Which call fails or returns Later, counted from 0.
 #[derive(Clone, Copy, PartialEq)]
@@ -47,16 +49,15 @@ fn script(alloc: Global, fault: Fault) -> Result<Vec<SourceStep>, Fail> {
         } else {
             SourceStep::Wait
         })?;
-        let caller = [1u8, 2, 3].get(round as usize).copied().unwrap_or(0);
-        for text in [STRAY, INDUCTION, CONCLUSION] {
+        for sample in [
+            stray_shutdown(),
+            induction_of(FIRST_CALLER + round),
+            conclusion_of(1 + round, &STUDIO),
+        ] {
             if fault == Fault::Read(reads) {
                 steps.push(SourceStep::ReadFails)?;
             }
-            steps.push(if text == STRAY {
-                comes(alloc, text)?
-            } else {
-                comes_of(alloc, text, caller)?
-            })?;
+            steps.push(comes(alloc, sample)?)?;
             reads = reads.wrapping_add(1);
         }
         steps.push(if fault == Fault::Read(reads) {
@@ -84,18 +85,23 @@ fn answers(alloc: Global, fault: Fault) -> Result<Vec<Sent>, Fail> {
     Ok(answers)
 }
 
+/// The datagrams that can be sent, in the order of their digits.
+fn all_sent<'a>() -> [Sample<'a>; 6] {
+    [
+        induction_answer(FIRST_CALLER),
+        induction_answer(FIRST_CALLER + 1),
+        induction_answer(FIRST_CALLER + 2),
+        reply_to(1),
+        reply_to(2),
+        reply_to(3),
+    ]
+}
+
 /// The digit of a datagram that was sent; 9 if it is none of the six.
 fn digit(alloc: Global, bytes: &Vec<u8>) -> Result<u32, Fail> {
     let mut digit = 1u32;
-    for (text, caller) in [
-        (INDUCTION_ANSWER, 1u8),
-        (INDUCTION_ANSWER, 2),
-        (INDUCTION_ANSWER, 3),
-        (CONCLUSION_ANSWER, 1),
-        (STANDBY, 2),
-        (REFUSAL, 3),
-    ] {
-        if *bytes == with(alloc, text, 15, caller)? {
+    for sample in all_sent() {
+        if *bytes == sample.bytes(alloc)? {
             return Ok(digit);
         }
         digit = digit.wrapping_add(1);

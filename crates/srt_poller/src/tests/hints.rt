@@ -2,11 +2,13 @@
 
 ghost use Rattle.std.specs.Prelude.{◌≤◌, ◌^◌};
 
+use super::datagrams::{STUDIO, conclusion_of};
 use super::{
-    ALWAYS, CONCLUSION, Routes, Serving, assert_replies, comes, conclude, open_routes,
-    pumped_under, with_places, with_replies,
+    ALWAYS, Routes, Serving, assert_replies, comes, conclude, open_routes, pumped_under,
+    with_places, with_replies,
 };
-use crate::{Asked, Ends, Sent, Signals, Source, SourceScript, WireScript};
+use crate::{Asked, Ends, Report, Sent, Signals, Source, SourceScript, WireScript};
+use srt_lobby::Names;
 use srt_seq::Peer;
 use std::alloc::Global;
 use std::process::Abort;
@@ -27,19 +29,21 @@ impl Signals for Silent {
         Asked::GoOn
     }
 
-    fn offered(&self, _route: usize) {}
+    fn reported(&self, _report: &Report) {}
+
+    fn polled(&self, _route: usize) {}
 
     fn read_ended(&self, _datagrams: u32) {}
 
-    fn may_have(&self, _route: usize) -> bool {
+    fn take_outbox_ready(&self, _route: usize) -> bool {
         false
     }
 
-    fn next_from(&self, _route: usize) -> usize {
+    fn next_outbox_ready(&self, _route: usize) -> usize {
         usize::MAX
     }
 
-    fn answered(&self, _peer: Peer, _datagram: &[u8], _answer: &[u8]) {}
+    fn answered(&self, _names: &Names, _peer: Peer, _datagram: &[u8], _answer: &[u8]) {}
 
     fn replied(&self, _route: usize, _peer: Peer, _handshake: &[u8]) {}
 
@@ -65,7 +69,7 @@ fn sent<S: Source>(
 fn an_outbox_that_was_left_is_looked_at_in_the_next_round(rt: HostRuntime) -> Result<(), Fail> {
     let alloc = rt.alloc();
     let mut routes = with_places(alloc, [ALWAYS; 2], 128)?;
-    conclude(&rt, &mut routes, &[(CONCLUSION, 70)])?;
+    conclude(&rt, &mut routes, &[(STUDIO, 70)])?;
     let mut source = SourceScript::new(Vec::new(alloc));
     let mut wire = WireScript::new(alloc, Vec::new(alloc));
     let count = sent(&rt, &mut routes.ends, &mut source, &mut wire, 2)?;
@@ -96,7 +100,11 @@ fn sent_late(rt: &(impl AllocGlobal + Wait), rounds: u64) -> Result<u64, Fail>
         cells,
         ..
     } = open_routes(alloc)?;
-    let mut source = Serving::new(rt, &cells, vec![in alloc; comes(alloc, CONCLUSION)?]?);
+    let mut source = Serving::new(
+        rt,
+        &cells,
+        vec![in alloc; comes(alloc, conclusion_of(1, &STUDIO))?]?,
+    );
     let mut wire = WireScript::new(alloc, Vec::new(alloc));
     sent(rt, &mut ends, &mut source, &mut wire, rounds)
 }

@@ -1,11 +1,12 @@
 //! Rounds whose numbers pass 2^32, which the rounds of schedules never do. The expected outcomes were worked out from the
 //! rules by hand.
 
-use super::rounds::{AGAIN, Coming, HIDDEN, LATER, MANY_CONCLUSIONS, script};
+use super::datagrams::hidden_refusal;
+use super::rounds::{AGAIN, Coming, LATER, MANY_CONCLUSIONS, script};
 use super::{ALWAYS, ROUTES, SECRET, Serving, assert_handed, entry, named, scheduled};
-use crate::beginning::Doors;
 use crate::poller::Poller;
 use crate::pumping::pump_from;
+use crate::schedule::RouteSchedules;
 use crate::{Report, Unsignalled, WireScript};
 use srt_cookie::Secret;
 use srt_seq::Schedule;
@@ -46,7 +47,7 @@ fn assert_late(
     let mut routes = scheduled(alloc, schedules)?;
     let mut wire = WireScript::new(alloc, Vec::new(alloc));
     let mut source = Serving::new(rt, &routes.cells, script(alloc, comings)?);
-    let mut doors = Doors::new(&schedules);
+    let mut route_schedules = RouteSchedules::new(&schedules);
     let mut poller = Poller::new(alloc);
     let made = pump_from(
         rt,
@@ -56,7 +57,7 @@ fn assert_late(
         &mut source,
         &mut wire,
         &mut routes.ends,
-        &mut doors,
+        &mut route_schedules,
         &mut poller,
         FIRST,
         6,
@@ -84,7 +85,7 @@ fn assert_stays_hidden(
         ..Report::NOTHING
     };
     let wire = assert_late(rt, first, true, &SIX_CONCLUSIONS, wanted, 0)?;
-    assert_handed(rt, &wire, &[HIDDEN; 6])
+    assert_handed(rt, &wire, &[hidden_refusal(1); 6])
 }
 
 /// The third round is not round 0, and the sixth not round 3.

@@ -1,23 +1,17 @@
 //! The limits of a round, and datagrams of each length and of several peers. The expected outcomes were worked out from
 //! the rules by hand.
 
+use super::datagrams::{FILES, SESSION, STUDIO, refusal, stray_shutdown};
 use super::{
-    ALWAYS, CONCLUSION, Routes, STRAY, comes, conclude, open_routes, peer, pumped, reply_to,
-    reported, with, with_places,
+    ALWAYS, Routes, assert_bytes, comes, conclude, open_routes, peer, pumped, reply_to, reported,
+    with_places,
 };
 use crate::{Report, ScriptDatagram, SourceScript, SourceStep, WireScript};
+use srt_samples::{data_packet, keep_alive};
 use std::alloc::Global;
 use std::process::Abort;
 use std::sync::Wait;
 use std::test::Fail;
-
-/// A conclusion as the first one that asks to publish on the second route.
-const FILES_CONCLUSION: &str =
-    "80000000000000000000000000000000000000050000000500000005000005dc00002000ffffffff00000001ecc958a6000000000000000000000000000000000001000300010500000000bf00780078000500063a3a212369663d722c73656c75703d6d73696c6200000068";
-
-/// The reply to it, reason 1012, since it lacks the flag STREAM; to the caller with ID 0.
-const FILES_REFUSAL: &str =
-    "80000000000000000000000000000000000000050000000000000005000005dc00002000000003f4000000010000000000000000000000000000000000000000";
 
 /// Asserts that the next round reads this many datagrams, which are all dropped.
 fn assert_drops(
@@ -46,7 +40,7 @@ fn a_round_reads_256_datagrams(rt: HostRuntime) -> Result<(), Fail> {
     let mut routes = open_routes(alloc)?;
     let mut steps = Vec::new(alloc);
     for _ in 0..300 {
-        steps.push(comes(alloc, STRAY)?)?;
+        steps.push(comes(alloc, stray_shutdown())?)?;
     }
     let mut source = SourceScript::new(steps);
     assert_drops(&rt, &mut routes, &mut source, 256)?;
@@ -54,14 +48,14 @@ fn a_round_reads_256_datagrams(rt: HostRuntime) -> Result<(), Fail> {
 }
 
 /// Asserts that from this place on the wire was handed the replies of the second route to the callers with the IDs 1 to
-/// 3.
+/// 3: reason 1012, since they lack the flag STREAM.
 fn assert_refused(
     rt: &(impl AllocGlobal + Abort),
     wire: &WireScript,
     from: usize,
 ) -> Result<(), Fail> {
-    for (sent, caller) in wire.handed().iter().skip(from).zip([1u8, 2, 3]) {
-        assert_eq!(rt; sent.bytes, with(rt.alloc(), FILES_REFUSAL, 15, caller)?);
+    for (sent, caller) in wire.handed().iter().skip(from).zip([1u32, 2, 3]) {
+        assert_bytes(rt, &sent.bytes, refusal(caller, 1012))?;
     }
     Ok(())
 }
@@ -72,11 +66,11 @@ fn assert_answered(
     rt: &(impl AllocGlobal + Abort),
     wire: &WireScript,
     from: usize,
-    first: u8,
-    last: u8,
+    first: u32,
+    last: u32,
 ) -> Result<(), Fail> {
     for (sent, caller) in wire.handed().iter().skip(from).zip(first..=last) {
-        assert_eq!(rt; sent.bytes, reply_to(rt.alloc(), caller)?);
+        assert_bytes(rt, &sent.bytes, reply_to(caller))?;
     }
     Ok(())
 }
@@ -88,7 +82,7 @@ fn a_round_sends_64_replies_of_a_route_and_then_those_of_the_next(
 ) -> Result<(), Fail> {
     let alloc = rt.alloc();
     let mut routes = with_places(alloc, [ALWAYS; 2], 128)?;
-    conclude(&rt, &mut routes, &[(CONCLUSION, 70), (FILES_CONCLUSION, 3)])?;
+    conclude(&rt, &mut routes, &[(STUDIO, 70), (FILES, 3)])?;
     let mut wire = WireScript::new(alloc, Vec::new(alloc));
     let _ = reported(&rt, &mut routes, Vec::new(alloc), &mut wire, 1)?;
     assert_eq!(&rt; wire.handed().len(), 67);
@@ -99,16 +93,15 @@ fn a_round_sends_64_replies_of_a_route_and_then_those_of_the_next(
     assert_answered(&rt, &wire, 67, 65, 70)
 }
 
-/// A KEEPALIVE to the first session of the first route.
-const KEEPALIVE: &str = "80010000000000000000000000100000";
-
-/// The header of a data packet to the same.
-const DATA_HEADER: &str = "00000005e00000010000000000100000";
-
-/// A packet of this many bytes to the first route, from this port: a data packet if it has more than a header.
+/// A packet of this many bytes to the first session of the first route, from this port: a data packet if it has more
+/// than a header, else a KEEPALIVE.
 fn packet_of(alloc: Global, len: usize, port: u16) -> Result<SourceStep, Fail> {
-    let header = if len > 16 { DATA_HEADER } else { KEEPALIVE };
-    let mut bytes = hex::decode(alloc, header)?;
+    let header = if len > 16 {
+        data_packet(5).flags(0xe000_0001)
+    } else {
+        keep_alive()
+    };
+    let mut bytes = header.to(SESSION).bytes(alloc)?;
     for _ in bytes.len()..len {
         bytes.push(7)?;
     }
@@ -142,7 +135,7 @@ fn a_packet_of_each_length_is_offered(rt: HostRuntime) -> Result<(), Fail> {
         steps.push(packet_of(alloc, len, 5000)?)?;
     }
     steps.push(SourceStep::WaitFails)?;
-    steps.push(comes(alloc, STRAY)?)?;
+    steps.push(comes(alloc, stray_shutdown())?)?;
     let wanted = Report {
         read: 1458,
         accepted: 1457,

@@ -1,51 +1,50 @@
 //! Routes that open and close in later rounds. The expected outcomes were worked out from the rules by hand.
 
-use super::{
-    ALWAYS, CONCLUSION, CONCLUSION_ANSWER, STRAY, Serving, assert_handed, comes, pumped, scheduled,
+use super::datagrams::{
+    STUDIO, conclusion_of, files_answer, files_conclusion, hidden_refusal, publisher_answer,
+    publisher_data, shutdown_of, stray_shutdown,
 };
-use crate::{Report, SourceStep, WireScript};
+use super::{ALWAYS, Serving, assert_handed, peer, pumped, scheduled};
+use crate::{Report, ScriptDatagram, SourceStep, WireScript};
+use srt_samples::Sample;
 use srt_seq::Schedule;
 use std::alloc::Global;
 use std::process::Abort;
 use std::sync::Wait;
 use std::test::Fail;
 
-/// The answer to the conclusion while its route is hidden: reason 1002.
-pub const HIDDEN: &str =
-    "80000000000000000000000000000001000000050000000000000005000005dc00002000000003ea000000010000000000000000000000000000000000000000";
+/// A datagram that comes.
+#[derive(Clone, Copy)]
+pub enum Datagram {
+    /// The first caller's CONCLUSION, for the first route.
+    Conclusion,
+    /// The second caller's, for the second route.
+    FilesConclusion,
+    /// A SHUTDOWN to no route.
+    Stray,
+    /// A data packet to the first session of the first route.
+    Data,
+}
 
-/// A conclusion as the first one, but with caller ID 2 and the flag STREAM, that asks to publish on the second route.
-const FILES_CONCLUSION: &str =
-    "80000000000000000000000000000000000000050000000500000005000005dc00002000ffffffff00000002ecc958a6000000000000000000000000000000000001000300010500000000ff00780078000500063a3a212369663d722c73656c75703d6d73696c6200000068";
+impl Datagram {
+    fn sample<'a>(self) -> Sample<'a> {
+        match self {
+            Datagram::Conclusion => conclusion_of(1, &STUDIO),
+            Datagram::FilesConclusion => files_conclusion(),
+            Datagram::Stray => stray_shutdown(),
+            Datagram::Data => publisher_data(),
+        }
+    }
+}
 
-/// Its answer in buffer mode, with a window of 32 packets.
-const FILES_ANSWER: &str =
-    "80000000000000000000000000000002000000050000000100000005000005dc00000020ffffffff00200000000000000000000000000000000000000000000000020003000105000000007400000000";
-
-/// The answer to it while its route is hidden.
-const FILES_HIDDEN: &str =
-    "80000000000000000000000000000002000000050000000000000005000005dc00002000000003ea000000010000000000000000000000000000000000000000";
-
-/// A data packet to the first slot of the first route.
-const DATA: &str = "00000005e000000100000000001000006869";
-
-/// The SHUTDOWN of a session that was opened at 1000000, at 1500000.
-const SHUTDOWN: &str = "80050000000000000007a12000000001";
-
-/// The same of the caller with ID 2.
-const FILES_SHUTDOWN: &str = "80050000000000000007a12000000002";
-
-/// Nothing more comes in this round.
-const NOTHING: &str = "";
-
-/// What comes, with its moment.
-pub type Coming = (&'static str, u64);
+/// What comes, with its moment in microseconds; `None` if nothing more comes in this round.
+pub type Coming = Option<(Datagram, u64)>;
 
 /// A conclusion comes.
-pub const AGAIN: Coming = (CONCLUSION, 1_000_000);
+pub const AGAIN: Coming = Some((Datagram::Conclusion, 1_000_000));
 
 /// The rest comes in later rounds.
-pub const LATER: Coming = (NOTHING, 0);
+pub const LATER: Coming = None;
 
 /// A conclusion comes in the rounds 0, 1, 2 and 4, and at the end a data packet. In round 3 come two stray datagrams, of
 /// which the first has the greatest moment of all.
@@ -56,11 +55,11 @@ pub const FOUR_CONCLUSIONS: [Coming; 11] = [
     LATER,
     AGAIN,
     LATER,
-    (STRAY, 1_500_000),
-    (STRAY, 1_000_000),
+    Some((Datagram::Stray, 1_500_000)),
+    Some((Datagram::Stray, 1_000_000)),
     LATER,
     AGAIN,
-    (DATA, 1_000_000),
+    Some((Datagram::Data, 1_000_000)),
 ];
 
 /// In round 0 come 16 conclusions, and one each in the rounds 1 and 2.
@@ -81,39 +80,41 @@ const LATE_CONCLUSION: [Coming; 3] = [LATER, LATER, AGAIN];
 /// A conclusion for each route comes in round 0, and again in round 2. In round 1 comes a stray datagram.
 pub const BOTH_CONCLUSIONS: [Coming; 7] = [
     AGAIN,
-    (FILES_CONCLUSION, 1_000_000),
+    Some((Datagram::FilesConclusion, 1_000_000)),
     LATER,
-    (STRAY, 1_500_000),
+    Some((Datagram::Stray, 1_500_000)),
     LATER,
-    (CONCLUSION, 1_500_000),
-    (FILES_CONCLUSION, 1_500_000),
+    Some((Datagram::Conclusion, 1_500_000)),
+    Some((Datagram::FilesConclusion, 1_500_000)),
 ];
 
 /// What is sent if both routes close in round 2 and these come.
-pub const BOTH_ENDED: [&str; 6] = [
-    CONCLUSION_ANSWER,
-    FILES_ANSWER,
-    HIDDEN,
-    FILES_HIDDEN,
-    SHUTDOWN,
-    FILES_SHUTDOWN,
-];
+pub fn both_ended<'a>() -> [Sample<'a>; 6] {
+    [
+        publisher_answer(1),
+        files_answer(2),
+        hidden_refusal(1),
+        hidden_refusal(2),
+        shutdown_of(1),
+        shutdown_of(2),
+    ]
+}
 
-fn step(alloc: Global, coming: &Coming) -> Result<SourceStep, Fail> {
-    if coming.0 == NOTHING {
-        return Ok(SourceStep::Empty);
+fn step(alloc: Global, coming: Coming) -> Result<SourceStep, Fail> {
+    match coming {
+        None => Ok(SourceStep::Empty),
+        Some((datagram, moment)) => Ok(SourceStep::Datagram(ScriptDatagram {
+            peer: peer(5000),
+            bytes: datagram.sample().bytes(alloc)?,
+            moment,
+        })),
     }
-    let mut step = comes(alloc, coming.0)?;
-    if let SourceStep::Datagram(datagram) = &mut step {
-        datagram.moment = coming.1;
-    }
-    Ok(step)
 }
 
 pub fn script(alloc: Global, comings: &[Coming]) -> Result<Vec<SourceStep>, Fail> {
     let mut steps = Vec::new(alloc);
     for coming in comings {
-        steps.push(step(alloc, coming)?)?;
+        steps.push(step(alloc, *coming)?)?;
     }
     Ok(steps)
 }
@@ -181,7 +182,13 @@ fn a_route_takes_datagrams_from_its_first_round_to_its_last(rt: HostRuntime) -> 
     assert_handed(
         &rt,
         &wire,
-        &[HIDDEN, HIDDEN, CONCLUSION_ANSWER, HIDDEN, SHUTDOWN],
+        &[
+            hidden_refusal(1),
+            hidden_refusal(1),
+            publisher_answer(1),
+            hidden_refusal(1),
+            shutdown_of(1),
+        ],
     )
 }
 
@@ -219,7 +226,7 @@ fn a_route_closes_though_nothing_came_before(rt: HostRuntime) -> Result<(), Fail
         ..Report::NOTHING
     };
     let wire = assert_played(&rt, with_first(schedule, &LATE_CONCLUSION), wanted, 1)?;
-    assert_handed(&rt, &wire, &[HIDDEN])
+    assert_handed(&rt, &wire, &[hidden_refusal(1)])
 }
 
 /// Both routes close in round 2: each session gets its SHUTDOWN, and both are hidden from the conclusions of that round.
@@ -243,7 +250,7 @@ fn two_routes_close_in_one_round(rt: HostRuntime) -> Result<(), Fail> {
         ..Report::NOTHING
     };
     let wire = assert_played(&rt, play, wanted, 4)?;
-    assert_handed(&rt, &wire, &BOTH_ENDED)
+    assert_handed(&rt, &wire, &both_ended())
 }
 
 /// The first route closes in round 1, but 16 conclusions fill its inbox, which is first served at the wait of round 4.

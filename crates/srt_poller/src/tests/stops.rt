@@ -3,12 +3,11 @@
 ghost use Rattle.std.specs.Prelude.{◌≤◌, ◌^◌};
 
 use super::asking::Asking;
+use super::datagrams::{STUDIO, conclusion_of, hidden_refusal};
 use super::rounds::{
-    BOTH_CONCLUSIONS, BOTH_ENDED, Coming, FOUR_CONCLUSIONS, HIDDEN, MANY_CONCLUSIONS, script,
+    BOTH_CONCLUSIONS, Coming, FOUR_CONCLUSIONS, MANY_CONCLUSIONS, both_ended, script,
 };
-use super::{
-    ALWAYS, CONCLUSION, Serving, assert_handed, comes, open_routes, pumped_under, scheduled,
-};
+use super::{ALWAYS, Serving, assert_handed, comes, open_routes, pumped_under, scheduled};
 use crate::{Asked, Pumping, Report, SourceScript, SourceStep, WireScript};
 use srt_seq::Schedule;
 use std::alloc::Global;
@@ -23,11 +22,11 @@ const CLOSE: Asked = Asked::CloseAll;
 
 const END: Asked = Asked::End;
 
-/// What the poller did in at most this many rounds, three of which would each read a conclusion, if it is asked for these.
+/// What the poller did in at most this many rounds, three of which would each read a conclusion, under these signals.
 fn pumped_within(
     rt: &(impl AllocGlobal + Wait),
     rounds: u64,
-    asked: &[Asked],
+    asking: &Asking<'_>,
 ) -> Result<Pumping, Fail>
     requires { rounds ≤ 2 ^ 48 }
 {
@@ -36,12 +35,11 @@ fn pumped_within(
     let mut steps = Vec::new(alloc);
     for _ in 0..3 {
         steps.push(SourceStep::Wait)?;
-        steps.push(comes(alloc, CONCLUSION)?)?;
+        steps.push(comes(alloc, conclusion_of(1, &STUDIO))?)?;
         steps.push(SourceStep::Empty)?;
     }
     let mut source = SourceScript::new(steps);
     let mut wire = WireScript::new(alloc, Vec::new(alloc));
-    let asking = Asking::of(alloc, asked);
     let ends = &mut routes.ends;
     pumped_under(
         rt,
@@ -50,12 +48,12 @@ fn pumped_within(
         &mut source,
         &mut wire,
         rounds,
-        &asking,
+        asking,
     )
 }
 
-/// Asserts that just this many of at most so many rounds are made if the poller is asked for these, and that each reads
-/// a conclusion, which its route accepts.
+/// Asserts that just this many of at most that many rounds are made if the poller is asked for these, and that each
+/// reads a conclusion, which its route accepts.
 fn assert_made(
     rt: &(impl AllocGlobal + Wait + Abort),
     rounds: u64,
@@ -64,7 +62,7 @@ fn assert_made(
 ) -> Result<(), Fail>
     requires { rounds ≤ 2 ^ 48 }
 {
-    let pumping = pumped_within(rt, rounds, asked)?;
+    let pumping = pumped_within(rt, rounds, &Asking::of(rt.alloc(), asked))?;
     assert_eq!(rt; pumping.rounds, made);
     assert_eq!(rt;
         pumping.report,
@@ -85,10 +83,43 @@ fn rounds_end_once_the_signals_say_so(rt: HostRuntime) -> Result<(), Fail> {
     assert_made(&rt, 2, &[], 2)
 }
 
+/// Asserts that the counts are told so often in at most this many rounds, and the last time with this many datagrams.
+fn assert_counts_told(
+    rt: &(impl AllocGlobal + Wait + Abort),
+    rounds: u64,
+    asked: &[Asked],
+    reports: u64,
+    read: u64,
+) -> Result<(), Fail>
+    requires { rounds ≤ 2 ^ 48 }
+{
+    let asking = Asking::of(rt.alloc(), asked);
+    let _ = pumped_within(rt, rounds, &asking)?;
+    assert_eq!(rt; asking.reports.get(), reports);
+    assert_eq!(rt;
+        asking.counts.get(),
+        Report {
+            read,
+            accepted: read,
+            ..Report::NOTHING
+        }
+    );
+    Ok(())
+}
+
+/// A round that isn't made has its counts told too.
+#[test]
+fn the_counts_are_told_before_each_round(rt: HostRuntime) -> Result<(), Fail> {
+    assert_counts_told(&rt, 9, &[END], 1, 0)?;
+    assert_counts_told(&rt, 9, &[ON, ON, END], 3, 2)?;
+    assert_counts_told(&rt, 3, &[], 3, 2)
+}
+
 /// All routes are closed in the second round: its conclusion is answered by the lobby, and no third one is made.
 #[test]
 fn rounds_end_after_one_that_closes_all(rt: HostRuntime) -> Result<(), Fail> {
-    let pumping = pumped_within(&rt, 9, &[ON, CLOSE, END])?;
+    let asking = Asking::of(rt.alloc(), &[ON, CLOSE, END]);
+    let pumping = pumped_within(&rt, 9, &asking)?;
     assert_eq!(&rt; pumping.rounds, 2);
     assert_eq!(&rt;
         pumping.report,
@@ -141,7 +172,7 @@ fn a_round_that_closes_all_closes_each_shown_route(rt: HostRuntime) -> Result<()
     };
     let asked = [ON, ON, CLOSE, CLOSE, CLOSE, CLOSE];
     let wire = assert_asked(&rt, ALWAYS, &BOTH_CONCLUSIONS, &asked, wanted, 4)?;
-    assert_handed(&rt, &wire, &BOTH_ENDED)
+    assert_handed(&rt, &wire, &both_ended())
 }
 
 /// In round 1 all are closed, but 16 conclusions fill the inbox of the first route, which is first served at the wait of
@@ -195,5 +226,5 @@ fn a_round_that_closes_all_opens_none_and_offers_none_to_a_hidden_route(
     };
     let asked = [ON, CLOSE, CLOSE, CLOSE];
     let wire = assert_asked(&rt, late, &FOUR_CONCLUSIONS, &asked, wanted, 1)?;
-    assert_handed(&rt, &wire, &[HIDDEN; 4])
+    assert_handed(&rt, &wire, &[hidden_refusal(1); 4])
 }

@@ -1,24 +1,34 @@
-//! What a poller tells its signals. The expected bytes are those of the other tests.
+//! What a poller tells its signals.
 
 use super::asking::{Asking, Told};
-use super::rounds::HIDDEN;
-use super::{
-    ALWAYS, CONCLUSION, CONCLUSION_ANSWER, INDUCTION, INDUCTION_ANSWER, STRAY, Serving, comes,
-    pumped_under, scheduled,
+use super::datagrams::{
+    CALLER, STUDIO, conclusion_of, hidden_refusal, induction_answer, induction_of,
+    publisher_answer, stray_shutdown,
 };
+use super::{ALWAYS, Serving, comes, pumped_under, scheduled};
 use crate::{Asked, Sent, SourceStep, WireScript};
+use srt_samples::Sample;
 use srt_seq::Schedule;
 use std::alloc::Global;
 use std::process::Abort;
 use std::sync::Wait;
 use std::test::Fail;
 
-/// What is told of this answer to this datagram, or of this reply of a route to none.
-fn told(alloc: Global, datagram: &str, answer: &str) -> Result<Told, Fail> {
+/// What is told of this answer to this datagram.
+fn told(alloc: Global, datagram: Sample<'_>, answer: Sample<'_>) -> Result<Told, Fail> {
     Ok(Told {
         route: 0,
-        datagram: hex::decode(alloc, datagram)?,
-        answer: hex::decode(alloc, answer)?,
+        datagram: datagram.bytes(alloc)?,
+        answer: answer.bytes(alloc)?,
+    })
+}
+
+/// What is told of this reply of the first route.
+fn told_of_a_reply(alloc: Global, reply: Sample<'_>) -> Result<Told, Fail> {
+    Ok(Told {
+        route: 0,
+        datagram: Vec::new(alloc),
+        answer: reply.bytes(alloc)?,
     })
 }
 
@@ -41,6 +51,7 @@ fn assert_told(
     let asking = Asking::new(asked, expected);
     let ends = &mut routes.ends;
     let _ = pumped_under(rt, schedules, ends, &mut source, &mut wire, 6, &asking)?;
+    assert_eq!(rt; asking.difference.get(), None);
     assert_eq!(rt; asking.told.get(), count);
     assert_eq!(rt; asking.right.get(), count);
     Ok(())
@@ -55,13 +66,13 @@ fn each_answer_of_the_lobby_is_told(rt: HostRuntime) -> Result<(), Fail> {
         close_round: None,
     };
     let steps = vec![in alloc;
-        comes(alloc, INDUCTION)?,
-        comes(alloc, STRAY)?,
-        comes(alloc, CONCLUSION)?,
+        comes(alloc, induction_of(CALLER))?,
+        comes(alloc, stray_shutdown())?,
+        comes(alloc, conclusion_of(1, &STUDIO))?,
     ]?;
     let expected = vec![in alloc;
-        told(alloc, INDUCTION, INDUCTION_ANSWER)?,
-        told(alloc, CONCLUSION, HIDDEN)?,
+        told(alloc, induction_of(CALLER), induction_answer(CALLER))?,
+        told(alloc, conclusion_of(1, &STUDIO), hidden_refusal(1))?,
     ]?;
     let sends = vec![in alloc; Sent::Later]?;
     assert_told(&rt, late, steps, sends, &[], expected)
@@ -72,8 +83,8 @@ fn each_answer_of_the_lobby_is_told(rt: HostRuntime) -> Result<(), Fail> {
 #[test]
 fn each_handshake_of_a_route_is_told(rt: HostRuntime) -> Result<(), Fail> {
     let alloc = rt.alloc();
-    let steps = vec![in alloc; comes(alloc, CONCLUSION)?]?;
-    let expected = vec![in alloc; told(alloc, "", CONCLUSION_ANSWER)?]?;
+    let steps = vec![in alloc; comes(alloc, conclusion_of(1, &STUDIO))?]?;
+    let expected = vec![in alloc; told_of_a_reply(alloc, publisher_answer(1))?]?;
     let sends = vec![in alloc; Sent::Later]?;
     let asked = [Asked::GoOn, Asked::GoOn, Asked::CloseAll];
     assert_told(&rt, ALWAYS, steps, sends, &asked, expected)

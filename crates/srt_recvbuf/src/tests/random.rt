@@ -4,7 +4,7 @@ ghost use Rattle.std.specs.Prelude.{◌≤◌};
 
 use crate::tests::plain::{Plain, wire};
 use crate::{Put, RecvBuf};
-use srt_seq::{Payload, PayloadRef, Seq31};
+use srt_seq::{PayloadRef, Seq31};
 use std::alloc::{AllocError, Global};
 use std::test::Fail;
 
@@ -123,17 +123,13 @@ impl Both {
             return true;
         }
         let room = self.dice.below(4);
-        if self.dice.below(4) == 0 {
-            let passed = self.ours.pass_over(u64::from(self.now), room);
-            return passed == self.plain.advance(i64::from(self.now), room).is_some();
-        }
-        let mut payload = Payload::new();
-        let byte = if self.ours.advance(u64::from(self.now), room, &mut payload) {
-            payload.first().copied()
-        } else {
-            None
+        let byte = match self.ours.next_due(u64::from(self.now), room) {
+            Some(payload) => payload.first().copied(),
+            None => None,
         };
-        byte == self.plain.advance(i64::from(self.now), room)
+        let noted = self.ours.note_delivered(u64::from(self.now), room);
+        let plain = self.plain.advance(i64::from(self.now), room);
+        byte == plain && noted == plain.is_some()
     }
 
     /// Does one operation. Returns whether both programs gave the same result.

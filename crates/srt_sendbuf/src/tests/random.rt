@@ -5,7 +5,7 @@ ghost use Rattle.std.specs.Prelude.{◌≤◌};
 use crate::tests::plain::{Asked, Due, Gone, Plain};
 use crate::{DropRun, Out, SendBuf};
 use srt_loss::read;
-use srt_seq::{Payload, Seq31};
+use srt_seq::Seq31;
 use std::alloc::{AllocError, Global};
 use std::test::Fail;
 
@@ -142,10 +142,8 @@ impl Both {
     fn queue(&mut self) -> Result<bool, AllocError> {
         self.now = self.now.wrapping_add(self.dice.below(3));
         let byte = (self.dice.below(256) & 0xff) as u8;
-        let mut payload = Payload::new();
-        let _ = payload.try_push(byte);
         let origin = u64::from(self.now);
-        let ours = self.ours.queue(&payload, origin).is_ok();
+        let ours = self.ours.queue(&[byte], origin).is_ok();
         Ok(ours == self.plain.push(origin, byte)?)
     }
 

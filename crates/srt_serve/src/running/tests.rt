@@ -4,16 +4,16 @@ ghost use Rattle.std.specs.Prelude.{◌≡◌, None, map, length};
 ghost use Rattle.srt_seq.specs.Terms.{terms_of};
 ghost use Rattle.srt_lobby.specs.Opening.{fault_of};
 
-use crate::opening::Opened;
-use crate::running::{Stage, open_stage};
-use crate::serving::{Context, Crew, Front, serve_routes};
+use crate::opening::{Opened, open_routes};
+use crate::running::{Resources, open_resources};
+use crate::serving::{OtherThreads, PollerState, RunContext, serve_routes};
 use crate::ticking::{Clocks, Ticker};
 use crate::watching::Nobody;
 use srt_cookie::Secret;
 use srt_lobby::Names;
 use srt_mailbox::Ungated;
 use srt_poller::{Polled, Pumping, Read, Sent, Source, Wire};
-use srt_seq::{Entry, Mode, Peer, Schedule};
+use srt_seq::{Access, Entry, Mode, Peer, Rules, Schedule};
 use std::sync::Wait;
 use std::test::Fail;
 use std::thread::Threads;
@@ -93,48 +93,53 @@ where
     requires schedules { length schedules.now ≡ length entries.now }
 {
     let alloc = rt.alloc();
-    let Ok(stage) = open_stage(alloc, entries, schedules, 1, false) else {
+    let Ok(resources) = open_resources(alloc, entries, schedules, 1, false) else {
         return Err(Fail::from("memory"));
     };
-    let Stage {
+    let Resources {
         names,
-        routes,
-        hall,
+        places,
+        wakeups,
         post,
         accounts: _,
-    } = stage;
+    } = resources;
+    let Ok(opened) = open_routes(alloc, entries, places.as_slice()) else {
+        return Err(Fail::from("memory"));
+    };
     let Opened {
+        routes: _,
         ends,
+        arrivals,
         clocks,
-        cells,
-    } = routes;
+    } = opened;
     let gates = vec![in alloc; Ungated]?;
     let told = post.as_ref();
-    let context = Context {
+    let context = RunContext {
         rt,
         alloc,
         secret: &Secret::new([7; 32]),
         schedules,
-        cells: cells.as_slice(),
-        hall: &hall,
+        cells: places.as_slice(),
+        wakeups: &wakeups,
         post: told,
         rounds: 5,
     };
-    let mut front: Front<Ungated> = Front {
+    let mut polling: PollerState<Ungated> = PollerState {
         names,
         ends,
         gate: None,
     };
-    let mut crew = Crew {
+    let mut others = OtherThreads {
         clocks: Clocks {
             ends: clocks,
+            coming: arrivals,
             ticker: Device { calls: 0 },
         },
         gates,
         watch: Nobody,
     };
-    hall.finish();
-    Ok(serve_routes(&context, source, wire, &mut front, &mut crew))
+    wakeups.finish();
+    Ok(serve_routes(&context, source, wire, &mut polling, &mut others))
 }
 
 #[test]
@@ -148,6 +153,8 @@ fn without_all_threads_nothing_is_read(rt: HostRuntime) -> Result<(), Fail> {
             sessions: 1,
             inbox: 16,
             outbox: 16,
+            access: Access::anyone(),
+            rules: Rules::DRAFT,
         },
     ]?;
     let schedules = [Schedule {

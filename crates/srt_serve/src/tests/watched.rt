@@ -1,11 +1,9 @@
-//! Runs that are watched: how they end, and what a watcher is shown and told. The handshakes were worked out from the draft
-//! by hand, as in the module above.
+//! Runs that are watched: how they end, and what a watcher is shown and told.
 
 ghost use Rattle.std.specs.Prelude.{◌≤◌, ◌^◌};
 
-use crate::tests::{
-    ALWAYS, Again, LIMIT, Member, Routes, SECRET, STUDIA, STUDIO, Scene, peer, scene_of,
-};
+use crate::tests::datagrams::{FIRST, SECOND, STUDIA, STUDIO, conclusion_of};
+use crate::tests::{ALWAYS, Again, LIMIT, Member, Routes, SECRET, Scene, peer, scene_of};
 use crate::watching::{Told, Watch};
 use crate::{Gates, Refusal, RunFault, Watched, run_until};
 use srt_cookie::Secret;
@@ -20,12 +18,8 @@ use std::test::Fail;
 use std::thread;
 use std::thread::Threads;
 
-/// A CONCLUSION as the first one, with caller ID 2.
-const SECOND: &str =
-    "80000000000000000000000000000000000000050000000500000005000005dc00002000ffffffff00000002ecc958a6000000000000000000000000000000000001000300010500000000bf00780078000500063a3a212374733d726f696475703d6d2c696c627500006873";
-
 /// More rounds than a test has time for.
-const MANY: u64 = 1 << 40;
+pub(super) const MANY: u64 = 1 << 40;
 
 /// What a watcher was told of a refusal.
 #[derive(Drop)]
@@ -39,9 +33,9 @@ struct Note {
 /// When a watcher asks to end.
 #[derive(Clone, Copy)]
 enum Until {
-    /// After so many rests.
+    /// After this number of rests.
     Rests(u32),
-    /// After so many refusals.
+    /// After this number of refusals.
     Refusals(usize),
     /// Once a session was open, it asked to close all, and all was quiet.
     Quiet,
@@ -65,7 +59,8 @@ struct Guard {
     was_closing: bool,
     closes: bool,
     shown: u32,
-    last: Option<Told>,
+    /// What it was told first when all was quiet.
+    quiet: Option<Told>,
     notes: Vec<Note>,
 }
 
@@ -82,7 +77,7 @@ impl Guard {
             was_closing: false,
             closes: false,
             shown: 0,
-            last: None,
+            quiet: None,
             notes: Vec::new(alloc),
         }
     }
@@ -91,8 +86,10 @@ impl Guard {
         match self.until {
             Until::Rests(rests) if self.rests > rests => Asked::End,
             Until::Refusals(count) if self.notes.len() >= count => Asked::End,
+            Until::Quiet if self.quiet.is_some() => Asked::End,
             Until::Quiet if told.is_quiet => {
                 self.was_closing = self.closes;
+                self.quiet = Some(told);
                 Asked::End
             }
             Until::Quiet if self.open.is_some() => {
@@ -119,7 +116,6 @@ impl Watch for Guard {
     fn next(&mut self, told: Told) -> Asked {
         thread::yield_now();
         self.rests = self.rests.saturating_add(1);
-        self.last = Some(told);
         if self.rests >= LIMIT {
             self.is_late = true;
             return Asked::End;
@@ -148,22 +144,23 @@ impl Watch for Guard {
 }
 
 /// The route `studio` alone, for one session.
-fn studio(alloc: Global) -> Result<Routes, Fail> {
+pub(super) fn studio(alloc: Global) -> Result<Routes, Fail> {
     let mut routes = Routes::none(alloc);
     routes.add(alloc, "studio", 1024, ALWAYS)?;
     Ok(routes)
 }
 
-/// A run of these routes, which must be right, with two workers and this watcher, for at most so many rounds.
-fn watched<R>(
+/// A run of these routes, which must be right, with two workers and this watcher, for at most `rounds` rounds.
+pub(super) fn watched<R, T>(
     rt: &R,
     routes: &Routes,
     scene: &mut Scene,
-    guard: Guard,
+    watch: T,
     rounds: u64,
-) -> Result<Watched<Member, Guard>, Fail>
+) -> Result<Watched<Member, T>, Fail>
 where
     R: AllocGlobal + Threads + Wait + Sync,
+    T: Watch + Send + Drop,
     requires { rounds ≤ 2 ^ 48 }
 {
     let alloc = rt.alloc();
@@ -188,7 +185,7 @@ where
         &mut scene.wire,
         ticker,
         gates,
-        guard,
+        watch,
         rounds,
     ) {
         Ok(ran) => Ok(ran),
@@ -231,9 +228,10 @@ fn under_a_watcher_that_never_stops_all_rounds_are_made(rt: HostRuntime) -> Resu
 fn open_sessions_get_their_shutdown(rt: HostRuntime) -> Result<(), Fail> {
     let alloc = rt.alloc();
     let routes = studio(alloc)?;
-    let mut scene = scene_of(alloc, &[STUDIO], Again::Never)?;
+    let mut scene = scene_of(alloc, &[conclusion_of(FIRST, &STUDIO)], Again::Never)?;
     let guard = Guard::new(alloc, Until::Quiet, true);
     let ran = watched(&rt, &routes, &mut scene, guard, MANY)?;
+    assert_eq!(rt; scene.wire.difference, None);
     assert!(rt; scene.wire.answers == 1 && scene.wire.shutdowns == 1);
     let guard = ran.watch;
     assert!(rt; !guard.is_late && guard.was_closing && !guard.is_open);
@@ -243,10 +241,10 @@ fn open_sessions_get_their_shutdown(rt: HostRuntime) -> Result<(), Fail> {
     assert!(rt; index == 0 && view.peer == peer());
     assert!(rt; view.caller == 1 && view.id == 0x10_0000);
     assert!(rt; matches!(view.role, Role::Publish));
-    let Some(told) = guard.last else {
-        return Err(Fail::from("it was told something"));
+    let Some(told) = guard.quiet else {
+        return Err(Fail::from("it was told that all is quiet"));
     };
-    assert!(rt; told.is_quiet && told.faults == 0 && told.missed == 0);
+    assert!(rt; told.faults == 0 && told.missed == 0);
     Ok(())
 }
 
@@ -256,7 +254,12 @@ fn open_sessions_get_their_shutdown(rt: HostRuntime) -> Result<(), Fail> {
 fn refusals_are_told(rt: HostRuntime) -> Result<(), Fail> {
     let alloc = rt.alloc();
     let routes = studio(alloc)?;
-    let mut scene = scene_of(alloc, &[STUDIO, SECOND, STUDIA], Again::Never)?;
+    let conclusions = [
+        conclusion_of(FIRST, &STUDIO),
+        conclusion_of(SECOND, &STUDIO),
+        conclusion_of(SECOND, &STUDIA),
+    ];
+    let mut scene = scene_of(alloc, &conclusions, Again::Never)?;
     let guard = Guard::new(alloc, Until::Refusals(2), false);
     let ran = watched(&rt, &routes, &mut scene, guard, MANY)?;
     let guard = ran.watch;
@@ -276,7 +279,7 @@ fn refusals_are_told(rt: HostRuntime) -> Result<(), Fail> {
 fn what_is_left_is_told_after_the_rounds(rt: HostRuntime) -> Result<(), Fail> {
     let alloc = rt.alloc();
     let routes = studio(alloc)?;
-    let mut scene = scene_of(alloc, &[STUDIA], Again::Never)?;
+    let mut scene = scene_of(alloc, &[conclusion_of(SECOND, &STUDIA)], Again::Never)?;
     let guard = Guard::new(alloc, Until::Ever, false);
     let ran = watched(&rt, &routes, &mut scene, guard, 1)?;
     assert!(rt; ran.rounds == 1 && ran.report.answered == 1);

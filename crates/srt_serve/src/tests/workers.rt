@@ -1,7 +1,7 @@
 //! Workers and the polling thread at routes that only count, so that a run may last long.
 
-use crate::hall::Hall;
 use crate::helping::Helper;
+use crate::wakeups::Wakeups;
 use crate::working::work;
 use srt_mailbox::{Gate, Look, Serve, Served, Ungated, Visit};
 use srt_poller::Signals;
@@ -14,8 +14,8 @@ use std::thread;
 use std::thread::join;
 use std::time::{Clock, Instant};
 
-/// The number of the bell's calls before a worker is asked. The program's bell is called some hundred times a second.
-const RINGS: u32 = 200_000;
+/// The number of notifications before a worker is asked. The program has some hundred a second.
+const NOTIFICATIONS: u32 = 200_000;
 
 /// The seconds within which a worker that is asked must come. It sleeps for a tenth of one at most.
 const SOON: u64 = 5;
@@ -49,7 +49,7 @@ impl Serve for Desk {
             Load::Busy => Visit {
                 turns: 0,
                 moved: 0,
-                end: Some(Served::Busy),
+                end: Some(Served::ClaimedElsewhere),
             },
             Load::Turns(turns) if turns < most => Visit {
                 turns,
@@ -97,11 +97,11 @@ fn seconds_since(rt: &impl Clock, start: Option<Instant>) -> u64 {
 }
 
 /// Asks for a worker at the first route. Whether one comes soon.
-fn is_served<R: Wait + Clock>(rt: &R, hall: &Hall, desk: &Desk) -> bool {
+fn is_served<R: Wait + Clock>(rt: &R, wakeups: &Wakeups, desk: &Desk) -> bool {
     let start = Instant::now(rt).ok();
     let visits = desk.visits();
-    hall.ask(0);
-    hall.share();
+    wakeups.set_inbox_ready(0);
+    wakeups.wake_resting();
     for _ in rt.forever() {
         if desk.visits() > visits {
             return true;
@@ -114,73 +114,78 @@ fn is_served<R: Wait + Clock>(rt: &R, hall: &Hall, desk: &Desk) -> bool {
     false
 }
 
-/// Calls the bell many times, and then asks for a worker several times. Whether one came each time.
-fn ring_and_ask<R: Wait + Clock>(rt: &R, hall: &Hall, desks: &[Desk]) -> bool {
-    for _ in 0..RINGS {
-        hall.ticked();
+/// Notifies many times, and then asks for a worker several times. Whether one came each time.
+fn notify_and_ask<R: Wait + Clock>(rt: &R, wakeups: &Wakeups, desks: &[Desk]) -> bool {
+    for _ in 0..NOTIFICATIONS {
+        wakeups.ticked();
     }
     let mut is_good = true;
     if let Some(desk) = desks.first() {
         for _ in 0..8 {
-            is_good = is_good && is_served(rt, hall, desk);
+            is_good = is_good && is_served(rt, wakeups, desk);
         }
     }
-    hall.finish();
+    wakeups.finish();
     is_good
 }
 
 /// A worker of a run that lasts serves as one of a run that began.
 #[test]
-fn a_worker_serves_after_hundreds_of_thousands_of_rings(rt: HostRuntime) -> Result<(), Fail> {
+fn a_worker_serves_after_hundreds_of_thousands_of_notifications(
+    rt: HostRuntime,
+) -> Result<(), Fail> {
     let desks = desks(rt.alloc(), &[Load::Turns(1)])?;
-    let hall = Hall::open(rt.alloc(), 1, 1)?;
+    let wakeups = Wakeups::open(rt.alloc(), 1, 1)?;
     let (_, is_good) = join(
         &rt,
-        || work(&rt, desks.as_slice(), Ungated, 0, &hall),
-        || ring_and_ask(&rt, &hall, desks.as_slice()),
+        || work(&rt, desks.as_slice(), Ungated, 0, &wakeups),
+        || notify_and_ask(&rt, &wakeups, desks.as_slice()),
     );
-    assert!(rt; is_good && hall.heard() > u64::from(RINGS));
+    assert!(rt; is_good && wakeups.notifications() > u64::from(NOTIFICATIONS));
     Ok(())
 }
 
-/// Without a gate, after many datagrams and after some for many routes, the polling thread serves nothing, and each
-/// route to which it offered something asks for a worker.
+/// Without a gate, after many datagrams and after some for many routes, the polling thread serves nothing, and the inbox
+/// of each route to which it offered something is marked as ready.
 #[test]
 fn the_polling_thread_asks_for_workers(rt: HostRuntime) -> Result<(), Fail> {
     let desks = desks(rt.alloc(), &[Load::Turns(1); 12])?;
-    let hall = Hall::open(rt.alloc(), 12, 1)?;
+    let wakeups = Wakeups::open(rt.alloc(), 12, 1)?;
     let ungated: Helper<'_, HostRuntime, Desk, Ungated> = Helper::new(
-        &rt, &desks, &hall, None, None,
+        &rt, &desks, &wakeups, None, None,
     );
-    ungated.offered(7);
+    ungated.polled(7);
     ungated.read_ended(1);
     assert_eq!(rt;
         (
-            hall.next_that_asks(0),
-            hall.next_that_asks(8),
-            hall.next_offered(0)
+            wakeups.next_inbox_ready(0),
+            wakeups.next_inbox_ready(8),
+            wakeups.next_polled(0)
         ),
         (7, 12, 12)
     );
-    let helper = Helper::new(&rt, &desks, &hall, None, Some(Ungated));
-    helper.offered(3);
+    let helper = Helper::new(&rt, &desks, &wakeups, None, Some(Ungated));
+    helper.polled(3);
     helper.read_ended(64);
-    assert_eq!(rt; (hall.next_that_asks(0), hall.next_that_asks(4)), (3, 7));
+    assert_eq!(rt;
+        (wakeups.next_inbox_ready(0), wakeups.next_inbox_ready(4)),
+        (3, 7)
+    );
     for route in 0..9usize {
-        helper.offered(route);
+        helper.polled(route);
     }
     helper.read_ended(9);
     for route in 0..9usize {
-        assert!(rt; hall.enter(route) && hall.next_offered(0) == 12);
+        assert!(rt; wakeups.enter(route) && wakeups.next_polled(0) == 12);
     }
-    assert_eq!(rt; hall.next_that_asks(0), 12);
+    assert_eq!(rt; wakeups.next_inbox_ready(0), 12);
     for desk in &desks {
         assert_eq!(rt; desk.visits(), 0);
     }
     Ok(())
 }
 
-/// The polling thread serves a few routes itself, and leaves to the workers what it doesn't get done: a route with more
+/// The polling thread serves a few routes itself, and leaves to the workers what it doesn't finish: a route with more
 /// turns than it may make, the routes after that, and one that another worker has.
 #[test]
 fn the_polling_thread_leaves_what_it_does_not_get_done(rt: HostRuntime) -> Result<(), Fail> {
@@ -191,19 +196,25 @@ fn the_polling_thread_leaves_what_it_does_not_get_done(rt: HostRuntime) -> Resul
         Load::Turns(1),
     ];
     let desks = desks(rt.alloc(), &loads)?;
-    let hall = Hall::open(rt.alloc(), 4, 1)?;
-    let helper = Helper::new(&rt, &desks, &hall, None, Some(Ungated));
-    helper.offered(0);
+    let wakeups = Wakeups::open(rt.alloc(), 4, 1)?;
+    let helper = Helper::new(&rt, &desks, &wakeups, None, Some(Ungated));
+    helper.polled(0);
     helper.read_ended(1);
-    assert_eq!(rt; (hall.next_that_asks(0), hall.next_offered(0)), (4, 4));
-    helper.offered(1);
+    assert_eq!(rt;
+        (wakeups.next_inbox_ready(0), wakeups.next_polled(0)),
+        (4, 4)
+    );
+    helper.polled(1);
     helper.read_ended(1);
-    assert_eq!(rt; (hall.next_that_asks(0), hall.next_that_asks(2)), (1, 4));
-    assert!(rt; hall.enter(1));
-    helper.offered(2);
-    helper.offered(3);
+    assert_eq!(rt;
+        (wakeups.next_inbox_ready(0), wakeups.next_inbox_ready(2)),
+        (1, 4)
+    );
+    assert!(rt; wakeups.enter(1));
+    helper.polled(2);
+    helper.polled(3);
     helper.read_ended(2);
-    assert!(rt; hall.next_that_asks(0) == 2 && hall.next_that_asks(3) == 3);
+    assert!(rt; wakeups.next_inbox_ready(0) == 2 && wakeups.next_inbox_ready(3) == 3);
     let mut visits = Vec::new(rt.alloc());
     for desk in &desks {
         visits.push(desk.visits())?;

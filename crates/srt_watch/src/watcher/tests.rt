@@ -5,12 +5,16 @@
 ghost use Rattle.std.specs.Prelude.{◌≡◌};
 ghost use Rattle.srt_seq.specs.Items.{told, moment_of};
 
-use crate::{Machine, Start, Watcher};
+use crate::{Machine, Start, StatusServer, Watcher};
 use arrayvec::ArrayVec;
-use srt_poller::Asked;
+use srt_poller::{Asked, Report};
 use srt_route::{Reply, Route};
-use srt_seq::{Entry, Item, Mode, Peer};
+use srt_seq::{Access, Entry, Item, Mode, NotAdmitted, Peer, Role, Rules};
 use srt_serve::{Refusal, Told, Watch};
+use srt_status::{
+    CauseCounts, Flow, GatewayStatus, PollerCounts, PublisherCounts, RefusalCounts, RouteStatus,
+    SessionStatus,
+};
 use std::alloc::Global;
 use std::process::Abort;
 use std::test::Fail;
@@ -38,6 +42,8 @@ const NOTHING: Told = Told {
     is_quiet: false,
     faults: 0,
     missed: 0,
+    counts: Report::NOTHING,
+    reports: 0,
 };
 
 /// A machine that says what it was set to.
@@ -50,6 +56,8 @@ struct Set {
 
 impl Machine for Set {
     fn rest(&self) {}
+
+    fn nap(&self) {}
 
     fn moment(&mut self) -> u64 {
         self.moment
@@ -64,16 +72,72 @@ impl Machine for Set {
         self.stops
     }
 
-    fn memory(&self) -> u64 {
-        73_240_576
+    fn memory(&self) -> Option<u64> {
+        Some(73_240_576)
     }
 
-    fn drops(&self) -> u64 {
-        self.drops
+    fn drops(&self) -> Option<u64> {
+        Some(self.drops)
     }
 }
 
-type Watching<'a> = Watcher<'a, Set, Vec<u8>>;
+/// A page that keeps some of what it was shown last.
+#[derive(Drop)]
+struct Shown {
+    polling: bool,
+    poller: PollerCounts,
+    uptime_seconds: u64,
+    kernel_drops: Option<u64>,
+    resident_bytes: Option<u64>,
+    refused: RefusalCounts,
+    causes: CauseCounts,
+    publishers: PublisherCounts,
+    first: Option<SessionStatus>,
+    opened: u64,
+    take_overs: Option<u64>,
+}
+
+impl Shown {
+    fn nothing() -> Shown {
+        Shown {
+            polling: false,
+            poller: PollerCounts::default(),
+            uptime_seconds: 0,
+            kernel_drops: None,
+            resident_bytes: None,
+            refused: RefusalCounts::default(),
+            causes: CauseCounts::default(),
+            publishers: PublisherCounts::default(),
+            first: None,
+            opened: 0,
+            take_overs: None,
+        }
+    }
+}
+
+impl StatusServer for Shown {
+    fn is_awaited(&self) -> bool {
+        false
+    }
+
+    fn serve(&mut self, gateway: &GatewayStatus<'_>, routes: &[RouteStatus]) {
+        self.polling = gateway.polling;
+        self.poller = gateway.poller;
+        self.uptime_seconds = gateway.uptime_seconds;
+        self.kernel_drops = gateway.kernel_drops;
+        self.resident_bytes = gateway.resident_bytes;
+        self.refused = gateway.refused;
+        self.causes = gateway.causes;
+        if let Some(route) = routes.first() {
+            self.publishers = route.publishers;
+            self.first = route.sessions[0];
+            self.opened = route.opened;
+            self.take_overs = route.take_overs;
+        }
+    }
+}
+
+type Watching<'a> = Watcher<'a, Set, Vec<u8>, Shown>;
 
 fn entry(alloc: Global) -> Result<Entry, Fail> {
     Ok(Entry {
@@ -84,6 +148,8 @@ fn entry(alloc: Global) -> Result<Entry, Fail> {
         sessions: 2,
         inbox: 16,
         outbox: 16,
+        access: Access::anyone(),
+        rules: Rules::DRAFT,
     })
 }
 
@@ -94,6 +160,7 @@ fn start(is_blocked: bool, lasts: Option<u64>) -> Start {
         workers: 2,
         is_blocked,
         lasts,
+        version: "0.5",
     }
 }
 
@@ -109,7 +176,15 @@ fn watcher<'a>(
         drops: 0,
     };
     let out = Vec::with_capacity(alloc, 16_384)?;
-    Ok(Watcher::open(alloc, machine, out, is_timed, entries, start)?)
+    Ok(Watcher::open(
+        alloc,
+        machine,
+        Shown::nothing(),
+        out,
+        is_timed,
+        entries,
+        start,
+    )?)
 }
 
 /// Asserts that these lines were written since the last such call, and nothing else.
@@ -306,7 +381,8 @@ fn what_came_and_went_between_two_looks(rt: HostRuntime) -> Result<(), Fail> {
     Ok(())
 }
 
-fn refusal(route: Option<usize>, name: &[u8]) -> Result<Refusal, Fail> {
+/// A refusal by a route, or by the lobby for this cause.
+fn refusal(route: Option<usize>, name: &[u8], cause: Option<NotAdmitted>) -> Result<Refusal, Fail> {
     let mut asked = ArrayVec::new();
     let _ = asked.try_extend_from_slice(name);
     Ok(Refusal {
@@ -314,19 +390,24 @@ fn refusal(route: Option<usize>, name: &[u8]) -> Result<Refusal, Fail> {
         peer: CALLER,
         code: 1002,
         name: asked,
+        cause,
     })
 }
+
+const UNKNOWN: Option<NotAdmitted> = Some(NotAdmitted::UnknownName);
 
 #[test]
 fn refusals_are_told_with_what_was_asked_for(rt: HostRuntime) -> Result<(), Fail> {
     let entries = vec![in rt.alloc(); entry(rt.alloc())?]?;
     let mut watcher = watcher(rt.alloc(), &entries, false, start(true, None))?;
-    watcher.refused(&refusal(None, b"studia")?);
-    watcher.refused(&refusal(Some(0), b"")?);
+    watcher.refused(&refusal(None, b"studia", UNKNOWN)?);
+    watcher.refused(&refusal(Some(0), b"", None)?);
+    let stranger = Some(NotAdmitted::Address(Role::Publish));
+    watcher.refused(&refusal(None, b"studio", stranger)?);
     assert_lines(
         &rt,
         &mut watcher,
-        "127.0.0.1:5000 refused, 1002 PEER, asked for \"studia\"\n127.0.0.1:5000 refused, 1002 PEER, asked for \"studio\"\n",
+        "127.0.0.1:5000 refused, 1002 PEER, asked for \"studia\", unknown name\n127.0.0.1:5000 refused, 1002 PEER, asked for \"studio\"\n127.0.0.1:5000 refused, 1002 PEER, asked for \"studio\", not in publish_from\n",
     );
     Ok(())
 }
@@ -335,7 +416,7 @@ fn refusals_are_told_with_what_was_asked_for(rt: HostRuntime) -> Result<(), Fail
 fn a_flood_has_fifty_lines_a_second(rt: HostRuntime) -> Result<(), Fail> {
     let entries = vec![in rt.alloc(); entry(rt.alloc())?]?;
     let mut watcher = watcher(rt.alloc(), &entries, false, start(true, None))?;
-    let flood = refusal(None, b"x")?;
+    let flood = refusal(None, b"x", UNKNOWN)?;
     assert_eq!(rt; watcher.next(NOTHING), Asked::GoOn);
     watcher.log.out.clear();
     watcher.machine.moment = 1_000_000;
@@ -364,9 +445,9 @@ fn counts_are_told_when_they_grow(rt: HostRuntime) -> Result<(), Fail> {
     assert!(rt; watcher.looks());
     watcher.log.out.clear();
     let told = Told {
-        is_quiet: false,
         faults: 3,
         missed: 7,
+        ..NOTHING
     };
     assert_eq!(rt; watcher.next(told), Asked::GoOn);
     assert_lines(&rt, &mut watcher, "");
@@ -399,16 +480,16 @@ fn a_flood_hides_no_count(rt: HostRuntime) -> Result<(), Fail> {
     assert_eq!(rt; watcher.next(NOTHING), Asked::GoOn);
     watcher.machine.moment = 1_000_000;
     assert_eq!(rt; watcher.next(NOTHING), Asked::GoOn);
-    let flood = refusal(None, b"x")?;
+    let flood = refusal(None, b"x", UNKNOWN)?;
     for _ in 0..60 {
         watcher.refused(&flood);
     }
     watcher.log.out.clear();
     watcher.machine.drops = 8_395;
     let told = Told {
-        is_quiet: false,
         faults: 2,
         missed: 300,
+        ..NOTHING
     };
     assert_eq!(rt; watcher.next(told), Asked::GoOn);
     assert!(rt; watcher.looks());
@@ -420,5 +501,99 @@ fn a_flood_hides_no_count(rt: HostRuntime) -> Result<(), Fail> {
     watcher.machine.moment = 2_000_000;
     assert_eq!(rt; watcher.next(told), Asked::GoOn);
     assert_lines(&rt, &mut watcher, "lines left out 310\n");
+    Ok(())
+}
+
+/// A data packet with payload `hi` for the first slot's first session: number 5, the conclusion's, and the one after it.
+const DATA: [&str; 2] = [
+    "00000005e0000001000003e8001000006869",
+    "00000006e0000002000003e8001000006869",
+];
+
+#[test]
+fn the_page_is_shown_sessions_and_totals(rt: HostRuntime) -> Result<(), Fail> {
+    let entries = vec![in rt.alloc(); entry(rt.alloc())?]?;
+    let mut watcher = watcher(rt.alloc(), &entries, false, start(true, None))?;
+    let mut route = Route::open(rt.alloc(), &entries[0], 0)?;
+    hear(rt.alloc(), &mut route, 1_000_000, PUBLISHER)?;
+    hear(rt.alloc(), &mut route, 1_002_000, DATA[0])?;
+    hear(rt.alloc(), &mut route, 1_003_000, DATA[1])?;
+    hear(rt.alloc(), &mut route, 1_004_000, DATA[1])?;
+    watcher.see(0, &route);
+    assert_eq!(rt; watcher.next(NOTHING), Asked::GoOn);
+    let counts = PublisherCounts {
+        received: 2,
+        bytes: 4,
+        repeats: 1,
+        ..PublisherCounts::default()
+    };
+    assert_eq!(rt; watcher.page.publishers, counts);
+    assert_eq!(rt; watcher.page.opened, 1);
+    let Some(session) = watcher.page.first else {
+        return Err(Fail::from("an open session"));
+    };
+    assert_eq!(rt; session.peer, CALLER);
+    assert_eq!(rt; session.id, 0x0010_0000);
+    assert_eq!(rt; session.opened_at, 1_000_000);
+    assert_eq!(rt; session.heard_at, 1_004_000);
+    assert_eq!(rt; session.latency_ms, Some(120));
+    assert_eq!(rt; session.round_trip_us, 100_000);
+    assert_eq!(rt; session.variance_us, 50_000);
+    let Flow::Publisher(publisher) = session.flow else {
+        return Err(Fail::from("a publisher"));
+    };
+    assert!(rt; publisher.active);
+    assert_eq!(rt; publisher.counts, counts);
+    assert_eq!(rt; publisher.window_used, 2);
+    assert_eq!(rt; publisher.window_available, 30);
+    hear(rt.alloc(), &mut route, 1_005_000, SHUTDOWN)?;
+    watcher.see(0, &route);
+    assert_eq!(rt; watcher.next(NOTHING), Asked::GoOn);
+    assert!(rt; watcher.page.first.is_none());
+    assert_eq!(rt; watcher.page.publishers.received, 2);
+    Ok(())
+}
+
+#[test]
+fn the_page_is_shown_the_gateway(rt: HostRuntime) -> Result<(), Fail> {
+    let entries = vec![in rt.alloc(); entry(rt.alloc())?]?;
+    let mut watcher = watcher(rt.alloc(), &entries, false, start(true, None))?;
+    watcher.machine.drops = 9;
+    assert!(rt; watcher.looks());
+    watcher.refused(&refusal(None, b"x", UNKNOWN)?);
+    let keyless = Some(NotAdmitted::Key(Role::Request));
+    watcher.refused(&refusal(None, b"studio", keyless)?);
+    watcher.refused(&refusal(Some(0), b"", None)?);
+    watcher.machine.moment = 1_999_999;
+    let told = Told {
+        counts: Report {
+            read: 11,
+            dropped: 5,
+            not_allowed: 4,
+            ..Report::NOTHING
+        },
+        ..NOTHING
+    };
+    assert_eq!(rt; watcher.next(told), Asked::GoOn);
+    assert!(rt; watcher.page.polling);
+    assert_eq!(rt; watcher.page.uptime_seconds, 1);
+    assert_eq!(rt; watcher.page.poller.read, 11);
+    assert_eq!(rt; watcher.page.kernel_drops, Some(9));
+    assert_eq!(rt; watcher.page.resident_bytes, Some(73_240_576));
+    assert_eq!(rt; watcher.page.poller.not_allowed, 4);
+    assert_eq!(rt; watcher.page.refused.peer, 2);
+    let causes = CauseCounts {
+        unknown_name: 1,
+        request_key: 1,
+        ..CauseCounts::default()
+    };
+    assert_eq!(rt; watcher.page.causes, causes);
+    assert_eq!(rt; watcher.page.take_overs, Some(0));
+    watcher.machine.moment = 2_000_000;
+    assert_eq!(rt; watcher.next(told), Asked::GoOn);
+    assert!(rt; !watcher.page.polling);
+    let told = Told { reports: 1, ..told };
+    assert_eq!(rt; watcher.next(told), Asked::GoOn);
+    assert!(rt; watcher.page.polling);
     Ok(())
 }

@@ -1,8 +1,9 @@
-use Rattle.srt_gateway.proofs.Splits.{split_found, split_none}
+use Rattle.std.proofs.Common.{sym, ap, ◌∙◌}
+use Rattle.srt_gateway.proofs.Splits.{fields_by, fields_parted}
 use Rattle.srt_gateway.proofs.fields.split_field.Goals as goal
 
 pub returns-in-Some-clause-fields : goal.returns-in-Some-clause-fields
-returns-in-Some-clause-fields c = let h = c.in-Some.ensures in split_found c.args.text.now c.in-Some.at h.0.high h.0.before h.1
+returns-in-Some-clause-fields c = fields_parted c.args.text.now ∙ ap (fields_by c.args.text.now) (sym c.in-Some.ensures.parts)
 
 pub returns-in-None-clause-fields : goal.returns-in-None-clause-fields
-returns-in-None-clause-fields c = split_none c.args.text.now c.in-None.ensures
+returns-in-None-clause-fields c = fields_parted c.args.text.now ∙ ap (fields_by c.args.text.now) (sym c.in-None.ensures.parts)

@@ -1,6 +1,6 @@
 use Rattle.std.proofs.Common.{ℕ, sym, ap, ◌∙◌}
 use Rattle.srt_gateway.specs.Events.{event_of}
-use Rattle.srt_gateway.specs.Said.{event_said}
+use Rattle.srt_gateway.specs.inside.Said.{event_said}
 use Rattle.srt_gateway.proofs.replaying.answer_line.Goals as goal
 
 pub returns-in-Ok-clause-answered : goal.returns-in-Ok-clause-answered

@@ -4,7 +4,12 @@ use Rattle.srt_gateway.specs.Tries.{made_in}
 use Rattle.srt_gateway.proofs.writer.write_bytes.Given as goal
 
 abbrev pub invariant-loop-note : goal.invariant-loop-note
-invariant-loop-note g l = record { within : l.at ≤ length l.bytes; wrote : Wrote (g.W.Write.contents l.fn.writer) (g.W.Write.contents l.writer) (take l.at l.bytes); made : made_in l.note ≤ 2 ^ 33 }
+invariant-loop-note g l =
+    record {
+      within : l.at ≤ length l.bytes;
+      wrote : Wrote (g.W.Write.contents l.fn.writer) (g.W.Write.contents l.writer) (take l.at l.bytes);
+      made : made_in l.note ≤ 2 ^ 33;
+    }
 
 abbrev pub decreases-loop-note : goal.decreases-loop-note
 decreases-loop-note g l = 2 ^ 33 - made_in l.note

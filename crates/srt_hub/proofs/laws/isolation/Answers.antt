@@ -1,7 +1,7 @@
 use Rattle.srt_hub.proofs.Isolation.{sent_is_front, sent_is_whole, isolated, gateways_isolated}
 use Rattle.srt_hub.proofs.OwnSteps.{own_steps_decide, sorting_decides}
 use Rattle.srt_hub.proofs.Own.{own_name_decides}
-use Rattle.srt_hub.proofs.Refusals.{others_stay}
+use Rattle.srt_hub.proofs.OtherRoutes.{others_stay}
 use Rattle.srt_hub.proofs.laws.isolation.Goals as goal
 
 pub returns-clause-front : goal.returns-clause-front

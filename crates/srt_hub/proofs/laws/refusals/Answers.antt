@@ -1,4 +1,4 @@
-use Rattle.srt_hub.proofs.Refusals.{full_is, full_tick_is, blocked_is, idle_is, refused_is, lobby_alone}
+use Rattle.srt_hub.proofs.Unaccepted.{full_is, full_tick_is, blocked_is, idle_is, refused_is, lobby_alone}
 use Rattle.srt_hub.proofs.laws.refusals.Goals as goal
 
 pub returns : goal.returns

@@ -6,5 +6,6 @@ use Rattle.srt_packet.proofs.reading.decode_parts.Goals as goal
 
 pub returns : goal.returns
 returns c =
-    let v : packet_read c.packet_of_parts.result ≡ packet_in (c.args.head.now ++ c.args.body.now) = parts_by c.args.head.now c.args.body.now (packet_read c.packet_of_parts.result) c.told-head (omega arith) c.packet_of_parts.ensures in
+    let v : packet_read c.packet_of_parts.result ≡ packet_in (c.args.head.now ++ c.args.body.now) =
+    parts_by c.args.head.now c.args.body.now (packet_read c.packet_of_parts.result) c.told-head (omega arith) c.packet_of_parts.ensures in
     record { value = v; found = found_by _ _ v; only = only_by _ _ v; fault = fault_by _ _ v }

@@ -20,7 +20,9 @@ is_text : (c : goal.After-write_rest) → take c.write_rest.result c.write_rest.
 is_text c = grind (arith, common_steps)
 
 pub returns-clause-spelled : goal.returns-clause-spelled
-returns-clause-spelled c = let P : List ℕ → Type 0 = λ bytes. Spells bytes (sent c.args.packet.now) in subst P (sym (is_text c)) (sent_is_spelled c.args.packet.now (can_be_sent c))
+returns-clause-spelled c =
+    let P : List ℕ → Type 0 = λ bytes. Spells bytes (sent c.args.packet.now) in
+    subst P (sym (is_text c)) (sent_is_spelled c.args.packet.now (can_be_sent c))
 
 pub returns-clause-read : goal.returns-clause-read
 returns-clause-read c = ap packet_in (is_text c) ∙ sent_is_read c.args.packet.now (can_be_sent c)

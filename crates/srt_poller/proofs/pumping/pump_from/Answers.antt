@@ -1,16 +1,15 @@
 use Rattle.std.proofs.Common.{◌≡◌, ◌∙◌, refl, sym, ap, subst, inl, inr, ℕ, suc, List, Bor, ◌+◌, ◌*◌, length, arith}
-use Rattle.std.specs.Prelude.{if◌then◌else◌}
 use Rattle.srt_seq.specs.declared.shared.Schedule.{Schedule}
 use Rattle.srt_lobby.specs.Names.{names_of}
-use Rattle.srt_poller.specs.declared.beginning.Latest.{Latest}
+use Rattle.srt_poller.specs.declared.schedule.Latest.{Latest}
 use Rattle.srt_poller.specs.Devices.{heard, carried}
-use Rattle.srt_poller.specs.History.{Sending}
-use Rattle.srt_poller.specs.Rounds.{WentClosing}
-use Rattle.srt_poller.specs.Pollers.{sorting, world_of, turn, begun_phase}
-use Rattle.srt_poller.specs.Doors.{RestBetween}
-use Rattle.srt_poller.proofs.Endings.{go_more, close_more}
-use Rattle.srt_poller.proofs.Openings.{as_many, differ_as}
-use Rattle.srt_poller.proofs.Steps.{went_none, went_then, went_more, went_as, up_to_over, rounds_more}
+use Rattle.srt_poller.specs.History.{Phase, IsOver}
+use Rattle.srt_poller.specs.Rounds.{Went}
+use Rattle.srt_poller.specs.Pollers.{sorting, world_of, round_state, begun_phase}
+use Rattle.srt_poller.specs.Beginnings.{RestBetween}
+use Rattle.srt_poller.proofs.Endings.{rounds_next}
+use Rattle.srt_poller.proofs.ShownInRound.{as_many, differ_as}
+use Rattle.srt_poller.proofs.Steps.{went_none}
 use Rattle.srt_poller.proofs.pumping.pump_from.Goals as goal
 
 pub loop-made-init : goal.loop-made-init
@@ -32,14 +31,14 @@ begin-requires g c =
       rest = rw c.loop-made.invariant.3 c.loop-made.invariant.2;
     }
 
-pub listen-requires : goal.listen-requires
-listen-requires g c =
+pub make_round-requires : goal.make_round-requires
+make_round-requires g c =
     let same = as_many (names_of c.begin.new.names) (names_of c.args.names.now) (c.begin.ensures.texts ∙ c.loop-made.invariant.1) in
     c.begin.auto.ends ∙ c.loop-made.auto.ends ∙ c.requires.ends ∙ sym same
 
 pub loop-made-preserved : goal.loop-made-preserved
 loop-made-preserved g c =
-    let schedules = c.args.doors.now.schedules.now in
+    let schedules = c.args.route_schedules.now.schedules.now in
     let class = sorting c.args.secret.now in
     let names = names_of c.begin.new.names in
     let made = c.loop-made.made in
@@ -48,29 +47,22 @@ loop-made-preserved g c =
     let closes_all = c.in-Some.closes_all in
     let source = heard (g.S.Source.gave c.loop-made.source) (g.S.Source.calls c.loop-made.source) in
     let wire = carried (g.W.Wire.handed c.loop-made.wire) (g.W.Wire.attempts c.loop-made.wire) in
-    let latest : c.begin.new.self.latest.moment ≡ c.loop-made.doors.latest.moment = ap (λ (l : Latest). l.moment) c.begin.ensures.latest in
-    let heard_then = heard (g.S.Source.gave c.listen.new.source) (g.S.Source.calls c.listen.new.source) in (
-      λ phase over.
-          let before = c.loop-made.invariant.0 phase over in
-          let began = c.begin.ensures.began class source wire c.loop-made.poller before.0 before.1 in
-          let begins : WentClosing class schedules (if closes_all then 1 else 0) 1 0 0
-          (world_of source wire c.loop-made.ends (turn (names_of c.loop-made.names) k c.loop-made.doors.latest.moment) before.0 c.loop-made.poller)
-          (world_of source wire c.begin.new.ends (turn names k c.begin.new.self.latest.moment) (begun_phase c.loop-made.poller) c.loop-made.poller) =
-          rw (latest, sym c.loop-made.invariant.3) began in
-          let resent = c.resend.ensures c.begin.new.ends class schedules (turn names k c.begin.new.self.latest.moment) source in
-          let listened = c.listen.ensures schedules k in
-          let drained = c.drain.ensures class schedules (turn names (suc k) c.listen.new.latest.moment) (Sending 0 0) heard_then (0, 0, refl, inr (refl, omega arith)) in
-          let done = went_as (omega arith) (went_then before.5 (went_then (went_then (went_then begins resent) listened) drained.2)) in (
-            drained.0,
-            up_to_over drained.1,
-            before.2 + (if closes_all then 1 else 0),
-            go_more before.2 made closes_all before.3 c.in-Some.ensures.round.0,
-            close_more before.2 closes_all before.4 c.in-Some.ensures.round.1,
-            subst (λ (n : ℕ). WentClosing class schedules (before.2 + (if closes_all then 1 else 0)) ((made + 1) * (259 + 64 * length c.args.ends.now)) (made + 1) (made + 1)
-                (world_of (heard (g.S.Source.gave c.args.source.now) (g.S.Source.calls c.args.source.now)) (carried (g.W.Wire.handed c.args.wire.now) (g.W.Wire.attempts c.args.wire.now)) c.args.ends.now (turn (names_of c.args.names.now) c.args.first c.args.doors.now.latest.moment) phase c.args.poller.now)
-                (world_of heard_then (carried (g.W.Wire.handed c.drain.new.wire) (g.W.Wire.attempts c.drain.new.wire)) c.drain.new.ends (turn names n c.listen.new.latest.moment) drained.0 c.drain.new.self)) next
-                (went_more (rounds_more made (length c.args.ends.now) (length c.listen.new.ends) (omega (arith, c.listen.auto.ends, c.begin.auto.ends, c.loop-made.auto.ends))) (omega arith) done),
-          ),
+    let latest : c.begin.new.self.latest.moment ≡ c.loop-made.route_schedules.latest.moment = ap (λ (l : Latest). l.moment) c.begin.ensures.latest in
+    let heard_then = heard (g.S.Source.gave c.make_round.new.source) (g.S.Source.calls c.make_round.new.source) in
+    let wire_then = carried (g.W.Wire.handed c.make_round.new.wire) (g.W.Wire.attempts c.make_round.new.wire) in
+    let old = λ (phase : Phase). world_of (heard (g.S.Source.gave c.args.source.now) (g.S.Source.calls c.args.source.now))
+    (carried (g.W.Wire.handed c.args.wire.now) (g.W.Wire.attempts c.args.wire.now)) c.args.ends.now
+    (round_state (names_of c.args.names.now) c.args.first c.args.route_schedules.now.latest.moment) phase c.args.poller.now in (
+      rounds_next class schedules made (length c.args.ends.now) (length c.begin.new.ends) closes_all old _ _
+          (world_of source wire c.begin.new.ends (round_state names k c.begin.new.self.latest.moment) (begun_phase c.loop-made.poller) c.loop-made.poller)
+          c.loop-made.invariant.0
+          (λ phase over. rw (latest, sym c.loop-made.invariant.3) (c.begin.ensures.began class source wire c.loop-made.poller phase over))
+          (subst (λ (n : ℕ). (last : Phase) × IsOver last × Went class schedules (258 + 64 * length c.begin.new.ends) 1 1
+          (world_of source wire c.begin.new.ends (round_state names k c.begin.new.self.latest.moment) (begun_phase c.loop-made.poller)
+          c.loop-made.poller)
+          (world_of heard_then wire_then c.make_round.new.ends (round_state names n c.make_round.new.latest.moment) last c.make_round.new.poller))
+          next (c.make_round.ensures schedules k))
+          (c.begin.auto.ends ∙ c.loop-made.auto.ends) c.in-Some.ensures.round.0 c.in-Some.ensures.round.1,
       c.begin.ensures.texts ∙ c.loop-made.invariant.1,
       let rest = subst (λ (ss : List Schedule). RestBetween (k + 1) c.begin.new.self.due ss names) c.loop-made.invariant.3 c.begin.ensures.rest in
           let same : k + 1 ≡ c.args.first + (made + 1) = omega arith in

@@ -2,8 +2,8 @@ use Rattle.std.proofs.Common.{◌≡◌, ◌∙◌, false, ap, map}
 use Rattle.std.proofs.lemmas.List.{length-map}
 use Rattle.srt_seq.specs.Terms.{terms_of}
 use Rattle.srt_lobby.specs.Names.{name_of, names_of}
-use Rattle.srt_poller.specs.Doors.{all_shown}
-use Rattle.srt_poller.proofs.Openings.{shown_again, are_good, texts_marked}
+use Rattle.srt_poller.specs.Beginnings.{all_shown}
+use Rattle.srt_poller.proofs.ShownInRound.{shown_again, are_good, texts_marked}
 use Rattle.srt_poller.proofs.tests.named.Goals.{then-first-gt0+then-not-is_empty, else-first-gt0}
 use Rattle.srt_poller.proofs.tests.named.Goals as goal
 

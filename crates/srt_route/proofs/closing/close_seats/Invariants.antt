@@ -3,8 +3,8 @@ use Rattle.srt_seq.specs.Terms.{Terms}
 use Rattle.srt_route.specs.Sessions.{Session}
 use Rattle.srt_route.specs.Tables.{IsTable}
 use Rattle.srt_route.specs.Waits.{replies_of, places_of}
-use Rattle.srt_route.proofs.Kept.{UpTo}
-use Rattle.srt_route.proofs.Ending.{IsEnded, IsEnding}
+use Rattle.srt_route.proofs.stored.Kept.{UpTo}
+use Rattle.srt_route.proofs.model.Ending.{IsEnded, IsEnding}
 use Rattle.srt_route.proofs.closing.close_seats.Given as goal
 
 -- the sessions of the seats below `at` have ended, and their peers were told

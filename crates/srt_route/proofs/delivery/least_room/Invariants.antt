@@ -3,9 +3,11 @@ use Rattle.srt_seq.specs.Terms.{Terms}
 use Rattle.srt_route.specs.Sessions.{Session}
 use Rattle.srt_route.specs.Route.{least_room}
 use Rattle.srt_route.specs.Tables.{IsTable}
-use Rattle.srt_route.proofs.Feeding.{least_from}
+use Rattle.srt_route.proofs.steps.Feeding.{least_from}
 use Rattle.srt_route.proofs.delivery.least_room.Given as goal
 
 -- the least room of those before and of those that are left is that of all
 abbrev pub invariant-loop-at : goal.invariant-loop-at
-invariant-loop-at l = (e : Terms) (index clock : ℕ) (sessions : List Session) → IsTable e index clock l.table sessions → least_from e sessions l.found l.at (e.sessions - l.at) ≡ least_room e sessions
+invariant-loop-at l =
+    (e : Terms) (index clock : ℕ) (sessions : List Session)
+    → IsTable e index clock l.table sessions → least_from e sessions l.found l.at (e.sessions - l.at) ≡ least_room e sessions

@@ -10,7 +10,9 @@ use Rattle.srt_route.proofs.dispatch.hear_subscriber.Goals as goal
 
 pub returns-clause-subscriber : goal.returns-clause-subscriber
 returns-clause-subscriber c terms initial opening caller last m h later =
-    subst (λ (x : Subscriber). StandsFor terms initial opening caller c.args.arrival.clock x (took (c.args.arrival.clock - opening) (heard_from initial (packet_of c.args.packet.now).body) (expired terms (c.args.arrival.clock - opening) m)))
+    subst (λ (x : Subscriber). StandsFor terms initial opening caller c.args.arrival.clock x
+    (took (c.args.arrival.clock - opening) (heard_from initial (packet_of c.args.packet.now).body)
+    (expired terms (c.args.arrival.clock - opening) m)))
     (sym (ap (λ (z : Seat). z.subscriber) c.keep_or_end.ensures))
     (c.datagram-took.ensures.stands terms initial opening caller last m h later)
 

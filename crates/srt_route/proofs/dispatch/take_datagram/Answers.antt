@@ -7,8 +7,14 @@ use Rattle.srt_route.proofs.dispatch.take_datagram.Goals as goal
 
 pub returns-in-Ok-clause-ends : goal.returns-in-Ok-clause-ends
 returns-in-Ok-clause-ends c =
-    subst (λ (r : Result Packet PacketFault). Ends c.args.clock (λ e index. read_end e index c.args.peer r) c.args.table.now c.args.ledger.now c.to_destination.new.ledger) c.in-Ok.ensures.value c.to_destination.ensures.ends
+    subst
+    (λ (r : Result Packet PacketFault).
+    Ends c.args.clock (λ e index. read_end e index c.args.clock c.args.peer r) c.args.table.now c.args.ledger.now c.to_destination.new.ledger)
+    c.in-Ok.ensures.value c.to_destination.ensures.ends
 
 pub returns-in-Ok-clause-tally : goal.returns-in-Ok-clause-tally
 returns-in-Ok-clause-tally c =
-    subst (λ (r : Result Packet PacketFault). Tallies c.args.clock (λ e sessions. read_tally e c.args.peer r sessions) c.args.table.now c.args.ledger.now c.to_destination.new.ledger) c.in-Ok.ensures.value c.to_destination.ensures.tally
+    subst
+    (λ (r : Result Packet PacketFault).
+    Tallies c.args.clock (λ e sessions. read_tally e c.args.peer r sessions) c.args.table.now c.args.ledger.now c.to_destination.new.ledger)
+    c.in-Ok.ensures.value c.to_destination.ensures.tally

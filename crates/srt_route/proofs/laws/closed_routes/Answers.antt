@@ -1,4 +1,4 @@
-use Rattle.srt_route.proofs.Closed.{closes_once, has_no_session, is_quiet}
+use Rattle.srt_route.proofs.model.Closed.{closes_once, has_no_session, is_quiet}
 use Rattle.srt_route.proofs.laws.closed_routes.Goals as goal
 
 pub returns : goal.returns

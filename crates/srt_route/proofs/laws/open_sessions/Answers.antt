@@ -1,4 +1,4 @@
-use Rattle.srt_route.proofs.Alone.{two_publish, no_more_than_slots, one_in_a_slot, nowhere_else, one_of_a_caller}
+use Rattle.srt_route.proofs.model.Alone.{two_publish, no_more_than_slots, one_in_a_slot, nowhere_else, one_of_a_caller}
 use Rattle.srt_route.proofs.laws.open_sessions.Goals as goal
 
 pub returns : goal.returns

@@ -1,8 +1,8 @@
-use Rattle.srt_route.proofs.PlacedWords.{four_bytes_are}
-use Rattle.srt_route.proofs.ShiftedWords.{shift_goes_round, losses_shift}
-use Rattle.srt_route.proofs.ShiftedHandshakes.{handshakes_shift, conclusions_shift}
-use Rattle.srt_route.proofs.ShiftedPackets.{packets_shift}
-use Rattle.srt_route.proofs.Restamped.{packets_restamp, lengths_stay}
+use Rattle.srt_route.proofs.renumbering.PlacedWords.{four_bytes_are}
+use Rattle.srt_route.proofs.renumbering.ShiftedWords.{shift_goes_round, losses_shift}
+use Rattle.srt_route.proofs.renumbering.ShiftedHandshakes.{handshakes_shift, conclusions_shift}
+use Rattle.srt_route.proofs.renumbering.ShiftedPackets.{packets_shift}
+use Rattle.srt_route.proofs.renumbering.Restamped.{packets_restamp, lengths_stay}
 use Rattle.srt_route.proofs.laws.renumbered_datagrams.Goals as goal
 
 pub returns : goal.returns

@@ -1,5 +1,5 @@
-use Rattle.srt_route.proofs.ShiftedOutput.{publishers_say, subscribers_say}
-use Rattle.srt_route.proofs.ShiftedAnswers.{answers_say, conclusions_have_few}
+use Rattle.srt_route.proofs.renumbering.ShiftedOutput.{publishers_say, subscribers_say}
+use Rattle.srt_route.proofs.renumbering.ShiftedAnswers.{answers_say, conclusions_have_few}
 use Rattle.srt_route.proofs.laws.renumbered_output.Goals as goal
 
 pub returns : goal.returns

@@ -1,5 +1,5 @@
-use Rattle.srt_route.proofs.ShiftedWords.{counts_stay, stamps_stay}
-use Rattle.srt_route.proofs.ShiftedHeard.{publishers_hear, subscribers_hear}
+use Rattle.srt_route.proofs.renumbering.ShiftedWords.{counts_stay, stamps_stay}
+use Rattle.srt_route.proofs.renumbering.ShiftedHeard.{publishers_hear, subscribers_hear}
 use Rattle.srt_route.proofs.laws.renumbered_sessions.Goals as goal
 
 pub returns : goal.returns

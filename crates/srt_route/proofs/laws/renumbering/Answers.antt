@@ -1,4 +1,4 @@
-use Rattle.srt_route.proofs.Renumbered.{renumbers, restamps, moves}
+use Rattle.srt_route.proofs.renumbering.Renumbered.{renumbers, restamps, moves}
 use Rattle.srt_route.proofs.laws.renumbering.Goals as goal
 
 pub returns : goal.returns

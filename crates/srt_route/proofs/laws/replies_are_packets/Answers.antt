@@ -1,4 +1,4 @@
-use Rattle.srt_route.proofs.Sendables.{publishers_send, subscribers_send, answers_send, replies_send}
+use Rattle.srt_route.proofs.model.Sendables.{publishers_send, subscribers_send, answers_send, replies_send}
 use Rattle.srt_route.proofs.laws.replies_are_packets.Goals as goal
 
 pub returns : goal.returns

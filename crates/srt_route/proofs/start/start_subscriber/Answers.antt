@@ -2,7 +2,7 @@ use Rattle.std.proofs.Common.{◌*◌, subst, arith}
 use Rattle.srt_seq.specs.Window.{word_of}
 use Rattle.srt_sub.specs.Stands.{StandsFor}
 use Rattle.srt_sub.specs.Subscribing.{Terms, opened}
-use Rattle.srt_route.proofs.Starting.{subscriber_terms}
+use Rattle.srt_route.proofs.steps.Starting.{subscriber_terms}
 use Rattle.srt_route.proofs.start.start_subscriber.Goals as goal
 
 pub returns : goal.returns

@@ -1,44 +1,102 @@
-use Rattle.std.proofs.Common.{◌≡◌, ◌<◌, ℕ, ◌-◌, ◌++◌, ◌∙◌, [], length, refl, sym, ap, append-nil, arith}
-use Rattle.srt_route.specs.Sessions.{is_subscriber}
-use Rattle.srt_route.specs.Delivery.{changed, after_subscriber}
-use Rattle.srt_route.specs.Waits.{replies_of}
-use Rattle.srt_route.proofs.Changes.{keeps_changed}
-use Rattle.srt_route.specs.Tables.{buffers_of}
-use Rattle.srt_route.proofs.Kept.{some_buffers, none_done, next_is, seat_at, one_done, all_done}
-use Rattle.srt_route.proofs.Feeding.{Changes}
-use Rattle.srt_route.proofs.Saying.{nothing_said, same_said, said_from, Tells, tell_step, told_becomes}
+use Rattle.std.proofs.Common.{◌≡◌, ◌<◌, ◌∙◌, Bool, Option, [], length, map, get_or, refl, sym, subst, arith}
+use Rattle.srt_route.specs.declared.ledger.EndCause.{EndCause}
+use Rattle.srt_route.specs.declared.seat.Seat.{Seat}
+use Rattle.srt_route.specs.Route.{sent, served}
+use Rattle.srt_route.specs.Ends.{EndsAre, file_end}
+use Rattle.srt_route.specs.Ledgers.{NotesAt, entry_of, file_cause}
+use Rattle.srt_route.specs.Tables.{IsTable, buffers_of}
+use Rattle.srt_route.proofs.stored.Stored.{same_read}
+use Rattle.srt_route.specs.Waits.{replies_of, places_of}
+use Rattle.srt_route.specs.inside.Files.{HasWhole, finished_subscriber}
+use Rattle.srt_route.specs.inside.Reports.{Queues}
+use Rattle.srt_route.proofs.stored.Kept.{some_buffers, none_done, next_is, seat_at, one_done, all_done}
+use Rattle.srt_route.proofs.steps.Noting.{grow_both, sums_told}
+use Rattle.srt_route.proofs.steps.Serving.{Serves, all_ends, finishes_subscribers, finishes_subscribers_marks, no_ends, none_beyond, one_ends, serve_slot}
+use Rattle.srt_route.proofs.steps.Serving.{served_becomes, serving, stays_served}
+use Rattle.srt_route.proofs.steps.Slots.{saying_begins, saying_ends}
 use Rattle.srt_route.proofs.transmit.transmit_subscribers.Goals as goal
 
 pub loop-at-init : goal.loop-at-init
 loop-at-init c = record {
-  seats = none_done (Changes (Tells c.args.clock)) c.args.table.now;
-  told = λ e index ss body.
-      let all : e.sessions - 0 ≡ e.sessions = omega arith in
-      record { told = []; said = nothing_said (replies_of c.args.waiting.now) _; whole = ap (λ (n : ℕ). said_from e c.args.clock is_subscriber ss 0 n) all };
+  seats = none_done (Serves c.args.clock c.is_file_over-over.result) c.args.table.now;
+  told = λ e index ss body. saying_begins (serving e c.args.clock c.is_file_over-over.result) e ss (replies_of c.args.waiting.now) _;
+  ends = λ e index ss body. no_ends index c.is_file_over-over.result c.args.clock ss (entry_of c.args.ledger.now);
+  counts = (refl, refl);
+  sums = ([], refl);
 }
 
 pub loop-at-preserved : goal.loop-at-preserved
 loop-at-preserved c =
     let h = c.loop-at.invariant in
-    let inside : c.loop-at.at < length c.args.table.now.seats.items = omega (arith, c.loop-at-test.true, c.len-at-end.ensures) in
+    let clock = c.args.clock in
+    let over = c.is_file_over-over.result in
+    let at = c.loop-at.at in
+    let old = c.args.table.now in
+    let inside : at < length old.seats.items = omega (arith, c.loop-at-test.true, c.len-at-end.ensures) in
     let x = c.index_mut.result.now in
+    let R = Serves clock over in
+    let there = next_is R at old c.loop-at.table x h.seats inside c.index_mut.ensures.value in
+    let whole = c.has_whole_file-whole.result in
+    let same : c.index.result.now ≡ x = same_read c.loop-at.table.seats.items at c.index.result.now x
+    (omega (arith, inside, h.seats.seats.same_length)) c.index.ensures c.index_mut.ensures.value in
+    let has : HasWhole over x whole = subst (λ (z : Seat). HasWhole over z whole) same c.has_whole_file-whole.ensures in
+    let noted : NotesAt at (file_cause whole) clock x.session c.loop-at.ledger c.note.new.self =
+    subst (λ (z : Seat). NotesAt at (file_cause whole) clock z.session c.loop-at.ledger c.note.new.self) (sym c.index_mut.ensures.value)
+    (subst (λ (o : Option EndCause). NotesAt at o clock (get_or c.loop-at.table.seats.items at x).session c.loop-at.ledger c.note.new.self)
+    c.file_cause.ensures (c.note.ensures x)) in
     record {
-      seats = one_done (Changes (Tells c.args.clock)) c.loop-at.at c.args.table.now c.loop-at.table _ x c.transmit_seat.new.seat h.seats inside c.index_mut.ensures.value
-          (record { count_is = c.transmit_seat.ensures.generation; session_is = c.transmit_seat.ensures.session; stays = c.transmit_seat.ensures.none; changes = c.transmit_seat.ensures.stands })
-          (refl, refl, refl, refl, refl) refl refl;
+      seats = one_done R at old c.loop-at.table _ x c.serve_seat.new.seat h.seats inside c.index_mut.ensures.value
+          (record {
+            whole = whole;
+            whole_is = has;
+            ends = λ is. (c.serve_seat.ensures.ends is).seat_is;
+            stays = λ is. stays_served clock x c.serve_seat.new.seat _ _ (c.serve_seat.ensures.served is);
+          })
+          (refl, refl, refl, refl, refl, refl) refl refl;
       told = λ e index ss body.
-          tell_step e index c.args.clock (buffers_of c.args.table.now.publishers.items x (some_buffers c.args.table.now)) ss c.loop-at.at x (replies_of c.args.waiting.now) (replies_of c.loop-at.waiting) (replies_of c.transmit_seat.new.waiting) _ _ _ (omega (arith, inside, body.places_are))
-          (seat_at e index c.args.clock c.args.table.now ss c.loop-at.at x (some_buffers c.args.table.now) body inside (next_is (Changes (Tells c.args.clock)) c.loop-at.at c.args.table.now c.loop-at.table x h.seats inside c.index_mut.ensures.value))
-          c.transmit_seat.ensures.silent (λ b t terms initial opening caller m is. c.transmit_seat.ensures.said b t is terms initial opening caller m) (h.told e index ss body);
+          serve_slot e index clock over (buffers_of old.publishers.items x (some_buffers old)) ss at x c.serve_seat.new.seat whole
+          (replies_of c.args.waiting.now) (places_of c.args.waiting.now) c.loop-at.waiting c.serve_seat.new.waiting
+          (omega (arith, inside, body.places_are)) (seat_at e index clock old ss at x (some_buffers old) body inside there) has
+          c.serve_seat.ensures.ends c.serve_seat.ensures.served (h.told e index ss body);
+      ends = λ e index ss body.
+          one_ends e index clock over whole (buffers_of old.publishers.items x (some_buffers old)) ss at x c.args.ledger.now c.loop-at.ledger
+          c.note.new.self (seat_at e index clock old ss at x (some_buffers old) body inside there) has noted (h.ends e index ss body);
+      counts = (noted.counts.0 ∙ h.counts.0, noted.counts.1 ∙ h.counts.1);
+      sums = grow_both c.args.ledger.now.totals c.loop-at.ledger.totals c.note.new.self.totals h.sums
+          (sums_told (file_cause whole) x.session (entry_of c.note.new.self at) c.loop-at.ledger.totals c.note.new.self.totals noted.sums);
     }
 
 pub returns-clause-table : goal.returns-clause-table
 returns-clause-table c e index ss body =
-    all_done (Changes (Tells c.args.clock)) (changed (after_subscriber e c.args.clock)) (keeps_changed (after_subscriber e c.args.clock)) e index c.args.clock c.args.clock c.loop-at.at c.args.table.now c.loop-at.table ss body body.early c.loop-at.invariant.seats (omega (arith, c.loop-at-test.false, c.len-at-end.ensures))
-    (λ k p x y is h. told_becomes e index c.args.clock k p x y ss is h)
+    let over = c.is_file_over-over.result in
+    subst (λ (b : Bool). IsTable e index c.args.clock c.loop-at.table (map (finished_subscriber e c.args.clock b) ss))
+    (c.is_file_over-over.ensures e index c.args.clock ss body)
+    (all_done (Serves c.args.clock over) (finished_subscriber e c.args.clock over) (finishes_subscribers e c.args.clock over)
+    (finishes_subscribers_marks e c.args.clock over)
+    e index c.args.clock c.args.clock c.loop-at.at c.args.table.now c.loop-at.table ss body body.early c.loop-at.invariant.seats
+    (omega (arith, c.loop-at-test.false, c.len-at-end.ensures))
+    (λ k p x y is h. served_becomes e index c.args.clock over k p x y ss is h))
 
 pub returns-clause-said : goal.returns-clause-said
 returns-clause-said c e index ss body =
-    let h = c.loop-at.invariant.told e index ss body in
-    let none : e.sessions - c.loop-at.at ≡ 0 = omega (arith, c.loop-at-test.false, c.len-at-end.ensures, body.places_are) in
-    same_said (sym (append-nil h.told) ∙ (sym (ap (λ (n : ℕ). h.told ++ said_from e c.args.clock is_subscriber ss c.loop-at.at n) none) ∙ h.whole)) h.said
+    let over = c.is_file_over-over.result in
+    subst (λ (b : Bool). Queues c.args.waiting.now c.loop-at.waiting (map sent (served e c.args.clock b ss)))
+    (c.is_file_over-over.ensures e index c.args.clock ss body)
+    (saying_ends (serving e c.args.clock over) e c.loop-at.at ss _ _ _ _
+    (omega (arith, c.loop-at-test.false, c.len-at-end.ensures, body.places_are))
+    (c.loop-at.invariant.told e index ss body))
+
+pub returns-clause-ends : goal.returns-clause-ends
+returns-clause-ends c e index ss body =
+    let over = c.is_file_over-over.result in
+    subst (λ (b : Bool). EndsAre index (file_end b) c.args.clock ss (entry_of c.args.ledger.now) (entry_of c.loop-at.ledger))
+    (c.is_file_over-over.ensures e index c.args.clock ss body)
+    (all_ends e index c.args.clock over c.args.table.now ss c.loop-at.at c.args.ledger.now c.loop-at.ledger body
+    (omega (arith, c.loop-at-test.false, c.len-at-end.ensures)) (none_beyond e index c.args.clock c.args.table.now ss body)
+    (c.loop-at.invariant.ends e index ss body))
+
+pub returns-clause-counts : goal.returns-clause-counts
+returns-clause-counts c = c.loop-at.invariant.counts
+
+pub returns-clause-sums : goal.returns-clause-sums
+returns-clause-sums c = c.loop-at.invariant.sums

@@ -1,17 +1,23 @@
 use Rattle.std.proofs.Common.{ℕ, List}
 use Rattle.srt_seq.specs.Terms.{Terms}
-use Rattle.srt_route.specs.Sessions.{Session, is_subscriber}
+use Rattle.srt_route.specs.Sessions.{Session}
 use Rattle.srt_route.specs.Tables.{IsTable}
+use Rattle.srt_route.specs.Ledgers.{CountsStay, entry_of}
+use Rattle.srt_route.specs.Totals.{SumsGrow}
 use Rattle.srt_route.specs.Waits.{replies_of, places_of}
-use Rattle.srt_route.proofs.Kept.{UpTo}
-use Rattle.srt_route.proofs.Feeding.{Changes}
-use Rattle.srt_route.proofs.Saying.{IsTold, Tells}
+use Rattle.srt_route.proofs.stored.Kept.{UpTo}
+use Rattle.srt_route.proofs.steps.Serving.{EndsUpTo, Serves, serving}
+use Rattle.srt_route.proofs.steps.Slots.{IsSaying}
 use Rattle.srt_route.proofs.transmit.transmit_subscribers.Given as goal
 
--- those before have sent what they send
+-- those before have sent what they send, or ended
 abbrev pub invariant-loop-at : goal.invariant-loop-at
 invariant-loop-at l = record {
-  seats : UpTo (Changes (Tells l.clock)) l.at l.fn.table l.table;
+  seats : UpTo (Serves l.clock l.over) l.at l.fn.table l.table;
   told : (e : Terms) (index : ℕ) (sessions : List Session) → IsTable e index l.clock l.fn.table sessions
-      → IsTold e l.clock is_subscriber l.at sessions (replies_of l.fn.waiting) (replies_of l.waiting) (places_of l.fn.waiting) (places_of l.waiting);
+      → IsSaying (serving e l.clock l.over) e l.at sessions (replies_of l.fn.waiting) (replies_of l.waiting) (places_of l.fn.waiting) (places_of l.waiting);
+  ends : (e : Terms) (index : ℕ) (sessions : List Session) → IsTable e index l.clock l.fn.table sessions
+      → EndsUpTo index l.over l.clock l.at sessions (entry_of l.fn.ledger) (entry_of l.ledger);
+  counts : CountsStay l.fn.ledger l.ledger;
+  sums : SumsGrow l.fn.ledger.totals l.ledger.totals;
 }

@@ -16,7 +16,9 @@ loop-front-preserved c =
     let range = c.in-Some.range in
     let before = subst (λ xs. IsTaken word width list xs (is_in_parts parts)) c.in-Some.ensures.some i.named in
     record {
-      named = subst (λ xs. IsTaken word width list left (is_in_parts xs)) (sym c.put.ensures) (taken_more word width list left (range_of range) parts c.part_in.result range.0.small range.1.small c.part_in.ensures.value before);
+      named = subst (λ xs. IsTaken word width list left (is_in_parts xs)) (sym c.put.ensures)
+          (taken_more word width list left (range_of range) parts c.part_in.result range.0.small range.1.small c.part_in.ensures.value
+          before);
       within = subst (λ xs. AreWithin width xs) (sym c.put.ensures) (within_more width parts c.part_in.result i.within c.part_in.ensures.within);
       shorter =
           let old = i.shorter in

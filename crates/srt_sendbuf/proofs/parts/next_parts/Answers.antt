@@ -7,13 +7,24 @@ use Rattle.srt_sendbuf.proofs.parts.next_parts.Goals as goal
 pub returns-clause-named : goal.returns-clause-named
 returns-clause-named c initial from place e lt =
     c.first_parts-parts.ensures.named initial from place e lt
-    ∙ ap (λ b. b || is_asked (ranges_from initial c.first_parts-parts.new.ranges) (from + place)) (list_any-IsPermutation (λ part. is_in_part (Some part) place) c.first_parts-parts.result.items c.sort.new.parts.items c.sort.ensures.same)
+    ∙ ap (λ b. b || is_asked (ranges_from initial c.first_parts-parts.new.ranges) (from + place))
+    (list_any-IsPermutation (λ part. is_in_part (Some part) place) c.first_parts-parts.result.items c.sort.new.parts.items
+    c.sort.ensures.same)
 
 pub returns-clause-within : goal.returns-clause-within
-returns-clause-within c = All-permutation (λ p. (p.0 ≤ p.1) × (p.1 < c.args.width)) c.first_parts-parts.result.items c.sort.new.parts.items c.sort.ensures.same c.first_parts-parts.ensures.within
+returns-clause-within c =
+    All-permutation (λ p. (p.0 ≤ p.1) × (p.1 < c.args.width)) c.first_parts-parts.result.items c.sort.new.parts.items c.sort.ensures.same
+    c.first_parts-parts.ensures.within
 
 pub returns-clause-shorter : goal.returns-clause-shorter
-returns-clause-shorter c = omega (arith, length_permutation c.first_parts-parts.result.items c.sort.new.parts.items c.sort.ensures.same, c.first_parts-parts.ensures.shorter)
+returns-clause-shorter c =
+    omega (
+      arith,
+      length_permutation c.first_parts-parts.result.items c.sort.new.parts.items c.sort.ensures.same,
+      c.first_parts-parts.ensures.shorter,
+    )
 
 pub returns-clause-all : goal.returns-clause-all
-returns-clause-all c few = c.first_parts-parts.ensures.all (omega (arith, length_permutation c.first_parts-parts.result.items c.sort.new.parts.items c.sort.ensures.same, few))
+returns-clause-all c few =
+    c.first_parts-parts.ensures.all
+    (omega (arith, length_permutation c.first_parts-parts.result.items c.sort.new.parts.items c.sort.ensures.same, few))

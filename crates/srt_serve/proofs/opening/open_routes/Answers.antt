@@ -1,14 +1,21 @@
-use Rattle.std.proofs.Common.{◌+◌, ℕ, ap}
-use Rattle.srt_serve.proofs.Openings.{opened_grow}
+use Rattle.std.proofs.Common.{◌+◌, ℕ, ap, ◌∙◌, arith}
+use Rattle.srt_mailbox.specs.Places.{came}
+use Rattle.srt_serve.proofs.Openings.{one_more, terms_grow, clocks_grow}
 use Rattle.srt_serve.proofs.opening.open_routes.Goals as goal
 
 pub loop-entry-preserved : goal.loop-entry-preserved
-loop-entry-preserved c = record {
-  opened =
-      let opened = c.in-Ok.ensures in
-      rw (c.in_ok-add.ensures.ends, c.in_ok-add.ensures.clocks, c.in_ok-add.ensures.cells)
-      (opened_grow c.args.entries.now c.loop-entry.index c.loop-entry.entry-index c.entry-item.result _ _ _ _ _ _ c.loop-entry.invariant.index c.loop-entry-test.true c.entry-item.is
-      (record { terms_are = opened.name.0; index_is = opened.name.1; ingress = opened.ingress; clock_is = opened.clock; drain = opened.drain })
-      c.loop-entry.invariant.opened);
-  index = ap (λ (n : ℕ). n + 1) c.loop-entry.invariant.index;
-}
+loop-entry-preserved c =
+    let taken = c.in_ok-take_first.ensures.taken in
+    let clocked = c.in_ok-take_first_clock.ensures.taken in
+    record {
+      terms =
+          terms_grow c.args.entries.now c.loop-entry.entry-index c.entry-item.result _ _ _ c.loop-entry-test.true c.entry-item.is
+          c.in_ok-seat.ensures.0 taken.1 c.loop-entry.invariant.terms;
+      opened =
+          rw (taken.1, taken.2) (one_more (came c.loop-entry.routes) c.loop-entry.ends.items _ taken.0 taken.3 c.loop-entry.invariant.opened);
+      clocks = clocks_grow _ _ _ _ clocked.0 clocked.1 clocked.2 c.loop-entry.invariant.clocks;
+      places = c.take_first.ensures.places ∙ c.loop-entry.invariant.places;
+      clocked = c.take_first_clock.ensures.places ∙ c.loop-entry.invariant.clocked;
+      room = omega (arith, c.loop-entry.invariant.room, c.take_first.ensures.room);
+      index = ap (λ (n : ℕ). n + 1) c.loop-entry.invariant.index;
+    }

@@ -1,10 +1,17 @@
-use Rattle.std.proofs.Common.{◌≡◌, map, take}
+use Rattle.std.proofs.Common.{◌≡◌, ◌≤◌, map, take, length}
+use Rattle.std.specs.Vec.{vec_capacity}
 use Rattle.srt_seq.specs.Terms.{terms_of}
-use Rattle.srt_serve.specs.Opened.{AreOpened}
+use Rattle.srt_mailbox.specs.Places.{came, locks_of}
+use Rattle.srt_serve.specs.Opened.{AreOpened, terms_in, new_clocks}
 use Rattle.srt_serve.proofs.opening.open_routes.Given as goal
 
 abbrev pub invariant-loop-entry : goal.invariant-loop-entry
 invariant-loop-entry l = record {
-  opened : AreOpened (map terms_of (take l.entry-index l.entries)) l.opened.ends.items l.opened.clocks.items l.opened.cells.items;
+  terms : terms_in (came l.routes) ≡ map terms_of (take l.entry-index l.entries);
+  opened : AreOpened (came l.routes) l.ends.items;
+  clocks : l.clocks.items ≡ new_clocks (came l.arrivals.reader);
+  places : locks_of l.routes ≡ map (λ p. p.seat.id) l.places;
+  clocked : locks_of l.arrivals.reader ≡ map (λ p. p.seat.id) l.places;
+  room : length l.places ≤ vec_capacity l.ends;
   index : l.index ≡ l.entry-index;
 }

@@ -1,6 +1,6 @@
 use Rattle.std.proofs.Common.{◌≡◌, take}
 use Rattle.srt_lobby.specs.Names.{names_of}
-use Rattle.srt_serve.specs.Later.{later_hidden}
+use Rattle.srt_serve.specs.NamesAtStart.{later_hidden}
 use Rattle.srt_serve.proofs.running.hide_later.Given as goal
 
 abbrev pub invariant-loop-r : goal.invariant-loop-r

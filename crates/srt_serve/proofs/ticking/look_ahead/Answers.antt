@@ -3,7 +3,11 @@ use Rattle.srt_serve.proofs.Moments.{was_same, first_more, all_first}
 use Rattle.srt_serve.proofs.ticking.look_ahead.Goals as goal
 
 pub loop-end-preserved : goal.loop-end-preserved
-loop-end-preserved g c = first_more g.E.TickEnd.inbox g.E.TickEnd.tried c.loop-end.end-index [] _ _ c.end-item.result _ c.loop-end.invariant (was_same g.E.TickEnd.inbox g.E.TickEnd.tried _ _ c.look.ensures.same)
+loop-end-preserved g c =
+    first_more g.E.TickEnd.inbox g.E.TickEnd.tried c.loop-end.end-index [] _ _ c.end-item.result _ c.loop-end.invariant
+    (was_same g.E.TickEnd.inbox g.E.TickEnd.tried _ _ c.look.ensures.same)
 
 pub returns : goal.returns
-returns g c = all_first g.E.TickEnd.inbox g.E.TickEnd.tried c.loop-end.end-index [] _ _ c.loop-end.invariant (omega (arith, c.loop-end-test.false, c.loop-end.auto))
+returns g c =
+    all_first g.E.TickEnd.inbox g.E.TickEnd.tried c.loop-end.end-index [] _ _ c.loop-end.invariant
+    (omega (arith, c.loop-end-test.false, c.loop-end.auto))

@@ -1,23 +1,22 @@
-use Rattle.std.proofs.Common.{◌∷◌, [], ◌++◌, ap, ◌∙◌}
-use Rattle.srt_poller.specs.Devices.{joined}
-use Rattle.srt_serve.proofs.Moments.{were_not, were_again, put_back}
-use Rattle.srt_serve.proofs.Recorded.{joined_nothing, joined_again}
+use Rattle.std.proofs.Common.{[], refl, sym, ◌∙◌, append-nil}
+use Rattle.srt_poller.proofs.Joined.{joined_none}
+use Rattle.srt_serve.proofs.Moments.{one_tick_more}
 use Rattle.srt_serve.proofs.ticking.tick.Goals as goal
 
 pub loop-init : goal.loop-init
-loop-init g c = (tt, tt, ([], joined_nothing _, were_not g.E.TickEnd.inbox g.E.TickEnd.tried _))
+loop-init g c = (tt, tt, refl, ([], sym (joined_none _), sym (append-nil _), refl))
 
 pub loop-preserved : goal.loop-preserved
-loop-preserved g c =
-    let before = c.loop.invariant.2 in (
-      tt,
-      tt,
-      (
-        before.0 ++ c.next-moment.result ∷ [],
-        c.next-moment.ensures.tells ∙ ap (λ told. joined told (c.next-moment.result ∷ [])) before.1 ∙ joined_again _ before.0 _,
-        were_again g.E.TickEnd.inbox g.E.TickEnd.tried before.0 _ _ _ _ before.2 (put_back g.E.TickEnd.inbox g.E.TickEnd.tried _ _ c.tick_all.new.ends _ c.loop.clocks.ends.ok.0 (rw c.deref_mut.ensures.value at c.tick_all.ensures)),
-      ),
-    )
+loop-preserved g c = (
+  tt,
+  tt,
+  c.tick_with_new.ensures.same ∙ c.loop.invariant.2,
+  one_tick_more g.E.TickEnd.inbox g.E.TickEnd.tried _ _ _ _ _ _ _ _ _ c.next-moment.result c.tick_with_new.ensures.ticked.0
+      c.loop.invariant.3 c.next-moment.ensures.tells c.tick_with_new.ensures.ticked.1 c.tick_with_new.ensures.ticked.2,
+)
 
-pub returns-then-is_done : goal.returns-then-is_done
-returns-then-is_done g c = c.loop.invariant.2
+pub returns-then-is_done-clause-ticked : goal.returns-then-is_done-clause-ticked
+returns-then-is_done-clause-ticked g c = c.loop.invariant.3
+
+pub returns-then-is_done-clause-same : goal.returns-then-is_done-clause-same
+returns-then-is_done-clause-same g c = c.loop.invariant.2

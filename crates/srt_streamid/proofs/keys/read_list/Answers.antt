@@ -1,6 +1,6 @@
 use Rattle.std.proofs.Common.{arith, length-drop}
 use Rattle.srt_streamid.specs.Reading.{list_in}
-use Rattle.srt_streamid.proofs.Cuts.{slice_rest}
+use Rattle.std.proofs.lemmas.List.{take_rest}
 use Rattle.srt_streamid.proofs.keys.read_list.Goals as goal
 
 pub loop-found-init : goal.loop-found-init
@@ -8,6 +8,6 @@ unfolding list_in
 loop-found-init c =
     let bytes = c.args.bytes.now in
     record {
-      inside = rw (slice_rest 4 bytes) (omega (arith, length-drop 4 bytes));
-      left = rw (c.nothing-found.ensures, slice_rest 4 bytes);
+      inside = rw (take_rest bytes 4) (omega (arith, length-drop 4 bytes));
+      left = rw (c.nothing-found.ensures, take_rest bytes 4);
     }

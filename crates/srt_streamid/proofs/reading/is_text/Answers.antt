@@ -7,7 +7,8 @@ refused : (bs : List ℕ) → ¬ (IsUtf8 bs) → (b : Bool) → is_utf8 bs ≡ b
 refused bs h true = λ e. absurd (h (IsUtf8-from_is_utf8 bs e))
 refused bs h false = λ e. refl
 
-told : {T E : Type 0} (r : Result T E) (bs : List ℕ) (P : T → Type 0) (Q : E → Type 0) → MatchResult r (λ s. P s × IsUtf8 bs) (λ e. ¬ (IsUtf8 bs) × Q e) → is_ok r ≡ is_utf8 bs
+told : {T E : Type 0} (r : Result T E) (bs : List ℕ) (P : T → Type 0) (Q : E → Type 0)
+    → MatchResult r (λ s. P s × IsUtf8 bs) (λ e. ¬ (IsUtf8 bs) × Q e) → is_ok r ≡ is_utf8 bs
 told (Ok s) bs P Q h = sym (is_utf8-from_IsUtf8 bs h.1)
 told (Err e) bs P Q h = refused bs h.0 (is_utf8 bs) refl
 

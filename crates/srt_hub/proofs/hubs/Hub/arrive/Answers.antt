@@ -11,12 +11,20 @@ returns-in-Answer-clause-stands g c secret entries events h =
     let d : Datagram = record { peer = c.args.peer; bytes = c.args.bytes.now } in
     let class = g.L.Lobby.class secret in
     let w = world_after class g.R.RouteStep.reply entries events in
-    let is = sym (c.classify.ensures.class secret (names_in (world_after (g.L.Lobby.class secret) g.R.RouteStep.reply entries events)) h.lobby_knows) ∙ c.in-Answer.is in
-    record { lobby_knows = h.lobby_knows; lanes_are = nothing_happens _ class g.R.RouteStep.reply w _ (Arrives d c.args.moment false) refl (λ k. answer_nowhere class w d c.args.moment false _ k is) h.lanes_are }
+    let is =
+    sym (c.classify.ensures.class secret (names_in (world_after (g.L.Lobby.class secret) g.R.RouteStep.reply entries events)) h.lobby_knows)
+    ∙ c.in-Answer.is in
+    record {
+      lobby_knows = h.lobby_knows;
+      lanes_are = nothing_happens _ class g.R.RouteStep.reply w _ (Arrives d c.args.moment false) refl
+          (λ k. answer_nowhere class w d c.args.moment false _ k is) h.lanes_are;
+    }
 
 pub returns-in-Answer-clause-answer : goal.returns-in-Answer-clause-answer
 returns-in-Answer-clause-answer g c secret entries events h =
-    let is = sym (c.classify.ensures.class secret (names_in (world_after (g.L.Lobby.class secret) g.R.RouteStep.reply entries events)) h.lobby_knows) ∙ c.in-Answer.is in
+    let is =
+    sym (c.classify.ensures.class secret (names_in (world_after (g.L.Lobby.class secret) g.R.RouteStep.reply entries events)) h.lobby_knows)
+    ∙ c.in-Answer.is in
     sym (ap (arrival_of false (room_at (g.L.Lobby.class secret) g.R.RouteStep.reply entries events)) is)
 
 pub returns-in-Dropped-clause-stands : goal.returns-in-Dropped-clause-stands
@@ -24,12 +32,20 @@ returns-in-Dropped-clause-stands g c secret entries events h =
     let d : Datagram = record { peer = c.args.peer; bytes = c.args.bytes.now } in
     let class = g.L.Lobby.class secret in
     let w = world_after class g.R.RouteStep.reply entries events in
-    let is = sym (c.classify.ensures.class secret (names_in (world_after (g.L.Lobby.class secret) g.R.RouteStep.reply entries events)) h.lobby_knows) ∙ c.in-Dropped.is in
-    record { lobby_knows = h.lobby_knows; lanes_are = nothing_happens _ class g.R.RouteStep.reply w _ (Arrives d c.args.moment false) refl (λ k. drop_nowhere class w d c.args.moment false _ k is) h.lanes_are }
+    let is =
+    sym (c.classify.ensures.class secret (names_in (world_after (g.L.Lobby.class secret) g.R.RouteStep.reply entries events)) h.lobby_knows)
+    ∙ c.in-Dropped.is in
+    record {
+      lobby_knows = h.lobby_knows;
+      lanes_are = nothing_happens _ class g.R.RouteStep.reply w _ (Arrives d c.args.moment false) refl
+          (λ k. drop_nowhere class w d c.args.moment false _ k is) h.lanes_are;
+    }
 
 pub returns-in-Dropped-clause-answer : goal.returns-in-Dropped-clause-answer
 returns-in-Dropped-clause-answer g c secret entries events h =
-    let is = sym (c.classify.ensures.class secret (names_in (world_after (g.L.Lobby.class secret) g.R.RouteStep.reply entries events)) h.lobby_knows) ∙ c.in-Dropped.is in
+    let is =
+    sym (c.classify.ensures.class secret (names_in (world_after (g.L.Lobby.class secret) g.R.RouteStep.reply entries events)) h.lobby_knows)
+    ∙ c.in-Dropped.is in
     sym (ap (arrival_of false (room_at (g.L.Lobby.class secret) g.R.RouteStep.reply entries events)) is)
 
 pub returns-in_default-clause-stands : goal.returns-in_default-clause-stands
@@ -37,22 +53,36 @@ returns-in_default-clause-stands g c secret entries events h =
     let d : Datagram = record { peer = c.args.peer; bytes = c.args.bytes.now } in
     let class = g.L.Lobby.class secret in
     let w = world_after class g.R.RouteStep.reply entries events in
-    let is = sym (c.classify.ensures.class secret (names_in (world_after (g.L.Lobby.class secret) g.R.RouteStep.reply entries events)) h.lobby_knows) ∙ c.in-Route.is in
-    record { lobby_knows = h.lobby_knows; lanes_are = nothing_happens _ class g.R.RouteStep.reply w _ (Arrives d c.args.moment true) refl (λ k. refused_nowhere class w d c.args.moment _ k is) h.lanes_are }
+    let is =
+    sym (c.classify.ensures.class secret (names_in (world_after (g.L.Lobby.class secret) g.R.RouteStep.reply entries events)) h.lobby_knows)
+    ∙ c.in-Route.is in
+    record {
+      lobby_knows = h.lobby_knows;
+      lanes_are = nothing_happens _ class g.R.RouteStep.reply w _ (Arrives d c.args.moment true) refl
+          (λ k. refused_nowhere class w d c.args.moment _ k is) h.lanes_are;
+    }
 
 pub returns-in_default-clause-answer : goal.returns-in_default-clause-answer
 returns-in_default-clause-answer g c secret entries events h =
-    let is = sym (c.classify.ensures.class secret (names_in (world_after (g.L.Lobby.class secret) g.R.RouteStep.reply entries events)) h.lobby_knows) ∙ c.in-Route.is in
+    let is =
+    sym (c.classify.ensures.class secret (names_in (world_after (g.L.Lobby.class secret) g.R.RouteStep.reply entries events)) h.lobby_knows)
+    ∙ c.in-Route.is in
     sym (ap (arrival_of true (room_at (g.L.Lobby.class secret) g.R.RouteStep.reply entries events)) is)
 
 pub returns-then-r-len-clause-stands : goal.returns-then-r-len-clause-stands
 returns-then-r-len-clause-stands g c secret entries events h =
-    let is = sym (c.classify.ensures.class secret (names_in (world_after (g.L.Lobby.class secret) g.R.RouteStep.reply entries events)) h.lobby_knows) ∙ c.in-Route.is in
-    let named = g.met.L.Lobby.named secret (names_in (world_after (g.L.Lobby.class secret) g.R.RouteStep.reply entries events)) _ c.args.moment c.in-Route.r is in
+    let is =
+    sym (c.classify.ensures.class secret (names_in (world_after (g.L.Lobby.class secret) g.R.RouteStep.reply entries events)) h.lobby_knows)
+    ∙ c.in-Route.is in
+    let named = g.met.L.Lobby.named secret (names_in (world_after (g.L.Lobby.class secret) g.R.RouteStep.reply entries events)) _
+    c.args.moment c.in-Route.r is in
     absurd (omega (arith, named, length-map (world_after (g.L.Lobby.class secret) g.R.RouteStep.reply entries events).places name_at, h.lanes_are.as_many))
 
 pub returns-then-r-len-clause-answer : goal.returns-then-r-len-clause-answer
 returns-then-r-len-clause-answer g c secret entries events h =
-    let is = sym (c.classify.ensures.class secret (names_in (world_after (g.L.Lobby.class secret) g.R.RouteStep.reply entries events)) h.lobby_knows) ∙ c.in-Route.is in
-    let named = g.met.L.Lobby.named secret (names_in (world_after (g.L.Lobby.class secret) g.R.RouteStep.reply entries events)) _ c.args.moment c.in-Route.r is in
+    let is =
+    sym (c.classify.ensures.class secret (names_in (world_after (g.L.Lobby.class secret) g.R.RouteStep.reply entries events)) h.lobby_knows)
+    ∙ c.in-Route.is in
+    let named = g.met.L.Lobby.named secret (names_in (world_after (g.L.Lobby.class secret) g.R.RouteStep.reply entries events)) _
+    c.args.moment c.in-Route.r is in
     absurd (omega (arith, named, length-map (world_after (g.L.Lobby.class secret) g.R.RouteStep.reply entries events).places name_at, h.lanes_are.as_many))

@@ -6,10 +6,14 @@ use Rattle.srt_hub.proofs.Named.{start_names}
 use Rattle.srt_hub.proofs.hubs.Hub.open.Goals as goal
 
 pub open-requires-in-loop-entry-clause-name : goal.open-requires-in-loop-entry-clause-name
-open-requires-in-loop-entry-clause-name g c = (right_at c.args.entries.now c.loop-entry.entry-index c.entry-item.result c.in_ok-lobby.ensures.sound c.loop-entry-test.true c.entry-item.is).name
+open-requires-in-loop-entry-clause-name g c =
+    (right_at c.args.entries.now c.loop-entry.entry-index c.entry-item.result c.in_ok-lobby.ensures.sound c.loop-entry-test.true
+    c.entry-item.is).name
 
 pub open-requires-in-loop-entry-clause-limits : goal.open-requires-in-loop-entry-clause-limits
-open-requires-in-loop-entry-clause-limits g c = (right_at c.args.entries.now c.loop-entry.entry-index c.entry-item.result c.in_ok-lobby.ensures.sound c.loop-entry-test.true c.entry-item.is).limits
+open-requires-in-loop-entry-clause-limits g c =
+    (right_at c.args.entries.now c.loop-entry.entry-index c.entry-item.result c.in_ok-lobby.ensures.sound c.loop-entry-test.true
+    c.entry-item.is).limits
 
 pub open-requires-in-loop-entry-clause-index : goal.open-requires-in-loop-entry-clause-index
 open-requires-in-loop-entry-clause-index g c =
@@ -18,7 +22,10 @@ open-requires-in-loop-entry-clause-index g c =
 
 pub loop-entry-preserved : goal.loop-entry-preserved
 loop-entry-preserved g c = record {
-  lanes_are = rw (c.in-Ok-push.ensures.items) (lanes_grow _ c.args.entries.now c.loop-entry.r c.loop-entry.entry-index c.entry-item.result c.loop-entry.lanes.items c.in-Ok-open.lane c.loop-entry.invariant.index c.loop-entry-test.true c.entry-item.is c.in-Ok-open.ensures.empty c.loop-entry.invariant.lanes_are);
+  lanes_are = rw (c.in-Ok-push.ensures.items)
+      (lanes_grow _ c.args.entries.now c.loop-entry.r c.loop-entry.entry-index c.entry-item.result c.loop-entry.lanes.items
+      c.in-Ok-open.lane c.loop-entry.invariant.index c.loop-entry-test.true c.entry-item.is c.in-Ok-open.ensures.empty
+      c.loop-entry.invariant.lanes_are);
   index = ap (λ (n : ℕ). n + 1) c.loop-entry.invariant.index;
 }
 

@@ -9,8 +9,12 @@ returns-clause-stands g c secret entries events h =
     let w = world_after class g.R.RouteStep.reply entries events in
     record {
       lobby_knows = h.lobby_knows;
-      lanes_are = event_happens _ class g.R.RouteStep.reply w c.args.self.now.lanes.items (Sends c.args.r) c.args.r c.index_mut.result.now _ Send c.requires c.index_mut.ensures.value refl (send_here class w c.args.r) (send_elsewhere class w c.args.r) c.send.ensures.stands h.lanes_are;
+      lanes_are =
+          event_happens _ class g.R.RouteStep.reply w c.args.self.now.lanes.items (Sends c.args.r) c.args.r c.index_mut.result.now _ Send
+          c.requires c.index_mut.ensures.value refl (send_here class w c.args.r) (send_elsewhere class w c.args.r) c.send.ensures.stands h.lanes_are;
     }
 
 pub returns-clause-answer : goal.returns-clause-answer
-returns-clause-answer g c secret entries events h = answer_is _ (world_after (g.L.Lobby.class secret) g.R.RouteStep.reply entries events) c.args.self.now.lanes.items c.args.r c.index_mut.result.now (λ e m. first m.outbox) _ c.requires c.index_mut.ensures.value (λ e i m. c.send.ensures.answer e i m) h.lanes_are
+returns-clause-answer g c secret entries events h =
+    answer_is _ (world_after (g.L.Lobby.class secret) g.R.RouteStep.reply entries events) c.args.self.now.lanes.items c.args.r
+    c.index_mut.result.now (λ e m. first m.outbox) _ c.requires c.index_mut.ensures.value (λ e i m. c.send.ensures.answer e i m) h.lanes_are

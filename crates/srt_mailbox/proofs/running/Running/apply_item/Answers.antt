@@ -20,16 +20,22 @@ invariant_of-self g c =
     let inside = c.self.inside in
     let e = terms_of inside.entry.value in
     let r = inside.index.value in
-    let items = applied inside.taker.taken in
-    let x = c.in-Ok.marked in
+    let items = applied inside.receiver.taken in
+    let x = c.in-Ok.entry in
     let none = ap (λ (w : Run). w.waiting) c.self.view_is ∙ c.requires in
-    let taken = ap (λ (k : Consumer). applied k.taken) c.in-Ok.ensures.took ∙ told_last [] inside.taker.taken x in
+    let taken = ap (λ (k : Consumer). applied k.taken) c.in-Ok.ensures.took ∙ told_last [] inside.receiver.taken x in
     let stood : stands inside.route e r items = c.self.invariant.0 in
-    let waits = waits_next e r items inside.held inside.route c.step-self-inside.new.self _ _ none (c.step-self-inside.ensures.replies e r items stood) c.into_item-item.ensures.item in (
-      rw taken (subst (λ (i : Item). stands c.step-self-inside.new.self e r (told i ∷ items)) c.into_item-item.ensures.item (c.step-self-inside.ensures.stands e r items stood)),
-      rw taken (applied_replays e r (map written inside.putter.put) (waiting_at inside.held inside.route) (waiting_at inside.held c.step-self-inside.new.self) items (told x.item) c.self.invariant.1 none waits),
+    let waits = waits_next e r items inside.held inside.route c.step-self-inside.new.self _ _ none
+    (c.step-self-inside.ensures.replies e r items stood) c.into_item-item.ensures.item in (
+      rw taken
+          (subst (λ (i : Item). stands c.step-self-inside.new.self e r (told i ∷ items)) c.into_item-item.ensures.item
+          (c.step-self-inside.ensures.stands e r items stood)),
+      rw taken
+          (applied_replays e r (map written inside.sender.put) (waiting_at inside.held inside.route)
+          (waiting_at inside.held c.step-self-inside.new.self) items (told x.item) c.self.invariant.1 none waits),
       c.step-self-inside.ensures.count ∙ ap (λ l. length (l ++ waiting c.step-self-inside.new.self)) (sym (none_held inside.held inside.route none)),
-      c.saturating_add-self-inside.ensures ∙ counted_more (length inside.taker.taken) inside.taken c.self.invariant.3 ∙ sym (ap counted (ap (λ (k : Consumer). length k.taken) c.in-Ok.ensures.took ∙ length-append inside.taker.taken (x ∷ []))),
+      c.saturating_add-self-inside.ensures ∙ counted_more (length inside.receiver.taken) inside.taken c.self.invariant.3
+          ∙ sym (ap counted (ap (λ (k : Consumer). length k.taken) c.in-Ok.ensures.took ∙ length-append inside.receiver.taken (x ∷ []))),
     )
 
 pub returns-in-Ok : goal.returns-in-Ok
@@ -37,14 +43,19 @@ returns-in-Ok g c =
     let inside = c.self.inside in
     let now = c.step-self-inside.new.self in
     let run_of = run (terms_of inside.entry.value) inside.index.value in
-    let stood : stands inside.route (terms_of inside.entry.value) inside.index.value (applied inside.taker.taken) = c.self.invariant.0 in
-    let waits = waits_next (terms_of inside.entry.value) inside.index.value (applied inside.taker.taken) inside.held inside.route now _ _ (ap (λ (w : Run). w.waiting) c.self.view_is ∙ c.requires) (c.step-self-inside.ensures.replies (terms_of inside.entry.value) inside.index.value (applied inside.taker.taken) stood) c.into_item-item.ensures.item in (
-      c.in-Ok.marked,
+    let stood : stands inside.route (terms_of inside.entry.value) inside.index.value (applied inside.receiver.taken) = c.self.invariant.0 in
+    let waits = waits_next (terms_of inside.entry.value) inside.index.value (applied inside.receiver.taken) inside.held inside.route now _ _
+    (ap (λ (w : Run). w.waiting) c.self.view_is ∙ c.requires)
+    (c.step-self-inside.ensures.replies (terms_of inside.entry.value) inside.index.value (applied inside.receiver.taken) stood)
+    c.into_item-item.ensures.item in (
+      c.in-Ok.entry,
       c.requires,
       subst
-          (λ (w : Run). run_of c.take.new.self inside.putter (waiting_at inside.held now) inside.refusals ≡ run w.terms w.index (consumer w.inbox.queue w.inbox.capacity (w.inbox.taken ++ c.in-Ok.marked ∷ [])) w.outbox (reply w.terms w.index (told c.in-Ok.marked.item ∷ applied w.inbox.taken)) w.refusals)
+          (λ (w : Run). run_of c.take.new.self inside.sender (waiting_at inside.held now) inside.refusals
+          ≡ run w.terms w.index (consumer w.inbox.queue w.inbox.capacity (w.inbox.taken ++ c.in-Ok.entry ∷ [])) w.outbox
+          (reply w.terms w.index (told c.in-Ok.entry.item ∷ applied w.inbox.taken)) w.refusals)
           c.self.view_is
-          (λ i. run_of (c.in-Ok.ensures.took i) inside.putter (waits i) inside.refusals),
+          (λ i. run_of (c.in-Ok.ensures.took i) inside.sender (waits i) inside.refusals),
     )
 
 pub returns-in-Err : goal.returns-in-Err
@@ -53,7 +64,8 @@ returns-in-Err g c =
     let empty = c.in-Err.ensures.took in
     let counts = c.note_empty.new.self in (
       c.requires,
-      (λ i. run (terms_of inside.entry.value) inside.index.value (empty.0 i) inside.putter (waiting_at inside.held inside.route) counts) ∙ ap (λ (w : Run). but_for w counts) c.self.view_is,
+      (λ i. run (terms_of inside.entry.value) inside.index.value (empty.0 i) inside.sender (waiting_at inside.held inside.route) counts)
+          ∙ ap (λ (w : Run). but_for w counts) c.self.view_is,
       subst (λ (w : Run). Held 0 (StoodAsTaken w.inbox.taken)) c.self.view_is empty.1,
       subst (λ (w : Run). EmptyOnceMore w.refusals counts) c.self.view_is c.note_empty.ensures,
     )

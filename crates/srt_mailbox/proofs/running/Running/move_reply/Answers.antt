@@ -17,7 +17,8 @@ invariant_of-self g c =
     let first = c.next_waiting-reply.ensures.first ∙ ap (λ (b : Box Reply). written b.value ∷ rest) (sym c.new-parcel.ensures) in
     let put = ap (λ (p : Pipe). p.put) c.in-Ok.ensures.ok in (
       c.next_waiting-reply.ensures.stands _ _ _ c.self.invariant.0,
-      rw (put, c.next_waiting-reply.ensures.held) (moved_replays inside.putter.put y rest _ (ap (λ l. map written inside.putter.put ++ l) (sym first) ∙ c.self.invariant.1)),
+      rw (put, c.next_waiting-reply.ensures.held)
+          (moved_replays inside.sender.put y rest _ (ap (λ l. map written inside.sender.put ++ l) (sym first) ∙ c.self.invariant.1)),
       rw c.next_waiting-reply.ensures.held (omega (arith, c.self.invariant.2, ap length first)),
       c.self.invariant.3,
     )
@@ -42,9 +43,13 @@ returns-in-Ok g c =
     let route = c.next_waiting-reply.new.route in (
       y,
       waiting route,
-      ap (λ (w : Run). w.waiting) (sym c.self.view_is) ∙ c.next_waiting-reply.ensures.first ∙ ap (λ (b : Box Reply). written b.value ∷ waiting route) (sym c.new-parcel.ensures),
+      ap (λ (w : Run). w.waiting) (sym c.self.view_is) ∙ c.next_waiting-reply.ensures.first
+          ∙ ap (λ (b : Box Reply). written b.value ∷ waiting route) (sym c.new-parcel.ensures),
       subst
-          (λ (w : Run). run (terms_of inside.entry.value) inside.index.value inside.taker c.put.new.self (waiting_at c.next_waiting-reply.new.held route) inside.refusals ≡ run w.terms w.index w.inbox (pipe w.outbox.queue w.outbox.capacity (w.outbox.put ++ y ∷ [])) (waiting route) w.refusals)
+          (λ (w : Run). run (terms_of inside.entry.value) inside.index.value inside.receiver c.put.new.self
+          (waiting_at c.next_waiting-reply.new.held route) inside.refusals
+          ≡ run w.terms w.index w.inbox (pipe w.outbox.queue w.outbox.capacity (w.outbox.put ++ y ∷ [])) (waiting route) w.refusals)
           c.self.view_is
-          (λ i. run (terms_of inside.entry.value) inside.index.value inside.taker (c.in-Ok.ensures.ok i) (waiting_at (c.next_waiting-reply.ensures.held i) route) inside.refusals),
+          (λ i. run (terms_of inside.entry.value) inside.index.value inside.receiver (c.in-Ok.ensures.ok i)
+          (waiting_at (c.next_waiting-reply.ensures.held i) route) inside.refusals),
     )

@@ -9,5 +9,6 @@ returns g c =
       c.self.inside.route,
       c.self.invariant.1,
       c.self.invariant.0,
-      subst (λ (n : ℕ). SawMore (seen c.self.inside.route n) (g.L.Look.looked c.args.look.now) (g.L.Look.looked c.look.new.self)) c.self.invariant.2 c.look.ensures,
+      subst (λ (n : ℕ). SawMore (seen c.self.inside.route n) (g.L.Look.looked c.args.look.now) (g.L.Look.looked c.look.new.self))
+          c.self.invariant.2 c.look.ensures,
     )

@@ -28,10 +28,10 @@ loop-turns-preserved g c =
         | in-Applied w ↦ omega (arith, (taken_more _ _ _ w.in-Applied.is c.turn.ensures).1, before.3)
         | in-Moved w ↦ omega (arith, (put_more _ _ _ w.in-Moved.is c.turn.ensures).1, before.3)
       ],
-      c.if-not-pass.ensures.passed refl ∙ before.4,
+      c.if-not-allows.ensures.passed refl ∙ before.4,
       elim c.match-turn.branch [
         | in-Applied w ↦ (taken_more _ _ _ w.in-Applied.is c.turn.ensures).2 ∙ before.5
         | in-Moved w ↦ (put_more _ _ _ w.in-Moved.is c.turn.ensures).2 ∙ before.5
       ],
-      asked_more _ _ _ _ _ before.6 c.if-not-pass.ensures.asked,
+      asked_more _ _ _ _ _ before.6 c.if-not-allows.ensures.asked,
     )

@@ -1,12 +1,12 @@
 use Rattle.std.proofs.Common.{◌≡◌, ◌≤◌, ◌+◌, length, option_map}
 use Rattle.srt_mailbox.specs.Asked.{passes}
-use Rattle.srt_mailbox.specs.Cells.{Name, Bears}
+use Rattle.srt_mailbox.specs.Cells.{CellIdentity, Bears}
 use Rattle.srt_mailbox.specs.Visits.{turns_of}
 use Rattle.srt_mailbox.proofs.running.Running.visit.Given as goal
 
 abbrev pub invariant-loop-turns : goal.invariant-loop-turns
 invariant-loop-turns g l =
-    ((n : Name) → Bears n l.fn.self → Bears n l.self)
+    ((n : CellIdentity) → Bears n l.fn.self → Bears n l.self)
     × (l.moved ≤ l.turns)
     × (length l.self.outbox.put ≡ length l.fn.self.outbox.put + l.moved)
     × (turns_of l.self ≡ turns_of l.fn.self + l.turns)

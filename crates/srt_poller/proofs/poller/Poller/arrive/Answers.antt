@@ -22,7 +22,9 @@ returns-in-Answer g c schedules round latest reads source =
     went_one _ schedules (Answers a c.in-Answer.answer c.send-sent.result) _ _ (tt, sym c.classify.ensures.class ∙ c.in-Answer.is) (record {
       gave = refl;
       called = refl;
-      handed = c.send-sent.ensures.tells ∙ ap (joined (g.W.Wire.handed c.args.wire.now)) (sent_as c.send-sent.result (from FromLobby (record { peer = c.args.incoming.peer; bytes = c.in-Answer.answer })));
+      handed = c.send-sent.ensures.tells
+          ∙ ap (joined (g.W.Wire.handed c.args.wire.now))
+          (sent_as c.send-sent.result (from FromLobby (record { peer = c.args.incoming.peer; bytes = c.in-Answer.answer })));
       attempted = c.send-sent.ensures.attempted;
     })
     (are_later_none _ _ (λ r. refl) (λ r. refl)) refl c.count_answer.ensures
@@ -30,7 +32,8 @@ returns-in-Answer g c schedules round latest reads source =
 pub returns-in-Dropped : goal.returns-in-Dropped
 returns-in-Dropped g c schedules round latest reads source =
     let a = came c.args.incoming c.args.self.now in
-    went_one _ schedules (Drops a c.in-Dropped.field-0) _ _ (tt, sym c.classify.ensures.class ∙ c.in-Dropped.is) (unsent _ _ _ _ refl refl refl refl) (are_later_none _ _ (λ r. refl) (λ r. refl)) refl c.count_dropped.ensures
+    went_one _ schedules (Drops a c.in-Dropped.cause) _ _ (tt, sym c.classify.ensures.class ∙ c.in-Dropped.is)
+    (unsent _ _ _ _ refl refl refl refl) (are_later_none _ _ (λ r. refl) (λ r. refl)) refl c.count_dropped.ensures
 
 pub returns-in-Route : goal.returns-in-Route
 returns-in-Route g c schedules round latest gave = c.offer.ensures _ _ _ (sym c.classify.ensures.class ∙ c.in-Route.is) schedules round latest gave

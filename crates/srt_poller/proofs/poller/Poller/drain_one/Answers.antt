@@ -20,15 +20,27 @@ pub returns-in-Taken : goal.returns-in-Taken
 returns-in-Taken g c = record {
   went = λ sends below class schedules t phase source up.
       let reply : Datagram = record { peer = c.reply-reply.result.now.peer; bytes = c.bytes.result.now } in
-      let here : written c.take.new.self.hand ≡ reply = ap written (sym (c.reply-reply.ensures ∙ ap (λ (d : DrainEnd). d.hand) c.take_body.ensures)) ∙ ap (λ (bytes : List ℕ). record { peer = c.reply-reply.result.now.peer; bytes = bytes }) (sym c.bytes.ensures.value) in
+      let here : written c.take.new.self.hand ≡ reply =
+      ap written (sym (c.reply-reply.ensures ∙ ap (λ (d : DrainEnd). d.hand) c.take_buffer.ensures))
+      ∙ ap (λ (bytes : List ℕ). record { peer = c.reply-reply.result.now.peer; bytes = bytes }) (sym c.bytes.ensures.value) in
       let gone : None ≡ kept_if c.send-sent.result (kept c.args.route reply) = elim c.in-Taken.is [ inl e ↦ rw e refl | inr e ↦ rw e refl ] in (
         sent_on c.args.route phase,
         up_to_sent up,
-        went_one class schedules (Sends c.args.route reply c.send-sent.result) _ _
-            (up_to_sends below up, ap (option_map (λ (k : KeptReply). kept k.route (record { peer = k.peer; bytes = take k.len c.args.self.now.text }))) c.requires.kept)
-            (unheard _ _ _ _ refl refl (c.send-sent.ensures.tells ∙ ap (joined (g.W.Wire.handed c.args.wire.now)) (sent_as c.send-sent.result (from (FromRoute c.args.route) reply))) c.send-sent.ensures.attempted)
-            (sent_here c.args.route reply c.send-sent.result c.args.ends.now _ _ c.requires.route (drained_now reply c.take.new.self.hand _ c.take_body.new.self (c.take_body.ensures ∙ c.in-Ok.ensures.some) here))
-            (ap (λ (o : Option Kept). state t.names o t.round (sent_on c.args.route phase) t.latest) (ap (option_map (λ (k : KeptReply). kept k.route (record { peer = k.peer; bytes = take k.len c.args.self.now.text }))) c.requires.kept ∙ gone))
+        went_one class schedules (Sends c.args.route reply c.send-sent.result) _ _ (
+          up_to_sends below up,
+          ap (option_map (λ (k : KeptReply). kept k.route (record { peer = k.peer; bytes = take k.len c.args.self.now.reply_bytes })))
+              c.requires.kept,
+        )
+            (unheard _ _ _ _ refl refl
+            (c.send-sent.ensures.tells
+            ∙ ap (joined (g.W.Wire.handed c.args.wire.now)) (sent_as c.send-sent.result (from (FromRoute c.args.route) reply)))
+            c.send-sent.ensures.attempted)
+            (sent_here c.args.route reply c.send-sent.result c.args.ends.now _ _ c.requires.route
+            (drained_now reply c.take.new.self.hand _ c.take_buffer.new.self (c.take_buffer.ensures ∙ c.in-Ok.ensures.some) here))
+            (ap (λ (o : Option Kept). state t.names o t.round (sent_on c.args.route phase) t.latest)
+            (ap (option_map (λ (k : KeptReply). kept k.route (record { peer = k.peer; bytes = take k.len c.args.self.now.reply_bytes })))
+            c.requires.kept
+            ∙ gone))
             c.count_reply.ensures,
       );
   more = λ same. c.requires.kept;
@@ -38,15 +50,26 @@ returns-in-Taken g c = record {
 pub returns-in-Later-clause-went : goal.returns-in-Later-clause-went
 returns-in-Later-clause-went g c sends below class schedules t phase source up =
     let reply : Datagram = record { peer = c.reply-reply.result.now.peer; bytes = c.bytes.result.now } in
-    let here : written c.take.new.self.hand ≡ reply = ap written (sym (c.reply-reply.ensures ∙ ap (λ (d : DrainEnd). d.hand) c.take_body.ensures)) ∙ ap (λ (bytes : List ℕ). record { peer = c.reply-reply.result.now.peer; bytes = bytes }) (sym c.bytes.ensures.value) in
+    let here : written c.take.new.self.hand ≡ reply =
+    ap written (sym (c.reply-reply.ensures ∙ ap (λ (d : DrainEnd). d.hand) c.take_buffer.ensures))
+    ∙ ap (λ (bytes : List ℕ). record { peer = c.reply-reply.result.now.peer; bytes = bytes }) (sym c.bytes.ensures.value) in
     let copied : take c.copy_to-len.result c.copy_to-len.new.out ≡ c.bytes.result.now = c.copy_to-len.ensures.written ∙ sym c.bytes.ensures.value in
     let there : Some (kept c.args.route reply) ≡ kept_if c.send-sent.result (kept c.args.route reply) = rw c.in-Later.is refl in (
       sent_on c.args.route phase,
       up_to_sent up,
-      went_one class schedules (Sends c.args.route reply c.send-sent.result) _ _
-          (up_to_sends below up, ap (option_map (λ (k : KeptReply). kept k.route (record { peer = k.peer; bytes = take k.len c.args.self.now.text }))) c.requires.kept)
-          (unheard _ _ _ _ refl refl (c.send-sent.ensures.tells ∙ ap (joined (g.W.Wire.handed c.args.wire.now)) (sent_as c.send-sent.result (from (FromRoute c.args.route) reply))) c.send-sent.ensures.attempted)
-          (sent_here c.args.route reply c.send-sent.result c.args.ends.now _ _ c.requires.route (drained_now reply c.take.new.self.hand _ c.take_body.new.self (c.take_body.ensures ∙ c.in-Ok.ensures.some) here))
-          (ap (λ (o : Option Kept). state t.names o t.round (sent_on c.args.route phase) t.latest) (ap (λ (bytes : List ℕ). Some (kept c.args.route (record { peer = c.reply-reply.result.now.peer; bytes = bytes }))) copied ∙ there))
+      went_one class schedules (Sends c.args.route reply c.send-sent.result) _ _ (
+        up_to_sends below up,
+        ap (option_map (λ (k : KeptReply). kept k.route (record { peer = k.peer; bytes = take k.len c.args.self.now.reply_bytes })))
+            c.requires.kept,
+      )
+          (unheard _ _ _ _ refl refl
+          (c.send-sent.ensures.tells
+          ∙ ap (joined (g.W.Wire.handed c.args.wire.now)) (sent_as c.send-sent.result (from (FromRoute c.args.route) reply)))
+          c.send-sent.ensures.attempted)
+          (sent_here c.args.route reply c.send-sent.result c.args.ends.now _ _ c.requires.route
+          (drained_now reply c.take.new.self.hand _ c.take_buffer.new.self (c.take_buffer.ensures ∙ c.in-Ok.ensures.some) here))
+          (ap (λ (o : Option Kept). state t.names o t.round (sent_on c.args.route phase) t.latest)
+          (ap (λ (bytes : List ℕ). Some (kept c.args.route (record { peer = c.reply-reply.result.now.peer; bytes = bytes }))) copied
+          ∙ there))
           c.count_reply.ensures,
     )

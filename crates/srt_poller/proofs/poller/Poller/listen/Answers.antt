@@ -1,7 +1,7 @@
 use Rattle.std.proofs.Common.{◌≡◌, ◌+◌, suc, refl, subst, arith}
 use Rattle.srt_poller.specs.Devices.{Heard, heard, carried}
 use Rattle.srt_poller.specs.History.{Phase, Reading, reading, ReadsNothing, ReadFails}
-use Rattle.srt_poller.specs.Pollers.{sorted_by, named_in, turn, world_of}
+use Rattle.srt_poller.specs.Pollers.{sorted_by, named_in, round_state, world_of}
 use Rattle.srt_poller.specs.Rounds.{World, Went}
 use Rattle.srt_poller.proofs.Steps.{are_later_none, unsent, heard_as, reading_below, went_one, went_then, went_more}
 use Rattle.srt_poller.proofs.poller.Poller.listen.Goals as goal
@@ -19,10 +19,12 @@ loop-came-preserved g c schedules round =
     let wire = carried (g.W.Wire.handed c.loop-came.wire) (g.W.Wire.attempts c.loop-came.wire) in
     let source = heard (g.S.Source.gave c.loop-came.source) (g.S.Source.calls c.loop-came.source) in
     let before : Phase → World = λ phase. world_of source wire c.loop-came.ends
-    (turn names (suc round) c.loop-came.latest.moment) phase c.loop-came.self in
+    (round_state names (suc round) c.loop-came.latest.moment) phase c.loop-came.self in
     let after : Heard → World = λ s. world_of s (carried (g.W.Wire.handed c.arrive.new.wire) (g.W.Wire.attempts c.arrive.new.wire)) c.arrive.new.ends
-    (turn names (suc round) c.see.new.self.moment) (reading (reads + 1)) c.arrive.new.self in
-    let told = subst (λ (s : Heard). Went (sorted_by c.args.context.now.lobby) schedules 1 0 1 (before (Reading reads)) (after s)) (heard_as source _ _ _ _ c.in-Datagram.ensures.tells c.in-Datagram.ensures.called)
+    (round_state names (suc round) c.see.new.self.moment) (reading (reads + 1)) c.arrive.new.self in
+    let told =
+    subst (λ (s : Heard). Went (sorted_by c.args.context.now.lobby) schedules 1 0 1 (before (Reading reads)) (after s))
+    (heard_as source _ _ _ _ c.in-Datagram.ensures.tells c.in-Datagram.ensures.called)
     (rw c.see.ensures (c.arrive.ensures schedules (suc round) c.loop-came.latest.moment reads source)) in
     went_then (rw (reading_below reads (omega arith)) at (c.loop-came.invariant schedules round)) told
 
@@ -30,13 +32,15 @@ pub returns-in-Empty : goal.returns-in-Empty
 returns-in-Empty g c schedules round =
     let reads = c.loop-came.came in
     went_more {n = 257} (omega arith) (omega arith) (went_then (rw (reading_below reads (omega arith)) at (c.loop-came.invariant schedules round))
-    (went_one _ schedules ReadsNothing _ _ tt (unsent _ _ _ _ refl refl c.in-Empty.ensures.tells c.in-Empty.ensures.called) (are_later_none _ _ (λ r. refl) (λ r. refl)) refl refl))
+    (went_one _ schedules ReadsNothing _ _ tt (unsent _ _ _ _ refl refl c.in-Empty.ensures.tells c.in-Empty.ensures.called)
+    (are_later_none _ _ (λ r. refl) (λ r. refl)) refl refl))
 
 pub returns-in-Failed : goal.returns-in-Failed
 returns-in-Failed g c schedules round =
     let reads = c.loop-came.came in
     went_more {n = 257} (omega arith) (omega arith) (went_then (rw (reading_below reads (omega arith)) at (c.loop-came.invariant schedules round))
-    (went_one _ schedules ReadFails _ _ tt (unsent _ _ _ _ refl refl c.in-Failed.ensures.tells c.in-Failed.ensures.called) (are_later_none _ _ (λ r. refl) (λ r. refl)) refl c.count_fault.ensures))
+    (went_one _ schedules ReadFails _ _ tt (unsent _ _ _ _ refl refl c.in-Failed.ensures.tells c.in-Failed.ensures.called)
+    (are_later_none _ _ (λ r. refl) (λ r. refl)) refl c.count_fault.ensures))
 
 pub returns : goal.returns
 returns g c schedules round =

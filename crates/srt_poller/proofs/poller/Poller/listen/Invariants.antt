@@ -3,7 +3,7 @@ use Rattle.srt_seq.specs.declared.shared.Schedule.{Schedule}
 use Rattle.srt_poller.specs.Devices.{heard, carried}
 use Rattle.srt_poller.specs.History.{Begun, reading}
 use Rattle.srt_poller.specs.Rounds.{Went}
-use Rattle.srt_poller.specs.Pollers.{sorted_by, named_in, turn, world_of}
+use Rattle.srt_poller.specs.Pollers.{sorted_by, named_in, round_state, world_of}
 use Rattle.srt_poller.proofs.poller.Poller.listen.Given as goal
 
 abbrev pub invariant-loop-came : goal.invariant-loop-came
@@ -11,6 +11,6 @@ invariant-loop-came g l =
     (schedules : List Schedule) (round : ℕ) →
     Went (sorted_by l.context.lobby) schedules (l.came + 1) 1 l.came
     (world_of (heard (g.S.Source.gave l.fn.source) (g.S.Source.calls l.fn.source)) (carried (g.W.Wire.handed l.fn.wire) (g.W.Wire.attempts l.fn.wire)) l.fn.ends
-    (turn (named_in l.context.lobby) round l.fn.latest.moment) (Begun false) l.fn.self)
+    (round_state (named_in l.context.lobby) round l.fn.latest.moment) (Begun false) l.fn.self)
     (world_of (heard (g.S.Source.gave l.source) (g.S.Source.calls l.source)) (carried (g.W.Wire.handed l.wire) (g.W.Wire.attempts l.wire)) l.ends
-    (turn (named_in l.context.lobby) (suc round) l.latest.moment) (reading l.came) l.self)
+    (round_state (named_in l.context.lobby) (suc round) l.latest.moment) (reading l.came) l.self)

@@ -11,11 +11,17 @@ returns g c class names wire is schedules round latest reads source =
     elim c.match-offer.branch [
       | in-Accepted w ↦
           rw w.self-is (went_one class schedules (Accepts a c.args.route) _ _ (tt, is) (unsent _ _ _ _ refl refl refl refl)
-          (accepted_here a c.args.route c.args.ends.now _ _ c.requires.route (accepted_now a _ _ w.in-Accepted.ensures.offered w.in-Accepted.ensures.drain)) refl w.count_accepted.ensures)
+          (accepted_here a c.args.route c.args.ends.now _ _ c.requires.route
+          (accepted_now a _ _ w.in-Accepted.ensures.offered w.in-Accepted.ensures.drain))
+          refl w.count_accepted.ensures)
       | in-Full w ↦
           rw w.self-is (went_one class schedules (Overflows a c.args.route) _ _ (tt, is) (unsent _ _ _ _ refl refl refl refl)
-          (nothing_here _ c.args.route c.args.ends.now _ _ c.requires.route (λ r. refl) (λ r. refl) w.in-Full.ensures.offered.0 w.in-Full.ensures.drain) refl w.count_full.ensures)
+          (nothing_here _ c.args.route c.args.ends.now _ _ c.requires.route (λ r. refl) (λ r. refl) w.in-Full.ensures.offered.0
+          w.in-Full.ensures.drain)
+          refl w.count_full.ensures)
       | in-Refused w ↦
           rw w.self-is (went_one class schedules (Refuses a c.args.route) _ _ (tt, is) (unsent _ _ _ _ refl refl refl refl)
-          (nothing_here _ c.args.route c.args.ends.now _ _ c.requires.route (λ r. refl) (λ r. refl) w.in-Refused.ensures.offered.0 w.in-Refused.ensures.drain) refl w.count_refused.ensures)
+          (nothing_here _ c.args.route c.args.ends.now _ _ c.requires.route (λ r. refl) (λ r. refl) w.in-Refused.ensures.offered.0
+          w.in-Refused.ensures.drain)
+          refl w.count_refused.ensures)
     ]

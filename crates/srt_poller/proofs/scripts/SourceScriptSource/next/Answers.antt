@@ -13,4 +13,7 @@ returns-in-Some-ReadFails-clause-tells c =
 
 pub returns-in-Some-Datagram-clause-tells : goal.returns-in-Some-Datagram-clause-tells
 returns-in-Some-Datagram-clause-tells c =
-    rw (c.copy_to-len.ensures.bytes, c.min-moment.ensures) (ap Some (given_more c.args.self.now.steps.items c.args.self.now.at (Datagram c.in-Some-Datagram.datagram) (sym c.in-Some-Datagram.ensures ∙ ap Some c.in-Some-Datagram.field-0-is)))
+    rw (c.copy_to-len.ensures.bytes, c.min-moment.ensures)
+    (ap Some
+    (given_more c.args.self.now.steps.items c.args.self.now.at (Datagram c.in-Some-Datagram.datagram)
+    (sym c.in-Some-Datagram.ensures ∙ ap Some c.in-Some-Datagram.field-0-is)))

@@ -5,7 +5,10 @@ use Rattle.srt_poller.proofs.scripts.SourceScriptSource.wait.Goals as goal
 
 pub returns-in-Some-WaitFails-clause-tells : goal.returns-in-Some-WaitFails-clause-tells
 returns-in-Some-WaitFails-clause-tells c =
-    ap Some (given_more c.args.self.now.steps.items c.args.self.now.at WaitFails (sym c.in-Some-WaitFails.ensures ∙ ap Some c.in-Some-WaitFails.field-0-is) ∙ append-nil _)
+    ap Some
+    (given_more c.args.self.now.steps.items c.args.self.now.at WaitFails
+    (sym c.in-Some-WaitFails.ensures ∙ ap Some c.in-Some-WaitFails.field-0-is)
+    ∙ append-nil _)
 
 pub returns-in-Some-Wait-clause-tells : goal.returns-in-Some-Wait-clause-tells
 returns-in-Some-Wait-clause-tells c =

@@ -25,5 +25,9 @@ pub returns-clause-stands : goal.returns-clause-stands
 returns-clause-stands c width front point notes h =
     let s = c.args.self.now in
     let k = confirms_some c.args.number c.in_ok-place.place notes (sym (c.in_ok-place.ensures.value _ h.0)) in
-    let P : Option Full → Type 0 = λ o. AreAcks width front point (confirmed_notes c.args.time o notes) c.is_known_after-self.result s.same s.last s.came in
-    (subst (book.StandsFor c.confirm.new.self) (book_confirmed c.args.number c.args.time notes) (c.confirm.ensures.stands _ h.0), subst P (sym k.it_is) (acks_confirmed width front point c.in_ok-place.place (sample_of c.args.time k.full) k.full notes _ _ _ _ _ k.last k.stands c.is_known_after-self.ensures h.1))
+    let P : Option Full → Type 0 = λ o. AreAcks width front point (confirmed_notes c.args.time o notes) c.is_known_after-self.result s.same s.last s.came in (
+      subst (book.StandsFor c.confirm.new.self) (book_confirmed c.args.number c.args.time notes) (c.confirm.ensures.stands _ h.0),
+      subst P (sym k.it_is)
+          (acks_confirmed width front point c.in_ok-place.place (sample_of c.args.time k.full) k.full notes _ _ _ _ _ k.last k.stands
+          c.is_known_after-self.ensures h.1),
+    )

@@ -2,4 +2,4 @@ use Rattle.srt_pub.proofs.Logs.{log_alive}
 use Rattle.srt_pub.proofs.log.Log.keep_alive.Goals as goal
 
 pub returns : goal.returns
-returns c width front point seen notes h = log_alive width front point seen c.args.time c.args.self.now notes h
+returns c terms front point seen notes h = log_alive terms front point seen c.args.time c.args.self.now notes h

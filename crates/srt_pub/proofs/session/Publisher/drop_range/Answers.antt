@@ -20,8 +20,22 @@ returns-clause-stands c terms initial opening stamp caller m live h =
     let q = range_from initial (record { first = word_of first; last = word_of last }) in
     let orderly = subst (λ (d : Mode). IsOrderly d width r) live h.orderly in
     let k = after_request width q r h.narrow orderly in
-    let P : ℕ → ℕ → Type 0 = λ x y. StandsFor terms initial opening stamp caller c.follow.new.self (record m { receiving = requested width (range_from initial (record { first = x; last = y })) r }) in
-    let all : P (word_of first) (word_of last) = c.follow.ensures.stands terms initial opening stamp caller m (requested width q r) (c.front-front.ensures width initial opening r h.buffer) (c.ack_point-point.ensures width initial opening r h.buffer) (passes_request width q r) (record { agreed = h.agreed; buffer = c.dropped.ensures width initial opening r h.buffer; log = h.log; orderly = subst (λ (d : Mode). IsOrderly d width (requested width q r)) (sym live) k.orderly; seen = h.seen; narrow = h.narrow; counts = subst (λ (xs : List Arrival). Counted c.args.self.now.counts xs (delivered_in r) r.front m.notes) (sym (same_arrivals width q r)) h.counts; goes_on = k.goes_on }) in
+    let P : ℕ → ℕ → Type 0 = λ x y. StandsFor terms initial opening stamp caller c.follow.new.self
+    (record m { receiving = requested width (range_from initial (record { first = x; last = y })) r }) in
+    let all : P (word_of first) (word_of last) = c.follow.ensures.stands terms initial opening stamp caller m (requested width q r)
+    (c.front-front.ensures width initial opening r h.buffer) (c.ack_point-point.ensures width initial opening r h.buffer)
+    (passes_request width q r)
+    (record {
+      agreed = h.agreed;
+      buffer = c.dropped.ensures width initial opening r h.buffer;
+      log = h.log;
+      orderly = subst (λ (d : Mode). IsOrderly d width (requested width q r)) (sym live) k.orderly;
+      seen = h.seen;
+      narrow = h.narrow;
+      counts = subst (λ (xs : List Arrival). Counted c.args.self.now.counts xs (delivered_in r) r.front m.notes)
+          (sym (same_arrivals width q r)) h.counts;
+      goes_on = k.goes_on;
+    }) in
     subst (λ x. P x c.args.last) c.in-Some.ensures.value (subst (λ y. P (word_of first) y) c.in-Some-new.ensures.value all)
 
 -- a word with its top bit set counts as 2^31
@@ -32,10 +46,12 @@ pub returns-in_default-new-clause-stands : goal.returns-in_default-new-clause-st
 returns-in_default-new-clause-stands c terms initial opening stamp caller m live h =
     let q = range_from initial (record { first = c.args.first; last = c.args.last }) in
     let high : 2 ^ 31 ≤ q.last = top_counts initial c.args.last (no_top c.args.last c.in_default-new.ensures.some.1) in
-    subst (λ (r : Receiving). StandsFor terms initial opening stamp caller c.args.self.now (record m { receiving = r })) (sym (no_request terms.width q m.receiving (inr high))) h
+    subst (λ (r : Receiving). StandsFor terms initial opening stamp caller c.args.self.now (record m { receiving = r }))
+    (sym (no_request terms.width q m.receiving (inr high))) h
 
 pub returns-in_default-clause-stands : goal.returns-in_default-clause-stands
 returns-in_default-clause-stands c terms initial opening stamp caller m live h =
     let q = range_from initial (record { first = c.args.first; last = c.args.last }) in
     let high : 2 ^ 31 ≤ q.first = top_counts initial c.args.first (no_top c.args.first c.in_default.ensures.some.1) in
-    subst (λ (r : Receiving). StandsFor terms initial opening stamp caller c.args.self.now (record m { receiving = r })) (sym (no_request terms.width q m.receiving (inl high))) h
+    subst (λ (r : Receiving). StandsFor terms initial opening stamp caller c.args.self.now (record m { receiving = r }))
+    (sym (no_request terms.width q m.receiving (inl high))) h

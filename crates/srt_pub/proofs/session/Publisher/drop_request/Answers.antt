@@ -9,4 +9,7 @@ use Rattle.srt_pub.specs.Stands.{StandsFor}
 pub returns-in-Live-clause-stands : goal.returns-in-Live-clause-stands
 returns-in-Live-clause-stands c terms initial opening stamp caller m h =
     let live : terms.mode ≡ Live = sym h.agreed.mode_is ∙ c.in-Live.is in
-    subst (λ (d : Mode). StandsFor terms initial opening stamp caller c.drop_range.new.self (with_request d terms (range_from initial (record { first = c.args.first; last = c.args.last })) m)) (sym live) (c.drop_range.ensures.stands terms initial opening stamp caller m live h)
+    subst
+    (λ (d : Mode). StandsFor terms initial opening stamp caller c.drop_range.new.self
+    (with_request d terms (range_from initial (record { first = c.args.first; last = c.args.last })) m))
+    (sym live) (c.drop_range.ensures.stands terms initial opening stamp caller m live h)

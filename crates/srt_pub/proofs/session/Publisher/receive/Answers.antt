@@ -8,10 +8,12 @@ use Rattle.srt_seq.specs.declared.shared.Mode.{Mode}
 use Rattle.srt_seq.specs.declared.shared.Mode.TheVariants.{Buffer}
 use Rattle.srt_recvbuf.specs.Receiving.{put_of, received, with_number}
 use Rattle.srt_recvbuf.specs.declared.buffer.Put.{Put}
-use Rattle.srt_pub.specs.Publishing.{Publishing, Came, Terms, due_in, with_data}
+use Rattle.srt_recvbuf.specs.declared.buffer.Put.TheVariants.{Outside}
+use Rattle.srt_pub.specs.Publishing.{Publishing, Came, Terms, due_in, region_in, with_data}
 use Rattle.srt_pub.specs.Stands.{StandsFor}
-use Rattle.srt_pub.specs.Counting.{Counted, came_in, delivered_in, naks_in, with_put}
+use Rattle.srt_pub.specs.Counting.{Counted, delivered_in, with_put}
 use Rattle.srt_pub.specs.declared.counts.Counts.{Counts}
+use Rattle.srt_pub.specs.declared.region.Region.{Region}
 use Rattle.srt_pub.proofs.Counting.{counts_one, counts_put, passes_data}
 use Rattle.srt_pub.proofs.Goings.{after_data}
 use Rattle.srt_pub.proofs.Windows.{no_number, no_top}
@@ -19,18 +21,45 @@ use Rattle.srt_pub.proofs.Windows.{no_number, no_top}
 pub returns-in_default-clause-stands : goal.returns-in_default-clause-stands
 returns-in_default-clause-stands c terms initial opening first caller time m n h =
     let r = m.receiving in
+    let region = c.region_of-region.result in
+    let at = c.saturating_sub-time.result in
+    let moment : at ≡ time = omega (arith, n, h.agreed.opening_is, c.saturating_sub-time.ensures) in
     let due = due_in terms.mode terms time (stamped_from first c.args.stamp) in
     let none = no_number initial c.args.word r.front terms.width (no_top c.args.word c.in_default.ensures.some.1) in
-    let same : record { receiving = r; notes = Came ∷ m.notes; seen = m.seen } ≡ with_data terms time (stamped_from first c.args.stamp) (counted_from initial c.args.word) c.args.payload.bytes.now m = sym (ap (λ (o : Option ℕ). record { receiving = with_number o c.args.payload.bytes.now due r; notes = Came ∷ m.notes; seen = m.seen }) none) in
-    subst (λ (x : Publishing). StandsFor terms initial opening first caller (record c.args.self.now { log = c.came.new.self; counts = c.come.new.self }) x) same (record {
+    let S : Publishing → Type 0 = λ x. StandsFor terms initial opening first caller
+    (record c.args.self.now { log = c.note_data.new.self; counts = c.come.new.self }) x in
+    let outside : S (record { receiving = r; notes = Came at region Outside ∷ m.notes; seen = m.seen }) = record {
       agreed = h.agreed;
       buffer = h.buffer;
-      log = c.came.ensures _ _ _ _ _ h.log;
+      log = c.note_data.ensures region _ _ _ _ _ h.log;
       orderly = h.orderly;
       seen = h.seen;
       narrow = h.narrow;
-      counts = subst (λ (k : Counts). Counted k r.arrivals (delivered_in r) r.front (Came ∷ m.notes)) (sym c.come.ensures) (counts_one c.args.self.now.counts r.arrivals (delivered_in r) r.front m.notes h.counts);
-    })
+      counts = subst (λ (k : Counts). Counted k r.arrivals (delivered_in r) r.front (Came at region Outside ∷ m.notes)) (sym c.come.ensures)
+          (counts_one at region Outside c.args.self.now.counts r.arrivals (delivered_in r) r.front m.notes h.counts);
+    } in
+    let placed = subst
+    (λ (o : Option ℕ). S (record {
+      receiving = with_number o c.args.payload.bytes.now due r;
+      notes = Came at region (put_of o r) ∷ m.notes;
+      seen = m.seen;
+    }))
+    (sym none) outside in
+    let o = in_window (counted_from initial c.args.word) r.front terms.width in
+    let timed = subst
+    (λ (x : ℕ). S (record {
+      receiving = with_number o c.args.payload.bytes.now due r;
+      notes = Came x region (put_of o r) ∷ m.notes;
+      seen = m.seen;
+    }))
+    moment placed in
+    subst
+    (λ (q : Region). S (record {
+      receiving = with_number o c.args.payload.bytes.now due r;
+      notes = Came time q (put_of o r) ∷ m.notes;
+      seen = m.seen;
+    }))
+    (c.region_of-region.ensures terms initial opening first caller m h) timed
 
 in_buffer : (terms : Terms) (time stamp : ℕ) → terms.mode ≡ Buffer → due_in terms.mode terms time stamp ≡ pos 0
 in_buffer terms time stamp e = ap (λ (d : Mode). due_in d terms time stamp) e
@@ -40,28 +69,51 @@ returns-clause-stands c terms initial opening first caller time m n h =
     let r = m.receiving in
     let width = terms.width in
     let word = word_of c.in-Some.number in
+    let region = c.region_of-region.result in
+    let at = c.saturating_sub-time.result in
+    let moment : at ≡ time = omega (arith, n, h.agreed.opening_is, c.saturating_sub-time.ensures) in
+    let became = c.put-put.result in
     let stamp = stamped_from first c.args.stamp in
     let due = due_in terms.mode terms time stamp in
     let k = after_data terms.mode width (counted_from initial word) c.args.payload.bytes.now due r c.args.payload.some (in_buffer terms time stamp) h.orderly in
     let a = h.agreed in
-    let is : c.due-due.result ≡ pos opening +ℤ due = c.due-due.ensures terms time a.mode_is a.delay_is (omega (arith, n, a.opening_is)) ∙ ap (λ (x : ℕ). pos x +ℤ due_in terms.mode terms time (stamped_from c.args.self.now.agreed.first.word c.args.stamp)) a.opening_is ∙ ap (λ (x : ℕ). pos opening +ℤ due_in terms.mode terms time (stamped_from x c.args.stamp)) a.stamp_is in
+    let is : c.due-due.result ≡ pos opening +ℤ due = c.due-due.ensures terms time a.mode_is a.delay_is (omega (arith, n, a.opening_is))
+    ∙ ap (λ (x : ℕ). pos x +ℤ due_in terms.mode terms time (stamped_from c.args.self.now.agreed.first.word c.args.stamp)) a.opening_is
+    ∙ ap (λ (x : ℕ). pos opening +ℤ due_in terms.mode terms time (stamped_from x c.args.stamp)) a.stamp_is in
     let fits : SFits w64 c.due-due.result = search rules in
     let put = rw to_z-of_z at (c.put-put.ensures.stands width initial opening r due) in
-    let m1 : Publishing = record { receiving = r; notes = Came ∷ m.notes; seen = m.seen } in
+    let m1 : Publishing = record { receiving = r; notes = Came at region became ∷ m.notes; seen = m.seen } in
     let o = in_window (counted_from initial word) r.front width in
-    let came : Counted c.come.new.self r.arrivals (delivered_in r) r.front (Came ∷ m.notes) = subst (λ (k : Counts). Counted k r.arrivals (delivered_in r) r.front (Came ∷ m.notes)) (sym c.come.ensures) (counts_one c.args.self.now.counts r.arrivals (delivered_in r) r.front m.notes h.counts) in
+    let came : Counted c.come.new.self r.arrivals (delivered_in r) r.front (Came at region became ∷ m.notes) =
+    subst (λ (k : Counts). Counted k r.arrivals (delivered_in r) r.front (Came at region became ∷ m.notes)) (sym c.come.ensures)
+    (counts_one at region became c.args.self.now.counts r.arrivals (delivered_in r) r.front m.notes h.counts) in
     let is_put = c.put-put.ensures.answer width initial opening r h.buffer in
-    let stored : c.store.new.self ≡ with_put (put_of o r) (length c.args.payload.bytes.now) c.come.new.self = c.store.ensures ∙ ap (λ (k : Put). with_put k (length c.args.payload.bytes.now) c.come.new.self) is_put in
-    let counts = subst (λ (k : Counts). Counted k (received width (counted_from initial word) c.args.payload.bytes.now due r).arrivals (delivered_in r) r.front (Came ∷ m.notes)) (sym stored) (counts_put o c.args.payload.bytes.now due r c.come.new.self (came_in (Came ∷ m.notes)) (delivered_in r) r.front (naks_in m.notes) came) in
-    let P : ℕ → Type 0 = λ x. StandsFor terms initial opening first caller c.follow.new.self (with_data terms time stamp (counted_from initial x) c.args.payload.bytes.now m) in
-    subst P c.in-Some.ensures.value
-    (c.follow.ensures.stands terms initial opening first caller m1 (received width (counted_from initial word) c.args.payload.bytes.now due r) (c.front-front.ensures width initial opening r h.buffer) (c.ack_point-point.ensures width initial opening r h.buffer) (passes_data width (counted_from initial word) c.args.payload.bytes.now due r) (record {
+    let stored : c.store.new.self ≡ with_put (put_of o r) (length c.args.payload.bytes.now) c.come.new.self =
+    c.store.ensures ∙ ap (λ (k : Put). with_put k (length c.args.payload.bytes.now) c.come.new.self) is_put in
+    let counts = subst
+    (λ (k : Counts). Counted k (received width (counted_from initial word) c.args.payload.bytes.now due r).arrivals (delivered_in r) r.front
+    (Came at region became ∷ m.notes))
+    (sym stored) (counts_put o c.args.payload.bytes.now due r c.come.new.self (delivered_in r) r.front (Came at region became ∷ m.notes) came) in
+    let S : Publishing → Type 0 = λ x. StandsFor terms initial opening first caller c.follow.new.self x in
+    let P : ℕ → Type 0 = λ x. S (with_data terms time stamp (counted_from initial x) c.args.payload.bytes.now m) in
+    let stored_in = received width (counted_from initial word) c.args.payload.bytes.now due r in
+    let lies : region ≡ region_in width (counted_from initial word) r = c.region_of-region.ensures terms initial opening first caller m h
+    ∙ sym (ap (λ (x : ℕ). region_in width (counted_from initial x) r) c.in-Some.ensures.value) in
+    let followed = c.follow.ensures.stands terms initial opening first caller m1
+    (received width (counted_from initial word) c.args.payload.bytes.now due r) (c.front-front.ensures width initial opening r h.buffer)
+    (c.ack_point-point.ensures width initial opening r h.buffer) (passes_data width (counted_from initial word) c.args.payload.bytes.now due r)
+    (record {
       agreed = h.agreed;
       buffer = put is h.buffer;
-      log = c.came.ensures _ _ _ _ _ h.log;
+      log = c.note_data-2.ensures region _ _ _ _ _ h.log;
       orderly = k.orderly;
       seen = h.seen;
       narrow = h.narrow;
       counts = counts;
       goes_on = k.goes_on;
-    }))
+    }) in
+    let timed = subst (λ (x : ℕ). S (record { receiving = stored_in; notes = Came x region became ∷ m.notes; seen = m.seen })) moment followed in
+    let placed = subst (λ (q : Region). S (record { receiving = stored_in; notes = Came time q became ∷ m.notes; seen = m.seen })) lies timed in
+    let lies_in = region_in width (counted_from initial word) r in
+    subst P c.in-Some.ensures.value
+    (subst (λ (x : Put). S (record { receiving = stored_in; notes = Came time lies_in x ∷ m.notes; seen = m.seen })) is_put placed)

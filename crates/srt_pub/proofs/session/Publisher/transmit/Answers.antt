@@ -12,7 +12,12 @@ use Rattle.srt_pub.specs.Stands.{StandsFor}
 use Rattle.srt_pub.proofs.Sendings.{naks_same, noted_append, alive_same, reports_are, all_texts}
 
 -- the session after the event, and the packets that it sends
-event : (c : After-see) (terms : Terms) (initial opening stamp caller time : ℕ) (m : Publishing) → c.args.now ≡ opening + time → StandsFor terms initial opening stamp caller c.args.self.now m → StandsFor terms initial opening stamp caller c.see.new.self (reported terms time m) × (texts (packets_of (record { ack = c.ack-is_ack.result; nak = c.nak-is_nak.result; keep_alive = c.keep_alive-is_keep_alive.result }) c.ack-is_ack.new.packet c.nak-is_nak.new.packet c.keep_alive-is_keep_alive.new.packet) ≡ map (says caller initial time) (reports terms time m))
+event : (c : After-see) (terms : Terms) (initial opening stamp caller time : ℕ) (m : Publishing) → c.args.now ≡ opening + time
+    → StandsFor terms initial opening stamp caller c.args.self.now m
+    → StandsFor terms initial opening stamp caller c.see.new.self (reported terms time m) ×
+    (texts (packets_of (record { ack = c.ack-is_ack.result; nak = c.nak-is_nak.result; keep_alive = c.keep_alive-is_keep_alive.result })
+    c.ack-is_ack.new.packet c.nak-is_nak.new.packet c.keep_alive-is_keep_alive.new.packet)
+    ≡ map (says caller initial time) (reports terms time m))
 event c terms initial opening stamp caller time m n h =
     let t = c.saturating_sub-time.result in
     let same : t ≡ time = omega (arith, n, h.agreed.opening_is, c.saturating_sub-time.ensures) in
@@ -29,16 +34,30 @@ event c terms initial opening stamp caller time m n h =
     let a = c.ack-is_ack.ensures.bytes terms initial opening stamp caller m h in
     let b = c.nak-is_nak.ensures.bytes terms initial opening stamp caller m1 h1 in
     let k = c.keep_alive-is_keep_alive.ensures.bytes terms initial opening stamp caller m2 h2 in
-    let z : zs ≡ keep_alives t (xs ++ ys) m.notes = alive_same caller initial t c.ack-is_ack.result c.nak-is_nak.result c.ack-is_ack.new.packet c.nak-is_nak.new.packet xs ys m.notes a b in
+    let z : zs ≡ keep_alives t (xs ++ ys) m.notes =
+    alive_same caller initial t c.ack-is_ack.result c.nak-is_nak.result c.ack-is_ack.new.packet c.nak-is_nak.new.packet xs ys m.notes a b in
     let all : (xs ++ ys) ++ zs ≡ reports terms t m = reports_are terms t m xs ys zs refl (naks_same terms t m) z in
-    let ns : m3.notes ≡ noted t (reports terms t m) m.notes = sym (noted_append t (xs ++ ys) zs m.notes ∙ ap (noted t zs) (noted_append t xs ys m.notes)) ∙ ap (λ (w : List Report). noted t w m.notes) all in
-    let P : List Note → Type 0 = λ w. StandsFor terms initial opening stamp caller c.see.new.self (record { receiving = m.receiving; notes = w; seen = end_of m.receiving.arrivals }) in
+    let ns : m3.notes ≡ noted t (reports terms t m) m.notes =
+    sym (noted_append t (xs ++ ys) zs m.notes ∙ ap (noted t zs) (noted_append t xs ys m.notes))
+    ∙ ap (λ (w : List Report). noted t w m.notes) all in
+    let P : List Note → Type 0 = λ w. StandsFor terms initial opening stamp caller c.see.new.self
+    (record { receiving = m.receiving; notes = w; seen = end_of m.receiving.arrivals }) in
     let sent : Reports = record { ack = c.ack-is_ack.result; nak = c.nak-is_nak.result; keep_alive = c.keep_alive-is_keep_alive.result } in
-    let said = all_texts (says caller initial t) (given c.ack-is_ack.result c.ack-is_ack.new.packet) (given c.nak-is_nak.result c.nak-is_nak.new.packet) (given c.keep_alive-is_keep_alive.result c.keep_alive-is_keep_alive.new.packet) xs ys zs a b k ∙ ap (map (says caller initial t)) all in
-    (subst (λ (x : ℕ). StandsFor terms initial opening stamp caller c.see.new.self (reported terms x m)) same (subst P ns h4), subst (λ (x : ℕ). texts (packets_of sent c.ack-is_ack.new.packet c.nak-is_nak.new.packet c.keep_alive-is_keep_alive.new.packet) ≡ map (says caller initial x) (reports terms x m)) same said)
+    let said = all_texts (says caller initial t) (given c.ack-is_ack.result c.ack-is_ack.new.packet)
+    (given c.nak-is_nak.result c.nak-is_nak.new.packet) (given c.keep_alive-is_keep_alive.result c.keep_alive-is_keep_alive.new.packet) xs ys zs
+    a b k
+    ∙ ap (map (says caller initial t)) all in (
+      subst (λ (x : ℕ). StandsFor terms initial opening stamp caller c.see.new.self (reported terms x m)) same (subst P ns h4),
+      subst
+          (λ (x : ℕ). texts (packets_of sent c.ack-is_ack.new.packet c.nak-is_nak.new.packet c.keep_alive-is_keep_alive.new.packet)
+          ≡ map (says caller initial x) (reports terms x m))
+          same said,
+    )
 
 pub returns-clause-stands : goal.returns-clause-stands
-returns-clause-stands c terms initial opening stamp caller time m n h = (event (goal.at.returns-clause-stands c).After-see terms initial opening stamp caller time m n h).0
+returns-clause-stands c terms initial opening stamp caller time m n h =
+    (event (goal.at.returns-clause-stands c).After-see terms initial opening stamp caller time m n h).0
 
 pub returns-clause-bytes : goal.returns-clause-bytes
-returns-clause-bytes c terms initial opening stamp caller time m n h = (event (goal.at.returns-clause-bytes c).After-see terms initial opening stamp caller time m n h).1
+returns-clause-bytes c terms initial opening stamp caller time m n h =
+    (event (goal.at.returns-clause-bytes c).After-see terms initial opening stamp caller time m n h).1

@@ -3,8 +3,8 @@ use Rattle.std.specs.Prelude.{nat_le, nat_lt}
 use Rattle.srt_seq.specs.Window.{word_of}
 use Rattle.srt_recvbuf.specs.Receiving.{Receiving}
 use Rattle.srt_recvbuf.specs.Stands.{StandsFor, own_range}
-use Rattle.srt_recvbuf.specs.Cells.{width_of}
-use Rattle.srt_recvbuf.proofs.Buffers.{offset_found, offset_not_found, nothing_requested, range_requested, taken, with_dropped, with_fields}
+use Rattle.srt_recvbuf.specs.Cells.{width_of, cell_is_received}
+use Rattle.srt_recvbuf.proofs.Buffers.{offset_found, offset_not_found, nothing_requested, range_requested, received_still, taken, with_dropped, with_fields}
 use Rattle.srt_recvbuf.proofs.buffer.RecvBuf.dropped.Goals as goal
 
 pub returns-in_default : goal.returns-in_default
@@ -28,8 +28,24 @@ returns c width initial origin r h =
     let from = c.overlap-from.result.0 in
     let end = c.overlap-from.result.1 in
     let given : ℕ → Bool = λ d. nat_le from d && nat_lt d end in
-    let names = λ (d : ℕ). taken width initial r.front (word_of s.front) from end c.in-Some.span d first last first.small last.small h.1.front_is o.0 (omega (arith, c.overlap-from.ensures.inside, w)) (λ lt. c.overlap-from.ensures.places d (omega (arith, lt, w))) in
-    let all = with_dropped width initial origin (word_of s.front) s.end s.point n.point _ _ given q r h.1 names c.drop_range.ensures.cells c.find_point.ensures.not_missing (λ lt. c.find_point.ensures.missing (omega (arith, lt, wide))) in
-    let kept = with_fields width initial origin _ _ _ _ n.point _ _ _ _ (ap word_of c.find_point.ensures.front) c.find_point.ensures.window c.find_point.ensures.end refl all in
+    let names = λ (d : ℕ). taken width initial r.front (word_of s.front) from end c.in-Some.span d first last first.small last.small
+    h.1.front_is o.0 (omega (arith, c.overlap-from.ensures.inside, w)) (λ lt. c.overlap-from.ensures.places d (omega (arith, lt, w))) in
+    let all = with_dropped width initial origin (word_of s.front) s.end s.point n.point _ _ given q r h.1 names c.drop_range.ensures.cells
+    c.find_point.ensures.not_missing (λ lt. c.find_point.ensures.missing (omega (arith, lt, wide))) in
+    let kept = with_fields width initial origin _ _ _ _ n.point _ _ _ _ (ap word_of c.find_point.ensures.front) c.find_point.ensures.window
+    c.find_point.ensures.end refl all in
     let P : Receiving → Type 0 = λ x. StandsFor width initial origin c.settle.new.self x in
-    subst P (sym (range_requested width initial first last r first.small last.small (omega (arith, o.0, o.1)))) (c.settle.ensures width initial origin _ (ap width_of c.find_point.ensures.window ∙ wide, kept))
+    subst P (sym (range_requested width initial first last r first.small last.small (omega (arith, o.0, o.1))))
+    (c.settle.ensures width initial origin _ (ap width_of c.find_point.ensures.window ∙ wide, kept))
+
+pub invariant_of-self-clause-nothing_past_end : goal.invariant_of-self-clause-nothing_past_end
+invariant_of-self-clause-nothing_past_end c d past =
+    ap cell_is_received (c.drop_range.ensures.cells d) ∙ received_still _ _ ∙ c.args.self.now.nothing_past_end d past
+
+pub invariant_of-self-clause-nothing_between : goal.invariant_of-self-clause-nothing_between
+invariant_of-self-clause-nothing_between c d low high =
+    ap cell_is_received (c.drop_range.ensures.cells d) ∙ received_still _ _ ∙ c.args.self.now.nothing_between d low high
+
+pub invariant_of-self-clause-packet_at_next : goal.invariant_of-self-clause-packet_at_next
+invariant_of-self-clause-packet_at_next c here =
+    ap cell_is_received (c.drop_range.ensures.cells c.args.self.now.next) ∙ received_still _ _ ∙ c.args.self.now.packet_at_next here

@@ -8,12 +8,15 @@ use Rattle.srt_recvbuf.proofs.buffer.RecvBuf.first_due.Goals as goal
 
 pub returns-then-at-self-clause-first : goal.returns-then-at-self-clause-first
 returns-then-at-self-clause-first c width initial origin time r t h =
-    next_is time c.args.room r (omega arith) ∙ ap (first_due time) (nothing_waits width initial origin _ _ _ _ r (c.find_first-at.ensures.stands width initial origin r h).1 (λ k lt. c.find_first-at.ensures.before k (omega (arith, lt, c.if-at-self.true))))
+    next_is time c.args.room r (omega arith)
+    ∙ ap (first_due time)
+    (nothing_waits width initial origin _ _ _ _ r h.1 (λ k lt. c.first_packet-at.ensures.before k (omega (arith, lt, c.if-at-self.true))))
 
 pub returns-then-due-now-clause-first : goal.returns-then-due-now-clause-first
 returns-then-due-now-clause-first c width initial origin time r t h =
-    let lt : c.find_first-at.result < c.find_first-at.new.self.end = omega (arith, c.find_first-at.ensures.high, c.if-at-self.false) in
-    let f = first_waits width initial origin _ _ _ c.find_first-at.result _ r (c.find_first-at.ensures.stands width initial origin r h).1 (λ k less. c.find_first-at.ensures.before k less) lt (c.find_first-at.ensures.here lt) in
+    let lt : c.first_packet-at.result < c.args.self.now.end = omega (arith, c.if-at-self.false) in
+    let f = first_waits width initial origin _ _ _ c.first_packet-at.result _ r h.1 (λ k less. c.first_packet-at.ensures.before k less) lt
+    (c.first_packet-at.ensures.here lt) in
     let due : c.in_ok-due.due ≡ pos origin +ℤ f.first.due = some_is _ _ (sym c.in_ok-due.was ∙ c.due.ensures ∙ ap due_of f.cell_is) in
     let fits : SFits w64 c.in_ok-due.due = search rules in
     let small : c.args.now < 2 ^ 63 = omega (arith, c.requires) in
@@ -22,8 +25,9 @@ returns-then-due-now-clause-first c width initial origin time r t h =
 
 pub returns-else-due-now-clause-first : goal.returns-else-due-now-clause-first
 returns-else-due-now-clause-first c width initial origin time r t h =
-    let lt : c.find_first-at.result < c.find_first-at.new.self.end = omega (arith, c.find_first-at.ensures.high, c.if-at-self.false) in
-    let f = first_waits width initial origin _ _ _ c.find_first-at.result _ r (c.find_first-at.ensures.stands width initial origin r h).1 (λ k less. c.find_first-at.ensures.before k less) lt (c.find_first-at.ensures.here lt) in
+    let lt : c.first_packet-at.result < c.args.self.now.end = omega (arith, c.if-at-self.false) in
+    let f = first_waits width initial origin _ _ _ c.first_packet-at.result _ r h.1 (λ k less. c.first_packet-at.ensures.before k less) lt
+    (c.first_packet-at.ensures.here lt) in
     let due : c.in_ok-due.due ≡ pos origin +ℤ f.first.due = some_is _ _ (sym c.in_ok-due.was ∙ c.due.ensures ∙ ap due_of f.cell_is) in
     let fits : SFits w64 c.in_ok-due.due = search rules in
     let small : c.args.now < 2 ^ 63 = omega (arith, c.requires) in

@@ -56,8 +56,12 @@ returns-clause-stands c width initial origin r time t h =
     let wide = c.fill.ensures.width ∙ h.0 in
     let fits = c.ranges.due in
     let cells = rw to_z-of_z at c.fill.ensures.cells in
-    let all = with_packet width initial origin (word_of s.front) s.end s.point n.point d _ _ r c.args.payload.bytes.now c.args.due time h.1 t cells c.find_point.ensures.low c.find_point.ensures.not_missing (λ lt. c.find_point.ensures.missing (omega (arith, lt, wide))) in
-    (ap width_of c.find_point.ensures.window ∙ wide, with_fields width initial origin _ _ _ _ n.point _ _ _ _ (ap word_of c.find_point.ensures.front) c.find_point.ensures.window (c.find_point.ensures.end ∙ c.max-self.ensures) is all)
+    let all = with_packet width initial origin (word_of s.front) s.end s.point n.point d _ _ r c.args.payload.bytes.now c.args.due time h.1
+    t cells c.find_point.ensures.low c.find_point.ensures.not_missing (λ lt. c.find_point.ensures.missing (omega (arith, lt, wide))) in (
+      ap width_of c.find_point.ensures.window ∙ wide,
+      with_fields width initial origin _ _ _ _ n.point _ _ _ _ (ap word_of c.find_point.ensures.front) c.find_point.ensures.window
+          (c.find_point.ensures.end ∙ c.max-self.ensures) is all,
+    )
 
 pub returns-clause-answer : goal.returns-clause-answer
 returns-clause-answer c width initial origin r h =

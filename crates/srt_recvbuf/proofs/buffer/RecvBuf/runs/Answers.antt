@@ -15,7 +15,8 @@ returns-in-Some c width initial origin r h =
     let e = ap (λ x. in_window (counted_from initial (word_of c.args.from)) r.front x) (sym w) ∙ o in
     let missing = cell_missing width initial origin _ _ _ _ r h.1 in
     let said = c.runs_at.ensures initial r.front (is_missing width r) h.1.front_is missing in
-    let start = from_point (is_missing width r) r.front c.in-Some.offset c.min.result s.point s.end (end_of r.arrivals) h.1.end_is (c.min.ensures ∙ ap (λ x. min x s.end) c.max.ensures) (λ d lt. missing d ∙ h.1.not_missing d lt) in
+    let start = from_point (is_missing width r) r.front c.in-Some.offset c.min.result s.point s.end (end_of r.arrivals) h.1.end_is
+    (c.min.ensures ∙ ap (λ x. min x s.end) c.max.ensures) (λ d lt. missing d ∙ h.1.not_missing d lt) in
     said ∙ sym (ap (λ x. map (run_words initial) (runs_from width x r)) e ∙ ap (λ x. map (run_words initial) (take 32 (runs x))) start)
 
 pub returns-in-None : goal.returns-in-None

@@ -28,13 +28,21 @@ loop-preserved c =
       many = omega (arith, longer, by_one, c.loop.invariant.many);
       so_far = λ initial front test f t.
           let a : word_of c.add.result ≡ number_word initial (front + low) = let k = c.add.ensures.number (initial + front) (sym f) in omega (arith, k) in
-          let b : word_of c.add-in-loop.result ≡ number_word initial (front + (high - 1)) = let k = c.add-in-loop.ensures.number (initial + front) (sym f) in omega (arith, k) in
-          let more = ap words_of c.push.ensures.items ∙ map-append _ c.loop.runs.items ((c.add.result, c.add-in-loop.result) ∷ []) ∙ ap (λ w. words_of c.loop.runs.items ++ w ∷ []) (same_pair _ _ _ _ a b) in
-          let next = next_run test front c.loop.at low high s.end c.find-low.ensures.low up c.find-at.ensures.high (λ d lo less. t d ∙ c.find-low.ensures.before d lo less) (λ d lo less. t d ∙ not-false _ (c.find-at.ensures.before d lo less)) (λ less. t high ∙ not-true _ (c.find-at.ensures.here less)) in
+          let b : word_of c.add-in-loop.result ≡ number_word initial (front + (high - 1)) =
+          let k = c.add-in-loop.ensures.number (initial + front) (sym f) in
+          omega (arith, k) in
+          let more = ap words_of c.push.ensures.items ∙ map-append _ c.loop.runs.items ((c.add.result, c.add-in-loop.result) ∷ [])
+          ∙ ap (λ w. words_of c.loop.runs.items ++ w ∷ []) (same_pair _ _ _ _ a b) in
+          let next = next_run test front c.loop.at low high s.end c.find-low.ensures.low up c.find-at.ensures.high
+          (λ d lo less. t d ∙ c.find-low.ensures.before d lo less) (λ d lo less. t d ∙ not-false _ (c.find-at.ensures.before d lo less))
+          (λ less. t high ∙ not-true _ (c.find-at.ensures.here less)) in
           ap (λ w. w ++ map (run_words initial) (take (32 - (c.loop.counter + 1)) (runs (filter test (numbers_from (front + high) (s.end - high)))))) more
-          ∙ sym (one_more (words_of c.loop.runs.items) (run_words initial) (32 - c.loop.counter) (32 - (c.loop.counter + 1)) _ _ _ (omega (arith, c.loop-test.true)) next)
+          ∙ sym (one_more (words_of c.loop.runs.items) (run_words initial) (32 - c.loop.counter) (32 - (c.loop.counter + 1)) _ _ _
+          (omega (arith, c.loop-test.true)) next)
           ∙ c.loop.invariant.so_far initial front test f t;
     }
 
 pub returns : goal.returns
-returns c initial front test f t = sym (none_more _ (run_words initial) (32 - c.loop.counter) _ (omega (arith, c.loop-test.false))) ∙ c.loop.invariant.so_far initial front test f t
+returns c initial front test f t =
+    sym (none_more _ (run_words initial) (32 - c.loop.counter) _ (omega (arith, c.loop-test.false)))
+    ∙ c.loop.invariant.so_far initial front test f t

@@ -10,5 +10,9 @@ abbrev pub invariant-loop : goal.invariant-loop
 invariant-loop l = record {
   inside : l.at ≤ l.self.end;
   many : length l.runs.items ≡ l.counter;
-  so_far : (initial front : ℕ) (test : ℕ → Bool) → word_of l.self.front ≡ number_word initial front → ((d : ℕ) → test (front + d) ≡ cell_is_missing (cell_at l.self.window d)) → words_of l.runs.items ++ map (run_words initial) (take (32 - l.counter) (runs (filter test (numbers_from (front + l.at) (l.self.end - l.at))))) ≡ map (run_words initial) (take 32 (runs (filter test (numbers_from (front + l.fn.from) (l.self.end - l.fn.from)))));
+  so_far : (initial front : ℕ) (test : ℕ → Bool) → word_of l.self.front ≡ number_word initial front
+      → ((d : ℕ) → test (front + d) ≡ cell_is_missing (cell_at l.self.window d))
+      → words_of l.runs.items
+      ++ map (run_words initial) (take (32 - l.counter) (runs (filter test (numbers_from (front + l.at) (l.self.end - l.at)))))
+      ≡ map (run_words initial) (take 32 (runs (filter test (numbers_from (front + l.fn.from) (l.self.end - l.fn.from)))));
 }

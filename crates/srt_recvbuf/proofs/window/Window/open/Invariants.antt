@@ -1,5 +1,5 @@
 use Rattle.std.proofs.Common.{◌≡◌, ℕ, ◌≤◌, length, get_or}
-use Rattle.srt_recvbuf.specs.declared.window.Place.TheVariants.{Missing}
+use Rattle.srt_recvbuf.specs.declared.window.NumberState.TheVariants.{Missing}
 use Rattle.srt_recvbuf.proofs.window.Window.open.Given as goal
 
 abbrev pub invariant-loop : goal.invariant-loop

@@ -1,7 +1,7 @@
 use Rattle.std.proofs.Common.{unwrap_or, sym, ap, ◌∙◌}
 use Rattle.std.proofs.lemmas.Option.{unwrap_or-slice_get}
 use Rattle.std.specs.Option.{option_copied}
-use Rattle.srt_recvbuf.specs.declared.window.Place.TheVariants.{Missing}
+use Rattle.srt_recvbuf.specs.declared.window.NumberState.TheVariants.{Missing}
 use Rattle.srt_recvbuf.proofs.window.Window.place.Goals as goal
 
 pub returns-in-None : goal.returns-in-None

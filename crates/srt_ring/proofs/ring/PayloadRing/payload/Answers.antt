@@ -8,5 +8,6 @@ pub returns-clause-value : goal.returns-clause-value
 returns-clause-value c =
     let s = c.args.self.now in
     c.bytes.ensures.value
-    ∙ sym (bytes_read s.buffers.items c.buffer-index.result c.index.result.now (omega (arith, c.buffer-index.ensures.inside, s.as_many, s.buffers.ok.0)) c.index.ensures)
+    ∙ sym (bytes_read s.buffers.items c.buffer-index.result c.index.result.now
+    (omega (arith, c.buffer-index.ensures.inside, s.as_many, s.buffers.ok.0)) c.index.ensures)
     ∙ ap (bytes_at s.buffers.items) (c.buffer-index.ensures.value ∙ ap (buffer_of_slot s.order) c.slot.ensures.value)

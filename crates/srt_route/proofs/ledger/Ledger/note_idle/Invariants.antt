@@ -1,5 +1,5 @@
 use Rattle.srt_route.specs.Ledgers.{idle_cause}
-use Rattle.srt_route.proofs.Noting.{NotedUpTo}
+use Rattle.srt_route.proofs.steps.Noting.{NotedUpTo}
 use Rattle.srt_route.proofs.ledger.Ledger.note_idle.Given as goal
 
 -- the ends of the sessions in the slots below `at` are noted

@@ -1,5 +1,5 @@
 use Rattle.std.proofs.Common.{◌-◌, ◌≤◌, length}
-use Rattle.srt_route.proofs.Starting.{AreVacant}
+use Rattle.srt_route.proofs.steps.Starting.{AreVacant}
 use Rattle.srt_route.proofs.table.Table.open.Given as goal
 
 -- no more seats than wanted, all vacant, with buffers as wide as wanted

@@ -9,12 +9,16 @@ pub returns-in-Some-clause-value : goal.returns-in-Some-clause-value
 returns-in-Some-clause-value c h b =
     let s = c.args.self.now in
     let small = c.in_ok-place.ensures.below in
-    let m = read_at s.next s.at s.moments.items h c.in_ok-place.place _ _ (omega (arith, s.moments.ok.0)) small c.index_of.ensures.value b c.index.ensures ∙ c.in-Some.is in
+    let m = read_at s.next s.at s.moments.items h c.in_ok-place.place _ _ (omega (arith, s.moments.ok.0)) small c.index_of.ensures.value b
+    c.index.ensures
+    ∙ c.in-Some.is in
     sym (place_some h c.args.number _ _ small b.numbered (c.in_ok-place.ensures.back _ b.next_is) m)
 
 pub returns-in-None-clause-value : goal.returns-in-None-clause-value
 returns-in-None-clause-value c h b =
     let s = c.args.self.now in
     let small = c.in_ok-place.ensures.below in
-    let m = read_at s.next s.at s.moments.items h c.in_ok-place.place _ _ (omega (arith, s.moments.ok.0)) small c.index_of.ensures.value b c.index.ensures ∙ c.in-None.is in
+    let m = read_at s.next s.at s.moments.items h c.in_ok-place.place _ _ (omega (arith, s.moments.ok.0)) small c.index_of.ensures.value b
+    c.index.ensures
+    ∙ c.in-None.is in
     sym (place_stale h c.args.number _ b.numbered (c.in_ok-place.ensures.back _ b.next_is) m)

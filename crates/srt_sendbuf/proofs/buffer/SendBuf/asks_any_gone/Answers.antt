@@ -13,13 +13,17 @@ pub loop-range-preserved : goal.loop-range-preserved
 loop-range-preserved c width initial r h =
     let x = range_from initial (range_of c.in-Some.range) in
     let rest = ranges_from initial c.next_range.new.self in
-    c.loop-range.invariant width initial r h ∙ ap (λ rs. asks_for_gone (ranges_from initial rs) r) c.in-Some.ensures.some ∙ asks_more x rest r ∙ ap (λ b. b || asks_for_gone rest r) (sym (c.asks_gone.ensures width initial r h) ∙ c.if-asks_gone.false)
+    c.loop-range.invariant width initial r h ∙ ap (λ rs. asks_for_gone (ranges_from initial rs) r) c.in-Some.ensures.some
+    ∙ asks_more x rest r ∙ ap (λ b. b || asks_for_gone rest r) (sym (c.asks_gone.ensures width initial r h) ∙ c.if-asks_gone.false)
 
 pub returns-then-asks_gone : goal.returns-then-asks_gone
 returns-then-asks_gone c width initial r h =
     let x = range_from initial (range_of c.in-Some.range) in
     let rest = ranges_from initial c.next_range.new.self in
-    sym (c.loop-range.invariant width initial r h ∙ ap (λ rs. asks_for_gone (ranges_from initial rs) r) c.in-Some.ensures.some ∙ asks_more x rest r ∙ ap (λ b. b || asks_for_gone rest r) (sym (c.asks_gone.ensures width initial r h) ∙ c.if-asks_gone.true))
+    sym (c.loop-range.invariant width initial r h ∙ ap (λ rs. asks_for_gone (ranges_from initial rs) r) c.in-Some.ensures.some
+    ∙ asks_more x rest r ∙ ap (λ b. b || asks_for_gone rest r) (sym (c.asks_gone.ensures width initial r h) ∙ c.if-asks_gone.true))
 
 pub returns : goal.returns
-returns c width initial r h = sym (c.loop-range.invariant width initial r h ∙ ap (λ rs. asks_for_gone (ranges_from initial rs) r) c.in_default.ensures.none.0 ∙ none_asked (numbers_from (base r) (front r - base r)))
+returns c width initial r h =
+    sym (c.loop-range.invariant width initial r h ∙ ap (λ rs. asks_for_gone (ranges_from initial rs) r) c.in_default.ensures.none.0
+    ∙ none_asked (numbers_from (base r) (front r - base r)))

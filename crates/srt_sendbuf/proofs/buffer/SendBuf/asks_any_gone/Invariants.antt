@@ -6,7 +6,9 @@ use Rattle.srt_sendbuf.proofs.buffer.SendBuf.asks_any_gone.Given as goal
 
 -- the ranges that were read name no number from the base up to the front
 abbrev pub invariant-loop-range : goal.invariant-loop-range
-invariant-loop-range l = (width initial : ℕ) (r : Sending) → StandsFor width initial l.fn.self r → asks_for_gone (ranges_from initial l.losses) r ≡ asks_for_gone (ranges_from initial l.ranges) r
+invariant-loop-range l =
+    (width initial : ℕ) (r : Sending)
+    → StandsFor width initial l.fn.self r → asks_for_gone (ranges_from initial l.losses) r ≡ asks_for_gone (ranges_from initial l.ranges) r
 
 abbrev pub decreases-loop-range : goal.decreases-loop-range
 decreases-loop-range l = length l.ranges

@@ -12,7 +12,9 @@ returns-clause-stands c width initial r h later =
     let young = rw to_z-of_z at c.count_before-count.ensures.here in
     let e = expired_front c.args.before c.count_before-count.result _ _ r f.in_order f.queued_is f.kept_is later c.count_before-count.ensures.fits old young in
     let m = c.message_after-message.ensures (base r) f.base_message_is in
-    c.move_front.ensures width initial r (expired_before c.args.before r) h (expired_moved c.args.before c.args.self.now.behind c.min-behind.result c.back.result c.min.result c.count_before-count.result _ _ r f.behind_is c.back.ensures.value c.min-behind.ensures c.min.ensures refl m e)
+    c.move_front.ensures width initial r (expired_before c.args.before r) h
+    (expired_moved c.args.before c.args.self.now.behind c.min-behind.result c.back.result c.min.result c.count_before-count.result _ _ r
+    f.behind_is c.back.ensures.value c.min-behind.ensures c.min.ensures refl m e)
 
 pub returns-clause-count : goal.returns-clause-count
 returns-clause-count c width initial r h later =

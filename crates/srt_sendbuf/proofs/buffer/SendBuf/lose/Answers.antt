@@ -18,20 +18,33 @@ loop-ranges-preserved c =
     let n = c.lose_next.ensures in
     record {
       lost = taken_both c.args.self.now c.loop-ranges.self c.lose_next.new.self c.args.losses.now c.loop-ranges.ranges c.lose_next.new.ranges i.lost n.lost;
-      marks = (i.marks.0 + 1, let l = n.shorter c.loop-ranges-test.true in let m = i.marks.1 in omega (arith, l, m), one_turn_more i.marks.0 _ _ _ _ _ i.marks.2 n.marks i.lost.1.sent_is);
+      marks = (
+        i.marks.0 + 1,
+        let l = n.shorter c.loop-ranges-test.true in let m = i.marks.1 in omega (arith, l, m),
+        one_turn_more i.marks.0 _ _ _ _ _ i.marks.2 n.marks i.lost.1.sent_is,
+      );
     }
 
 pub returns-then-gone-clause-stands : goal.returns-then-gone-clause-stands
 returns-then-gone-clause-stands c width initial r h =
-    taken_all width initial c.args.self.now c.lose_next.new.self c.args.losses.now c.lose_next.new.ranges r h (taken_both c.args.self.now c.loop-ranges.self c.lose_next.new.self c.args.losses.now c.loop-ranges.ranges c.lose_next.new.ranges c.loop-ranges.invariant.lost c.lose_next.ensures.lost) (c.lose_next.ensures.none c.loop-ranges-test.false)
+    taken_all width initial c.args.self.now c.lose_next.new.self c.args.losses.now c.lose_next.new.ranges r h
+    (taken_both c.args.self.now c.loop-ranges.self c.lose_next.new.self c.args.losses.now c.loop-ranges.ranges c.lose_next.new.ranges
+    c.loop-ranges.invariant.lost c.lose_next.ensures.lost)
+    (c.lose_next.ensures.none c.loop-ranges-test.false)
 
 pub returns-else-gone-clause-stands : goal.returns-else-gone-clause-stands
 returns-else-gone-clause-stands c width initial r h =
-    taken_all width initial c.args.self.now c.lose_next.new.self c.args.losses.now c.lose_next.new.ranges r h (taken_both c.args.self.now c.loop-ranges.self c.lose_next.new.self c.args.losses.now c.loop-ranges.ranges c.lose_next.new.ranges c.loop-ranges.invariant.lost c.lose_next.ensures.lost) (c.lose_next.ensures.none c.loop-ranges-test.false)
+    taken_all width initial c.args.self.now c.lose_next.new.self c.args.losses.now c.lose_next.new.ranges r h
+    (taken_both c.args.self.now c.loop-ranges.self c.lose_next.new.self c.args.losses.now c.loop-ranges.ranges c.lose_next.new.ranges
+    c.loop-ranges.invariant.lost c.lose_next.ensures.lost)
+    (c.lose_next.ensures.none c.loop-ranges-test.false)
 
 pub returns-then-gone-clause-answer : goal.returns-then-gone-clause-answer
 returns-then-gone-clause-answer c width initial r h =
-    let after = taken_all width initial c.args.self.now c.lose_next.new.self c.args.losses.now c.lose_next.new.ranges r h (taken_both c.args.self.now c.loop-ranges.self c.lose_next.new.self c.args.losses.now c.loop-ranges.ranges c.lose_next.new.ranges c.loop-ranges.invariant.lost c.lose_next.ensures.lost) (c.lose_next.ensures.none c.loop-ranges-test.false) in
+    let after = taken_all width initial c.args.self.now c.lose_next.new.self c.args.losses.now c.lose_next.new.ranges r h
+    (taken_both c.args.self.now c.loop-ranges.self c.lose_next.new.self c.args.losses.now c.loop-ranges.ranges c.lose_next.new.ranges
+    c.loop-ranges.invariant.lost c.lose_next.ensures.lost)
+    (c.lose_next.ensures.none c.loop-ranges-test.false) in
     let asks : asks_for_gone (ranges_from initial c.args.losses.now) r ≡ true = sym (c.asks_any_gone-gone.ensures width initial r h) ∙ c.if-gone.true in
     let some = some_asked (is_asked (ranges_from initial c.args.losses.now)) (base r) (front r - base r) asks in
     let below : base r < front r = omega (arith, some) in
@@ -40,9 +53,11 @@ returns-then-gone-clause-answer c width initial r h =
 pub returns-then-gone-clause-marks : goal.returns-then-gone-clause-marks
 returns-then-gone-clause-marks c width initial r h =
     let i = c.loop-ranges.invariant in
-    turns_in_all i.marks.0 (length c.args.losses.now) (length c.loop-ranges.ranges) _ _ _ (front r) (next r) i.marks.1 (one_turn_more i.marks.0 _ _ _ _ _ i.marks.2 c.lose_next.ensures.marks i.lost.1.sent_is) h.fields.flying_is
+    turns_in_all i.marks.0 (length c.args.losses.now) (length c.loop-ranges.ranges) _ _ _ (front r) (next r) i.marks.1
+    (one_turn_more i.marks.0 _ _ _ _ _ i.marks.2 c.lose_next.ensures.marks i.lost.1.sent_is) h.fields.flying_is
 
 pub returns-else-gone-clause-marks : goal.returns-else-gone-clause-marks
 returns-else-gone-clause-marks c width initial r h =
     let i = c.loop-ranges.invariant in
-    turns_in_all i.marks.0 (length c.args.losses.now) (length c.loop-ranges.ranges) _ _ _ (front r) (next r) i.marks.1 (one_turn_more i.marks.0 _ _ _ _ _ i.marks.2 c.lose_next.ensures.marks i.lost.1.sent_is) h.fields.flying_is
+    turns_in_all i.marks.0 (length c.args.losses.now) (length c.loop-ranges.ranges) _ _ _ (front r) (next r) i.marks.1
+    (one_turn_more i.marks.0 _ _ _ _ _ i.marks.2 c.lose_next.ensures.marks i.lost.1.sent_is) h.fields.flying_is

@@ -23,17 +23,20 @@ loop-next-init c =
 
 pub lose_part-requires-clause-order : goal.lose_part-requires-clause-order
 lose_part-requires-clause-order c =
-    (All-head (λ part. (part.0 ≤ part.1) × (part.1 < c.args.self.now.sent)) c.in-Some.next.part c.in-Some.next.more.now (subst (λ xs. AreWithin c.args.self.now.sent xs) c.in-Some.ensures.some c.loop-next.invariant.within)).0
+    (All-head (λ part. (part.0 ≤ part.1) × (part.1 < c.args.self.now.sent)) c.in-Some.next.part c.in-Some.next.more.now
+    (subst (λ xs. AreWithin c.args.self.now.sent xs) c.in-Some.ensures.some c.loop-next.invariant.within)).0
 
 pub lose_part-requires-clause-inside : goal.lose_part-requires-clause-inside
 lose_part-requires-clause-inside c =
-    let in_old = (All-head (λ part. (part.0 ≤ part.1) × (part.1 < c.args.self.now.sent)) c.in-Some.next.part c.in-Some.next.more.now (subst (λ xs. AreWithin c.args.self.now.sent xs) c.in-Some.ensures.some c.loop-next.invariant.within)).1 in
+    let in_old = (All-head (λ part. (part.0 ≤ part.1) × (part.1 < c.args.self.now.sent)) c.in-Some.next.part c.in-Some.next.more.now
+    (subst (λ xs. AreWithin c.args.self.now.sent xs) c.in-Some.ensures.some c.loop-next.invariant.within)).1 in
     let same = c.loop-next.invariant.lost.1.sent_is in
     omega (arith, in_old, same)
 
 pub lose_part-requires-clause-later : goal.lose_part-requires-clause-later
 lose_part-requires-clause-later c =
-    All-head (λ part. c.loop-next.run.from ≤ part.0) c.in-Some.next.part c.in-Some.next.more.now (subst (λ xs. All (λ part. c.loop-next.run.from ≤ part.0) xs) c.in-Some.ensures.some c.loop-next.invariant.later)
+    All-head (λ part. c.loop-next.run.from ≤ part.0) c.in-Some.next.part c.in-Some.next.more.now
+    (subst (λ xs. All (λ part. c.loop-next.run.from ≤ part.0) xs) c.in-Some.ensures.some c.loop-next.invariant.later)
 
 pub loop-next-preserved : goal.loop-next-preserved
 loop-next-preserved c =
@@ -48,7 +51,8 @@ loop-next-preserved c =
       lost = (
         λ d. i.lost.0 d || is_in_part (Some part) d,
         both_marked i.lost.0 (is_in_part (Some part)) c.args.self.now c.loop-next.self c.lose_part.new.self i.lost.1 n.lost,
-        λ d. i.lost.2 d ∙ ap (λ xs. i.lost.0 d || is_in_parts xs d) c.in-Some.ensures.some ∙ together (i.lost.0 d) (is_in_part (Some part) d) (is_in_parts more d),
+        λ d. i.lost.2 d ∙ ap (λ xs. i.lost.0 d || is_in_parts xs d) c.in-Some.ensures.some
+            ∙ together (i.lost.0 d) (is_in_part (Some part) d) (is_in_parts more d),
       );
       within = All-tail (λ p. (p.0 ≤ p.1) × (p.1 < c.args.self.now.sent)) part more within;
       ascending = rest_ascends part more ascending;
@@ -61,7 +65,8 @@ loop-next-preserved c =
 pub returns-clause-lost : goal.returns-clause-lost
 returns-clause-lost c =
     let i = c.loop-next.invariant in
-    marked_as i.lost.0 (is_in_parts c.args.parts.now) c.args.self.now c.loop-next.self (λ d lt. i.lost.2 d ∙ ap (λ xs. i.lost.0 d || is_in_parts xs d) c.in_default.ensures.none ∙ alone (i.lost.0 d)) i.lost.1
+    marked_as i.lost.0 (is_in_parts c.args.parts.now) c.args.self.now c.loop-next.self
+    (λ d lt. i.lost.2 d ∙ ap (λ xs. i.lost.0 d || is_in_parts xs d) c.in_default.ensures.none ∙ alone (i.lost.0 d)) i.lost.1
 
 pub returns-clause-marks : goal.returns-clause-marks
 returns-clause-marks c = let i = c.loop-next.invariant in let m = i.marks in let e = i.end in omega (arith, m, e)

@@ -1,8 +1,7 @@
-use Rattle.std.proofs.Common.{ℕ, Bool, Option, sym, subst}
-use Rattle.srt_sendbuf.specs.Sending.{sent_number}
-use Rattle.srt_sendbuf.specs.Places.{length_of}
+use Rattle.std.proofs.Common.{ℕ, Bool, List, Option, sym, subst}
+use Rattle.srt_sendbuf.specs.Sending.{due_number, sent_number}
 use Rattle.srt_sendbuf.specs.Stands.{StandsFor}
-use Rattle.srt_sendbuf.proofs.Steps.{first_lost, none_lost, due_again, due_new, due_none}
+use Rattle.srt_sendbuf.proofs.Steps.{first_lost, none_lost, due_again}
 use Rattle.srt_sendbuf.proofs.buffer.SendBuf.note_sent.Goals as goal
 
 pub returns-then-self : goal.returns-then-self
@@ -11,15 +10,8 @@ returns-then-self c width initial r h =
     let e = due_again c.args.window s.low r (first_lost initial _ _ _ _ _ _ _ _ _ _ r h.fields c.if-self.true s.high_in) in
     subst (λ (o : Option (ℕ × Bool)). StandsFor width initial c.sent_again.new.self (sent_number o r)) (sym e) (c.sent_again.ensures width initial r h)
 
-pub returns-then-has_new : goal.returns-then-has_new
-returns-then-has_new c width initial r h =
-    let s = c.args.self.now in
-    let there = c.has_new.ensures.some c.if-has_new.true in
+pub returns-else-self : goal.returns-else-self
+returns-else-self c width initial r h =
     let none = none_lost initial _ _ _ _ _ _ _ _ _ _ r h.fields c.if-self.false in
-    let e = due_new c.args.window s.sent (length_of s.ring) r none h.fields.flying_is h.fields.queued_is there.0 there.1 in
-    subst (λ (o : Option (ℕ × Bool)). StandsFor width initial c.sent_new.new.self (sent_number o r)) (sym e) (c.sent_new.ensures width initial r h)
-
-pub returns-else-has_new : goal.returns-else-has_new
-returns-else-has_new c width initial r h =
-    let s = c.args.self.now in
-    subst (λ (o : Option (ℕ × Bool)). StandsFor width initial s (sent_number o r)) (sym (due_none c.args.window s.sent (length_of s.ring) r (none_lost initial _ _ _ _ _ _ _ _ _ _ r h.fields c.if-self.false) h.fields.flying_is h.fields.queued_is (c.has_new.ensures.none c.if-has_new.false))) h
+    subst (λ (ns : List ℕ). StandsFor width initial c.note_new_sent.new.self (sent_number (due_number c.args.window ns r) r)) (sym none)
+    (c.note_new_sent.ensures width initial r h)

@@ -5,7 +5,7 @@ use Rattle.srt_sendbuf.proofs.ring.Ring.find_lost.Goals as goal
 pub loop-at-preserved : goal.loop-at-preserved
 loop-at-preserved c =
     let i = c.loop-at.invariant in
-    let passed = c.pass-at.ensures in
+    let passed = c.next_candidate-at.ensures in
     record {
       same = record {
         width = passed.width ∙ i.same.width;

@@ -5,7 +5,9 @@ use Rattle.std.proofs.lemmas.Bool.Decides.{nat_tests}
 use Rattle.srt_sendbuf.proofs.ring.Ring.mark_all.Goals as goal
 
 -- one more is marked
-one_more : (from at d : ℕ) (new old before : Bool) → from ≤ at → new ≡ (if d == at then true else old) → old ≡ (if nat_le from d && nat_lt d at then true else before) → new ≡ (if nat_le from d && nat_lt d (at + 1) then true else before)
+one_more : (from at d : ℕ) (new old before : Bool) → from ≤ at → new ≡ (if d == at then true else old)
+    → old ≡ (if nat_le from d && nat_lt d at then true else before)
+    → new ≡ (if nat_le from d && nat_lt d (at + 1) then true else before)
 one_more from at d new old before le n o = elim (cases_eq d at) [
   | inl same ↦
       let b : (nat_le from d && nat_lt d (at + 1)) ≡ true = grind (arith, nat_tests, le, same) in

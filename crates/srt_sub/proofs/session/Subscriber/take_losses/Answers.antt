@@ -17,14 +17,38 @@ use Rattle.srt_sub.proofs.session.Subscriber.take_losses.Goals as goal
 pub returns-in-Some : goal.returns-in-Some
 returns-in-Some c terms initial opening caller time given m h =
     let ranges = ranges_from initial c.in-Ok.losses in
-    let told = is_gone (asks_for_gone ranges m.sending) (gone_by c.in-Some.run') (gone_words initial m.sending) (c.in-Some.ensures.answer terms.width initial m.sending h.buffer_is) in
+    let told = is_gone (asks_for_gone ranges m.sending) (gone_by c.in-Some.run') (gone_words initial m.sending)
+    (c.in-Some.ensures.answer terms.width initial m.sending h.buffer_is) in
     let b = told.0 in
-    subst (λ (r : Result (List Range) LossFault). StandsIn terms initial opening caller time given (record c.args.self.now { buffer = c.lose.new.self; history = c.note_drop_request.new.self; counts = c.ask.new.self }) (with_nak (asked_from initial r) m)) c.in-Ok.ensures.value
-    (rw b (changed terms initial opening caller time given c.args.self.now m h time given c.args.self.now.given c.lose.new.self c.note_drop_request.new.self (record { sending = asked ranges m.sending; notes = Missed (gone m.sending) ∷ m.notes }) h.given_is (c.lose.ensures.stands terms.width initial m.sending h.buffer_is) (c.note_drop_request.ensures initial terms.window m.notes (gone m.sending) told.1 h.history_is) (sound_marked terms time m.sending (asked ranges m.sending) refl refl h.sound) c.ask.new.self (subst (λ (k : Counts). Counted k (asked ranges m.sending)) (sym c.ask.ensures) (counts_asked ranges c.args.self.now.counts m.sending h.counts_are))))
+    subst
+    (λ (r : Result (List Range) LossFault). StandsIn terms initial opening caller time given
+    (record c.args.self.now { buffer = c.lose.new.self; history = c.note_drop_request.new.self; counts = c.ask.new.self })
+    (with_nak (asked_from initial r) m))
+    c.in-Ok.ensures.value
+    (rw b
+    (changed terms initial opening caller time given c.args.self.now m h time given c.args.self.now.given c.lose.new.self
+    c.note_drop_request.new.self (record { sending = asked ranges m.sending; notes = Missed (gone m.sending) ∷ m.notes }) h.given_is
+    (c.lose.ensures.stands terms.width initial m.sending h.buffer_is)
+    (c.note_drop_request.ensures initial terms m.notes (gone m.sending) told.1 h.history_is)
+    (sound_marked terms time m.sending (asked ranges m.sending) refl refl h.sound) c.ask.new.self
+    (subst (λ (k : Counts). Counted k (record m { sending = asked ranges m.sending })) (sym c.ask.ensures)
+    (counts_asked ranges c.args.self.now.counts m h.counts_are))
+    h.phase_is h.credited))
 
 pub returns-in_default-lose : goal.returns-in_default-lose
 returns-in_default-lose c terms initial opening caller time given m h =
     let ranges = ranges_from initial c.in-Ok.losses in
-    let b = isnt_gone (asks_for_gone ranges m.sending) (gone_words initial m.sending) (c.in_default-lose.ensures.answer terms.width initial m.sending h.buffer_is) in
-    subst (λ (r : Result (List Range) LossFault). StandsIn terms initial opening caller time given (record c.args.self.now { buffer = c.lose.new.self; counts = c.ask.new.self }) (with_nak (asked_from initial r) m)) c.in-Ok.ensures.value
-    (rw b (changed terms initial opening caller time given c.args.self.now m h time given c.args.self.now.given c.lose.new.self c.args.self.now.history (record m { sending = asked ranges m.sending }) h.given_is (c.lose.ensures.stands terms.width initial m.sending h.buffer_is) h.history_is (sound_marked terms time m.sending (asked ranges m.sending) refl refl h.sound) c.ask.new.self (subst (λ (k : Counts). Counted k (asked ranges m.sending)) (sym c.ask.ensures) (counts_asked ranges c.args.self.now.counts m.sending h.counts_are))))
+    let b = isnt_gone (asks_for_gone ranges m.sending) (gone_words initial m.sending)
+    (c.in_default-lose.ensures.answer terms.width initial m.sending h.buffer_is) in
+    subst
+    (λ (r : Result (List Range) LossFault). StandsIn terms initial opening caller time given
+    (record c.args.self.now { buffer = c.lose.new.self; counts = c.ask.new.self }) (with_nak (asked_from initial r) m))
+    c.in-Ok.ensures.value
+    (rw b
+    (changed terms initial opening caller time given c.args.self.now m h time given c.args.self.now.given c.lose.new.self
+    c.args.self.now.history (record m { sending = asked ranges m.sending }) h.given_is
+    (c.lose.ensures.stands terms.width initial m.sending h.buffer_is) h.history_is
+    (sound_marked terms time m.sending (asked ranges m.sending) refl refl h.sound) c.ask.new.self
+    (subst (λ (k : Counts). Counted k (record m { sending = asked ranges m.sending })) (sym c.ask.ensures)
+    (counts_asked ranges c.args.self.now.counts m h.counts_are))
+    h.phase_is h.credited))

@@ -1,0 +1,156 @@
+//! What a changed configuration asks.
+
+use super::{RIGHT, changed, config_of};
+use crate::{Changes, FixedKeys, RouteChange, changes_between};
+use std::process::Abort;
+use std::test::Fail;
+
+/// A third route.
+const THIRD: &str = "
+[[route]]
+name = \"third\"
+mode = \"live\"
+latency_ms = 200
+buffer = 64
+sessions = 2
+inbox = 16
+outbox = 16
+";
+
+/// Which of `secret`, `bind`, `workers` and `status` differ.
+fn fixed(secret: bool, bind: bool, workers: bool, status: bool) -> FixedKeys {
+    FixedKeys {
+        secret,
+        bind,
+        workers,
+        status,
+    }
+}
+
+/// What the second text asks of a gateway that runs with the first one.
+fn changes_to(rt: &(impl AllocGlobal + Abort), before: &str, after: &str) -> Result<Changes, Fail> {
+    let before = config_of(rt, before)?;
+    let after = config_of(rt, after)?;
+    Ok(changes_between(rt.alloc(), &before, &after)?)
+}
+
+/// Asserts that a change of the right configuration, with `from` replaced by `to`, asks just this.
+fn assert_changes(
+    rt: &(impl AllocGlobal + Abort),
+    from: &str,
+    to: &str,
+    keys: FixedKeys,
+    routes: &[RouteChange],
+    gone: &[usize],
+) -> Result<(), Fail> {
+    let after = changed(rt, RIGHT, from, to)?;
+    let found = changes_to(rt, RIGHT, after.as_str())?;
+    assert_eq!(rt; found.fixed, keys);
+    assert_eq!(rt; found.routes.as_slice(), routes);
+    assert_eq!(rt; found.gone.as_slice(), gone);
+    Ok(())
+}
+
+#[test]
+fn the_same_text_asks_nothing(rt: HostRuntime) -> Result<(), Fail> {
+    let none = fixed(false, false, false, false);
+    let stay = [RouteChange::Stays(0), RouteChange::Stays(1)];
+    assert_changes(
+        &rt,
+        "workers = 1\n",
+        "workers = 1 # a comment\n",
+        none,
+        &stay,
+        &[],
+    )
+}
+
+#[test]
+fn a_route_that_is_renamed_closes_and_opens(rt: HostRuntime) -> Result<(), Fail> {
+    let none = fixed(false, false, false, false);
+    let renamed = [RouteChange::Opens, RouteChange::Stays(1)];
+    assert_changes(&rt, "\"studio\"", "\"stage\"", none, &renamed, &[0])
+}
+
+#[test]
+fn a_route_with_another_key_opens_again(rt: HostRuntime) -> Result<(), Fail> {
+    let none = fixed(false, false, false, false);
+    let first = [RouteChange::Reopens(0), RouteChange::Stays(1)];
+    let second = [RouteChange::Stays(0), RouteChange::Reopens(1)];
+    assert_changes(&rt, "buffer = 1024\n", "buffer = 512\n", none, &first, &[])?;
+    assert_changes(
+        &rt,
+        "buffer = 32\n",
+        "buffer = 32\nclose_round = 9\n",
+        none,
+        &second,
+        &[],
+    )?;
+    assert_changes(
+        &rt,
+        "buffer = 32\n",
+        "buffer = 32\nrequest_key = \"k\"\n",
+        none,
+        &second,
+        &[],
+    )?;
+    assert_changes(
+        &rt,
+        "buffer = 32\n",
+        "buffer = 32\nreserved = 1\n",
+        none,
+        &second,
+        &[],
+    )
+}
+
+#[test]
+fn routes_are_found_by_their_names(rt: HostRuntime) -> Result<(), Fail> {
+    let none = fixed(false, false, false, false);
+    let moved = [
+        RouteChange::Opens,
+        RouteChange::Stays(0),
+        RouteChange::Stays(1),
+    ];
+    let mut front = String::from_str(rt.alloc(), "workers = 1\n")?;
+    front.push_str(THIRD)?;
+    assert_changes(&rt, "workers = 1\n", front.as_str(), none, &moved, &[])
+}
+
+#[test]
+fn keys_that_cannot_change_are_told(rt: HostRuntime) -> Result<(), Fail> {
+    let stay = [RouteChange::Stays(0), RouteChange::Stays(1)];
+    assert_changes(
+        &rt,
+        "\"0001",
+        "\"0101",
+        fixed(true, false, false, false),
+        &stay,
+        &[],
+    )?;
+    assert_changes(
+        &rt,
+        "127.0.0.1:0",
+        "127.0.0.1:9",
+        fixed(false, true, false, false),
+        &stay,
+        &[],
+    )?;
+    assert_changes(
+        &rt,
+        "workers = 1\n",
+        "workers = 2\n",
+        fixed(false, false, true, false),
+        &stay,
+        &[],
+    )?;
+    let page = "workers = 1\nstatus = \"127.0.0.1:0\"\n";
+    assert_changes(
+        &rt,
+        "workers = 1\n",
+        page,
+        fixed(false, false, false, true),
+        &stay,
+        &[],
+    )
+}

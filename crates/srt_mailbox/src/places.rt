@@ -1,0 +1,75 @@
+//! Places for the seats of routes that come while threads run: each is written once, and any thread may look at it.
+
+ghost use Rattle.std.specs.Prelude.{◌≡◌, ◌≢◌, ◌≤◌, true, false, Some, None, IfOk, IfErr, IfSome};
+ghost use Rattle.srt_mailbox.specs.Counts.{Grew};
+ghost use Rattle.srt_mailbox.specs.Looks.{Seen, SawMore};
+ghost use Rattle.srt_mailbox.specs.declared.gates.Served.TheVariants.{GateRefused, ClaimedElsewhere};
+
+use crate::cells::Serve;
+use crate::gates::{Gate, Served, Visit};
+use crate::looks::Look;
+use crate::seats::{Companion, Seat};
+use srt_seq::Turned;
+use std::sync::{OnceLock, OnceToken, Wait};
+
+/// A place for one route, empty until a seat is put there. The seat stays.
+#[derive(Drop)]
+pub struct Place<X: Companion + Drop> {
+    pub(crate) seat: OnceLock<Seat<X>>,
+}
+
+impl<X: Companion + Drop> Place<X> {
+    ghost use Rattle.srt_mailbox.specs.Places.{lock_in};
+
+    /// An empty place. Takes no memory.
+    pub fn new() -> Place<X> {
+        Place {
+            seat: OnceLock::new(),
+        }
+    }
+
+    /// Puts a seat here, for all threads to find, and returns the knowledge that it is here. If the place has one
+    /// already, or gets one meanwhile, the error hands the new one back. Never waits.
+    pub fn put(&self, seat: Seat<X>) -> Result<OnceToken<'_, Seat<X>>, Seat<X>>
+        ensures put { IfOk result (λ token. (token.of ≡ lock_in self.now) × (token.value ≡ seat)) }
+        ensures taken { IfErr result (λ back. back ≡ seat) }
+    {
+        self.seat.try_set(seat)
+    }
+}
+
+impl<X: Companion + Drop> Serve for Place<X> {
+    // An empty place has nothing to do: that is an idle turn.
+    fn visit<R: Wait, G: Gate>(&self, rt: &R, gate: &mut G, most: u32) -> Visit {
+        match self.seat.get() {
+            Some(seat) => seat.cell.visit(rt, gate, most),
+            None => Visit {
+                turns: 0,
+                moved: 0,
+                end: Some(Served::Turned(Turned::Idle)),
+            },
+        }
+    }
+
+    fn serve<R: Wait, G: Gate>(&self, rt: &R, gate: &mut G) -> Served {
+        match self.seat.get() {
+            Some(seat) => seat.cell.serve(rt, gate),
+            None => Served::Turned(Turned::Idle),
+        }
+    }
+
+    // An empty place shows nothing.
+    fn show<R: Wait, L: Look>(&self, rt: &R, look: &mut L) -> bool {
+        match self.seat.get() {
+            Some(seat) => seat.cell.show(rt, look),
+            None => false,
+        }
+    }
+}
+
+fn is_sync<T: Sync>(_it: &T) {}
+
+// Compiles only if threads may share a place.
+fn place_is_sync<X: Companion + Drop + Send + Sync>(place: &Place<X>) {
+    is_sync(place);
+}

@@ -1,0 +1,126 @@
+//! Reads the places of routes in their order, as each owner of ends does: the poller, and the clock's thread.
+
+ghost use Rattle.std.specs.Prelude.{◌≡◌, ◌≤◌, ◌<◌, ℕ, List, [], ◌∷◌, ◌++◌, length, map, take, IfSome, IfNone, IfOk, vec_len, vec_capacity, slice_get, Some};
+ghost use Rattle.srt_mailbox.specs.Cells.{CellIdentity};
+ghost use Rattle.srt_mailbox.specs.Identities.{identity_in};
+ghost use Rattle.srt_mailbox.specs.Seats.{IsNewPoller, IsNewClock};
+
+use crate::places::Place;
+use crate::seats::{ClockHand, Companion, PollerEnds, Seat};
+use std::alloc::{AllocError, Global};
+use std::sync::OnceToken;
+
+/// One owner's reader of places: which routes it has come to, one after the other.
+#[derive(Drop)]
+pub struct SeatReader<'a, X: Companion + Drop> {
+    places: &'a [Place<X>],
+    // of each place that was read, which seat it has; no bytes
+    tokens: Vec<OnceToken<'a, Seat<X>>>,
+    ghost shown: { map (λ t. t.of) tokens.items ≡ take (length tokens.items) (map (λ p. p.seat.id) places.now) },
+    ghost room: { length places.now ≤ vec_capacity tokens },
+}
+
+impl<'a, X: Companion + Drop> SeatReader<'a, X> {
+    ghost use Rattle.srt_mailbox.specs.Places.{came, places_of, locks_of, is_next};
+
+    /// A reader of these places that has come to none of them. Allocates all that it will ever need; an error means that
+    /// memory was refused.
+    pub fn new(alloc: Global, places: &'a [Place<X>]) -> Result<SeatReader<'a, X>, AllocError>
+        ensures { IfOk result (λ r. (came r ≡ []) × (places_of r ≡ places.now)) }
+    {
+        Ok(SeatReader {
+            places,
+            tokens: Vec::with_capacity(alloc, places.len())?,
+        })
+    }
+
+    // The seat in the next place. `None` if that place is empty, if it is behind the last, or if the route there has
+    // another index than its place.
+    fn coming(&self) -> Option<(&'a Seat<X>, OnceToken<'a, Seat<X>>)>
+        ensures value { IfSome result (λ r. r.0.now ≡ r.1.value) }
+        ensures next { IfSome result (λ r. is_next self.now r.1.of) }
+        ensures index { IfSome result (λ r. (identity_in r.0.now.cell).index ≡ length self.now.tokens.items) }
+    {
+        let at = self.tokens.len();
+        let place = self.places.get(at)?;
+        let token = place.seat.witness()?;
+        let seat = place.seat.value(&token);
+        if seat.cell.index() != at {
+            return None;
+        }
+        Some((seat, token))
+    }
+
+    // Goes on behind the next place, which has this seat.
+    fn pass(&mut self, token: OnceToken<'a, Seat<X>>)
+        requires { is_next self.old token.of }
+        ensures tokens { self.new.tokens.items ≡ self.old.tokens.items ++ token.entry ∷ [] }
+        ensures places { places_of self.new ≡ places_of self.old }
+    {
+        let Ok(()) = self.tokens.push(token) else {
+            unreachable!()
+        };
+    }
+
+    /// Takes the poller's ends of the route in the next place, if one has come there. Doesn't allocate and never waits.
+    pub fn next_poller(&mut self) -> Option<PollerEnds<X>>
+        ensures some { IfSome result (λ e. (n : CellIdentity) × (came self.new ≡ came self.old ++ n ∷ []) × (n.index ≡ length (came self.old)) ×
+            IsNewPoller n e.ingress e.drain × X.belongs n.terms n.index e.companion) }
+        ensures none { IfNone result (self.new ≡ self.old) }
+        ensures places { places_of self.new ≡ places_of self.old }
+    {
+        let (seat, token) = self.coming()?;
+        let ends = seat.take_poller()?;
+        self.pass(token);
+        Some(ends)
+    }
+
+    /// Takes the clock's end of the route in the next place, if one has come there. Doesn't allocate and never waits.
+    pub fn next_clock(&mut self) -> Option<ClockHand>
+        ensures some { IfSome result (λ h. (n : CellIdentity) × (came self.new ≡ came self.old ++ n ∷ []) × (n.index ≡ length (came self.old)) ×
+            IsNewClock n h.end) }
+        ensures none { IfNone result (self.new ≡ self.old) }
+        ensures places { places_of self.new ≡ places_of self.old }
+    {
+        let (seat, token) = self.coming()?;
+        let hand = seat.take_clock()?;
+        self.pass(token);
+        Some(hand)
+    }
+
+    /// The number of routes that the reader has come to.
+    pub fn routes(&self) -> usize
+        ensures { result ≡ length (came self.now) }
+    {
+        self.tokens.len()
+    }
+
+    /// The seat of a route that the reader has come to.
+    pub fn seat(&self, index: usize) -> &'a Seat<X>
+        requires { index < length (came self.now) }
+        ensures { slice_get (came self.now) index ≡ Some (identity_in result.now.cell) }
+    {
+        self.places[index].seat.value(&self.tokens[index])
+    }
+
+    /// That two readers of the same places, which have both come to this index, came to the same route there. Does
+    /// nothing.
+    pub fn agree(&self, other: &SeatReader<'a, X>, index: usize)
+        requires places { locks_of self.now ≡ locks_of other.now }
+        requires here { index < length (came self.now) }
+        requires there { index < length (came other.now) }
+        ensures { slice_get (came self.now) index ≡ slice_get (came other.now) index }
+    {
+        self.tokens[index].agrees(&other.tokens[index]);
+    }
+
+    /// That the route to which the reader came at this index is that of the seat which was put there, as this knowledge
+    /// of `Place::put` has it. Does nothing.
+    pub fn came_to(&self, index: usize, put: &OnceToken<'a, Seat<X>>)
+        requires here { index < length (came self.now) }
+        requires place { slice_get (locks_of self.now) index ≡ Some put.now.of }
+        ensures { slice_get (came self.now) index ≡ Some (identity_in put.now.value.cell) }
+    {
+        self.tokens[index].agrees(put);
+    }
+}

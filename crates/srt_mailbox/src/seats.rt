@@ -1,0 +1,156 @@
+//! Seats: in each one route that has come, with its ends until their owners take them. A thread that opens a route
+//! knows no other owner's thread; it leaves the ends here, and each owner takes its own.
+
+ghost use Rattle.std.specs.Prelude.{◌≡◌, ℕ, Some, None, Err, IfSome, IfOk, IfErr};
+ghost use Rattle.srt_seq.specs.declared.shared.OpenFault.{OpenFault as TheFault};
+ghost use Rattle.srt_seq.specs.Terms.{Terms, terms_of};
+ghost use Rattle.srt_route.specs.Opening.{fault_of};
+ghost use Rattle.srt_mailbox.specs.Cells.{CellIdentity, AreEndsOf};
+ghost use Rattle.srt_mailbox.specs.Identities.{identity_in};
+ghost use Rattle.srt_mailbox.specs.Seats.{IsNewPoller, IsNewClock};
+ghost use Rattle.srt_mailbox.specs.Settled.{Settles};
+
+use crate::accounts::Account;
+use crate::cells::{RouteCell, take_out};
+use crate::inbox::{ClockEnd, Ingress};
+use crate::openings::open_route;
+use crate::outbox::Drain;
+use counted_slot::{Counted, Fits};
+use srt_seq::{Entry, OpenFault};
+use std::alloc::Global;
+use std::marker::Model;
+use std::snapshot::Snapshot;
+use std::sync::Wait;
+
+/// What the poller is given with its ends of a route that comes, such as the route's name.
+pub trait Companion {
+    /// Whether it belongs to a route of these terms and this index.
+    ghost belongs: { Terms → ℕ → Self → Type 0 };
+}
+
+/// Which route a seat has: the tag of its slots. Contracts see it as a `CellIdentity`.
+#[derive(Drop)]
+pub struct SeatTag {
+    cell: Snapshot<RouteCell>,
+}
+
+impl Model for SeatTag {
+    ghost use Rattle.srt_mailbox.specs.Cells.{CellIdentity};
+    ghost use Rattle.srt_mailbox.specs.Identities.{identity_in};
+
+    ghost Value = { CellIdentity };
+
+    ghost view = { λ s. identity_in s.cell.value };
+}
+
+/// The poller's ends of a route that has come, and what belongs to it.
+#[derive(Drop)]
+pub struct PollerEnds<X: Companion + Drop> {
+    /// Offers datagrams.
+    pub ingress: Ingress,
+    /// Takes replies.
+    pub drain: Drain,
+    /// What came with them.
+    pub companion: X,
+}
+
+impl<X: Companion + Drop> Fits for PollerEnds<X> {
+    type Tag = SeatTag;
+
+    ghost fits = { λ n e. IsNewPoller n e.ingress e.drain × X.belongs n.terms n.index e.companion };
+}
+
+/// The clock's end of a route that has come.
+#[derive(Drop)]
+pub struct ClockHand {
+    /// Offers ticks.
+    pub end: ClockEnd,
+}
+
+impl Fits for ClockHand {
+    type Tag = SeatTag;
+
+    ghost fits = { λ n h. IsNewClock n h.end };
+}
+
+/// A route that has come, and its ends until the poller and the clock's thread take them.
+#[derive(Drop)]
+pub struct Seat<X: Companion + Drop> {
+    /// The route, which workers serve. It is the first field, so that a worker that finds the place empty or claimed has
+    /// read one cache line.
+    pub cell: RouteCell,
+    poller: Counted<Option<PollerEnds<X>>>,
+    clock: Counted<Option<ClockHand>>,
+    ghost for_poller: { poller ≡ identity_in cell },
+    ghost for_clock: { clock ≡ identity_in cell },
+}
+
+/// Opens a route as `open_route` does, and gives it a seat with all its ends and what belongs to it. Takes all memory
+/// that the route will ever need, in the calling thread.
+///
+/// Errors, in this order: `Names` if the route's name is malformed, `Limits` if a number or the index is out of range,
+/// `OutOfMemory`. Nothing is kept after an error.
+pub fn open_seat<X: Companion + Drop>(
+    alloc: Global,
+    entry: &Entry,
+    index: usize,
+    companion: X,
+) -> Result<Seat<X>, OpenFault>
+    requires { X.belongs (terms_of entry.now) index companion }
+    ensures name { IfOk result (λ s. ((identity_in s.cell).terms ≡ terms_of entry.now) × ((identity_in s.cell).index ≡ index)) }
+    ensures sound { IfOk result (λ _. fault_of (terms_of entry.now) index ≡ None) }
+    ensures fault { (fault : TheFault) → fault_of (terms_of entry.now) index ≡ Some fault → result ≡ Err fault }
+    ensures memory { fault_of (terms_of entry.now) index ≡ None → IfErr result (λ fault. fault ≡ OpenFault.OutOfMemory) }
+{
+    let (ingress, end, cell, drain) = open_route(alloc, entry, index)?;
+    let tag = SeatTag {
+        cell: Snapshot::of(&cell),
+    };
+    let ends = PollerEnds {
+        ingress,
+        drain,
+        companion,
+    };
+    Ok(Seat {
+        cell,
+        poller: Counted::new(Some(ends), &tag),
+        clock: Counted::new(Some(ClockHand { end }), &tag),
+    })
+}
+
+impl<X: Companion + Drop> Seat<X> {
+    /// Takes the poller's ends and what came with them. `None` if they were taken before. One compare-exchange; never
+    /// waits.
+    pub fn take_poller(&self) -> Option<PollerEnds<X>>
+        ensures new { IfSome result (λ e. IsNewPoller (identity_in self.now.cell) e.ingress e.drain) }
+        ensures belongs { IfSome result (λ e. X.belongs (identity_in self.now.cell).terms (identity_in self.now.cell).index e.companion) }
+    {
+        take_out(&self.poller)
+    }
+
+    /// Takes the clock's end. `None` if it was taken before. One compare-exchange; never waits.
+    pub fn take_clock(&self) -> Option<ClockHand>
+        ensures { IfSome result (λ h. IsNewClock (identity_in self.now.cell) h.end) }
+    {
+        take_out(&self.clock)
+    }
+
+    /// Ends the route and returns its account, as `settle` does; the three ends must be of this seat's route. `None` if
+    /// another call has the route, or it was settled before. What is left in the queues is counted and discarded; the
+    /// ends are gone in both cases. Doesn't allocate.
+    pub fn settle<R: Wait>(
+        &self,
+        rt: &R,
+        ingress: Ingress,
+        clock: ClockEnd,
+        drain: Drain,
+    ) -> Option<Account>
+        requires { AreEndsOf (identity_in self.now.cell) ingress clock drain }
+        ensures { IfSome result (λ a. Settles a (identity_in self.now.cell) ingress clock drain) }
+    {
+        match self.cell.take() {
+            Some(running) => Some(running.settle(rt, ingress, clock, drain)),
+            None => None,
+        }
+    }
+}

@@ -1,0 +1,347 @@
+//! Seats: each end is taken once, each owner's reader comes to the routes in their order, and a route whose ends were
+//! taken from a seat is served and settled as any other.
+
+ghost use Rattle.std.specs.Prelude.{◌≡◌, ◌≤◌, [], Some, IfOk};
+ghost use Rattle.srt_mailbox.specs.Cells.{AreEndsOf};
+ghost use Rattle.srt_mailbox.specs.Identities.{identity_in};
+ghost use Rattle.srt_mailbox.specs.Places.{came, places_of};
+
+use crate::tests::datagrams::{publisher_answer, publisher_conclusion};
+use crate::tests::looks::Eye;
+use crate::tests::{Fixed, IDLE, assert_drained, assert_visited, entry, offer_times, tick};
+use crate::{
+    Account, ClockEnd, ClockHand, Companion, Drain, Ingress, Place, PollerEnds, Seat, SeatReader,
+    Serve, Served, open_seat,
+};
+use srt_seq::OpenFault;
+use std::alloc::Global;
+use std::process::Abort;
+use std::sync::Wait;
+use std::test::Fail;
+use std::thread;
+use std::thread::{Threads, join_mut};
+
+/// A number that goes with a route, to be found again.
+#[derive(Drop)]
+struct Mark(u32);
+
+impl Companion for Mark {
+    ghost belongs = { λ terms index mark. mark.0 ≤ 100 };
+}
+
+/// A seat with a route of this index, and this mark.
+fn marked(alloc: Global, index: usize, mark: u32) -> Result<Seat<Mark>, Fail>
+    requires { mark ≤ 100 }
+{
+    match open_seat(alloc, &entry(alloc)?, index, Mark(mark)) {
+        Ok(seat) => Ok(seat),
+        Err(_) => Err(Fail::from("the route opens")),
+    }
+}
+
+/// The poller's ends that come to a seat, or to a reader.
+fn are_there(ends: Option<PollerEnds<Mark>>) -> Result<PollerEnds<Mark>, Fail>
+    ensures { IfOk result (λ e. ends ≡ Some e) }
+{
+    match ends {
+        Some(ends) => Ok(ends),
+        None => Err(Fail::from("the poller's ends are there")),
+    }
+}
+
+/// The clock's end, likewise.
+fn is_there(hand: Option<ClockHand>) -> Result<ClockHand, Fail>
+    ensures { IfOk result (λ h. hand ≡ Some h) }
+{
+    match hand {
+        Some(hand) => Ok(hand),
+        None => Err(Fail::from("the clock's end is there")),
+    }
+}
+
+#[test]
+fn a_seat_gives_each_end_once(rt: HostRuntime) -> Result<(), Fail> {
+    let seat = marked(rt.alloc(), 3, 7)?;
+    let ends = are_there(seat.take_poller())?;
+    let _hand = is_there(seat.take_clock())?;
+    assert!(rt; seat.take_poller().is_none());
+    assert!(rt; seat.take_clock().is_none());
+    assert_eq!(rt; ends.companion.0, 7);
+    Ok(())
+}
+
+/// Asserts that no seat is made for a route of this latency and this index, and by which fault.
+fn assert_unseated(
+    rt: &(impl AllocGlobal + Abort),
+    latency_ms: u32,
+    index: usize,
+    fault: OpenFault,
+) -> Result<(), Fail> {
+    let mut late = entry(rt.alloc())?;
+    late.latency_ms = latency_ms;
+    assert!(rt;
+        matches!(&open_seat(rt.alloc(), &late, index, Mark(0)), Err(found) if *found == fault)
+    );
+    Ok(())
+}
+
+#[test]
+fn a_seat_refuses_what_a_route_does(rt: HostRuntime) -> Result<(), Fail> {
+    assert_unseated(&rt, 10, 0, OpenFault::Limits)?;
+    assert_unseated(&rt, 120, 511, OpenFault::Limits)
+}
+
+/// Offers a conclusion and a tick to the ends of a place's route, lets a worker make all turns, and drains the answer.
+fn assert_goes_through(
+    rt: &(impl AllocGlobal + Wait + Abort),
+    place: &Place<Mark>,
+    ingress: &mut Ingress,
+    clock: &mut ClockEnd,
+    drain: &mut Drain,
+) -> Result<(), Fail>
+    ensures ingress { ingress.new.queue ≡ ingress.old.queue }
+    ensures clock { clock.new.queue ≡ clock.old.queue }
+    ensures drain { drain.new.queue ≡ drain.old.queue }
+{
+    offer_times(rt, ingress, publisher_conclusion(), 1)?;
+    assert!(rt; tick(rt, clock, 1_000_000));
+    assert_visited(rt, place, 64, (3, 1, Some(IDLE)));
+    assert_drained(rt, drain, publisher_answer())
+}
+
+/// The account of a seat's route, which these ends belong to.
+fn account_of<R: Wait>(
+    rt: &R,
+    seat: &Seat<Mark>,
+    ingress: Ingress,
+    clock: ClockEnd,
+    drain: Drain,
+) -> Result<Account, Fail>
+    requires { AreEndsOf (identity_in seat.now.cell) ingress clock drain }
+{
+    match seat.settle(rt, ingress, clock, drain) {
+        Some(account) => Ok(account),
+        None => Err(Fail::from("nobody has the route")),
+    }
+}
+
+/// What the route of a place has done after a conclusion and a tick.
+const ONE_ANSWER: Account = Account {
+    taken: 2,
+    left: 0,
+    waiting: 0,
+    queued: 0,
+    drained: 1,
+};
+
+/// An empty place is idle and shows nothing; one with a seat serves its route, shows it, and takes no other seat. Once
+/// the route is settled it is claimed for good.
+#[test]
+fn a_place_serves_the_route_of_its_seat(rt: HostRuntime) -> Result<(), Fail> {
+    let place = Place::new();
+    assert_visited(&rt, &place, 64, (0, 0, Some(IDLE)));
+    assert_eq!(rt; place.serve(&rt, &mut Fixed::open()), IDLE);
+    assert!(rt; !place.show(&rt, &mut Eye::new()));
+    let Ok(token) = place.put(marked(rt.alloc(), 0, 7)?) else {
+        return Err(Fail::from("the place is empty"));
+    };
+    let seat = place.seat.value(&token);
+    let PollerEnds {
+        mut ingress,
+        mut drain,
+        companion: _,
+    } = are_there(seat.take_poller())?;
+    let ClockHand { mut end } = is_there(seat.take_clock())?;
+    assert_goes_through(&rt, &place, &mut ingress, &mut end, &mut drain)?;
+    assert!(rt; place.show(&rt, &mut Eye::new()));
+    assert_eq!(rt; account_of(&rt, seat, ingress, end, drain)?, ONE_ANSWER);
+    assert_eq!(rt;
+        place.serve(&rt, &mut Fixed::open()),
+        Served::ClaimedElsewhere
+    );
+    Ok(())
+}
+
+/// A place with a seat hands another one back as it was.
+#[test]
+fn a_place_has_one_seat(rt: HostRuntime) -> Result<(), Fail> {
+    let place = Place::new();
+    assert!(rt; place.put(marked(rt.alloc(), 0, 7)?).is_ok());
+    let Err(back) = place.put(marked(rt.alloc(), 0, 8)?) else {
+        return Err(Fail::from("the place has a seat"));
+    };
+    assert_eq!(rt; are_there(back.take_poller())?.companion.0, 8);
+    Ok(())
+}
+
+/// This many empty places.
+fn empty_places(alloc: Global, count: usize) -> Result<Vec<Place<Mark>>, Fail> {
+    let mut places = Vec::new(alloc);
+    for _ in 0..count {
+        places.push(Place::new())?;
+    }
+    Ok(places)
+}
+
+/// Puts a seat with a route of this index and with this mark into a place.
+fn put_marked(
+    rt: &(impl AllocGlobal + Abort),
+    places: &[Place<Mark>],
+    place: usize,
+    index: usize,
+    mark: u32,
+) -> Result<(), Fail>
+    requires { mark ≤ 100 }
+{
+    let Some(found) = places.get(place) else {
+        return Err(Fail::from("a place"));
+    };
+    assert!(rt; found.put(marked(rt.alloc(), index, mark)?).is_ok());
+    Ok(())
+}
+
+/// The marks of the routes that come to the poller next, until none comes.
+fn next_marks(alloc: Global, poller: &mut SeatReader<'_, Mark>) -> Result<Vec<u32>, Fail> {
+    let mut marks = Vec::new(alloc);
+    for _ in 0..8 {
+        let Some(ends) = poller.next_poller() else {
+            return Ok(marks);
+        };
+        marks.push(ends.companion.0)?;
+    }
+    Ok(marks)
+}
+
+/// The number of routes that come to the clock's thread next, until none comes.
+fn next_clocks(clock: &mut SeatReader<'_, Mark>) -> usize {
+    let mut count = 0usize;
+    for _ in 0..8 {
+        if clock.next_clock().is_none() {
+            return count;
+        }
+        count = count.saturating_add(1);
+    }
+    count
+}
+
+/// Asserts which marks come to the poller next; as many routes come to the clock, and this many have come to both.
+fn assert_come(
+    rt: &(impl AllocGlobal + Abort),
+    poller: &mut SeatReader<'_, Mark>,
+    clock: &mut SeatReader<'_, Mark>,
+    marks: &[u32],
+    routes: usize,
+) -> Result<(), Fail> {
+    assert!(rt; next_marks(rt.alloc(), poller)?.as_slice() == marks);
+    assert_eq!(rt; next_clocks(clock), marks.len());
+    assert_eq!(rt; poller.routes(), routes);
+    assert_eq!(rt; clock.routes(), routes);
+    Ok(())
+}
+
+/// A route whose place is behind an empty one waits for that, and one with another index than its place doesn't come.
+#[test]
+fn routes_come_in_the_order_of_their_places(rt: HostRuntime) -> Result<(), Fail> {
+    let places = empty_places(rt.alloc(), 4)?;
+    let mut poller = SeatReader::new(rt.alloc(), places.as_slice())?;
+    let mut clock = SeatReader::new(rt.alloc(), places.as_slice())?;
+    assert_come(&rt, &mut poller, &mut clock, &[], 0)?;
+    put_marked(&rt, &places, 1, 1, 11)?;
+    assert_come(&rt, &mut poller, &mut clock, &[], 0)?;
+    put_marked(&rt, &places, 0, 0, 10)?;
+    assert_come(&rt, &mut poller, &mut clock, &[10, 11], 2)?;
+    put_marked(&rt, &places, 2, 5, 12)?;
+    put_marked(&rt, &places, 3, 3, 13)?;
+    assert_come(&rt, &mut poller, &mut clock, &[], 2)
+}
+
+/// Takes the ends of the route that comes to both readers first, and settles it.
+fn settle_first<'a, R: Wait>(
+    rt: &R,
+    poller: &mut SeatReader<'a, Mark>,
+    clock: &mut SeatReader<'a, Mark>,
+) -> Result<Account, Fail>
+    requires same { places_of poller.old ≡ places_of clock.old }
+    requires poller { came poller.old ≡ [] }
+    requires clock { came clock.old ≡ [] }
+{
+    let PollerEnds { ingress, drain, .. } = are_there(poller.next_poller())?;
+    let ClockHand { end } = is_there(clock.next_clock())?;
+    poller.agree(clock, 0);
+    account_of(rt, poller.seat(0), ingress, end, drain)
+}
+
+/// The ends that two readers took at one index are those of one route, which is settled by them.
+#[test]
+fn what_two_readers_took_is_settled(rt: HostRuntime) -> Result<(), Fail> {
+    let places = empty_places(rt.alloc(), 1)?;
+    let mut poller = SeatReader::new(rt.alloc(), places.as_slice())?;
+    let mut clock = SeatReader::new(rt.alloc(), places.as_slice())?;
+    put_marked(&rt, &places, 0, 0, 10)?;
+    let account = settle_first(&rt, &mut poller, &mut clock)?;
+    assert!(rt; account.taken == 0 && account.left == 0 && account.drained == 0);
+    Ok(())
+}
+
+/// What a clock's thread has: its reader, and the ends that have come.
+#[derive(Drop)]
+struct ClockSide<'a> {
+    reader: SeatReader<'a, Mark>,
+    hands: Vec<ClockHand>,
+}
+
+/// Reads until this many ends have come, for a limited number of turns.
+fn await_clocks(clock: &mut ClockSide<'_>, routes: usize) {
+    for _ in 0..10_000_000 {
+        if let Some(hand) = clock.reader.next_clock() {
+            let _ = clock.hands.push(hand);
+        }
+        if clock.hands.len() == routes {
+            return;
+        }
+        thread::yield_now();
+    }
+}
+
+/// Puts three seats in turn, and takes the poller's ends of each at once.
+fn put_three(
+    rt: &(impl AllocGlobal + Abort),
+    places: &[Place<Mark>],
+    poller: &mut SeatReader<'_, Mark>,
+) -> Result<(), Fail> {
+    for (index, mark) in [(0, 20), (1, 21), (2, 22)] {
+        put_marked(rt, places, index, index, mark)?;
+        assert_eq!(rt; are_there(poller.next_poller())?.companion.0, mark);
+    }
+    Ok(())
+}
+
+/// Reads in another thread while this one opens routes and polls.
+fn come_beside<R: AllocGlobal + Threads + Wait + Abort + Sync>(
+    rt: &R,
+    places: &[Place<Mark>],
+    poller: &mut SeatReader<'_, Mark>,
+    clock: &mut ClockSide<'_>,
+) -> Result<(), Fail> {
+    let (_, put) = join_mut(
+        rt,
+        &mut || await_clocks(clock, 3),
+        &mut || put_three(rt, places, poller),
+    );
+    put
+}
+
+/// Routes that open while the clock's thread runs come to it.
+#[test]
+fn routes_come_to_another_thread(rt: HostRuntime) -> Result<(), Fail> {
+    let places = empty_places(rt.alloc(), 3)?;
+    let mut poller = SeatReader::new(rt.alloc(), places.as_slice())?;
+    let mut clock = ClockSide {
+        reader: SeatReader::new(rt.alloc(), places.as_slice())?,
+        hands: Vec::with_capacity(rt.alloc(), 3)?,
+    };
+    come_beside(&rt, &places, &mut poller, &mut clock)?;
+    assert_eq!(rt; clock.reader.routes(), 3);
+    assert_eq!(rt; clock.hands.len(), 3);
+    Ok(())
+}

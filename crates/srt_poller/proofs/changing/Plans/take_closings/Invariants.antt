@@ -1,0 +1,9 @@
+use Rattle.std.proofs.Common.{◌≡◌}
+use Rattle.srt_poller.specs.Changes.{plans_in, TookClosings}
+use Rattle.srt_poller.proofs.changing.Plans.take_closings.Given as goal
+
+abbrev pub invariant-loop : goal.invariant-loop
+invariant-loop g l =
+    TookClosings l.round (g.O.Openings.asked l.fn.openings) (g.O.Openings.asked l.openings) (plans_in l.fn.self) (plans_in l.self)
+    × (g.O.Openings.came l.openings ≡ g.O.Openings.came l.fn.openings)
+    × (l.self.latest ≡ l.fn.self.latest)

@@ -1,0 +1,55 @@
+//! The buffers of datagrams that routes have applied, which return with replies. They are filled again, so that the copies
+//! of a steady stream seldom allocate: what one thread allocates and another one frees costs both a lock.
+
+ghost use Rattle.std.specs.Prelude.{◌≡◌, IfSome, IfNone};
+ghost use Rattle.srt_poller.specs.Buffers.{Allocates};
+
+use arrayvec::ArrayVec;
+use srt_mailbox::BUFFER_ROOM;
+use std::alloc::Global;
+
+// The most buffers that are kept: as many as a round of a worker over all routes returns.
+const MOST: usize = 512;
+
+/// Buffers to be filled again, at most 512. What they hold means nothing.
+#[derive(Drop)]
+pub(crate) struct Buffers {
+    // the one that was returned last is used first, since it is likely to be in a cache
+    kept: ArrayVec<Vec<u8>, MOST, Global>,
+}
+
+impl Buffers {
+    /// None yet. Doesn't allocate.
+    pub(crate) fn new(alloc: Global) -> Buffers {
+        Buffers {
+            kept: ArrayVec::new_in(alloc),
+        }
+    }
+
+    /// Keeps a buffer, if there is one and there is room for it.
+    #[inline(always)]
+    pub(crate) fn keep(&mut self, buffer: Option<Vec<u8>>) {
+        if let Some(buffer) = buffer {
+            let _ = self.kept.try_push(buffer);
+        }
+    }
+
+    /// A copy of these bytes. Allocates if there are any and no buffer is kept, or the one that was kept last has less
+    /// room; `None` if memory was refused. A new buffer has room for any packet's, however few bytes these are, so that it can be filled again.
+    #[inline(always)]
+    pub(crate) fn copy_of(&mut self, alloc: Global, bytes: &[u8]) -> Option<Vec<u8>>
+        ensures copied { IfSome result (λ buffer. buffer.items ≡ bytes.now) }
+        ensures refused { IfNone result (Allocates self.old bytes.now) }
+    {
+        if bytes.is_empty() {
+            return Some(Vec::new(alloc));
+        }
+        let mut buffer = match self.kept.pop() {
+            Some(buffer) => buffer,
+            None => Vec::with_capacity(alloc, BUFFER_ROOM).ok()?,
+        };
+        buffer.clear();
+        buffer.extend_from_slice(bytes).ok()?;
+        Some(buffer)
+    }
+}

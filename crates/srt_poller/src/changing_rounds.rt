@@ -1,0 +1,145 @@
+//! The poller's rounds while routes come and go.
+
+ghost use Rattle.std.specs.Prelude.{◌≡◌, ◌+◌, ◌^◌, ◌<◌, ◌≤◌, ◌⊎◌, length};
+ghost use Rattle.std.specs.Vec.{vec_capacity};
+ghost use Rattle.srt_lobby.specs.Names.{names_of};
+ghost use Rattle.srt_poller.specs.Pollers.{sorting, round_state, listening};
+ghost use Rattle.srt_poller.specs.Devices.{heard, carried};
+ghost use Rattle.srt_poller.specs.Beginnings.{RestBetween};
+ghost use Rattle.srt_poller.specs.Pumped.{before, after};
+ghost use Rattle.srt_poller.specs.Openings.{news};
+ghost use Rattle.srt_poller.specs.Plans.{AreTimely};
+ghost use Rattle.srt_poller.specs.Changes.{plans_in, RoundsChanging, PumpedChanging};
+
+use crate::changing::Plans;
+use crate::devices::{Source, Wire};
+use crate::ends::Ends;
+use crate::openings::Openings;
+use crate::poller::Poller;
+use crate::pumping::{Pumping, ask, make_round};
+use crate::signals::Signals;
+use srt_cookie::Secret;
+use srt_lobby::Names;
+use srt_seq::Schedule;
+use std::alloc::Global;
+use std::sync::Wait;
+
+/// As `pump_under`, and routes come and go between two rounds, as the openings tell. `schedules` are those of the routes
+/// that are there at first, at most 511; what `plans` are before means nothing.
+///
+/// Each round begins with what is new. A route that comes gets the next index, and is shown in the first round in which
+/// no shown route has its name; so does a route whose round of opening comes while another one has its name. A route
+/// that is asked to close is closed from the coming round on, unless its schedule says an earlier one; if it hasn't
+/// opened yet, it never does. Routes that come are taken while there are fewer than 511, and at most 511 are asked to
+/// close in one round; others stay with the openings. In a round that closes all, routes come, and none is shown.
+///
+/// What is promised is that of a run to which all routes had been given beforehand, hidden, with other schedules, which
+/// differ for the routes that were asked to close or share their name with another route.
+pub fn pump_changing<R: Wait, S: Source, W: Wire, G: Signals, O: Openings>(
+    rt: &R,
+    alloc: Global,
+    secret: &Secret,
+    names: &mut Names,
+    schedules: &[Schedule],
+    plans: &mut Plans,
+    source: &mut S,
+    wire: &mut W,
+    ends: &mut Vec<Ends>,
+    rounds: u64,
+    signals: &G,
+    openings: &mut O,
+) -> Pumping
+    requires ends { length ends.old.items ≡ length (names_of names.old) }
+    requires schedules { length schedules.now ≡ length (names_of names.old) }
+    requires routes { length schedules.now ≤ 511 }
+    requires room { 511 ≤ vec_capacity ends.old }
+    requires few { rounds ≤ 2 ^ 48 }
+    ensures pumped { PumpedChanging (G.goes signals.now) (G.closes signals.now) (sorting secret.now) schedules.now result.rounds
+        (news (O.came openings.old) (O.asked openings.old)) (news (O.came openings.new) (O.asked openings.new))
+        (before (names_of names.old) (heard (S.gave source.old) (S.calls source.old)) (carried (W.handed wire.old) (W.attempts wire.old)) ends.old.items)
+        (after (names_of names.new) (heard (S.gave source.new) (S.calls source.new)) (carried (W.handed wire.new) (W.attempts wire.new))
+        ends.new.items result.report) }
+    ensures room { 511 ≤ vec_capacity ends.new }
+    ensures rounds { result.rounds ≤ rounds }
+    ensures whole { (result.rounds ≡ rounds) ⊎ G.stops signals.now }
+{
+    let mut poller = Poller::new(alloc);
+    plans.start(schedules);
+    let made = pump_changing_from(
+        rt,
+        alloc,
+        secret,
+        names,
+        source,
+        wire,
+        ends,
+        plans,
+        &mut poller,
+        0,
+        rounds,
+        signals,
+        openings,
+    );
+    let counts = poller.report();
+    Pumping {
+        report: counts,
+        rounds: made,
+    }
+}
+
+/// As `pump_from`, and routes come and go.
+#[inline(always)]
+pub(crate) fn pump_changing_from<R: Wait, S: Source, W: Wire, G: Signals, O: Openings>(
+    rt: &R,
+    alloc: Global,
+    secret: &Secret,
+    names: &mut Names,
+    source: &mut S,
+    wire: &mut W,
+    ends: &mut Vec<Ends>,
+    plans: &mut Plans,
+    poller: &mut Poller,
+    first: u64,
+    rounds: u64,
+    signals: &G,
+    openings: &mut O,
+) -> u64
+    requires ends { length ends.old.items ≡ length (names_of names.old) }
+    requires plans { length (plans_in plans.old) ≡ length (names_of names.old) }
+    requires timely { AreTimely (plans_in plans.old) }
+    requires room { 511 ≤ vec_capacity ends.old }
+    requires rest { RestBetween first plans.old.due (plans_in plans.old) (names_of names.old) }
+    requires fits { first + rounds < 2 ^ 64 }
+    ensures made { RoundsChanging (G.goes signals.now) (G.closes signals.now) (sorting secret.now) first result (plans_in plans.old)
+        (news (O.came openings.old) (O.asked openings.old)) (news (O.came openings.new) (O.asked openings.new)) (names_of names.old) ends.old.items
+        (λ ns es. listening (heard (S.gave source.old) (S.calls source.old)) (carried (W.handed wire.old) (W.attempts wire.old)) es poller.old
+        (round_state ns first plans.old.latest.moment))
+        (listening (heard (S.gave source.new) (S.calls source.new)) (carried (W.handed wire.new) (W.attempts wire.new)) ends.new.items poller.new
+        (round_state (names_of names.new) (first + result) plans.new.latest.moment)) }
+    ensures room { 511 ≤ vec_capacity ends.new }
+    ensures rounds { result ≤ rounds }
+    ensures whole { (result ≡ rounds) ⊎ G.stops signals.now }
+{
+    for made in 0..rounds {
+        poller.tell_report(signals);
+        let Some(closes_all) = ask(signals) else {
+            return made;
+        };
+        let round = first + made;
+        plans.begin(rt, signals, openings, names, ends, round, closes_all);
+        make_round(
+            rt,
+            alloc,
+            secret,
+            names,
+            source,
+            wire,
+            ends.as_mut_slice(),
+            &mut plans.latest,
+            poller,
+            round,
+            signals,
+        );
+    }
+    rounds
+}

@@ -1,0 +1,152 @@
+-- Each reply is written as a packet that can be sent.
+use Rattle.std.proofs.Common.{◌≡◌, ℕ, ◌+◌, ◌%◌, ◌^◌, ◌<◌, ◌≤◌, Bool, true, false, cond, List, [], ◌∷◌, ◌++◌, length, map, ap, ◌∙◌, arith}
+use Rattle.std.specs.Prelude.{All}
+use Rattle.std.proofs.lemmas.List.Elements.{All-nil, All-cons}
+use Rattle.srt_seq.specs.Words.{word, words}
+use Rattle.srt_seq.specs.Counts.{message_number, ack_number}
+use Rattle.srt_seq.specs.declared.numbers.Seq31.{Seq31}
+use Rattle.srt_seq.specs.declared.numbers.Msg26.{Msg26}
+use Rattle.srt_seq.specs.Runs.{Run}
+use Rattle.srt_seq.proofs.WordBytes.{length_of_words}
+use Rattle.srt_packet.specs.declared.writing.Packet.{Packet}
+use Rattle.srt_packet.specs.declared.writing.Body.TheVariants as out
+use Rattle.srt_packet.specs.Text.{text}
+use Rattle.srt_packet.specs.Sent.{CanBeSent}
+use Rattle.srt_packet.specs.Reading.{packet_in}
+use Rattle.srt_packet.proofs.Sent.{sent_is_read}
+use Rattle.srt_hs.specs.Text.{answer_text}
+use Rattle.srt_seq.specs.Window.{number_word}
+use Rattle.srt_pub.specs.Publishing as publisher
+use Rattle.srt_pub.specs.Says.{losses_said, says}
+use Rattle.srt_sub.specs.Subscribing as subscriber
+use Rattle.srt_sub.specs.Says.{packet_text}
+use Rattle.srt_route.specs.Past.{ToPublisher, ToSubscriber}
+use Rattle.srt_route.specs.Route.{Output, Answers, Says, Ends, Reply, output_text, sent, after, replies_to}
+use Rattle.srt_route.specs.Sendable.{IsSendable, PublishersSendPackets, SubscribersSendPackets, AnswersArePackets, RepliesArePackets}
+use Rattle.srt_route.proofs.model.Lists.{Each, each_mapped}
+use Rattle.srt_route.proofs.renumbering.ShiftedOutput.{same_four, losses_some, losses_few}
+use Rattle.srt_route.proofs.renumbering.ShiftedAnswers.{what_fits}
+use Rattle.srt_route.proofs.model.Sound.{IsSaid, replies_said}
+
+made : (bytes : List ℕ) (p : Packet) → CanBeSent p → bytes ≡ text p → IsSendable bytes
+made bytes p can e = record { packet = p; can_be_sent = can; text_is = e; read_is = ap packet_in e ∙ sent_is_read p can }
+
+-- a word is written by its low 32 bits
+low : (n : ℕ) → word n ≡ word (n % 2 ^ 32)
+low n = same_four _ _ _ _ _ _ _ _ (omega arith) (omega arith) (omega arith) (omega arith)
+
+lows : (word0 word1 stamp dest : ℕ) (rest : List ℕ) → packet_text word0 word1 stamp dest rest ≡ packet_text word0 (word1 % 2 ^ 32) stamp (dest % 2 ^ 32) rest
+lows word0 word1 stamp dest rest =
+    ap (λ four. word word0 ++ four ++ word stamp ++ word dest ++ rest) (low word1)
+    ∙ ap (λ four. word word0 ++ word (word1 % 2 ^ 32) ++ word stamp ++ four ++ rest) (low dest)
+
+number_of : (initial n : ℕ) → Seq31
+number_of initial n = record { word = number_word initial n; small = omega arith }
+
+message_for : (k : ℕ) → Msg26
+message_for k = record { number = message_number k; some = omega arith; small = omega arith }
+
+naks : (caller initial time : ℕ) (rs : List Run)
+    → 0 < length rs → length rs ≤ 182 → IsSendable (packet_text 0x8003_0000 0 (time % 2 ^ 32) caller (words (losses_said initial rs)))
+naks caller initial time rs some few =
+    made _ (record { stamp = time % 2 ^ 32; dest = caller % 2 ^ 32; body = out.Nak (record { items = losses_said initial rs }) })
+    (record {
+      stamp = omega arith;
+      dest = omega arith;
+      word1 = omega arith;
+      rest = omega (arith, few, losses_few initial rs, length_of_words (losses_said initial rs));
+      body = losses_some initial rs some;
+    })
+    (lows 0x8003_0000 0 (time % 2 ^ 32) caller (words (losses_said initial rs)))
+
+pub publishers_send : PublishersSendPackets
+unfolding says number_of
+publishers_send caller initial time (publisher.FullAck index point round_trip variance available rates) h =
+    made _
+    (record {
+      stamp = time % 2 ^ 32;
+      dest = caller % 2 ^ 32;
+      body = out.FullAck (ack_number index) (number_of initial point) round_trip variance available rates;
+    })
+    (record { stamp = omega arith; dest = omega arith; word1 = omega arith; rest = omega arith; body = tt })
+    (ap
+    (λ four. word 0x8002_0000 ++ word (ack_number index) ++ word (time % 2 ^ 32) ++ four
+    ++ words (number_word initial point ∷ round_trip ∷ variance ∷ available ∷ rates.packets ∷ rates.capacity ∷ rates.bytes ∷ []))
+    (low caller))
+publishers_send caller initial time (publisher.LightAck point) h =
+    made _ (record { stamp = time % 2 ^ 32; dest = caller % 2 ^ 32; body = out.LightAck (number_of initial point) })
+    (record { stamp = omega arith; dest = omega arith; word1 = omega arith; rest = omega arith; body = tt })
+    (lows 0x8002_0000 0 (time % 2 ^ 32) caller (word (number_word initial point)))
+publishers_send caller initial time (publisher.NakOfAll rs) h = naks caller initial time rs h.0 h.1
+publishers_send caller initial time (publisher.NakOfNew rs) h = naks caller initial time rs h.0 h.1
+publishers_send caller initial time publisher.KeepAlive h =
+    made _ (record { stamp = time % 2 ^ 32; dest = caller % 2 ^ 32; body = out.KeepAlive })
+    (record { stamp = omega arith; dest = omega arith; word1 = omega arith; rest = omega arith; body = tt })
+    (lows 0x8001_0000 0 (time % 2 ^ 32) caller [])
+
+media_word : (again : Bool) (k : ℕ) → (cond again 0xe400_0000 0xe000_0000) + message_number k < 2 ^ 32
+media_word true k = omega arith
+media_word false k = omega arith
+
+pub subscribers_send : SubscribersSendPackets
+unfolding number_of message_for
+subscribers_send caller initial time (subscriber.Acked mark) h =
+    made _ (record { stamp = time % 2 ^ 32; dest = caller % 2 ^ 32; body = out.AckAck (mark % 2 ^ 32) })
+    (record { stamp = omega arith; dest = omega arith; word1 = omega arith; rest = omega arith; body = tt })
+    (lows 0x8006_0000 mark (time % 2 ^ 32) caller [])
+subscribers_send caller initial time (subscriber.Dropped run) h =
+    made _
+    (record {
+      stamp = time % 2 ^ 32;
+      dest = caller % 2 ^ 32;
+      body = out.DropRequest (message_for run.low) (number_of initial run.low) (number_of initial run.high);
+    })
+    (record { stamp = omega arith; dest = omega arith; word1 = omega arith; rest = omega arith; body = tt })
+    (ap
+    (λ four. word 0x8007_0000 ++ word (message_number run.low) ++ word (time % 2 ^ 32) ++ four
+    ++ words (number_word initial run.low ∷ number_word initial run.high ∷ []))
+    (low caller))
+subscribers_send caller initial time (subscriber.Media number again origin payload) h =
+    made _
+    (record {
+      stamp = origin % 2 ^ 32;
+      dest = caller % 2 ^ 32;
+      body = out.Media (number_of initial number) (message_for number) again
+          (record { bytes = record { ref_ptr = (0, 0); now = payload }; some = h.0; most = h.1 });
+    })
+    (record { stamp = omega arith; dest = omega arith; word1 = media_word again number; rest = h.1; body = h })
+    (ap
+    (λ four. word (number_word initial number) ++ word ((cond again 0xe400_0000 0xe000_0000) + message_number number)
+    ++ word (origin % 2 ^ 32) ++ four ++ payload)
+    (low caller))
+subscribers_send caller initial time subscriber.KeepAlive h =
+    made _ (record { stamp = time % 2 ^ 32; dest = caller % 2 ^ 32; body = out.KeepAlive })
+    (record { stamp = omega arith; dest = omega arith; word1 = omega arith; rest = omega arith; body = tt })
+    (lows 0x8001_0000 0 (time % 2 ^ 32) caller [])
+
+pub answers_send : AnswersArePackets
+unfolding answer_text
+answers_send caller a h =
+    made _ (record { stamp = 0; dest = caller % 2 ^ 32; body = out.Handshake (record { items = answer_text a }) })
+    (record { stamp = omega arith; dest = omega arith; word1 = omega arith; rest = what_fits a.initial a.what h; body = tt })
+    (lows 0x8000_0000 0 0 caller (answer_text a))
+
+outputs_send : (output : Output) → IsSaid output → IsSendable (output_text output)
+outputs_send (Answers caller answer) h = answers_send caller answer h
+outputs_send (Says caller initial time (ToPublisher report)) h = publishers_send caller initial time report h
+outputs_send (Says caller initial time (ToSubscriber report)) h = subscribers_send caller initial time report h
+outputs_send (Ends caller time) h =
+    made _ (record { stamp = time % 2 ^ 32; dest = caller % 2 ^ 32; body = out.Shutdown })
+    (record { stamp = omega arith; dest = omega arith; word1 = omega arith; rest = omega arith; body = tt })
+    (lows 0x8005_0000 0 (time % 2 ^ 32) caller [])
+
+each_all : {A : Type 0} (P : A → Type 0) (xs : List A) → Each P xs → All P xs
+each_all P [] h = All-nil P
+each_all P (x ∷ xs) h = All-cons P x xs h.0 (each_all P xs h.1)
+
+pub replies_send : RepliesArePackets
+replies_send e index [] = All-nil (λ d. IsSendable d.bytes)
+replies_send e index (item ∷ items) =
+    let replies = replies_to e index item (after e index items) in
+    each_all (λ d. IsSendable d.bytes) (map sent replies)
+    (each_mapped (λ (x : Reply). IsSaid x.packet) (λ d. IsSendable d.bytes) sent (λ x h. outputs_send x.packet h) replies (replies_said e index items item))

@@ -1,0 +1,11 @@
+-- Other sequence numbers, other timestamps and later moments: bytes, packets, sessions, whole routes.
+pub mod PlacedWords
+pub mod ShiftedWords
+pub mod ShiftedPackets
+pub mod ShiftedHandshakes
+pub mod ShiftedHeard
+pub mod ShiftedOutput
+pub mod ShiftedAnswers
+pub mod Restamped
+pub mod Relabelled
+pub mod Renumbered

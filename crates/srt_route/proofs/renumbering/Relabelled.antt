@@ -1,0 +1,889 @@
+-- A route with the same items, with other sequence numbers, other timestamps or later moments.
+use Rattle.std.proofs.Common.{◌≡◌, ℕ, ◌+◌, ◌-◌, Bool, true, false, cond, ◌&&◌, ◌||◌, not, Option, None, Some, List, [], ◌∷◌, ◌++◌, map, max}
+use Rattle.std.proofs.Common.{Result, Ok, Err, refl, sym, ap, ◌∙◌, ◌≤◌, arith}
+use Rattle.std.specs.Prelude.{⊤, find, filter, option_map, nat_le, fold, length, ◌==◌}
+use Rattle.std.specs.List.{flat_map}
+use Rattle.std.specs.Option.{is_some}
+use Rattle.std.proofs.lemmas.Bool.Decides.{nat_tests}
+use Rattle.std.proofs.lemmas.List.{length-map, map-append}
+use Rattle.srt_seq.specs.declared.shared.Callers.{Callers}
+use Rattle.srt_seq.specs.declared.shared.Callers.TheVariants.{Draft, Libsrt}
+use Rattle.srt_seq.specs.declared.shared.Mode.{Mode}
+use Rattle.srt_seq.specs.declared.shared.Mode.TheVariants.{Live, Buffer}
+use Rattle.srt_seq.specs.declared.shared.Peer.{Peer}
+use Rattle.srt_seq.specs.Lift.{stamped_from}
+use Rattle.srt_seq.specs.Runs.{numbers_from}
+use Rattle.srt_seq.specs.Terms.{Terms}
+use Rattle.srt_seq.specs.Items.{Datagram, Item, Received, Tick, Close}
+use Rattle.srt_packet.specs.declared.reading.PacketFault.{PacketFault}
+use Rattle.srt_packet.specs.Grammar.{Packet}
+use Rattle.srt_packet.specs.Reading.{packet_in}
+use Rattle.srt_hs.specs.declared.writing.HsAnswer.{HsAnswer}
+use Rattle.srt_route.specs.declared.refusals.RefusalCause.{RefusalCause}
+use Rattle.srt_pub.specs.Heard as to_publisher
+use Rattle.srt_pub.specs.Publishing as publisher
+use Rattle.srt_sub.specs.Heard as to_subscriber
+use Rattle.srt_sub.specs.Subscribing as subscriber
+use Rattle.srt_route.specs.declared.conclusion.Conclusion.{Conclusion}
+use Rattle.srt_route.specs.Past.{Past, Publishes, Subscribes, Agreed, Report, ToSubscriber, took_past, is_shutdown, ends_with, answers_to}
+use Rattle.srt_route.specs.Past.{has_left, reported_past}
+use Rattle.srt_route.specs.Past.{least_with, loses_window, payloads_of, publisher_end, silence_of}
+use Rattle.srt_route.specs.Sessions.{Session, is_publisher, is_subscriber, open_publishers, active, is_active, is_open_in, by_slot, is_free}
+use Rattle.srt_route.specs.Sessions.{free_slot, generation_of, time_in, stamp_in, is_idle, aged_at, aged, terms_of, took_at, took}
+use Rattle.srt_route.specs.Sessions.{advanced, free_slots, has_failed, is_from, is_silent, is_standby, marked, marked_if, sessions_from, standby}
+use Rattle.srt_route.specs.Sessions.{takeover_us, takes_over, takes_over_after, answered_at_once, passed_at, passed, reports_at, reported_at, reported}
+use Rattle.srt_route.specs.Route.{Route, Taken, Output, Answers, Says, Ends, Reply, clock_after, closes, ended, shutdown_to, closed}
+use Rattle.srt_route.specs.Route.{decided, decision, idle_told, is_crowded, is_reserved, lost_told, told_if}
+use Rattle.srt_route.specs.Route.{session_opened, with_session, opens, considered, refused, is_of, heard_if, concluded, is_for, took_if}
+use Rattle.srt_route.specs.Route.{said_by, answered_by, arrived, concludes, without_destination, packet_taken, read_taken, taken}
+use Rattle.srt_route.specs.Route.{least_room, delivery_of, delivery, room_if, delivered, packets_at, packets_where, taken_by, passed_by}
+use Rattle.srt_route.specs.Route.{replies_at, replies_to, sessions_at, told_more, after}
+use Rattle.srt_route.specs.Route.{finished, finished_at, has_whole_file, is_file_over, packet_end, sends_files, served, served_at, took_packet}
+use Rattle.srt_route.specs.Sessions.{drains_open, ends_unless, is_draining, is_over, is_over_at, is_same_peer, is_silent_at, number_draining}
+use Rattle.srt_route.specs.Sessions.{of_libsrt, renewed, session_id, settled, settled_at, silent_end, speaks, takes_over_if, time_end, with_end}
+use Rattle.srt_route.specs.Route.{after_delivery, drain_end, drain_if, drain_of, gives_some, is_some_payload, settled_by}
+use Rattle.srt_route.proofs.model.Standbys.{publishers_through, active_through, is_active_through}
+use Rattle.srt_route.proofs.model.Lists.{map_through, any_through, filter_same, filter_through, find_through, find_same, flat_through, picked_through}
+use Rattle.srt_route.proofs.model.Lists.{fold_through}
+
+-- what is written otherwise: timestamps, initial numbers, moments. A timestamp counted from another stays
+pub record Change : Type 0 where
+  pub stamp : ℕ → ℕ
+  pub initial : ℕ → ℕ
+  pub later : ℕ
+  pub stamps_stay : (first word : ℕ) → stamped_from (stamp first) (stamp word) ≡ stamped_from first word
+
+abbrev pub changed_conclusion : Change → Conclusion → Conclusion
+changed_conclusion r c = record c { initial = r.initial c.initial }
+
+-- the moment of a session that drains is later too
+abbrev pub shifted : (later : ℕ) → Option ℕ → Option ℕ
+shifted later None = None
+shifted later (Some until) = Some (until + later)
+
+abbrev pub changed_session : Change → Session → Session
+changed_session r s =
+    record s {
+      stamp = r.stamp s.stamp;
+      conclusion = changed_conclusion r s.conclusion;
+      opening = s.opening + r.later;
+      heard = s.heard + r.later;
+      drains = shifted r.later s.drains;
+    }
+
+abbrev pub changed_answer : Change → HsAnswer → HsAnswer
+changed_answer r a = record a { initial = r.initial a.initial }
+
+abbrev pub changed_output : Change → Output → Output
+changed_output r (Answers caller answer) = Answers caller (changed_answer r answer)
+changed_output r (Says caller initial time report) = Says caller (r.initial initial) time report
+changed_output r (Ends caller time) = Ends caller time
+
+abbrev pub changed_reply : Change → Reply → Reply
+changed_reply r x = record { peer = x.peer; packet = changed_output r x.packet }
+
+-- the other packet has the same effect on every session, and is for the same session
+pub record IsChangedPacket (r : Change) (q p : Packet) : Type 0 where
+  pub stamp_is : q.stamp ≡ r.stamp p.stamp
+  pub dest_is : q.dest ≡ p.dest
+  pub publisher_hears : (initial : ℕ) → to_publisher.heard_from (r.initial initial) q.body ≡ to_publisher.heard_from initial p.body
+  pub subscriber_hears : (initial : ℕ) → to_subscriber.heard_from (r.initial initial) q.body ≡ to_subscriber.heard_from initial p.body
+  pub shutdown_is : is_shutdown q.body ≡ is_shutdown p.body
+  pub concludes_is : concludes q.body ≡ option_map (changed_conclusion r) (concludes p.body)
+
+abbrev pub IsChangedReading : Change → Result Packet PacketFault → Result Packet PacketFault → Type 0
+IsChangedReading r (Ok q) (Ok p) = IsChangedPacket r q p
+IsChangedReading r (Err f) (Err g) = ⊤
+IsChangedReading r (Ok q) (Err g) = ⊥
+IsChangedReading r (Err f) (Ok p) = ⊥
+
+pub record IsChangedDatagram (r : Change) (d c : Datagram) : Type 0 where
+  pub peer_is : d.peer ≡ c.peer
+  pub reading_is : IsChangedReading r (packet_in d.bytes) (packet_in c.bytes)
+
+abbrev pub IsChangedItem : Change → Item → Item → Type 0
+IsChangedItem r (Received d n) (Received c m) = IsChangedDatagram r d c × (n ≡ m + r.later)
+IsChangedItem r (Tick n) (Tick m) = n ≡ m + r.later
+IsChangedItem r (Close n) (Close m) = n ≡ m + r.later
+IsChangedItem r (Received d n) (Tick m) = ⊥
+IsChangedItem r (Tick n) (Received c m) = ⊥
+IsChangedItem r (Received d n) (Close m) = ⊥
+IsChangedItem r (Tick n) (Close m) = ⊥
+IsChangedItem r (Close n) (Received c m) = ⊥
+IsChangedItem r (Close n) (Tick m) = ⊥
+
+abbrev pub AreChanged : Change → List Item → List Item → Type 0
+AreChanged r [] [] = ⊤
+AreChanged r (j ∷ js) (i ∷ is) = IsChangedItem r j i × AreChanged r js is
+AreChanged r [] (i ∷ is) = ⊥
+AreChanged r (j ∷ js) [] = ⊥
+
+-- time goes on the same
+time_same : (opening clock later : ℕ) → (clock + later) - (opening + later) ≡ clock - opening
+time_same opening clock later = omega arith
+
+some_same : (later : ℕ) (o : Option ℕ) → is_some (shifted later o) ≡ is_some o
+some_same later None = refl
+some_same later (Some until) = refl
+
+draining_same : (r : Change) (s : Session) → is_draining (changed_session r s) ≡ is_draining s
+draining_same r s = some_same r.later s.drains
+
+silent_at_same : (later : ℕ) (o : Option ℕ) (heard clock : ℕ) → is_silent_at (shifted later o) (heard + later) (clock + later) ≡ is_silent_at o heard clock
+silent_at_same later None heard clock = ap (nat_le 5_000_000) (time_same heard clock later)
+silent_at_same later (Some until) heard clock = refl
+
+idle_same : (r : Change) (clock : ℕ) (s : Session) → is_idle (changed_session r s) (clock + r.later) ≡ is_idle s clock
+idle_same r clock s = silent_at_same r.later s.drains s.heard clock
+
+le_same : (a b later : ℕ) → nat_le (a + later) (b + later) ≡ nat_le a b
+le_same a b later = by (nat_le (a + later) (b + later)) (nat_le a b) refl refl
+  where
+    by : (x y : Bool) → nat_le (a + later) (b + later) ≡ x → nat_le a b ≡ y → x ≡ y
+    by true true h k = refl
+    by false false h k = refl
+    by true false h k = absurd (let l : a + later ≤ b + later = grind (arith, nat_tests, h) in
+        let n : a ≤ b = omega (arith, l) in
+        let m : nat_le a b ≡ true = grind (arith, nat_tests, n) in
+        let bad : true ≡ false = sym m ∙ k in
+        cc)
+    by false true h k = absurd (let l : a ≤ b = grind (arith, nat_tests, k) in
+        let n : a + later ≤ b + later = omega (arith, l) in
+        let m : nat_le (a + later) (b + later) ≡ true = grind (arith, nat_tests, n) in
+        let bad : true ≡ false = sym m ∙ h in
+        cc)
+
+over_at_same : (later : ℕ) (o : Option ℕ) (heard clock : ℕ) → is_over_at (shifted later o) (heard + later) (clock + later) ≡ is_over_at o heard clock
+over_at_same later None heard clock = ap (nat_le 5_000_000) (time_same heard clock later)
+over_at_same later (Some until) heard clock = le_same until clock later
+
+ends_over_same : (r : Change) (clock : ℕ) (s : Session) → is_over (changed_session r s) (clock + r.later) ≡ is_over s clock
+ends_over_same r clock s = over_at_same r.later s.drains s.heard clock
+
+own_time : (r : Change) (clock : ℕ) (s : Session) → time_in (changed_session r s) (clock + r.later) ≡ time_in s clock
+own_time r clock s = time_same s.opening clock r.later
+
+-- a session ages the same
+aged_at_same : (e : Terms) (r : Change) (lives : Bool) (time : ℕ) (s : Session)
+    → aged_at e lives time (changed_session r s) ≡ changed_session r (aged_at e lives time s)
+aged_at_same e r true time s = refl
+aged_at_same e r false time s = refl
+
+aged_same : (e : Terms) (r : Change) (clock : ℕ) (s : Session) → aged e (clock + r.later) (changed_session r s) ≡ changed_session r (aged e clock s)
+aged_same e r clock s =
+    ap (λ over. aged_at e (s.is_open && not over) (time_in (changed_session r s) (clock + r.later)) (changed_session r s)) (ends_over_same r clock s)
+    ∙ ap (λ t. aged_at e (s.is_open && not (is_over s clock)) t (changed_session r s)) (own_time r clock s)
+    ∙ aged_at_same e r (s.is_open && not (is_over s clock)) (time_in s clock) s
+
+-- and another publisher takes over the same
+silent_same : (r : Change) (limit clock : ℕ) (s : Session) → is_silent limit (clock + r.later) (changed_session r s) ≡ is_silent limit clock s
+silent_same r limit clock s = ap (λ t. nat_le limit (silence_of t s.past)) (own_time r clock s)
+
+failed_same : (r : Change) (limit clock : ℕ) (o p : Option Session)
+    → has_failed limit (clock + r.later) (option_map (changed_session r) o) (option_map (changed_session r) p) ≡ has_failed limit clock o p
+failed_same r limit clock (Some s) (Some t) =
+    ap (λ b. b && not (is_silent limit (clock + r.later) (changed_session r t))) (silent_same r limit clock s)
+    ∙ ap (λ b. is_silent limit clock s && not b) (silent_same r limit clock t)
+failed_same r limit clock (Some s) None = refl
+failed_same r limit clock None p = refl
+
+standby_same : (r : Change) (ss : List Session) → standby (map (changed_session r) ss) ≡ option_map (changed_session r) (standby ss)
+standby_same r ss =
+    find_through (changed_session r) (is_standby (map (changed_session r) ss)) (is_standby ss)
+    (λ s. ap (λ b. is_publisher s && not b) (is_active_through (changed_session r) (λ t. refl) (λ t. refl) (λ t. refl) ss s)) ss
+
+drains_same : (r : Change) (ss : List Session) → number_draining (map (changed_session r) ss) ≡ number_draining ss
+drains_same r ss =
+    ap length (filter_through (changed_session r) drains_open drains_open (λ s. ap (λ b. s.is_open && b) (draining_same r s)) ss)
+    ∙ length-map (filter drains_open ss) (changed_session r)
+
+takes_over_same : (e : Terms) (r : Change) (clock : ℕ) (ss : List Session) → takes_over e (clock + r.later) (map (changed_session r) ss) ≡ takes_over e clock ss
+takes_over_same e r clock ss =
+    ap (λ n. takes_over_if (not (n == 0)) (takeover_us e.mode e.rules.takeover_ms) (clock + r.later) (map (changed_session r) ss)) (drains_same r ss)
+    ∙ unless (not (number_draining ss == 0)) (by (takeover_us e.mode e.rules.takeover_ms))
+  where
+    unless : (b : Bool)
+        → takes_over_after (takeover_us e.mode e.rules.takeover_ms) (clock + r.later) (map (changed_session r) ss)
+        ≡ takes_over_after (takeover_us e.mode e.rules.takeover_ms) clock ss
+        → takes_over_if b (takeover_us e.mode e.rules.takeover_ms) (clock + r.later) (map (changed_session r) ss)
+        ≡ takes_over_if b (takeover_us e.mode e.rules.takeover_ms) clock ss
+    unless true h = refl
+    unless false h = h
+
+    by : (l : Option ℕ) → takes_over_after l (clock + r.later) (map (changed_session r) ss) ≡ takes_over_after l clock ss
+    by None = refl
+    by (Some limit) =
+        ap (λ o. has_failed limit (clock + r.later) o (standby (map (changed_session r) ss)))
+        (active_through (changed_session r) (λ s. refl) (λ s. refl) ss)
+        ∙ ap (λ o. has_failed limit (clock + r.later) (option_map (changed_session r) (active ss)) o) (standby_same r ss)
+        ∙ failed_same r limit clock (active ss) (standby ss)
+
+mark_same : (r : Change) (b m : Bool) (s : Session)
+    → cond b (record (changed_session r s) { took_over = m }) (changed_session r s) ≡ changed_session r (cond b (record s { took_over = m }) s)
+mark_same r true m s = refl
+mark_same r false m s = refl
+
+marked_same : (r : Change) (ss : List Session) (s : Session) → marked (map (changed_session r) ss) (changed_session r s) ≡ changed_session r (marked ss s)
+marked_same r ss s =
+    ap (λ b. cond (is_publisher s) (record (changed_session r s) { took_over = not b }) (changed_session r s))
+    (is_active_through (changed_session r) (λ t. refl) (λ t. refl) (λ t. refl) ss s)
+    ∙ mark_same r (is_publisher s) (not (is_active ss s)) s
+
+marked_if_same : (r : Change) (due : Bool) (ss : List Session) → marked_if due (map (changed_session r) ss) ≡ map (changed_session r) (marked_if due ss)
+marked_if_same r true ss =
+    map_through (changed_session r) (marked (map (changed_session r) ss)) (marked ss) (changed_session r) (marked_same r ss) ss
+marked_if_same r false ss = refl
+
+with_end_same : (r : Change) (end : Option Bool) (s : Session) → with_end end (changed_session r s) ≡ changed_session r (with_end end s)
+with_end_same r None s = refl
+with_end_same r (Some b) s = refl
+
+time_end_same : (e : Terms) (r : Change) (before after : List Session)
+    → time_end e (map (changed_session r) before) (map (changed_session r) after) ≡ time_end e before after
+time_end_same e r before after =
+    ap (λ n. of_libsrt e.rules.callers (silent_end n (open_publishers (map (changed_session r) after))))
+    (publishers_through (changed_session r) (λ s. refl) before)
+    ∙ ap (λ n. of_libsrt e.rules.callers (silent_end (open_publishers before) n)) (publishers_through (changed_session r) (λ s. refl) after)
+
+advanced_same : (e : Terms) (r : Change) (clock : ℕ) (ss : List Session)
+    → advanced e (clock + r.later) (map (changed_session r) ss) ≡ map (changed_session r) (advanced e clock ss)
+advanced_same e r clock ss =
+    let later = map (aged e clock) ss in
+    let end = time_end e ss later in
+    ap (λ ts. map (with_end (time_end e (map (changed_session r) ss) ts)) (marked_if (takes_over e (clock + r.later) ts) ts))
+    (map_through (changed_session r) (aged e (clock + r.later)) (aged e clock) (changed_session r) (aged_same e r clock) ss)
+    ∙ ap (λ x. map (with_end x) (marked_if (takes_over e (clock + r.later) (map (changed_session r) later)) (map (changed_session r) later)))
+    (time_end_same e r ss later)
+    ∙ ap (λ b. map (with_end end) (marked_if b (map (changed_session r) later))) (takes_over_same e r clock later)
+    ∙ ap (map (with_end end)) (marked_if_same r (takes_over e clock later) later)
+    ∙ map_through (changed_session r) (with_end end) (with_end end) (changed_session r) (with_end_same r end) (marked_if (takes_over e clock later) later)
+
+-- it takes a packet the same
+ends_same : (r : Change) (terms : Agreed) (initial : ℕ) (q p : Packet)
+    → IsChangedPacket r q p → (past : Past) → ends_with terms (r.initial initial) q.body past ≡ ends_with terms initial p.body past
+ends_same r terms initial q p h (Publishes x) =
+    ap (λ b. b || publisher.loses_window terms.publisher.mode terms.publisher (to_publisher.heard_from (r.initial initial) q.body) x) h.shutdown_is
+    ∙ ap (λ heard. is_shutdown p.body || publisher.loses_window terms.publisher.mode terms.publisher heard x) (h.publisher_hears initial)
+ends_same r terms initial q p h (Subscribes x) = ap (λ b. b || false) h.shutdown_is
+
+past_same : (r : Change) (terms : Agreed) (initial time stamp : ℕ) (q p : Packet) → IsChangedPacket r q p → (past : Past)
+    → took_past terms (r.initial initial) time stamp q.body past ≡ took_past terms initial time stamp p.body past
+past_same r terms initial time stamp q p h (Publishes x) =
+    ap (λ heard. Publishes (publisher.took terms.publisher time stamp heard x)) (h.publisher_hears initial)
+past_same r terms initial time stamp q p h (Subscribes x) = ap (λ heard. Subscribes (subscriber.took time heard x)) (h.subscriber_hears initial)
+
+abbrev ended_so : (drains : Option ℕ) → (clock : ℕ) → (ends : Bool) → Past → Session → Session
+ended_so drains clock ends past s = record s { heard = clock; is_open = not ends; drains = drains; past = past }
+
+unless_same : (later : ℕ) (drains : Option ℕ) (ends : Bool) → ends_unless (shifted later drains) ends ≡ ends_unless drains ends
+unless_same later None ends = refl
+unless_same later (Some until) ends = refl
+
+stamp_same : (r : Change) (q p : Packet) → IsChangedPacket r q p → (s : Session) → stamp_in (changed_session r s) q.stamp ≡ stamp_in s p.stamp
+stamp_same r q p h s = ap (λ w. stamped_from (r.stamp s.stamp) w) h.stamp_is ∙ r.stamps_stay s.stamp p.stamp
+
+took_same : (e : Terms) (r : Change) (clock : ℕ) (drains : Option ℕ) (q p : Packet) → IsChangedPacket r q p → (s : Session)
+    → took (shifted r.later drains) e (clock + r.later) q.stamp q.body (changed_session r s) ≡ changed_session r (took drains e clock p.stamp p.body s)
+took_same e r clock drains q p h s =
+    let t = changed_session r s in
+    let i = s.conclusion.initial in
+    let time = time_in s clock in
+    let stamp = stamp_in s p.stamp in
+    let d = shifted r.later drains in
+    ap (λ x. took_at d e (clock + r.later) x (stamp_in t q.stamp) q.body t) (own_time r clock s)
+    ∙ ap (λ x. took_at d e (clock + r.later) time x q.body t) (stamp_same r q p h s)
+    ∙ ap (λ b. ended_so d (clock + r.later) (ends_unless d b) (took_past (terms_of e s) (r.initial i) time stamp q.body s.past) t)
+    (ends_same r (terms_of e s) i q p h s.past)
+    ∙ ap (λ b. ended_so d (clock + r.later) b (took_past (terms_of e s) (r.initial i) time stamp q.body s.past) t)
+    (unless_same r.later drains (ends_with (terms_of e s) i p.body s.past))
+    ∙ ap (λ past. ended_so d (clock + r.later) (ends_unless drains (ends_with (terms_of e s) i p.body s.past)) past t)
+    (past_same r (terms_of e s) i time stamp q p h s.past)
+
+-- and sends the same, with its own numbers
+map_replies : (r : Change) (time : ℕ) (s : Session) (xs : List Report)
+    → map (said_by time (changed_session r s)) xs ≡ map (changed_reply r) (map (said_by time s) xs)
+map_replies r time s [] = refl
+map_replies r time s (x ∷ xs) = ap (λ ys. changed_reply r (said_by time s x) ∷ ys) (map_replies r time s xs)
+
+answers_same : (r : Change) (initial : ℕ) (q p : Packet)
+    → IsChangedPacket r q p → (past : Past) → answers_to (r.initial initial) q.body past ≡ answers_to initial p.body past
+answers_same r initial q p h (Publishes x) = refl
+answers_same r initial q p h (Subscribes x) = ap (λ heard. map ToSubscriber (subscriber.answers heard)) (h.subscriber_hears initial)
+
+-- and whom it tells that a session ends
+shutdown_same : (r : Change) (clock : ℕ) (s : Session) → shutdown_to (clock + r.later) (changed_session r s) ≡ changed_reply r (shutdown_to clock s)
+shutdown_same r clock s = ap (λ t. record { peer = s.peer; packet = Ends s.conclusion.caller t }) (own_time r clock s)
+
+told_if_same : (r : Change) (callers : Callers) (ends : Bool) (clock : ℕ) (s : Session)
+    → told_if callers ends (clock + r.later) (changed_session r s) ≡ map (changed_reply r) (told_if callers ends clock s)
+told_if_same r Draft ends clock s = refl
+told_if_same r Libsrt true clock s = ap (λ x. x ∷ []) (shutdown_same r clock s)
+told_if_same r Libsrt false clock s = refl
+
+lost_same : (r : Change) (terms : Agreed) (initial : ℕ) (q p : Packet)
+    → IsChangedPacket r q p → (past : Past) → loses_window terms (r.initial initial) q.body past ≡ loses_window terms initial p.body past
+lost_same r terms initial q p h (Publishes x) =
+    ap (λ heard. publisher.loses_window terms.publisher.mode terms.publisher heard x) (h.publisher_hears initial)
+lost_same r terms initial q p h (Subscribes x) = refl
+
+lost_told_same : (e : Terms) (r : Change) (clock : ℕ) (q p : Packet) → IsChangedPacket r q p → (s : Session)
+    → lost_told e (clock + r.later) q.body (changed_session r s) ≡ map (changed_reply r) (lost_told e clock p.body s)
+lost_told_same e r clock q p h s =
+    ap (λ b. told_if e.rules.callers b (clock + r.later) (changed_session r s)) (lost_same r (terms_of e s) s.conclusion.initial q p h s.past)
+    ∙ told_if_same r e.rules.callers (loses_window (terms_of e s) s.conclusion.initial p.body s.past) clock s
+
+answered_same : (e : Terms) (r : Change) (clock : ℕ) (q p : Packet) → IsChangedPacket r q p → (o : Option Session)
+    → answered_by e (clock + r.later) q.body (option_map (changed_session r) o) ≡ map (changed_reply r) (answered_by e clock p.body o)
+answered_same e r clock q p h None = refl
+answered_same e r clock q p h (Some s) =
+    let t = changed_session r s in
+    let said = map (said_by (time_in s clock) s) (answered_at_once p.body s) in
+    ap (λ x. lost_told e (clock + r.later) q.body t ++ map (said_by x t) (answered_at_once q.body t)) (own_time r clock s)
+    ∙ ap (λ xs. lost_told e (clock + r.later) q.body t ++ map (said_by (time_in s clock) t) xs) (answers_same r s.conclusion.initial q p h s.past)
+    ∙ ap (λ xs. lost_told e (clock + r.later) q.body t ++ xs) (map_replies r (time_in s clock) s (answered_at_once p.body s))
+    ∙ ap (λ xs. xs ++ map (changed_reply r) said) (lost_told_same e r clock q p h s)
+    ∙ sym (map-append (changed_reply r) (lost_told e clock p.body s) said)
+
+took_if_same : (e : Terms) (r : Change) (clock : ℕ) (drains : Option ℕ) (q p : Packet) → IsChangedPacket r q p → (s : Session) (mine : Bool)
+    → took_if (shifted r.later drains) mine e (clock + r.later) q (changed_session r s) ≡ changed_session r (took_if drains mine e clock p s)
+took_if_same e r clock drains q p h s true = took_same e r clock drains q p h s
+took_if_same e r clock drains q p h s false = refl
+
+-- and the same sessions are found that don't drain
+of_same : (r : Change) (peer : Peer) (caller : ℕ) (s : Session) → is_of peer caller (changed_session r s) ≡ is_of peer caller s
+of_same r peer caller s = ap (λ b. s.is_open && is_same_peer s.peer peer && s.conclusion.caller == caller && not b) (draining_same r s)
+
+for_same : (r : Change) (index : ℕ) (peer : Peer) (dest : ℕ) (s : Session) → is_for index peer dest (changed_session r s) ≡ is_for index peer dest s
+for_same r index peer dest s = ap (λ b. s.is_open && is_same_peer s.peer peer && session_id index s == dest && not b) (draining_same r s)
+
+heard_if_same : (r : Change) (clock : ℕ) (s : Session) (mine : Bool)
+    → heard_if mine (clock + r.later) (changed_session r s) ≡ changed_session r (heard_if mine clock s)
+heard_if_same r clock s true = refl
+heard_if_same r clock s false = refl
+
+-- the same slots are taken
+free_slot_same : (e : Terms) (r : Change) (ss : List Session) → free_slot e (map (changed_session r) ss) ≡ free_slot e ss
+free_slot_same e r ss =
+    find_same (is_free (map (changed_session r) ss)) (is_free ss)
+    (λ n. ap not (any_through (changed_session r) (is_open_in n) (is_open_in n) (λ s. refl) ss)) (numbers_from 0 e.sessions)
+
+by_slot_same : (e : Terms) (r : Change) (ss : List Session) → by_slot e (map (changed_session r) ss) ≡ map (changed_session r) (by_slot e ss)
+by_slot_same e r ss =
+    picked_through (changed_session r) (λ n. find (is_open_in n) (map (changed_session r) ss)) (λ n. find (is_open_in n) ss)
+    (λ n. find_through (changed_session r) (is_open_in n) (is_open_in n) (λ s. refl) ss) (numbers_from 0 e.sessions)
+
+generation_same : (r : Change) (ss : List Session) (slot : ℕ) → generation_of (map (changed_session r) ss) slot ≡ generation_of ss slot
+generation_same r [] slot = refl
+generation_same r (s ∷ ss) slot = ap (λ n. cond (s.slot == slot) (n + 1) n) (generation_same r ss slot)
+
+-- what a datagram does
+abbrev changed_taken : Change → Taken → Taken
+changed_taken r t = record { sessions = map (changed_session r) t.sessions; answers = map (changed_reply r) t.answers }
+
+abbrev taken_as : List Session → List Reply → Taken
+taken_as sessions answers = record { sessions = sessions; answers = answers }
+
+publisher_end_same : (r : Change) (terms : Agreed) (initial : ℕ) (q p : Packet)
+    → IsChangedPacket r q p → (past : Past) → publisher_end terms (r.initial initial) q.body past ≡ publisher_end terms initial p.body past
+publisher_end_same r terms initial q p h (Publishes x) =
+    ap (λ b. cond b (Some (is_shutdown q.body)) None) (ends_same r terms initial q p h (Publishes x))
+    ∙ ap (λ d. cond (ends_with terms initial p.body (Publishes x)) (Some d) None) h.shutdown_is
+publisher_end_same r terms initial q p h (Subscribes x) = refl
+
+packet_end_same : (e : Terms) (r : Change) (drains : Option ℕ) (q p : Packet) → IsChangedPacket r q p → (o : Option Session)
+    → packet_end (shifted r.later drains) e q.body (option_map (changed_session r) o) ≡ packet_end drains e p.body o
+packet_end_same e r (Some until) q p h o = refl
+packet_end_same e r None q p h None = refl
+packet_end_same e r None q p h (Some s) =
+    ap (of_libsrt e.rules.callers) (publisher_end_same r (terms_of e s) s.conclusion.initial q p h s.past)
+
+-- and one drains the same
+drain_if_same : (callers : Callers) (left : Bool) (later clock delay : ℕ)
+    → drain_if callers left (clock + later + delay + 5_000_000) ≡ shifted later (drain_if callers left (clock + delay + 5_000_000))
+drain_if_same Draft left later clock delay = refl
+drain_if_same Libsrt true later clock delay =
+    let same : clock + later + delay + 5_000_000 ≡ clock + delay + 5_000_000 + later = omega arith in ap (λ n. Some n) same
+drain_if_same Libsrt false later clock delay = refl
+
+drain_same : (e : Terms) (r : Change) (clock : ℕ) (q p : Packet) → IsChangedPacket r q p → (ss : List Session) (o : Option Session)
+    → drain_of e (clock + r.later) q.body (map (changed_session r) ss) (option_map (changed_session r) o)
+    ≡ shifted r.later (drain_of e clock p.body ss o)
+drain_same e r clock q p h ss None = refl
+drain_same e r clock q p h ss (Some s) =
+    let until = clock + r.later + (terms_of e s).publisher.delay + 5_000_000 in
+    ap
+    (λ b. drain_if e.rules.callers (b && is_active (map (changed_session r) ss) (changed_session r s) && has_left (terms_of e s) s.past) until)
+    h.shutdown_is
+    ∙ ap (λ b. drain_if e.rules.callers (is_shutdown p.body && b && has_left (terms_of e s) s.past) until)
+    (is_active_through (changed_session r) (λ t. refl) (λ t. refl) (λ t. refl) ss s)
+    ∙ drain_if_same e.rules.callers (is_shutdown p.body && is_active ss s && has_left (terms_of e s) s.past) r.later clock
+    (terms_of e s).publisher.delay
+
+-- what a packet does, by the session that it is for
+abbrev arrived_at : (e : Terms) (index clock : ℕ) → Peer → Packet → (dest : ℕ) → (drains : Option ℕ) → (end : Option Bool) → Option Session
+    → List Session → Taken
+arrived_at e index clock peer packet dest drains end o ss =
+    taken_as (map (λ s. with_end end (took_if drains (is_for index peer dest s) e clock packet s)) ss) (answered_by e clock packet.body o)
+
+arrived_same : (e : Terms) (index : ℕ) (r : Change) (clock : ℕ) (peer : Peer) (dest : ℕ) (q p : Packet) → IsChangedPacket r q p
+    → (ss : List Session)
+    → arrived e index (clock + r.later) peer q (map (changed_session r) ss) ≡ changed_taken r (arrived e index clock peer p ss)
+arrived_same e index r clock peer dest q p h ss =
+    let others = map (changed_session r) ss in
+    let late = clock + r.later in
+    let f = find (is_for index peer p.dest) ss in
+    let drains = drain_of e clock p.body ss f in
+    let end = packet_end drains e p.body f in
+    let found = find_through (changed_session r) (is_for index peer p.dest) (is_for index peer p.dest) (for_same r index peer p.dest) ss in
+    ap
+    (λ d. let o = find (is_for index peer d) others in
+    arrived_at e index late peer q d (drain_of e late q.body others o) (packet_end (drain_of e late q.body others o) e q.body o) o others)
+    h.dest_is
+    ∙ ap
+    (λ o. arrived_at e index late peer q p.dest (drain_of e late q.body others o) (packet_end (drain_of e late q.body others o) e q.body o) o others)
+    found
+    ∙ ap
+    (λ d. arrived_at e index late peer q p.dest d (packet_end d e q.body (option_map (changed_session r) f)) (option_map (changed_session r) f) others)
+    (drain_same e r clock q p h ss f)
+    ∙ ap (λ x. arrived_at e index late peer q p.dest (shifted r.later drains) x (option_map (changed_session r) f) others)
+    (packet_end_same e r drains q p h f)
+    ∙ ap (λ ys. taken_as ys (answered_by e late q.body (option_map (changed_session r) f)))
+    (map_through (changed_session r) (λ s. with_end end (took_if (shifted r.later drains) (is_for index peer p.dest s) e late q s))
+    (took_packet drains end e index clock peer p) (changed_session r)
+    (λ s. ap (λ b. with_end end (took_if (shifted r.later drains) b e late q (changed_session r s))) (for_same r index peer p.dest s)
+    ∙ ap (with_end end) (took_if_same e r clock drains q p h s (is_for index peer p.dest s))
+    ∙ with_end_same r end (took_if drains (is_for index peer p.dest s) e clock p s)) ss)
+    ∙ ap (λ xs. taken_as (map (changed_session r) (arrived e index clock peer p ss).sessions) xs) (answered_same e r clock q p h f)
+
+opens_same : (e : Terms) (index : ℕ) (r : Change) (clock : ℕ) (peer : Peer) (stamp : ℕ) (x : Conclusion) (ss : List Session)
+    (slot : ℕ)
+    → opens e index (clock + r.later) peer (r.stamp stamp) (changed_conclusion r x) (map (changed_session r) ss) slot
+    ≡ changed_taken r (opens e index clock peer stamp x ss slot)
+opens_same e index r clock peer stamp x ss slot =
+    ap
+    (λ g. with_session e index (session_opened (clock + r.later) peer (r.stamp stamp) (changed_conclusion r x) slot g)
+    (map (changed_session r) ss))
+    (generation_same r ss slot)
+
+considered_same : (e : Terms) (index : ℕ) (r : Change) (clock : ℕ) (peer : Peer) (stamp : ℕ) (x : Conclusion) (ss : List Session)
+    (answer : Result ℕ RefusalCause)
+    → considered e index (clock + r.later) peer (r.stamp stamp) (changed_conclusion r x) (map (changed_session r) ss) answer
+    ≡ changed_taken r (considered e index clock peer stamp x ss answer)
+considered_same e index r clock peer stamp x ss (Err cause) = refl
+considered_same e index r clock peer stamp x ss (Ok slot) = opens_same e index r clock peer stamp x ss slot
+
+-- the same answer is given to a conclusion
+free_slots_same : (e : Terms) (r : Change) (ss : List Session) → free_slots e (map (changed_session r) ss) ≡ free_slots e ss
+free_slots_same e r ss =
+    ap length
+    (filter_same (is_free (map (changed_session r) ss)) (is_free ss)
+    (λ n. ap not (any_through (changed_session r) (is_open_in n) (is_open_in n) (λ s. refl) ss)) (numbers_from 0 e.sessions))
+
+sessions_from_same : (r : Change) (ip : List ℕ) (ss : List Session) → sessions_from ip (map (changed_session r) ss) ≡ sessions_from ip ss
+sessions_from_same r ip ss =
+    ap length (filter_through (changed_session r) (is_from ip) (is_from ip) (λ s. refl) ss) ∙ length-map (filter (is_from ip) ss) (changed_session r)
+
+decision_same : (e : Terms) (r : Change) (peer : Peer) (x : Conclusion) (ss : List Session)
+    → decision e peer (changed_conclusion r x) (map (changed_session r) ss) ≡ decision e peer x ss
+decision_same e r peer x ss =
+    let ts = map (changed_session r) ss in
+    let kept = λ (free publishers : ℕ). is_reserved e.rules.reserved free publishers x.role in
+    ap
+    (λ n.
+    decided (refused e.mode n x) (is_crowded e.rules.sessions_per_address (sessions_from peer.ip ts)) (free_slot e ts) (kept (free_slots e ts) n))
+    (publishers_through (changed_session r) (λ s. refl) ss)
+    ∙ ap
+    (λ n.
+    decided (refused e.mode (open_publishers ss) x) (is_crowded e.rules.sessions_per_address n) (free_slot e ts)
+    (kept (free_slots e ts) (open_publishers ss)))
+    (sessions_from_same r peer.ip ss)
+    ∙ ap
+    (λ slot.
+    decided (refused e.mode (open_publishers ss) x) (is_crowded e.rules.sessions_per_address (sessions_from peer.ip ss)) slot
+    (kept (free_slots e ts) (open_publishers ss)))
+    (free_slot_same e r ss)
+    ∙ ap
+    (λ n.
+    decided (refused e.mode (open_publishers ss) x) (is_crowded e.rules.sessions_per_address (sessions_from peer.ip ss)) (free_slot e ss)
+    (kept n (open_publishers ss)))
+    (free_slots_same e r ss)
+
+concluded_same : (e : Terms) (index : ℕ) (r : Change) (clock : ℕ) (peer : Peer) (stamp : ℕ) (x : Conclusion) (ss : List Session)
+    (found : Option Session)
+    → concluded e index (clock + r.later) peer (r.stamp stamp) (changed_conclusion r x) (map (changed_session r) ss)
+    (option_map (changed_session r) found)
+    ≡ changed_taken r (concluded e index clock peer stamp x ss found)
+concluded_same e index r clock peer stamp x ss (Some s) =
+    ap (λ ys. taken_as ys (map (changed_reply r) (concluded e index clock peer stamp x ss (Some s)).answers))
+    (map_through (changed_session r) (λ t. heard_if (is_of peer x.caller t) (clock + r.later) t)
+    (λ t. heard_if (is_of peer x.caller t) clock t) (changed_session r)
+    (λ t. ap (λ b. heard_if b (clock + r.later) (changed_session r t)) (of_same r peer x.caller t)
+    ∙ heard_if_same r clock t (is_of peer x.caller t)) ss)
+concluded_same e index r clock peer stamp x ss None =
+    ap
+    (λ answer.
+    considered e index (clock + r.later) peer (r.stamp stamp) (changed_conclusion r x) (map (changed_session r) ss) answer)
+    (decision_same e r peer x ss)
+    ∙ considered_same e index r clock peer stamp x ss (decision e peer x ss)
+
+without_same : (e : Terms) (index : ℕ) (r : Change) (clock : ℕ) (peer : Peer) (stamp : ℕ) (ss : List Session) (c : Option Conclusion)
+    → without_destination e index (clock + r.later) peer (r.stamp stamp) (map (changed_session r) ss) (option_map (changed_conclusion r) c)
+    ≡ changed_taken r (without_destination e index clock peer stamp ss c)
+without_same e index r clock peer stamp ss None = refl
+without_same e index r clock peer stamp ss (Some x) =
+    ap (λ found. concluded e index (clock + r.later) peer (r.stamp stamp) (changed_conclusion r x) (map (changed_session r) ss) found)
+    (find_through (changed_session r) (is_of peer x.caller) (is_of peer x.caller) (of_same r peer x.caller) ss)
+    ∙ concluded_same e index r clock peer stamp x ss (find (is_of peer x.caller) ss)
+
+packet_same : (e : Terms) (index : ℕ) (r : Change) (clock : ℕ) (peer : Peer) (q p : Packet) → IsChangedPacket r q p → (ss : List Session)
+    → packet_taken e index (clock + r.later) peer q (map (changed_session r) ss) ≡ changed_taken r (packet_taken e index clock peer p ss)
+packet_same e index r clock peer q p h ss =
+    ap
+    (λ d. cond (d == 0) (without_destination e index (clock + r.later) peer q.stamp (map (changed_session r) ss) (concludes q.body))
+    (arrived e index (clock + r.later) peer q (map (changed_session r) ss)))
+    h.dest_is
+    ∙ by (p.dest == 0)
+  where
+    by : (b : Bool)
+        → cond b (without_destination e index (clock + r.later) peer q.stamp (map (changed_session r) ss) (concludes q.body))
+        (arrived e index (clock + r.later) peer q (map (changed_session r) ss))
+        ≡ changed_taken r (cond b (without_destination e index clock peer p.stamp ss (concludes p.body)) (arrived e index clock peer p ss))
+    by true =
+        ap (λ stamp. without_destination e index (clock + r.later) peer stamp (map (changed_session r) ss) (concludes q.body)) h.stamp_is
+        ∙ ap (λ c. without_destination e index (clock + r.later) peer (r.stamp p.stamp) (map (changed_session r) ss) c) h.concludes_is
+        ∙ without_same e index r clock peer p.stamp ss (concludes p.body)
+    by false = arrived_same e index r clock peer p.dest q p h ss
+
+read_same : (e : Terms) (index : ℕ) (r : Change) (clock : ℕ) (peer : Peer) (q p : Result Packet PacketFault) → IsChangedReading r q p
+    → (ss : List Session)
+    → read_taken e index (clock + r.later) peer q (map (changed_session r) ss) ≡ changed_taken r (read_taken e index clock peer p ss)
+read_same e index r clock peer (Ok q) (Ok p) h ss = packet_same e index r clock peer q p h ss
+read_same e index r clock peer (Err f) (Err g) h ss = refl
+read_same e index r clock peer (Ok q) (Err g) h ss = absurd h
+read_same e index r clock peer (Err f) (Ok p) h ss = absurd h
+
+-- what a Close does
+closed_same : (e : Terms) (r : Change) (clock : ℕ) (ss : List Session)
+    → closed e (clock + r.later) (map (changed_session r) ss) ≡ changed_taken r (closed e clock ss)
+closed_same e r clock ss =
+    ap (λ xs. taken_as xs (map (shutdown_to (clock + r.later)) (by_slot e (map (changed_session r) ss))))
+    (map_through (changed_session r) ended ended (changed_session r) (λ s. refl) ss)
+    ∙ ap (λ xs. taken_as (map (changed_session r) (map ended ss)) (map (shutdown_to (clock + r.later)) xs)) (by_slot_same e r ss)
+    ∙ ap (λ xs. taken_as (map (changed_session r) (map ended ss)) xs)
+    (map_through (changed_session r) (shutdown_to (clock + r.later)) (shutdown_to clock) (changed_reply r) (shutdown_same r clock)
+    (by_slot e ss))
+
+taken_same : (e : Terms) (index : ℕ) (r : Change) (clock : ℕ) (j i : Item) → IsChangedItem r j i → (ss : List Session)
+    → taken e index (clock + r.later) j (map (changed_session r) ss) ≡ changed_taken r (taken e index clock i ss)
+taken_same e index r clock (Received d n) (Received c m) h ss =
+    ap (λ peer. read_taken e index (clock + r.later) peer (packet_in d.bytes) (map (changed_session r) ss)) h.0.peer_is
+    ∙ read_same e index r clock c.peer (packet_in d.bytes) (packet_in c.bytes) h.0.reading_is ss
+taken_same e index r clock (Tick n) (Tick m) h ss = refl
+taken_same e index r clock (Close n) (Close m) h ss = closed_same e r clock ss
+taken_same e index r clock (Received d n) (Tick m) h ss = absurd h
+taken_same e index r clock (Tick n) (Received c m) h ss = absurd h
+taken_same e index r clock (Received d n) (Close m) h ss = absurd h
+taken_same e index r clock (Tick n) (Close m) h ss = absurd h
+taken_same e index r clock (Close n) (Received c m) h ss = absurd h
+taken_same e index r clock (Close n) (Tick m) h ss = absurd h
+
+-- deliveries
+room_same : (e : Terms) (r : Change) (ss : List Session) → least_room e (map (changed_session r) ss) ≡ least_room e ss
+room_same e r ss =
+    ap (λ xs. fold (λ found (s : Session). least_with e.buffer found s.past) None xs) (by_slot_same e r ss)
+    ∙ fold_through (changed_session r) (λ found (s : Session). least_with e.buffer found s.past)
+    (λ found (s : Session). least_with e.buffer found s.past) (λ found s. refl) (by_slot e ss) None
+
+delivery_by : (e : Terms) (r : Change) (clock : ℕ) (room : Option ℕ) (o : Option Session)
+    → delivery_of e (clock + r.later) room (option_map (changed_session r) o) ≡ delivery_of e clock room o
+delivery_by e r clock room None = refl
+delivery_by e r clock room (Some s) = ap (λ t. payloads_of (terms_of e s) t room s.past) (own_time r clock s)
+
+delivery_same : (e : Terms) (r : Change) (clock : ℕ) (room : Option ℕ) (ss : List Session)
+    → delivery e (clock + r.later) room (map (changed_session r) ss) ≡ delivery e clock room ss
+delivery_same e r clock room ss =
+    ap (λ o. delivery_of e (clock + r.later) room o) (active_through (changed_session r) (λ s. refl) (λ s. refl) ss)
+    ∙ delivery_by e r clock room (active ss)
+
+passed_here : (e : Terms) (r : Change) (here : Bool) (time : ℕ) (room : Option ℕ) (xs : List (List ℕ)) (s : Session)
+    → passed_at e here time room xs (changed_session r s) ≡ changed_session r (passed_at e here time room xs s)
+passed_here e r true time room xs s = refl
+passed_here e r false time room xs s = refl
+
+passed_same : (e : Terms) (r : Change) (clock : ℕ) (room : Option ℕ) (xs : List (List ℕ)) (s : Session)
+    → passed e (clock + r.later) room xs (changed_session r s) ≡ changed_session r (passed e clock room xs s)
+passed_same e r clock room xs s =
+    ap (λ t. passed_at e s.is_open t room xs (changed_session r s)) (own_time r clock s)
+    ∙ passed_here e r s.is_open (time_in s clock) room xs s
+
+delivered_same : (e : Terms) (r : Change) (clock : ℕ) (ss : List Session)
+    → delivered e (clock + r.later) (map (changed_session r) ss) ≡ map (changed_session r) (delivered e clock ss)
+delivered_same e r clock ss =
+    let ts = map (changed_session r) ss in
+    let room = least_room e ss in
+    let fed = delivery e clock room ss in
+    ap (λ x. map (λ s. passed e (clock + r.later) (room_if (is_active ts s) x) (delivery e (clock + r.later) x ts) s) ts) (room_same e r ss)
+    ∙ ap (λ xs. map (λ s. passed e (clock + r.later) (room_if (is_active ts s) room) xs s) ts) (delivery_same e r clock room ss)
+    ∙ map_through (changed_session r) (λ s. passed e (clock + r.later) (room_if (is_active ts s) room) fed s)
+    (λ s. passed e clock (room_if (is_active ss s) room) fed s) (changed_session r)
+    (λ s. ap (λ b. passed e (clock + r.later) (room_if b room) fed (changed_session r s))
+    (is_active_through (changed_session r) (λ t. refl) (λ t. refl) (λ t. refl) ss s)
+    ∙ passed_same e r clock (room_if (is_active ss s) room) fed s) ss
+
+-- and what becomes of the sessions after them
+renewed_same : (mode : Mode) (given : Bool) (clock until later : ℕ)
+    → renewed mode given (clock + later) (until + later) ≡ renewed mode given clock until + later
+renewed_same Live given clock until later = refl
+renewed_same Buffer true clock until later = omega arith
+renewed_same Buffer false clock until later = refl
+
+settled_at_same : (e : Terms) (r : Change) (given : Bool) (clock : ℕ) (s : Session) (d : Option ℕ)
+    → settled_at (shifted r.later d) e given (clock + r.later) (changed_session r s) ≡ changed_session r (settled_at d e given clock s)
+settled_at_same e r given clock s None = refl
+settled_at_same e r given clock s (Some until) =
+    ap (λ n. record (changed_session r s) { is_open = s.is_open && has_left (terms_of e s) s.past; drains = Some n })
+    (renewed_same e.mode given clock until r.later)
+
+drain_end_same : (r : Change) (before after : List Session)
+    → drain_end (open_publishers (map (changed_session r) before)) (open_publishers (map (changed_session r) after))
+    ≡ drain_end (open_publishers before) (open_publishers after)
+drain_end_same r before after =
+    ap (λ n. drain_end n (open_publishers (map (changed_session r) after))) (publishers_through (changed_session r) (λ s. refl) before)
+    ∙ ap (λ n. drain_end (open_publishers before) n) (publishers_through (changed_session r) (λ s. refl) after)
+
+settled_by_same : (c : Callers) (e : Terms) (r : Change) (clock : ℕ) (given : Bool) (ss : List Session)
+    → settled_by c e (clock + r.later) given (map (changed_session r) ss) ≡ map (changed_session r) (settled_by c e clock given ss)
+settled_by_same Draft e r clock given ss = refl
+settled_by_same Libsrt e r clock given ss =
+    let later = map (settled e given clock) ss in
+    let end = drain_end (open_publishers ss) (open_publishers later) in
+    ap (λ ts. map (with_end (drain_end (open_publishers (map (changed_session r) ss)) (open_publishers ts))) ts)
+    (map_through (changed_session r) (settled e given (clock + r.later)) (settled e given clock) (changed_session r)
+    (λ s. settled_at_same e r given clock s s.drains) ss)
+    ∙ ap (λ x. map (with_end x) (map (changed_session r) later)) (drain_end_same r ss later)
+    ∙ map_through (changed_session r) (with_end end) (with_end end) (changed_session r) (with_end_same r end) later
+
+gives_same : (e : Terms) (r : Change) (clock : ℕ) (ss : List Session) → gives_some e (clock + r.later) (map (changed_session r) ss) ≡ gives_some e clock ss
+gives_same e r clock ss =
+    ap (λ x. is_some_payload (delivery e (clock + r.later) x (map (changed_session r) ss))) (room_same e r ss)
+    ∙ ap (λ xs. is_some_payload xs) (delivery_same e r clock (least_room e ss) ss)
+
+after_delivery_same : (e : Terms) (r : Change) (clock : ℕ) (ss : List Session)
+    → after_delivery e (clock + r.later) (map (changed_session r) ss) ≡ map (changed_session r) (after_delivery e clock ss)
+after_delivery_same e r clock ss =
+    ap (λ b. settled_by e.rules.callers e (clock + r.later) b (delivered e (clock + r.later) (map (changed_session r) ss))) (gives_same e r clock ss)
+    ∙ ap (λ ts. settled_by e.rules.callers e (clock + r.later) (gives_some e clock ss) ts) (delivered_same e r clock ss)
+    ∙ settled_by_same e.rules.callers e r clock (gives_some e clock ss) (delivered e clock ss)
+
+-- packets
+reported_here : (e : Terms) (r : Change) (here : Bool) (time : ℕ) (s : Session)
+    → reported_at e here time (changed_session r s) ≡ changed_session r (reported_at e here time s)
+reported_here e r true time s =
+    ap (λ b. record (changed_session r s) { past = reported_past b (terms_of e s) time s.past }) (draining_same r s)
+reported_here e r false time s = refl
+
+reported_same : (e : Terms) (r : Change) (clock : ℕ) (s : Session) → reported e (clock + r.later) (changed_session r s) ≡ changed_session r (reported e clock s)
+reported_same e r clock s = ap (λ t. reported_at e s.is_open t (changed_session r s)) (own_time r clock s) ∙ reported_here e r s.is_open (time_in s clock) s
+
+packets_here : (e : Terms) (r : Change) (here : Bool) (time : ℕ) (s : Session)
+    → packets_at e here time (changed_session r s) ≡ map (changed_reply r) (packets_at e here time s)
+packets_here e r here time s = map_replies r time s (reports_at e here time s)
+
+packets_same : (e : Terms) (r : Change) (clock : ℕ) (test : Session → Bool) → ((s : Session) → test (changed_session r s) ≡ test s)
+    → (ss : List Session)
+    → packets_where e (clock + r.later) test (map (changed_session r) ss) ≡ map (changed_reply r) (packets_where e clock test ss)
+packets_same e r clock test same ss =
+    ap (λ xs. flat_map (λ s. packets_at e (test s) (time_in s (clock + r.later)) s) xs) (by_slot_same e r ss)
+    ∙ flat_through (changed_session r) (λ s. packets_at e (test s) (time_in s (clock + r.later)) s)
+    (λ s. packets_at e (test s) (time_in s clock) s) (changed_reply r)
+    (λ s. ap (λ b. packets_at e b (time_in (changed_session r s) (clock + r.later)) (changed_session r s)) (same s)
+    ∙ ap (λ t. packets_at e (test s) t (changed_session r s)) (own_time r clock s)
+    ∙ packets_here e r (test s) (time_in s clock) s) (by_slot e ss)
+
+speaks_same : (r : Change) (s : Session) → speaks (changed_session r s) ≡ speaks s
+speaks_same r s = ap (λ b. is_publisher s && not b) (draining_same r s)
+
+-- a file that is over
+over_same : (e : Terms) (r : Change) (ss : List Session) → is_file_over e (map (changed_session r) ss) ≡ is_file_over e ss
+over_same e r ss = ap (λ n. sends_files e.rules.callers e.mode && n == 0) (publishers_through (changed_session r) (λ s. refl) ss)
+
+served_here : (e : Terms) (r : Change) (clock : ℕ) (whole : Bool) (s : Session)
+    → served_at whole e (clock + r.later) (changed_session r s) ≡ map (changed_reply r) (served_at whole e clock s)
+served_here e r clock true s = ap (λ x. x ∷ []) (shutdown_same r clock s)
+served_here e r clock false s =
+    ap (λ t. packets_at e (is_subscriber s) t (changed_session r s)) (own_time r clock s) ∙ packets_here e r (is_subscriber s) (time_in s clock) s
+
+served_same : (e : Terms) (r : Change) (clock : ℕ) (over : Bool) (ss : List Session)
+    → served e (clock + r.later) over (map (changed_session r) ss) ≡ map (changed_reply r) (served e clock over ss)
+served_same e r clock over ss =
+    ap (λ xs. flat_map (λ s. served_at (has_whole_file over s) e (clock + r.later) s) xs) (by_slot_same e r ss)
+    ∙ flat_through (changed_session r) (λ s. served_at (has_whole_file over s) e (clock + r.later) s)
+    (λ s. served_at (has_whole_file over s) e clock s) (changed_reply r) (λ s. served_here e r clock (has_whole_file over s) s) (by_slot e ss)
+
+finished_here : (e : Terms) (r : Change) (clock : ℕ) (whole : Bool) (s : Session)
+    → finished_at whole e (clock + r.later) (changed_session r s) ≡ changed_session r (finished_at whole e clock s)
+finished_here e r clock true s = refl
+finished_here e r clock false s = reported_same e r clock s
+
+-- what is sent as time advances
+idle_told_same : (e : Terms) (r : Change) (clock : ℕ) (ss : List Session)
+    → idle_told e (clock + r.later) (map (changed_session r) ss) ≡ map (changed_reply r) (idle_told e clock ss)
+idle_told_same e r clock ss =
+    ap (λ xs. flat_map (λ s. told_if e.rules.callers (is_idle s (clock + r.later)) (clock + r.later) s) xs) (by_slot_same e r ss)
+    ∙ flat_through (changed_session r) (λ s. told_if e.rules.callers (is_idle s (clock + r.later)) (clock + r.later) s)
+    (λ s. told_if e.rules.callers (is_idle s clock) clock s) (changed_reply r)
+    (λ s. ap (λ b. told_if e.rules.callers b (clock + r.later) (changed_session r s)) (idle_same r clock s)
+    ∙ told_if_same r e.rules.callers (is_idle s clock) clock s) (by_slot e ss)
+
+-- before the first item the clock is 0 in both
+record IsChangedRoute (r : Change) (n m : Route) : Type 0 where
+  clock_is : (moment : ℕ) → max n.clock (moment + r.later) ≡ max m.clock moment + r.later
+  sessions_are : n.sessions ≡ map (changed_session r) m.sessions
+  closed_is : n.is_closed ≡ m.is_closed
+
+clock_same : (r : Change) (j i : Item) (n m : Route) → IsChangedItem r j i → IsChangedRoute r n m → clock_after j n ≡ clock_after i m + r.later
+clock_same r (Received d y) (Received c x) n m h k = ap (λ z. max n.clock z) h.1 ∙ k.clock_is x
+clock_same r (Tick y) (Tick x) n m h k = ap (λ z. max n.clock z) h ∙ k.clock_is x
+clock_same r (Close y) (Close x) n m h k = ap (λ z. max n.clock z) h ∙ k.clock_is x
+clock_same r (Received d y) (Tick x) n m h k = absurd h
+clock_same r (Tick y) (Received c x) n m h k = absurd h
+clock_same r (Received d y) (Close x) n m h k = absurd h
+clock_same r (Tick y) (Close x) n m h k = absurd h
+clock_same r (Close y) (Received c x) n m h k = absurd h
+clock_same r (Close y) (Tick x) n m h k = absurd h
+
+closes_same : (r : Change) (j i : Item) → IsChangedItem r j i → closes j ≡ closes i
+closes_same r (Received d y) (Received c x) h = refl
+closes_same r (Tick y) (Tick x) h = refl
+closes_same r (Close y) (Close x) h = refl
+closes_same r (Received d y) (Tick x) h = absurd h
+closes_same r (Tick y) (Received c x) h = absurd h
+closes_same r (Received d y) (Close x) h = absurd h
+closes_same r (Tick y) (Close x) h = absurd h
+closes_same r (Close y) (Received c x) h = absurd h
+closes_same r (Close y) (Tick x) h = absurd h
+
+taken_by_same : (e : Terms) (index : ℕ) (r : Change) (j i : Item) (n m : Route)
+    → IsChangedItem r j i → IsChangedRoute r n m → taken_by e index j n ≡ changed_taken r (taken_by e index i m)
+taken_by_same e index r j i n m h k =
+    let clock = clock_after i m in
+    ap (λ t. taken e index t j (advanced e t n.sessions)) (clock_same r j i n m h k)
+    ∙ ap (λ ss. taken e index (clock + r.later) j (advanced e (clock + r.later) ss)) k.sessions_are
+    ∙ ap (λ ss. taken e index (clock + r.later) j ss) (advanced_same e r clock m.sessions)
+    ∙ taken_same e index r clock j i h (advanced e clock m.sessions)
+
+passed_by_same : (e : Terms) (index : ℕ) (r : Change) (j i : Item) (n m : Route)
+    → IsChangedItem r j i → IsChangedRoute r n m → passed_by e index j n ≡ map (changed_session r) (passed_by e index i m)
+passed_by_same e index r j i n m h k =
+    let clock = clock_after i m in
+    ap (λ t. after_delivery e t (taken_by e index j n).sessions) (clock_same r j i n m h k)
+    ∙ ap (λ (t : Taken). after_delivery e (clock + r.later) t.sessions) (taken_by_same e index r j i n m h k)
+    ∙ after_delivery_same e r clock (taken_by e index i m).sessions
+
+goes_on : (a b later moment : ℕ) → a ≡ b + later → max a (moment + later) ≡ max b moment + later
+goes_on a b later moment same = omega (arith, same)
+
+sessions_same : (is_closed : Bool) (e : Terms) (index : ℕ) (r : Change) (j i : Item) (n m : Route) → IsChangedItem r j i
+    → IsChangedRoute r n m
+    → sessions_at is_closed e index j n ≡ map (changed_session r) (sessions_at is_closed e index i m)
+sessions_same true e index r j i n m h k = k.sessions_are
+sessions_same false e index r j i n m h k =
+    let clock = clock_after i m in
+    let others = passed_by e index j n in
+    let ss = passed_by e index i m in
+    let over = is_file_over e ss in
+    ap (λ t. map (finished e t (is_file_over e others)) others) (clock_same r j i n m h k)
+    ∙ ap (λ xs. map (finished e (clock + r.later) (is_file_over e xs)) xs) (passed_by_same e index r j i n m h k)
+    ∙ ap (λ b. map (finished e (clock + r.later) b) (map (changed_session r) ss)) (over_same e r ss)
+    ∙ map_through (changed_session r) (finished e (clock + r.later) over) (finished e clock over) (changed_session r)
+    (λ s. finished_here e r clock (has_whole_file over s) s) ss
+
+told_same : (e : Terms) (index : ℕ) (r : Change) (j i : Item) (n m : Route)
+    → IsChangedItem r j i → IsChangedRoute r n m → IsChangedRoute r (told_more e index j n) (told_more e index i m)
+told_same e index r j i n m h k =
+    record {
+      clock_is = λ moment. goes_on (clock_after j n) (clock_after i m) r.later moment (clock_same r j i n m h k);
+      sessions_are = ap (λ b. sessions_at b e index j n) k.closed_is ∙ sessions_same m.is_closed e index r j i n m h k;
+      closed_is = ap (λ b. b || closes j) k.closed_is ∙ ap (λ b. m.is_closed || b) (closes_same r j i h);
+    }
+
+replies_at_same : (is_closed : Bool) (e : Terms) (index : ℕ) (r : Change) (j i : Item) (n m : Route) → IsChangedItem r j i
+    → IsChangedRoute r n m
+    → replies_at is_closed e index j n ≡ map (changed_reply r) (replies_at is_closed e index i m)
+replies_at_same true e index r j i n m h k = refl
+replies_at_same false e index r j i n m h k =
+    let clock = clock_after i m in
+    let others = passed_by e index j n in
+    let ss = passed_by e index i m in
+    let over = is_file_over e ss in
+    let idle = idle_told e clock m.sessions in
+    let first = (taken_by e index i m).answers in
+    let second = packets_where e clock speaks ss in
+    let third = served e clock over ss in
+    ap
+    (λ t.
+    idle_told e t n.sessions ++ (taken_by e index j n).answers ++ packets_where e t speaks others ++ served e t (is_file_over e others) others)
+    (clock_same r j i n m h k)
+    ∙ ap
+    (λ xs.
+    idle_told e (clock + r.later) xs ++ (taken_by e index j n).answers ++ packets_where e (clock + r.later) speaks others
+    ++ served e (clock + r.later) (is_file_over e others) others)
+    k.sessions_are
+    ∙ ap
+    (λ xs.
+    xs ++ (taken_by e index j n).answers ++ packets_where e (clock + r.later) speaks others
+    ++ served e (clock + r.later) (is_file_over e others) others)
+    (idle_told_same e r clock m.sessions)
+    ∙ ap
+    (λ (t : Taken).
+    map (changed_reply r) idle ++ t.answers ++ packets_where e (clock + r.later) speaks others
+    ++ served e (clock + r.later) (is_file_over e others) others)
+    (taken_by_same e index r j i n m h k)
+    ∙ ap
+    (λ xs.
+    map (changed_reply r) idle ++ map (changed_reply r) first ++ packets_where e (clock + r.later) speaks xs
+    ++ served e (clock + r.later) (is_file_over e xs) xs)
+    (passed_by_same e index r j i n m h k)
+    ∙ ap
+    (λ x.
+    map (changed_reply r) idle ++ map (changed_reply r) first ++ packets_where e (clock + r.later) speaks (map (changed_session r) ss)
+    ++ served e (clock + r.later) x (map (changed_session r) ss))
+    (over_same e r ss)
+    ∙ ap
+    (λ xs.
+    map (changed_reply r) idle ++ map (changed_reply r) first ++ xs ++ served e (clock + r.later) over (map (changed_session r) ss))
+    (packets_same e r clock speaks (speaks_same r) ss)
+    ∙ ap (λ xs. map (changed_reply r) idle ++ map (changed_reply r) first ++ map (changed_reply r) second ++ xs)
+    (served_same e r clock over ss)
+    ∙ ap (λ xs. xs ++ map (changed_reply r) second ++ map (changed_reply r) third) (sym (map-append (changed_reply r) idle first))
+    ∙ ap (λ xs. xs ++ map (changed_reply r) third) (sym (map-append (changed_reply r) (idle ++ first) second))
+    ∙ sym (map-append (changed_reply r) (idle ++ first ++ second) third)
+
+replies_same : (e : Terms) (index : ℕ) (r : Change) (j i : Item) (n m : Route)
+    → IsChangedItem r j i → IsChangedRoute r n m → replies_to e index j n ≡ map (changed_reply r) (replies_to e index i m)
+replies_same e index r j i n m h k = ap (λ b. replies_at b e index j n) k.closed_is ∙ replies_at_same m.is_closed e index r j i n m h k
+
+at_first : (later moment : ℕ) → max 0 (moment + later) ≡ max 0 moment + later
+at_first later moment = omega arith
+
+after_same : (e : Terms) (index : ℕ) (r : Change) (js is : List Item) → AreChanged r js is → IsChangedRoute r (after e index js) (after e index is)
+after_same e index r [] [] h = record { clock_is = at_first r.later; sessions_are = refl; closed_is = refl }
+after_same e index r (j ∷ js) (i ∷ is) h = told_same e index r j i (after e index js) (after e index is) h.0 (after_same e index r js is h.1)
+after_same e index r [] (i ∷ is) h = absurd h
+after_same e index r (j ∷ js) [] h = absurd h
+
+-- all that a route ever replied, not yet as bytes
+abbrev pub all_replies : Terms → (index : ℕ) → List Item → List Reply
+all_replies e index [] = []
+all_replies e index (item ∷ items) = all_replies e index items ++ replies_to e index item (after e index items)
+
+pub all_same : (e : Terms) (index : ℕ) (r : Change) (js is : List Item)
+    → AreChanged r js is → all_replies e index js ≡ map (changed_reply r) (all_replies e index is)
+all_same e index r [] [] h = refl
+all_same e index r (j ∷ js) (i ∷ is) h =
+    ap (λ xs. xs ++ replies_to e index j (after e index js)) (all_same e index r js is h.1)
+    ∙ ap (λ xs. map (changed_reply r) (all_replies e index is) ++ xs)
+    (replies_same e index r j i (after e index js) (after e index is) h.0 (after_same e index r js is h.1))
+    ∙ sym (map-append (changed_reply r) (all_replies e index is) (replies_to e index i (after e index is)))
+all_same e index r [] (i ∷ is) h = absurd h
+all_same e index r (j ∷ js) [] h = absurd h

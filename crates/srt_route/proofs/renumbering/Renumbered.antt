@@ -1,0 +1,219 @@
+-- A route with other items: other sequence numbers, other timestamps, or later moments.
+use Rattle.std.proofs.Common.{◌≡◌, ℕ, ◌+◌, ◌%◌, ◌^◌, Option, None, Some, List, [], ◌∷◌, ◌++◌, map, Result, Ok, Err, refl, sym, ap, subst, ◌∙◌, arith}
+use Rattle.std.specs.Prelude.{option_map}
+use Rattle.std.proofs.lemmas.List.{map-append}
+use Rattle.srt_seq.specs.Terms.{Terms}
+use Rattle.srt_seq.specs.Items.{Datagram, Item, Received, Tick, Close}
+use Rattle.srt_packet.specs.declared.reading.PacketFault.{PacketFault}
+use Rattle.srt_packet.specs.Grammar.{Packet, Body, Data, Handshake, KeepAlive, Ack, Nak, CongestionWarning, Shutdown, AckAck, DropRequest}
+use Rattle.srt_packet.specs.Grammar.{PeerError, UserDefined}
+use Rattle.srt_packet.specs.Reading.{packet_in}
+use Rattle.srt_packet.specs.Text.{text}
+use Rattle.srt_packet.specs.declared.writing.Body.TheVariants as out
+use Rattle.srt_route.specs.declared.conclusion.Conclusion.{Conclusion}
+use Rattle.srt_route.specs.Past.{is_shutdown, ToPublisher, ToSubscriber}
+use Rattle.srt_route.specs.Route.{Output, Answers, Says, Ends, Reply, output_text, sent, concludes, after, replies_to, reply, solo}
+use Rattle.srt_route.specs.Shifted.{shifted, shifted_body, shifted_reading, renumbered, renumbered_datagram, renumbered_item}
+use Rattle.srt_route.specs.Shifted.{restamped_datagram, restamped_item, moved_item}
+use Rattle.srt_route.specs.ShiftLaws.{restamped_reading}
+use Rattle.srt_route.specs.Relabel.{Renumbers, Restamps, Moves}
+use Rattle.srt_route.proofs.renumbering.ShiftedWords.{stamps_stay}
+use Rattle.srt_route.proofs.renumbering.ShiftedPackets.{packets_shift}
+use Rattle.srt_route.proofs.renumbering.Restamped.{packets_restamp}
+use Rattle.srt_route.proofs.renumbering.ShiftedHandshakes.{conclusions_shift}
+use Rattle.srt_route.proofs.renumbering.ShiftedHeard.{publishers_hear, subscribers_hear}
+use Rattle.srt_route.proofs.renumbering.ShiftedOutput.{publishers_say, subscribers_say}
+use Rattle.srt_route.proofs.renumbering.ShiftedAnswers.{answers_say}
+use Rattle.srt_route.proofs.renumbering.Relabelled.{Change, IsChangedReading, IsChangedDatagram, IsChangedItem, AreChanged, changed_conclusion}
+use Rattle.srt_route.proofs.renumbering.Relabelled.{changed_output, changed_reply, all_replies, all_same}
+use Rattle.srt_route.proofs.model.Lists.{Each}
+use Rattle.srt_route.proofs.model.Sound.{IsSaid, all_said}
+
+-- what was replied, as bytes
+solo_is : (e : Terms) (index : ℕ) (items : List Item) → solo e index items ≡ map sent (all_replies e index items)
+solo_is e index [] = refl
+solo_is e index (item ∷ items) =
+    ap (λ xs. xs ++ reply e index (item ∷ items)) (solo_is e index items)
+    ∙ sym (map-append sent (all_replies e index items) (replies_to e index item (after e index items)))
+
+abbrev same : ℕ → ℕ
+same n = n
+
+same_stamp : (first word : ℕ) → Rattle.srt_seq.specs.Lift.stamped_from (same first) (same word) ≡ Rattle.srt_seq.specs.Lift.stamped_from first word
+same_stamp first word = refl
+
+not_later : (n : ℕ) → n ≡ n + 0
+not_later n = omega arith
+
+-- other timestamps
+abbrev restamp : (by : ℕ) → Change
+restamp by = record { stamp = λ w. (w + by) % 2 ^ 32; initial = same; later = 0; stamps_stay = stamps_stay by }
+
+-- all later
+abbrev move : (by : ℕ) → Change
+move by = record { stamp = same; initial = same; later = by; stamps_stay = same_stamp }
+
+-- other sequence numbers
+abbrev renumber : (by : ℕ) → Change
+renumber by = record { stamp = same; initial = shifted by; later = 0; stamps_stay = same_stamp }
+
+restamp_keeps : (by : ℕ) (c : Option Conclusion) → c ≡ option_map (changed_conclusion (restamp by)) c
+restamp_keeps by None = refl
+restamp_keeps by (Some c) = refl
+
+move_keeps : (by : ℕ) (c : Option Conclusion) → c ≡ option_map (changed_conclusion (move by)) c
+move_keeps by None = refl
+move_keeps by (Some c) = refl
+
+restamped_read : (by : ℕ) (read : Result Packet PacketFault) → IsChangedReading (restamp by) (restamped_reading by read) read
+restamped_read by (Ok p) =
+    record {
+      stamp_is = refl;
+      dest_is = refl;
+      publisher_hears = λ i. refl;
+      subscriber_hears = λ i. refl;
+      shutdown_is = refl;
+      concludes_is = restamp_keeps by (concludes p.body);
+    }
+restamped_read by (Err fault) = tt
+
+moved_read : (by : ℕ) (read : Result Packet PacketFault) → IsChangedReading (move by) read read
+moved_read by (Ok p) =
+    record {
+      stamp_is = refl;
+      dest_is = refl;
+      publisher_hears = λ i. refl;
+      subscriber_hears = λ i. refl;
+      shutdown_is = refl;
+      concludes_is = move_keeps by (concludes p.body);
+    }
+moved_read by (Err fault) = tt
+
+shutdown_stays : (by : ℕ) (body : Body) → is_shutdown (shifted_body by body) ≡ is_shutdown body
+shutdown_stays by (Data number encryption payload) = refl
+shutdown_stays by (Handshake info) = refl
+shutdown_stays by KeepAlive = refl
+shutdown_stays by (Ack number info) = refl
+shutdown_stays by (Nak info) = refl
+shutdown_stays by CongestionWarning = refl
+shutdown_stays by Shutdown = refl
+shutdown_stays by (AckAck number) = refl
+shutdown_stays by (DropRequest message first last) = refl
+shutdown_stays by PeerError = refl
+shutdown_stays by UserDefined = refl
+
+concludes_shifts : (by : ℕ) (body : Body) → concludes (shifted_body by body) ≡ option_map (changed_conclusion (renumber by)) (concludes body)
+concludes_shifts by (Data number encryption payload) = refl
+concludes_shifts by (Handshake info) = conclusions_shift by info
+concludes_shifts by KeepAlive = refl
+concludes_shifts by (Ack number info) = refl
+concludes_shifts by (Nak info) = refl
+concludes_shifts by CongestionWarning = refl
+concludes_shifts by Shutdown = refl
+concludes_shifts by (AckAck number) = refl
+concludes_shifts by (DropRequest message first last) = refl
+concludes_shifts by PeerError = refl
+concludes_shifts by UserDefined = refl
+
+renumbered_read : (by : ℕ) (read : Result Packet PacketFault) → IsChangedReading (renumber by) (shifted_reading by read) read
+renumbered_read by (Ok p) =
+    record {
+      stamp_is = refl;
+      dest_is = refl;
+      publisher_hears = λ i. publishers_hear by i p.body;
+      subscriber_hears = λ i. subscribers_hear by i p.body;
+      shutdown_is = shutdown_stays by p.body;
+      concludes_is = concludes_shifts by p.body;
+    }
+renumbered_read by (Err fault) = tt
+
+restamped_told : (by : ℕ) (d : Datagram) → IsChangedDatagram (restamp by) (restamped_datagram by d) d
+restamped_told by d =
+    record {
+      peer_is = refl;
+      reading_is = subst (λ read. IsChangedReading (restamp by) read (packet_in d.bytes)) (sym (packets_restamp by d.bytes))
+          (restamped_read by (packet_in d.bytes));
+    }
+
+moved_told : (by : ℕ) (d : Datagram) → IsChangedDatagram (move by) d d
+moved_told by d = record { peer_is = refl; reading_is = moved_read by (packet_in d.bytes) }
+
+renumbered_told : (by : ℕ) (d : Datagram) → IsChangedDatagram (renumber by) (renumbered_datagram by d) d
+renumbered_told by d =
+    record {
+      peer_is = refl;
+      reading_is = subst (λ read. IsChangedReading (renumber by) read (packet_in d.bytes)) (sym (packets_shift by d.bytes))
+          (renumbered_read by (packet_in d.bytes));
+    }
+
+restamped_item_is : (by : ℕ) (item : Item) → IsChangedItem (restamp by) (restamped_item by item) item
+restamped_item_is by (Received d m) = (restamped_told by d, not_later m)
+restamped_item_is by (Tick m) = not_later m
+restamped_item_is by (Close m) = not_later m
+
+moved_item_is : (by : ℕ) (item : Item) → IsChangedItem (move by) (moved_item by item) item
+moved_item_is by (Received d m) = (moved_told by d, refl)
+moved_item_is by (Tick m) = refl
+moved_item_is by (Close m) = refl
+
+renumbered_item_is : (by : ℕ) (item : Item) → IsChangedItem (renumber by) (renumbered_item by item) item
+renumbered_item_is by (Received d m) = (renumbered_told by d, not_later m)
+renumbered_item_is by (Tick m) = not_later m
+renumbered_item_is by (Close m) = not_later m
+
+all_changed : (r : Change) (change : Item → Item)
+    → ((item : Item) → IsChangedItem r (change item) item) → (items : List Item) → AreChanged r (map change items) items
+all_changed r change is [] = tt
+all_changed r change is (item ∷ items) = (is item, all_changed r change is items)
+
+-- if no number changes, no reply does
+same_output : (r : Change) → ((n : ℕ) → r.initial n ≡ n) → (x : Output) → changed_output r x ≡ x
+same_output r numbers (Answers caller a) = ap (λ n. Answers caller (record a { initial = n })) (numbers a.initial)
+same_output r numbers (Says caller initial time report) = ap (λ n. Says caller n time report) (numbers initial)
+same_output r numbers (Ends caller time) = refl
+
+same_replies : (r : Change) → ((n : ℕ) → r.initial n ≡ n) → (xs : List Reply) → map (changed_reply r) xs ≡ xs
+same_replies r numbers [] = refl
+same_replies r numbers (x ∷ xs) =
+    ap (λ o. record { peer = x.peer; packet = o } ∷ map (changed_reply r) xs) (same_output r numbers x.packet) ∙ ap (λ ys. x ∷ ys) (same_replies r numbers xs)
+
+alike : (e : Terms) (index : ℕ) (r : Change) → ((n : ℕ) → r.initial n ≡ n) → (js is : List Item) → AreChanged r js is → solo e index js ≡ solo e index is
+alike e index r numbers js is h =
+    solo_is e index js ∙ ap (λ xs. map sent xs) (all_same e index r js is h ∙ same_replies r numbers (all_replies e index is)) ∙ sym (solo_is e index is)
+
+pub restamps : Restamps
+restamps e index by items =
+    alike e index (restamp by) (λ n. refl) (map (restamped_item by) items) items
+    (all_changed (restamp by) (restamped_item by) (restamped_item_is by) items)
+
+pub moves : Moves
+moves e index by items = alike e index (move by) (λ n. refl) (map (moved_item by) items) items (all_changed (move by) (moved_item by) (moved_item_is by) items)
+
+-- a SHUTDOWN has no numbers
+shutdown_says : (by stamp dest : ℕ)
+    → renumbered by (text (record { stamp = stamp; dest = dest; body = out.Shutdown }))
+    ≡ text (record { stamp = stamp; dest = dest; body = out.Shutdown })
+unfolding renumbered
+shutdown_says by stamp dest = refl
+
+-- what is said with other numbers is the same bytes with those
+output_shifts : (by : ℕ) (x : Output) → IsSaid x → output_text (changed_output (renumber by) x) ≡ renumbered by (output_text x)
+output_shifts by (Answers caller a) h = sym (answers_say by caller a h)
+output_shifts by (Says caller initial time (ToPublisher report)) h = sym (publishers_say by caller initial time report h)
+output_shifts by (Says caller initial time (ToSubscriber report)) h = sym (subscribers_say by caller initial time report h)
+output_shifts by (Ends caller time) h = sym (shutdown_says by (time % 2 ^ 32) caller)
+
+all_shift : (by : ℕ) (xs : List Reply) → Each (λ (x : Reply). IsSaid x.packet) xs
+    → map sent (map (changed_reply (renumber by)) xs) ≡ map (renumbered_datagram by) (map sent xs)
+all_shift by [] h = refl
+all_shift by (x ∷ xs) h =
+    ap (λ bytes. record { peer = x.peer; bytes = bytes } ∷ map sent (map (changed_reply (renumber by)) xs)) (output_shifts by x.packet h.0)
+    ∙ ap (λ ys. renumbered_datagram by (sent x) ∷ ys) (all_shift by xs h.1)
+
+pub renumbers : Renumbers
+renumbers e index by items =
+    let changed = all_changed (renumber by) (renumbered_item by) (renumbered_item_is by) items in
+    solo_is e index (map (renumbered_item by) items)
+    ∙ ap (λ xs. map sent xs) (all_same e index (renumber by) (map (renumbered_item by) items) items changed)
+    ∙ all_shift by (all_replies e index items) (all_said e index items)
+    ∙ ap (λ xs. map (renumbered_datagram by) xs) (sym (solo_is e index items))

@@ -1,0 +1,86 @@
+-- A restamped datagram is the packet with another timestamp.
+use Rattle.std.proofs.Common.{◌≡◌, ℕ, ◌+◌, ◌%◌, ◌^◌, ◌<◌, ◌≤◌, Bool, true, false, cond, List, length, drop, Result, Ok, Err, nat_lt, ltb}
+use Rattle.std.proofs.Common.{refl, sym, ap, inl, inr, ◌∙◌, arith}
+use Rattle.std.proofs.lemmas.Bool.{cases_lt, cond-true, cond-false, lt-ltb, le-ltb}
+use Rattle.srt_seq.specs.Words.{word_at}
+use Rattle.srt_packet.specs.declared.reading.PacketFault.{PacketFault}
+use Rattle.srt_packet.specs.declared.reading.PacketFault.TheVariants.{Short, Long}
+use Rattle.srt_packet.specs.Grammar.{Packet, Body}
+use Rattle.srt_packet.specs.Reading.{packet_with, packet_in, body_in}
+use Rattle.srt_route.specs.Shifted.{with_word, restamped}
+use Rattle.srt_route.specs.ShiftLaws.{restamped_reading, PacketsRestamp, LengthsStay}
+use Rattle.srt_route.proofs.renumbering.PlacedWords.{length_with, word_before, word_there, word_after, rest_after}
+use Rattle.srt_route.proofs.renumbering.ShiftedPackets.{length_renumbered}
+
+-- a packet's parts, and what is read of them
+of_parts : (long stamp dest : ℕ) → Result Body PacketFault → Result Packet PacketFault
+of_parts long stamp dest body = cond (nat_lt long 16) (Err Short) (cond (nat_lt 1472 long) (Err Long) (packet_with stamp dest body))
+
+with_stamp : (by stamp dest : ℕ) (body : Result Body PacketFault)
+    → packet_with ((stamp + by) % 2 ^ 32) dest body ≡ restamped_reading by (packet_with stamp dest body)
+with_stamp by stamp dest (Ok body) = refl
+with_stamp by stamp dest (Err fault) = refl
+
+parts_restamp : (by long stamp dest : ℕ) (body : Result Body PacketFault)
+    → of_parts long ((stamp + by) % 2 ^ 32) dest body ≡ restamped_reading by (of_parts long stamp dest body)
+unfolding of_parts
+parts_restamp by long stamp dest body = of_tests (nat_lt long 16) (nat_lt 1472 long)
+  where
+    of_tests : (short over : Bool)
+        → cond short (Err Short) (cond over (Err Long) (packet_with ((stamp + by) % 2 ^ 32) dest body))
+        ≡ restamped_reading by (cond short (Err Short) (cond over (Err Long) (packet_with stamp dest body)))
+    of_tests true over = refl
+    of_tests false true = refl
+    of_tests false false = with_stamp by stamp dest body
+
+same_parts : (bytes rest : List ℕ) (long stamp dest first second : ℕ) → length bytes ≡ long → word_at bytes 8 ≡ stamp
+    → word_at bytes 12 ≡ dest → word_at bytes 0 ≡ first → word_at bytes 4 ≡ second → drop 16 bytes ≡ rest
+    → packet_in bytes ≡ of_parts long stamp dest (body_in first second rest)
+unfolding of_parts
+same_parts bytes rest long stamp dest first second l s d a b r =
+    ap (λ n. of_parts n (word_at bytes 8) (word_at bytes 12) (body_in (word_at bytes 0) (word_at bytes 4) (drop 16 bytes))) l
+    ∙ ap (λ n. of_parts long n (word_at bytes 12) (body_in (word_at bytes 0) (word_at bytes 4) (drop 16 bytes))) s
+    ∙ ap (λ n. of_parts long stamp n (body_in (word_at bytes 0) (word_at bytes 4) (drop 16 bytes))) d
+    ∙ ap (λ n. of_parts long stamp dest (body_in n (word_at bytes 4) (drop 16 bytes))) a
+    ∙ ap (λ n. of_parts long stamp dest (body_in first n (drop 16 bytes))) b
+    ∙ ap (λ n. of_parts long stamp dest (body_in first second n)) r
+
+long_restamps : (by : ℕ) (bytes : List ℕ)
+    → 16 ≤ length bytes → packet_in (with_word 8 ((word_at bytes 8 + by) % 2 ^ 32) bytes) ≡ restamped_reading by (packet_in bytes)
+unfolding of_parts
+long_restamps by bytes h =
+    let n = (word_at bytes 8 + by) % 2 ^ 32 in
+    let inside : 8 ≤ length bytes = omega (arith, h) in
+    same_parts (with_word 8 n bytes) (drop 16 bytes) (length bytes) n (word_at bytes 12) (word_at bytes 0) (word_at bytes 4)
+    (length_with 8 n bytes (omega (arith, h))) (word_there 8 n bytes inside) (word_after 8 n 12 bytes inside (omega arith))
+    (word_before 8 n 0 bytes inside (omega arith)) (word_before 8 n 4 bytes inside (omega arith))
+    (rest_after 8 n 16 bytes (omega (arith, h)) (omega arith))
+    ∙ parts_restamp by (length bytes) (word_at bytes 8) (word_at bytes 12) (body_in (word_at bytes 0) (word_at bytes 4) (drop 16 bytes))
+
+is_short : (bytes : List ℕ) → length bytes < 16 → packet_in bytes ≡ Err Short
+is_short bytes h = cond-true (ltb (length bytes) 16) (Err Short) _ (lt-ltb (length bytes) 16 h)
+
+restamped_short : (by : ℕ) (bytes : List ℕ) → length bytes < 16 → restamped by bytes ≡ bytes
+unfolding restamped
+restamped_short by bytes h = cond-true (ltb (length bytes) 16) bytes _ (lt-ltb (length bytes) 16 h)
+
+restamped_long : (by : ℕ) (bytes : List ℕ) → 16 ≤ length bytes → restamped by bytes ≡ with_word 8 ((word_at bytes 8 + by) % 2 ^ 32) bytes
+unfolding restamped
+restamped_long by bytes h = cond-false (ltb (length bytes) 16) bytes _ (le-ltb (length bytes) 16 h)
+
+pub packets_restamp : PacketsRestamp
+packets_restamp by bytes =
+    elim (cases_lt (length bytes) 16) [
+      | inl short ↦ ap packet_in (restamped_short by bytes short) ∙ is_short bytes short ∙ sym (ap (restamped_reading by) (is_short bytes short))
+      | inr long ↦ ap packet_in (restamped_long by bytes long) ∙ long_restamps by bytes long
+    ]
+
+length_restamped : (by : ℕ) (bytes : List ℕ) → length (restamped by bytes) ≡ length bytes
+length_restamped by bytes =
+    elim (cases_lt (length bytes) 16) [
+      | inl short ↦ ap length (restamped_short by bytes short)
+      | inr long ↦ ap length (restamped_long by bytes long) ∙ length_with 8 ((word_at bytes 8 + by) % 2 ^ 32) bytes (omega (arith, long))
+    ]
+
+pub lengths_stay : LengthsStay
+lengths_stay by bytes = (length_renumbered by bytes, length_restamped by bytes)

@@ -1,0 +1,12 @@
+use Rattle.std.proofs.Common.{ℕ, List}
+use Rattle.srt_seq.specs.Terms.{Terms}
+use Rattle.srt_route.specs.Sessions.{Session}
+use Rattle.srt_route.specs.Tables.{IsTable}
+use Rattle.srt_route.specs.Totals.{AddUp}
+use Rattle.srt_route.proofs.route.Route.totals.Given as goal
+
+-- the sums have what the open sessions in the slots below `at` count
+abbrev pub invariant-loop-at : goal.invariant-loop-at
+invariant-loop-at l =
+    (e : Terms) (index clock : ℕ) (sessions : List Session)
+    → IsTable e index clock l.self.table sessions → AddUp e index sessions l.at l.self.ledger.totals l.totals

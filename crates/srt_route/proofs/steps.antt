@@ -1,0 +1,21 @@
+-- The steps of an event, one after another, and a look: what the code's calls make of a table is what the definitions say.
+pub mod Aging
+pub mod Slots
+pub mod Telling
+pub mod Noted
+pub mod Starting
+pub mod Steps
+pub mod Taking
+pub mod Feeding
+pub mod Passing
+pub mod Turns
+pub mod Delivered
+pub mod Saying
+pub mod Serving
+pub mod Stepping
+pub mod Noting
+pub mod Told
+pub mod Tallied
+pub mod Views
+pub mod Overtaking
+pub mod Draining

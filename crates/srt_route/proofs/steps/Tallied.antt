@@ -1,0 +1,67 @@
+-- What is counted of openings and refusals.
+use Rattle.std.proofs.Common.{◌≡◌, ℕ, ◌≢◌, ◌<◌, ◌≤◌, ◌^◌, nat_eq, Bool, true, false, cond, Option, None, Some, refl, sym, ap, subst, ◌∙◌}
+use Rattle.std.proofs.lemmas.Bool.{ne_eqb}
+use Rattle.srt_seq.specs.declared.shared.Peer.{Peer}
+use Rattle.srt_seq.specs.Terms.{Terms}
+use Rattle.srt_seq.specs.Items.{Item}
+use Rattle.srt_packet.specs.Grammar.{Packet}
+use Rattle.srt_route.specs.declared.ledger.Ledger.{Ledger}
+use Rattle.srt_route.specs.declared.ledger.Refusals.{Refusals}
+use Rattle.srt_route.specs.declared.table.Table.{Table}
+use Rattle.srt_route.specs.inside.Calls.{AdvancesTo}
+use Rattle.srt_route.specs.Sessions.{Session, advanced}
+use Rattle.srt_route.specs.Route.{Route, clock_after, concludes}
+use Rattle.srt_route.specs.Tables.{IsTable}
+use Rattle.srt_route.specs.Ledgers.{CountsStay, idle_cause, NotesEach}
+use Rattle.srt_route.specs.declared.ledger.EndedSession.{EndedSession}
+use Rattle.srt_route.specs.Ends.{Ends, EndsIn, arrived_end, destined_end}
+use Rattle.srt_route.specs.Tallies.{Tally, Tallies, conclusion_tally, item_tally, packet_tally, tally_after, tally_of}
+
+-- counts that stay
+pub tally_stays : (old new : Ledger) → CountsStay old new → tally_of new ≡ tally_of old
+tally_stays old new h =
+    ap (λ (n : ℕ). record { opened = n; refusals = new.refusals }) h.0
+    ∙ ap (λ (r : Refusals). record { opened = old.opened; refusals = r }) h.1
+
+-- a packet with a destination, and one without
+pub has_destination : (packet : Packet) → packet.dest ≢ 0 → false ≡ nat_eq packet.dest 0
+has_destination packet h = sym (ne_eqb packet.dest 0 h)
+
+pub destined : (clock : ℕ) (peer : Peer) (packet : Packet) (table : Table) (old new : Ledger) → packet.dest ≢ 0
+    → Ends clock (λ e index. arrived_end e index clock peer packet) table old new
+    → Ends clock (λ e index. destined_end e index clock peer packet) table old new
+destined clock peer packet table old new h ends =
+    subst (λ (b : Bool). Ends clock (λ e index ss s. cond b None (arrived_end e index clock peer packet ss s)) table old new) (has_destination packet h) ends
+
+-- nothing ends without a cause
+pub nothing_ends : (index moment : ℕ) (f : Option Session) (x : Option EndedSession) → EndsIn index (λ s. None) moment f x x
+nothing_ends index moment None x = refl
+nothing_ends index moment (Some s) x = refl
+
+pub destined_tally : (clock : ℕ) (peer : Peer) (packet : Packet) (table : Table) (old new : Ledger)
+    → packet.dest ≢ 0 → CountsStay old new → Tallies clock (λ e ss. packet_tally e peer packet ss) table old new
+destined_tally clock peer packet table old new h stays e index ss is =
+    tally_stays old new stays
+    ∙ ap (λ (b : Bool). cond b (conclusion_tally e peer ss (concludes packet.body) (tally_of old)) (tally_of old)) (has_destination packet h)
+
+pub undestined_tally : (clock : ℕ) (peer : Peer) (packet : Packet) (table : Table) (old new : Ledger) → packet.dest ≡ 0
+    → Tallies clock (λ e ss. conclusion_tally e peer ss (concludes packet.body)) table old new
+    → Tallies clock (λ e ss. packet_tally e peer packet ss) table old new
+undestined_tally clock peer packet table old new h counts e index ss is = counts e index ss is ∙ rw (h) refl
+
+-- an event
+pub closed_tally : (e : Terms) (item : Item) (m : Route) (t : Tally) → m.is_closed ≡ true → t ≡ tally_after e item m t
+closed_tally e item m t closed = rw (closed) refl
+
+pub step_tally : (e : Terms) (index before clock : ℕ) (item : Item) (table aged_to : Table) (m : Route) (old mid new : Ledger)
+    → m.is_closed ≡ false → clock ≡ clock_after item m → IsTable e index before table m.sessions → before ≤ clock → clock < 2 ^ 62
+    → AdvancesTo clock table aged_to → NotesEach (idle_cause clock) clock table old mid
+    → Tallies clock (λ d ss. item_tally d item ss) aged_to mid new
+    → tally_of new ≡ tally_after e item m (tally_of old)
+step_tally e index before clock item table aged_to m old mid new open_is clock_is is later early ages idle taken =
+    let first = taken e index (advanced e clock m.sessions) (ages e index before m.sessions is later early) in
+    let same = tally_stays old mid idle.counts in
+    first
+    ∙ (ap (λ (t : Tally). item_tally e item (advanced e clock m.sessions) t) same
+    ∙ (ap (λ (n : ℕ). item_tally e item (advanced e n m.sessions) (tally_of old)) clock_is
+    ∙ ap (λ (b : Bool). cond b (tally_of old) (item_tally e item (advanced e (clock_after item m) m.sessions) (tally_of old))) (sym open_is)))

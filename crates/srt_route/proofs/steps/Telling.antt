@@ -1,0 +1,76 @@
+-- What sessions are told whose peers are idle.
+use Rattle.std.proofs.Common.{◌≡◌, ℕ, ◌+◌, ◌<◌, Bool, true, false, Option, None, Some, List, [], map, find, not, refl, ap, ◌∙◌}
+use Rattle.std.proofs.lemmas.Bool.{and_parts}
+use Rattle.srt_seq.specs.declared.shared.Callers.{Callers}
+use Rattle.srt_seq.specs.declared.shared.Callers.TheVariants.{Draft, Libsrt}
+use Rattle.srt_seq.specs.Terms.{Terms}
+use Rattle.srt_pub.specs.declared.session.Publisher.{Publisher}
+use Rattle.srt_route.specs.declared.replies.Reply.{Reply}
+use Rattle.srt_route.specs.declared.seat.Session.{Session as TheSession}
+use Rattle.srt_route.specs.declared.seat.Seat.{Seat}
+use Rattle.srt_route.specs.Sessions.{Session, is_idle, is_open_in, is_over_at, is_silent_at, publishes}
+use Rattle.srt_route.specs.Route.{Reply as Answer, sent, told_if}
+use Rattle.srt_route.specs.Tables.{IsSeat, IsSession, IsStored, is_kept_subscriber, is_stored_over, peer_idle, session_passes}
+use Rattle.srt_route.specs.inside.OneSession.{shutdowns_if}
+use Rattle.srt_route.specs.inside.Reports.{AreSaid}
+use Rattle.srt_route.proofs.model.Ending.{told_alike}
+use Rattle.srt_route.proofs.steps.Aging.{not_true}
+use Rattle.srt_route.proofs.steps.Saying.{same_said}
+use Rattle.srt_route.proofs.steps.Slots.{IsSaying, said_of, saying_more}
+
+-- what one session is told
+abbrev pub told_one : Terms → (clock : ℕ) → Session → List Answer
+told_one e clock s = told_if e.rules.callers (is_idle s clock) clock s
+
+-- a stored session's peer is idle if its session's is
+idle_is : (e : Terms) (index clock : ℕ) (t : TheSession) (s : Session) → IsSession e index t s → peer_idle clock t ≡ is_idle s clock
+idle_is e index clock t s is =
+    ap (λ (d : Option ℕ). is_silent_at d t.heard clock) is.drains_is ∙ ap (λ (n : ℕ). is_silent_at s.drains n clock) is.heard_is
+
+-- a session that isn't over isn't idle
+not_idle : (drains : Option ℕ) (heard clock : ℕ) → is_over_at drains heard clock ≡ false → is_silent_at drains heard clock ≡ false
+not_idle None heard clock h = h
+not_idle (Some until) heard clock h = refl
+
+-- a seat is told what its slot is
+seat_told : (e : Terms) (index clock : ℕ) (o : Option TheSession) (g : Option Session) → IsStored e index o g
+    → shutdowns_if e.rules.callers (session_passes (peer_idle clock) o) clock o ≡ map sent (said_of (told_one e clock) g)
+seat_told e index clock None None is = none_told e.rules.callers
+  where
+    none_told : (c : Callers) → shutdowns_if c false clock None ≡ []
+    none_told Draft = refl
+    none_told Libsrt = refl
+seat_told e index clock None (Some s) is = absurd is
+seat_told e index clock (Some t) None is = absurd is
+seat_told e index clock (Some t) (Some s) is =
+    told_alike e index clock e.rules.callers (peer_idle clock t) t s is
+    ∙ ap (λ (b : Bool). map sent (told_if e.rules.callers b clock s)) (idle_is e index clock t s is)
+
+-- one slot more
+pub idle_slot : (e : Terms) (index earlier clock : ℕ) (p : Publisher) (ss : List Session) (at : ℕ) (x : Seat) (callers : Callers)
+    (before now then_ : List Reply) (places more most : ℕ)
+    → at < e.sessions → IsSeat e index earlier at p x ss → callers ≡ e.rules.callers
+    → AreSaid now then_ more most (shutdowns_if callers (session_passes (peer_idle clock) x.session) clock x.session)
+    → IsSaying (told_one e clock) e at ss before now places more
+    → IsSaying (told_one e clock) e (at + 1) ss before then_ places most
+idle_slot e index earlier clock p ss at x callers before now then_ places more most below is same says h =
+    saying_more (told_one e clock) e ss at before now then_ places more most below
+    (same_said
+    (ap (λ (c : Callers). shutdowns_if c (session_passes (peer_idle clock) x.session) clock x.session) same
+    ∙ seat_told e index clock x.session (find (is_open_in at) ss) is.session_is)
+    says)
+    h
+
+-- a subscriber's session that isn't idle is told nothing
+pub kept_untold : (clock : ℕ) (callers : Callers) (o : Option TheSession) → session_passes (is_kept_subscriber clock) o ≡ true
+    → shutdowns_if callers (session_passes (peer_idle clock) o) clock o ≡ []
+kept_untold clock callers None kept = absurd (let bad : false ≡ true = kept in cc)
+kept_untold clock callers (Some t) kept =
+    ap (λ (b : Bool). shutdowns_if callers b clock (Some t))
+    (not_idle t.drains t.heard clock
+    (not_true (is_stored_over clock t) (and_parts (not (is_stored_over clock t)) (not (publishes t.role)) kept).0))
+    ∙ by callers
+  where
+    by : (c : Callers) → shutdowns_if c false clock (Some t) ≡ []
+    by Draft = refl
+    by Libsrt = refl

@@ -1,0 +1,6 @@
+-- How a table stands for its sessions: seats, stored sessions, and the buffers of two publishers.
+pub mod TwoBuffers
+pub mod Seats
+pub mod Kept
+pub mod Stored
+pub mod Publishers

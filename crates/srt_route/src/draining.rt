@@ -1,0 +1,197 @@
+//! Draining, where the callers speak libsrt: a publisher's session that its peer ends goes on while something of it is left
+//! to deliver. It takes and sends nothing any more, stays active, and ends once nothing is left, or when its time is over.
+
+ghost use Rattle.std.specs.Prelude.{◌≡◌, ◌<◌, ◌^◌, length};
+ghost use Rattle.srt_packet.specs.View.{body_of};
+ghost use Rattle.srt_route.specs.Route.{drain_end};
+ghost use Rattle.srt_route.specs.Ledgers.{CountsStay};
+ghost use Rattle.srt_route.specs.Sessions.{renewed};
+ghost use Rattle.srt_route.specs.Tables.{seat_settled};
+ghost use Rattle.srt_route.specs.Totals.{SumsGrow};
+ghost use Rattle.srt_route.specs.inside.Drains.{DeliversAndSettles, Drains, DrainsFrom, EndsDrained, EndsSettled, GivesSome, HasLeft, IsDrained, SettlesTo};
+ghost use Rattle.srt_route.specs.inside.OneSession.{end_unless};
+
+use crate::delivery::{deliver, room_of_all};
+use crate::files::note_end;
+use crate::ledger::{Ledger, drained_cause};
+use crate::seat::{Seat, count_publishers, publishes};
+use crate::standby::{active_buffers, is_active_by};
+use crate::table::Table;
+use crate::view::latency_in;
+use srt_packet::Kind;
+use srt_pub::PubEnd;
+use srt_seq::limits::PEER_IDLE_TIMEOUT_US;
+use srt_seq::{Callers, Mode, Role};
+
+/// Until when the session of this slot, a publisher's, drains after a packet; None if it doesn't. It does after a SHUTDOWN
+/// if it is the active one and something is left to deliver, for its delay and five seconds.
+pub fn drains_after(table: &Table, at: usize, kind: &Kind<'_>, clock: u64) -> Option<u64>
+    requires early { clock < 2 ^ 62 }
+    requires inside { at < length table.now.seats.items }
+    ensures { Drains at (body_of kind.now) clock table.now result }
+{
+    match table.rules.callers {
+        Callers::Draft => None,
+        Callers::Libsrt => drains_from(table, at, kind, clock),
+    }
+}
+
+/// The same where the callers speak libsrt.
+fn drains_from(table: &Table, at: usize, kind: &Kind<'_>, clock: u64) -> Option<u64>
+    requires early { clock < 2 ^ 62 }
+    requires inside { at < length table.now.seats.items }
+    ensures { DrainsFrom at (body_of kind.now) clock table.now result }
+{
+    let Kind::Shutdown = kind else {
+        return None;
+    };
+    let active = active_buffers(table);
+    match &table.seats[at].session {
+        Some(session) => {
+            if !is_active_by(active, session) {
+                return None;
+            }
+            if !has_left(table, at) {
+                return None;
+            }
+            let delay = u64::from(latency_in(Role::Publish, &session.answer)) * 1000;
+            Some(clock + delay + PEER_IDLE_TIMEOUT_US)
+        }
+        None => None,
+    }
+}
+
+/// Whether something is left to deliver of the session that is open in this slot: a subscriber's has nothing.
+fn has_left(table: &Table, at: usize) -> bool
+    requires { at < length table.now.seats.items }
+    ensures { HasLeft at table.now result }
+{
+    match &table.seats[at].session {
+        Some(session) => {
+            if !publishes(session.role) {
+                return false;
+            }
+            table.publishers[session.buffers.place()].has_undelivered()
+        }
+        None => false,
+    }
+}
+
+/// The end of a publisher's session by a packet, unless it drains from then on.
+pub fn end_unless(drains: Option<u64>, end: Option<PubEnd>) -> Option<PubEnd>
+    ensures { result ≡ end_unless drains end }
+{
+    match drains {
+        Some(_) => None,
+        None => end,
+    }
+}
+
+/// Whether the active publisher delivers something now.
+fn gives_some(table: &Table, clock: u64) -> bool
+    requires { clock < 2 ^ 62 }
+    ensures { GivesSome clock table.now result }
+{
+    match active_buffers(table) {
+        Some(active) => {
+            let room = room_of_all(table);
+            table.publishers[active.place()]
+                .next_due(clock, room)
+                .is_some()
+        }
+        None => false,
+    }
+}
+
+/// Whether a session drains in this slot, and nothing of it is left to deliver.
+fn is_drained(table: &Table, at: usize) -> bool
+    requires { at < length table.now.seats.items }
+    ensures { IsDrained at table.now result }
+{
+    match &table.seats[at].session {
+        Some(session) => match session.drains {
+            Some(_) => !has_left(table, at),
+            None => false,
+        },
+        None => false,
+    }
+}
+
+/// The moment until which a session drains after an event's deliveries: in buffer mode five seconds from each one.
+fn renewed(mode: Mode, delivered: bool, clock: u64, until: u64) -> u64
+    requires { clock < 2 ^ 62 }
+    ensures { result ≡ renewed mode delivered clock until }
+{
+    match mode {
+        Mode::Live => until,
+        Mode::Buffer => {
+            if delivered {
+                clock + PEER_IDLE_TIMEOUT_US
+            } else {
+                until
+            }
+        }
+    }
+}
+
+impl Seat {
+    /// After an event's deliveries: the session here ends if it `ends`; else, if it drains, it has its time anew.
+    fn settle(&mut self, ends: bool, mode: Mode, delivered: bool, clock: u64)
+        requires { clock < 2 ^ 62 }
+        ensures { self.new ≡ seat_settled ends mode delivered clock self.old }
+    {
+        if ends {
+            self.session = None;
+            return;
+        }
+        if let Some(session) = &mut self.session {
+            if let Some(until) = session.drains {
+                session.drains = Some(renewed(mode, delivered, clock, until));
+            }
+        }
+    }
+}
+
+/// Whether a publisher's session ended that drained, by the number of open ones before and after: by its own SHUTDOWN.
+fn drain_end(before: usize, after: usize) -> Option<bool>
+    ensures { result ≡ drain_end before after }
+{
+    if after < before { Some(true) } else { None }
+}
+
+/// After an event's deliveries: each session ends that drains and has nothing left.
+fn settle_each(table: &mut Table, ledger: &mut Ledger, delivered: bool, clock: u64)
+    requires { clock < 2 ^ 62 }
+    ensures table { SettlesTo clock delivered table.old table.new }
+    ensures ends { EndsDrained clock table.old ledger.old ledger.new }
+    ensures counts { CountsStay ledger.old ledger.new }
+    ensures sums { SumsGrow ledger.old.totals ledger.new.totals }
+{
+    let mode = table.mode;
+    for at in 0..table.seats.len() {
+        let ends = is_drained(table, at);
+        ledger.note(table, at, drained_cause(ends), clock);
+        table.seats[at].settle(ends, mode, delivered, clock);
+    }
+}
+
+/// Step 4: the publishers deliver, and each session ends that drains and has nothing left.
+pub fn deliver_and_settle(table: &mut Table, ledger: &mut Ledger, clock: u64)
+    requires { clock < 2 ^ 62 }
+    ensures table { DeliversAndSettles clock table.old table.new }
+    ensures ends { EndsSettled clock table.old ledger.old ledger.new }
+    ensures counts { CountsStay ledger.old ledger.new }
+    ensures sums { SumsGrow ledger.old.totals ledger.new.totals }
+{
+    match table.rules.callers {
+        Callers::Draft => deliver(table, clock),
+        Callers::Libsrt => {
+            let delivered = gives_some(table, clock);
+            deliver(table, clock);
+            let before = count_publishers(&table.seats);
+            settle_each(table, ledger, delivered, clock);
+            let end = drain_end(before, count_publishers(&table.seats));
+            note_end(table, end);
+        }
+    }
+}

@@ -1,0 +1,130 @@
+//! Handshakes, of callers and of listeners (section 3.2.1).
+
+ghost use Rattle.std.specs.Prelude.{◌≡◌, [], ◌∷◌, ◌++◌};
+ghost use Rattle.std.specs.List.{flat_map};
+ghost use Rattle.srt_samples.specs.Samples.{bytes_of, packet, handshake_bytes, block_bytes, induction_words, conclusion_words, words};
+
+use crate::samples::{Sample, handshake_of};
+
+/// What a caller says of itself in both of its handshakes.
+#[derive(Clone, Copy)]
+pub struct Caller {
+    /// Its socket ID.
+    pub id: u32,
+    /// The sequence number of the first data packet.
+    pub initial: u32,
+    /// The maximum transmission unit, in bytes with all headers.
+    pub mtu: u32,
+    /// The flow window, in packets.
+    pub window: u32,
+    /// The cookie that it gives back in its conclusion.
+    pub cookie: u32,
+}
+
+/// The handshake type (section 3.2.1, table 4).
+#[derive(Clone, Copy)]
+pub enum Phase {
+    /// The first exchange.
+    Induction,
+    /// The second exchange.
+    Conclusion,
+    /// The second exchange, refused with this code.
+    Refused(u32),
+}
+
+/// The words of a handshake before its extension blocks (section 3.2.1).
+#[derive(Clone, Copy)]
+pub struct Handshake {
+    /// 4 in a caller's induction, else 5.
+    pub version: u32,
+    /// The encryption field in the upper half, the extension field in the lower one.
+    pub fields: u32,
+    /// The sequence number of the first data packet.
+    pub initial: u32,
+    /// The maximum transmission unit, in bytes with all headers.
+    pub mtu: u32,
+    /// The flow window, in packets.
+    pub window: u32,
+    /// The handshake type.
+    pub phase: Phase,
+    /// The socket ID of the sender.
+    pub id: u32,
+    /// The cookie.
+    pub cookie: u32,
+    /// The first word of the peer's IP address; the others are 0.
+    pub address: u32,
+}
+
+/// What HSREQ and HSRSP say (section 3.2.1.1).
+#[derive(Clone, Copy)]
+pub struct Offer {
+    /// The version of SRT.
+    pub version: u32,
+    /// The flags.
+    pub flags: u32,
+    /// The receiver's delay, in milliseconds.
+    pub receiver_ms: u16,
+    /// The sender's delay, in milliseconds.
+    pub sender_ms: u16,
+}
+
+/// An extension block (section 3.2.1).
+#[derive(Clone, Copy)]
+pub enum Block<'a> {
+    /// HSREQ.
+    Request(Offer),
+    /// HSRSP.
+    Response(Offer),
+    /// A Stream ID (section 3.2.1.3).
+    StreamId(&'a str),
+    /// A congestion control type.
+    Congestion(&'a str),
+}
+
+/// A handshake with these words and blocks.
+pub fn handshake_packet<'a>(handshake: Handshake, blocks: &'a [Block<'a>]) -> Sample<'a>
+    ensures { bytes_of result ≡ packet 0x8000_0000 0 0 0 (handshake_bytes handshake ++ flat_map block_bytes blocks.now) [] }
+{
+    handshake_of(handshake, blocks)
+}
+
+/// A caller's induction, from 127.0.0.1 (section 4.3.1.1).
+pub fn induction<'a>(caller: Caller) -> Sample<'a>
+    ensures { bytes_of result ≡ packet 0x8000_0000 0 0 0 (words (induction_words caller) ++ []) [] }
+{
+    handshake_packet(
+        Handshake {
+            version: 4,
+            fields: 2,
+            initial: caller.initial,
+            mtu: caller.mtu,
+            window: caller.window,
+            phase: Phase::Induction,
+            id: caller.id,
+            cookie: 0,
+            address: 0x0100_007f,
+        },
+        &[],
+    )
+}
+
+/// A caller's conclusion, from 127.0.0.1, with these blocks; its extension field says HSREQ and CONFIG, whatever the
+/// blocks are (section 4.3.1.2).
+pub fn conclusion<'a>(caller: Caller, blocks: &'a [Block<'a>]) -> Sample<'a>
+    ensures { bytes_of result ≡ packet 0x8000_0000 0 0 0 (words (conclusion_words caller) ++ flat_map block_bytes blocks.now) [] }
+{
+    handshake_packet(
+        Handshake {
+            version: 5,
+            fields: 5,
+            initial: caller.initial,
+            mtu: caller.mtu,
+            window: caller.window,
+            phase: Phase::Conclusion,
+            id: caller.id,
+            cookie: caller.cookie,
+            address: 0x0100_007f,
+        },
+        blocks,
+    )
+}

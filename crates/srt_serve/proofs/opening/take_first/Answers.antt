@@ -1,0 +1,15 @@
+use Rattle.std.proofs.Common.{ap}
+use Rattle.srt_mailbox.specs.Identities.{identity_in}
+use Rattle.srt_mailbox.specs.Places.{came}
+use Rattle.srt_poller.specs.declared.ends.Ends.{Ends as TheEnds}
+use Rattle.srt_serve.proofs.Openings.{first_taken}
+use Rattle.srt_serve.proofs.opening.take_first.Goals as goal
+
+pub returns-clause-taken : goal.returns-clause-taken
+returns-clause-taken c =
+    let given = c.in-Some-next_poller.ensures.some in
+    let taken : TheEnds = record { ingress = c.in-Some-next_poller.taken.ingress; drain = c.in-Some-next_poller.taken.drain } in
+    let first =
+    first_taken (came c.args.routes.now) (came c.next_poller.new.self) given.0 _ (identity_in c.args.seat.cell) taken c.routes-index.result
+    given.1 given.2 given.3.0 given.3.1 c.routes-index.ensures c.came_to.ensures (ap (λ s. identity_in s.cell) c.in-Ok.ensures.put.1) in
+    (taken, first.0, c.in_ok-push.ensures.items, first.1)

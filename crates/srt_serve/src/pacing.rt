@@ -1,0 +1,44 @@
+//! How long the threads of a run sleep, and how much work makes them share it. Durations are in microseconds, by their
+//! names `_US`; all else are counts.
+
+/// How long a worker that found nothing to do sleeps at most before it looks again.
+pub const NAP_US: u64 = 500;
+
+/// How long a worker that found nothing again sleeps at most, and how long one waits at most in reserve.
+pub const SLEEP_US: u64 = 100_000;
+
+/// How long one worker sleeps at most for each route at which it found a little to do, if there were many: half a tick
+/// for as many routes as there can be.
+pub const DOZE_PER_ROUTE_US: u64 = 10;
+
+/// How many sleeps of `SLEEP_US` the polling thread makes at most while it waits for the others. Each of at most 18
+/// threads that arrives ends one early, so it waits for ten seconds or more.
+pub const GATHER_SLEEPS: u32 = 120;
+
+/// A round that read at least this many datagrams leaves them to the workers, and wakes one even if another is awake, if
+/// they are for few routes.
+pub const MANY_DATAGRAMS: u32 = 64;
+
+/// A round is for few routes if it read at least this many datagrams for each route whose inbox it made ready.
+pub const DATAGRAMS_PER_ROUTE: u64 = 8;
+
+/// The polling thread leaves the datagrams of a round to the workers if they are `MANY_DATAGRAMS`, since it has enough to
+/// do with reading and sending, and if they are for more routes than this, since it would wait for the memory of each.
+pub const FEW_ROUTES: u64 = 8;
+
+/// The most turns that the polling thread makes in a round. What is left then it leaves to the workers: meanwhile no
+/// route's datagrams are read, so a route with costly ones would delay all others.
+pub const POLLER_TURNS: u32 = 256;
+
+/// The most turns that a worker makes at a route before it goes on to the next.
+pub const WORKER_TURNS: u32 = 64;
+
+/// A worker wakes another one if its round has moved at least this many replies and a further inbox is ready. Routes that
+/// only apply a tick move none, so one worker serves them all: for so little work the caches of one processor do best.
+pub const MANY_REPLIES: u32 = 32;
+
+/// A worker's round was thin if it served at least this many routes, and made at most `THIN_TURNS` turns at each.
+pub const THIN_ROUTES: u32 = 32;
+
+/// The most turns at a route of a thin round.
+pub const THIN_TURNS: u32 = 16;

@@ -1,0 +1,112 @@
+//! The datagrams of these runs. The cookie was computed by Python's hashlib; the other words were worked out from the
+//! draft by hand.
+
+use srt_samples::{Block, Body, Handshake, Offer, Phase, Sample, handshake_packet};
+
+/// The socket IDs of the callers.
+pub const FIRST: u32 = 1;
+
+pub const SECOND: u32 = 2;
+
+/// The socket ID of the first session of the first route.
+const SESSION: u32 = 0x10_0000;
+
+/// The cookie of port 5000 in the first minute.
+const COOKIE: u32 = 0xecc9_58a6;
+
+const HSREQ: Block<'static> = Block::Request(Offer {
+    version: 0x1_0500,
+    flags: 0xbf,
+    receiver_ms: 120,
+    sender_ms: 120,
+});
+
+/// The blocks of a publisher on the route `studio`, and of one on the route `studia`.
+pub const STUDIO: [Block<'static>; 2] = [HSREQ, Block::StreamId("#!::r=studio,m=publish")];
+
+pub const STUDIA: [Block<'static>; 2] = [HSREQ, Block::StreamId("#!::r=studia,m=publish")];
+
+/// The block of an answer.
+const RESPONSE: [Block<'static>; 1] = [Block::Response(Offer {
+    version: 0x1_0500,
+    flags: 0x3f,
+    receiver_ms: 120,
+    sender_ms: 120,
+})];
+
+/// An answer of the lobby, but for its type.
+const FROM_THE_LOBBY: Handshake = Handshake {
+    version: 5,
+    fields: 0,
+    initial: 5,
+    mtu: 1500,
+    window: 8192,
+    phase: Phase::Induction,
+    id: 1,
+    cookie: 0,
+    address: 0,
+};
+
+/// The CONCLUSION from port 5000 of the caller with this ID, with these blocks.
+pub fn conclusion_of<'a>(caller: u32, blocks: &'a [Block<'a>]) -> Sample<'a> {
+    handshake_packet(
+        Handshake {
+            version: 5,
+            fields: 5,
+            initial: 5,
+            mtu: 1500,
+            window: 8192,
+            phase: Phase::Conclusion,
+            id: caller,
+            cookie: COOKIE,
+            address: 0,
+        },
+        blocks,
+    )
+}
+
+/// The answer to the first caller of the route `studio` with a window of 1024 packets.
+pub fn conclusion_answer<'a>() -> Sample<'a> {
+    handshake_packet(
+        Handshake {
+            version: 5,
+            fields: 1,
+            initial: 5,
+            mtu: 1500,
+            window: 1024,
+            phase: Phase::Conclusion,
+            id: SESSION,
+            cookie: 0,
+            address: 0,
+        },
+        &RESPONSE,
+    )
+    .to(FIRST)
+}
+
+/// The lobby's answer to the first caller while there is no route `studio`: 1002.
+pub fn refusal<'a>() -> Sample<'a> {
+    handshake_packet(
+        Handshake {
+            phase: Phase::Refused(1002),
+            ..FROM_THE_LOBBY
+        },
+        &[],
+    )
+    .to(FIRST)
+}
+
+/// An answer to an INDUCTION of the first caller.
+pub fn induction_answer<'a>() -> Sample<'a> {
+    handshake_packet(FROM_THE_LOBBY, &[]).to(FIRST)
+}
+
+/// The header of a handshake without anything behind it.
+pub fn header_alone<'a>() -> Sample<'a> {
+    let whole = handshake_packet(FROM_THE_LOBBY, &[]);
+    Sample {
+        destination: 5000,
+        body: Body::Nothing,
+        ..whole
+    }
+}

@@ -1,0 +1,4 @@
+pub mod Puts
+pub mod Slots
+pub mod Pieces
+pub mod Asked

@@ -1,0 +1,7 @@
+use Rattle.std.proofs.Common.{◌≡◌, ◌++◌, take}
+use Rattle.std.specs.List.{flat_map}
+use Rattle.srt_status.specs.Metrics.{count_family}
+use Rattle.srt_status.proofs.metrics.put_count_families.Given as goal
+
+abbrev pub invariant-loop-count : goal.invariant-loop-count
+invariant-loop-count l = l.out.items ≡ l.fn.out.items ++ flat_map (count_family l.routes) (take l.count-index l.counts)

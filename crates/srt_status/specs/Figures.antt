@@ -1,0 +1,404 @@
+-- The families of figures: their names, help and values.
+use Rattle.std.specs.Prelude.{ℕ, ◌-◌, ◌*◌, Bool, true, false, List, [], ◌∷◌, codes, Option, None, Some}
+use Rattle.srt_seq.specs.declared.shared.Role.{Role}
+use Rattle.srt_seq.specs.declared.shared.Role.TheVariants.{Publish, Request}
+use Rattle.srt_status.specs.declared.gateway.GatewayStatus.{GatewayStatus}
+use Rattle.srt_status.specs.declared.gateway.RefusalCounts.{RefusalCounts}
+use Rattle.srt_status.specs.declared.routes.PublisherCounts.{PublisherCounts}
+use Rattle.srt_status.specs.declared.routes.SubscriberCounts.{SubscriberCounts}
+use Rattle.srt_status.specs.declared.routes.PublisherStatus.{PublisherStatus}
+use Rattle.srt_status.specs.declared.routes.SubscriberStatus.{SubscriberStatus}
+use Rattle.srt_status.specs.declared.routes.SessionStatus.{SessionStatus}
+use Rattle.srt_status.specs.declared.routes.RouteStatus.{RouteStatus}
+use Rattle.srt_status.specs.declared.routes.LimitCounts.{LimitCounts}
+use Rattle.srt_status.specs.declared.routes.Flow.{Flow}
+use Rattle.srt_status.specs.declared.routes.Flow.TheVariants.{Publisher, Subscriber}
+use Rattle.srt_status.specs.declared.figures.Amount.{Amount}
+use Rattle.srt_status.specs.declared.figures.Amount.TheVariants.{Number, Micros}
+use Rattle.srt_status.specs.declared.figures.Count.{Count}
+use Rattle.srt_status.specs.declared.figures.Count.TheVariants as counts
+use Rattle.srt_status.specs.declared.figures.Gauge.{Gauge}
+use Rattle.srt_status.specs.declared.figures.Gauge.TheVariants as gauges
+use Rattle.srt_status.specs.declared.figures.Total.{Total}
+use Rattle.srt_status.specs.declared.figures.Total.TheVariants as totals
+use Rattle.srt_status.specs.declared.figures.Reason.{Reason}
+use Rattle.srt_status.specs.declared.figures.Reason.TheVariants as reasons
+use Rattle.srt_status.specs.declared.figures.RouteFigure.{RouteFigure}
+use Rattle.srt_status.specs.declared.figures.RouteFigure.TheVariants as figures
+
+-- the role of a session
+abbrev pub role_of_flow : Flow → Role
+role_of_flow (Publisher session) = Publish
+role_of_flow (Subscriber session) = Request
+
+abbrev pub role_of : SessionStatus → Role
+role_of session = role_of_flow session.flow
+
+-- a truth value as a number
+abbrev pub number_of : Bool → ℕ
+number_of true = 1
+number_of false = 0
+
+-- the name of a count behind its prefix
+abbrev pub count_name : Count → List ℕ
+count_name counts.ReceivedPackets = codes "received_packets_total"
+count_name counts.ReceivedBytes = codes "received_bytes_total"
+count_name counts.DeliveredPackets = codes "delivered_packets_total"
+count_name counts.RepeatedPackets = codes "repeated_packets_total"
+count_name counts.LatePackets = codes "late_packets_total"
+count_name counts.AheadPackets = codes "ahead_packets_total"
+count_name counts.ReportedLost = codes "reported_lost_packets_total"
+count_name counts.NaksSent = codes "naks_sent_total"
+count_name counts.FullWindowAcks = codes "full_window_acks_total"
+count_name counts.GivenUp = codes "given_up_packets_total"
+count_name counts.QueuedPackets = codes "queued_packets_total"
+count_name counts.QueuedBytes = codes "queued_bytes_total"
+count_name counts.SentPackets = codes "sent_packets_total"
+count_name counts.ResentPackets = codes "resent_packets_total"
+count_name counts.NaksTaken = codes "naks_taken_total"
+count_name counts.Misdirected = codes "misdirected_packets_total"
+
+-- its help
+abbrev pub count_help : Count → List ℕ
+count_help counts.ReceivedPackets = codes "Data packets received from publishers, each counted once."
+count_help counts.ReceivedBytes = codes "Payload bytes received from publishers."
+count_help counts.DeliveredPackets = codes "Packets of publishers that were delivered to the subscribers."
+count_help counts.RepeatedPackets = codes "Packets of publishers that came again."
+count_help counts.LatePackets = codes "Packets of publishers that came too late."
+count_help counts.AheadPackets = codes "Packets of publishers that came ahead of the window."
+count_help counts.ReportedLost = codes "Packets of publishers that were reported as lost."
+count_help counts.NaksSent = codes "NAKs sent to publishers."
+count_help counts.FullWindowAcks = codes "Full ACKs sent to publishers while their window was full."
+count_help counts.GivenUp = codes "Packets given up: of publishers as missing, of subscribers as too late."
+count_help counts.QueuedPackets = codes "Payloads queued for subscribers."
+count_help counts.QueuedBytes = codes "Payload bytes queued for subscribers."
+count_help counts.SentPackets = codes "Data packets sent to subscribers for the first time."
+count_help counts.ResentPackets = codes "Data packets sent to subscribers again."
+count_help counts.NaksTaken = codes "NAKs taken from subscribers."
+count_help counts.Misdirected = codes "Data packets from callers that did not ask to publish."
+
+-- what publishers' sessions count of it
+abbrev pub publisher_count : Count → PublisherCounts → Option ℕ
+publisher_count counts.ReceivedPackets counts = Some counts.received
+publisher_count counts.ReceivedBytes counts = Some counts.bytes
+publisher_count counts.DeliveredPackets counts = Some counts.delivered
+publisher_count counts.RepeatedPackets counts = Some counts.repeats
+publisher_count counts.LatePackets counts = Some counts.late
+publisher_count counts.AheadPackets counts = Some counts.ahead
+publisher_count counts.ReportedLost counts = Some counts.reported_lost
+publisher_count counts.NaksSent counts = Some counts.naks
+publisher_count counts.FullWindowAcks counts = Some counts.full_window_acks
+publisher_count counts.GivenUp counts = Some counts.given_up
+publisher_count counts.QueuedPackets counts = None
+publisher_count counts.QueuedBytes counts = None
+publisher_count counts.SentPackets counts = None
+publisher_count counts.ResentPackets counts = None
+publisher_count counts.NaksTaken counts = None
+publisher_count counts.Misdirected counts = None
+
+-- what subscribers' sessions count of it
+abbrev pub subscriber_count : Count → SubscriberCounts → Option ℕ
+subscriber_count counts.ReceivedPackets counts = None
+subscriber_count counts.ReceivedBytes counts = None
+subscriber_count counts.DeliveredPackets counts = None
+subscriber_count counts.RepeatedPackets counts = None
+subscriber_count counts.LatePackets counts = None
+subscriber_count counts.AheadPackets counts = None
+subscriber_count counts.ReportedLost counts = None
+subscriber_count counts.NaksSent counts = None
+subscriber_count counts.FullWindowAcks counts = None
+subscriber_count counts.GivenUp counts = Some counts.given_up
+subscriber_count counts.QueuedPackets counts = Some counts.queued
+subscriber_count counts.QueuedBytes counts = Some counts.bytes
+subscriber_count counts.SentPackets counts = Some counts.sent
+subscriber_count counts.ResentPackets counts = Some counts.resent
+subscriber_count counts.NaksTaken counts = Some counts.naks
+subscriber_count counts.Misdirected counts = Some counts.misdirected
+
+-- the same of one session
+abbrev pub flow_count : Count → Flow → Option ℕ
+flow_count count (Publisher session) = publisher_count count session.counts
+flow_count count (Subscriber session) = subscriber_count count session.counts
+
+abbrev pub session_count : Count → SessionStatus → Option ℕ
+session_count count session = flow_count count session.flow
+
+-- the name of a state behind its prefix
+abbrev pub gauge_name : Gauge → List ℕ
+gauge_name gauges.Active = codes "active"
+gauge_name gauges.Open = codes "open_seconds"
+gauge_name gauges.Silent = codes "silent_seconds"
+gauge_name gauges.Latency = codes "latency_seconds"
+gauge_name gauges.RoundTrip = codes "round_trip_seconds"
+gauge_name gauges.RoundTripVariance = codes "round_trip_variance_seconds"
+gauge_name gauges.WindowUsed = codes "window_used_packets"
+gauge_name gauges.WindowAvailable = codes "window_available_packets"
+gauge_name gauges.FreePlaces = codes "free_packets"
+gauge_name gauges.InFlight = codes "in_flight_packets"
+gauge_name gauges.FlowWindow = codes "flow_window_packets"
+
+-- its help
+abbrev pub gauge_help : Gauge → List ℕ
+gauge_help gauges.Active = codes "1 for the active publisher of a route, 0 for one that stands by."
+gauge_help gauges.Open = codes "The time since the session was opened."
+gauge_help gauges.Silent = codes "The time since something came from the caller."
+gauge_help gauges.Latency = codes "The delay that was agreed with the caller."
+gauge_help gauges.RoundTrip = codes "The smoothed round-trip time."
+gauge_help gauges.RoundTripVariance = codes "The variance of the round-trip time."
+gauge_help gauges.WindowUsed = codes "The places of a publisher's window in use."
+gauge_help gauges.WindowAvailable = codes "The places of a publisher's window that are available."
+gauge_help gauges.FreePlaces = codes "The free places of a subscriber's buffer."
+gauge_help gauges.InFlight = codes "The packets of a subscriber in flight."
+gauge_help gauges.FlowWindow = codes "The flow window that a subscriber reported last."
+
+-- this of a publisher's session
+abbrev pub publisher_amount : Gauge → PublisherStatus → Option Amount
+publisher_amount gauges.Active session = Some (Number (number_of session.active))
+publisher_amount gauges.Open session = None
+publisher_amount gauges.Silent session = None
+publisher_amount gauges.Latency session = None
+publisher_amount gauges.RoundTrip session = None
+publisher_amount gauges.RoundTripVariance session = None
+publisher_amount gauges.WindowUsed session = Some (Number session.window_used)
+publisher_amount gauges.WindowAvailable session = Some (Number session.window_available)
+publisher_amount gauges.FreePlaces session = None
+publisher_amount gauges.InFlight session = None
+publisher_amount gauges.FlowWindow session = None
+
+-- this of a subscriber's session
+abbrev pub subscriber_amount : Gauge → SubscriberStatus → Option Amount
+subscriber_amount gauges.Active session = None
+subscriber_amount gauges.Open session = None
+subscriber_amount gauges.Silent session = None
+subscriber_amount gauges.Latency session = None
+subscriber_amount gauges.RoundTrip session = None
+subscriber_amount gauges.RoundTripVariance session = None
+subscriber_amount gauges.WindowUsed session = None
+subscriber_amount gauges.WindowAvailable session = None
+subscriber_amount gauges.FreePlaces session = Some (Number session.free)
+subscriber_amount gauges.InFlight session = Some (Number session.in_flight)
+subscriber_amount gauges.FlowWindow session = Some (Number session.flow_window)
+
+abbrev pub latency_amount : (latency_ms : Option ℕ) → Option Amount
+latency_amount None = None
+latency_amount (Some ms) = Some (Micros (ms * 1000))
+
+abbrev pub flow_amount : Gauge → Flow → Option Amount
+flow_amount gauge (Publisher session) = publisher_amount gauge session
+flow_amount gauge (Subscriber session) = subscriber_amount gauge session
+
+-- this of a session at a moment
+abbrev pub gauge_amount : Gauge → (moment : ℕ) → SessionStatus → Option Amount
+gauge_amount gauges.Active moment session = flow_amount gauges.Active session.flow
+gauge_amount gauges.Open moment session = Some (Micros (moment - session.opened_at))
+gauge_amount gauges.Silent moment session = Some (Micros (moment - session.heard_at))
+gauge_amount gauges.Latency moment session = latency_amount session.latency_ms
+gauge_amount gauges.RoundTrip moment session = Some (Micros session.round_trip_us)
+gauge_amount gauges.RoundTripVariance moment session = Some (Micros session.variance_us)
+gauge_amount gauges.WindowUsed moment session = flow_amount gauges.WindowUsed session.flow
+gauge_amount gauges.WindowAvailable moment session = flow_amount gauges.WindowAvailable session.flow
+gauge_amount gauges.FreePlaces moment session = flow_amount gauges.FreePlaces session.flow
+gauge_amount gauges.InFlight moment session = flow_amount gauges.InFlight session.flow
+gauge_amount gauges.FlowWindow moment session = flow_amount gauges.FlowWindow session.flow
+
+-- the name of what is said of the gateway, behind its prefix
+abbrev pub total_name : Total → List ℕ
+total_name totals.Polling = codes "up"
+total_name totals.Uptime = codes "uptime_seconds"
+total_name totals.Routes = codes "configured_routes"
+total_name totals.ResidentMemory = codes "resident_memory_bytes"
+total_name totals.KernelDrops = codes "kernel_dropped_datagrams_total"
+total_name totals.Read = codes "poller_read_datagrams_total"
+total_name totals.Answered = codes "poller_answered_datagrams_total"
+total_name totals.Accepted = codes "poller_accepted_datagrams_total"
+total_name totals.Full = codes "poller_full_datagrams_total"
+total_name totals.Dropped = codes "poller_dropped_datagrams_total"
+total_name totals.NotAllowed = codes "poller_not_allowed_datagrams_total"
+total_name totals.Memory = codes "poller_memory_datagrams_total"
+total_name totals.Sent = codes "poller_sent_datagrams_total"
+total_name totals.Lost = codes "poller_lost_datagrams_total"
+total_name totals.Faults = codes "poller_faults_total"
+total_name totals.NoName = codes "lobby_refused_no_name_total"
+total_name totals.UnknownName = codes "lobby_refused_unknown_name_total"
+total_name totals.PublishFrom = codes "lobby_refused_publish_from_total"
+total_name totals.RequestFrom = codes "lobby_refused_request_from_total"
+total_name totals.PublishKey = codes "lobby_refused_publish_key_total"
+total_name totals.RequestKey = codes "lobby_refused_request_key_total"
+
+-- its help
+abbrev pub total_help : Total → List ℕ
+total_help totals.Polling = codes "1 if the poller made a round within the last two seconds, else 0."
+total_help totals.Uptime = codes "The time since the start."
+total_help totals.Routes = codes "The routes of the configuration."
+total_help totals.ResidentMemory = codes "The resident memory of the process."
+total_help totals.KernelDrops = codes "Datagrams dropped by the kernel, since the socket's buffer was full."
+total_help totals.Read = codes "Datagrams read from the socket."
+total_help totals.Answered = codes "Datagrams answered before they belonged to a route."
+total_help totals.Accepted = codes "Datagrams accepted by the inbox of their route."
+total_help totals.Full = codes "Datagrams for a route whose inbox was full."
+total_help totals.Dropped = codes "Datagrams dropped, since they belong to no route and no handshake."
+total_help totals.NotAllowed = codes "Dropped datagrams to a route from an address in none of its lists."
+total_help totals.Memory = codes "Datagrams for whose copy memory was refused."
+total_help totals.Sent = codes "Datagrams sent."
+total_help totals.Lost = codes "Datagrams that could not be sent."
+total_help totals.Faults = codes "Failed waits, reads and sends."
+total_help totals.NoName = codes "Conclusions refused with 1002: no Stream ID, or one with a fault."
+total_help totals.UnknownName = codes "Conclusions refused with 1002: no route has the name."
+total_help totals.PublishFrom = codes "Conclusions refused with 1002: the address is not in publish_from."
+total_help totals.RequestFrom = codes "Conclusions refused with 1002: the address is not in request_from."
+total_help totals.PublishKey = codes "Conclusions refused with 1002: publish_key is missing or wrong."
+total_help totals.RequestKey = codes "Conclusions refused with 1002: request_key is missing or wrong."
+
+-- its type
+abbrev pub total_kind : Total → List ℕ
+total_kind totals.Polling = codes "gauge"
+total_kind totals.Uptime = codes "gauge"
+total_kind totals.Routes = codes "gauge"
+total_kind totals.ResidentMemory = codes "gauge"
+total_kind totals.KernelDrops = codes "counter"
+total_kind totals.Read = codes "counter"
+total_kind totals.Answered = codes "counter"
+total_kind totals.Accepted = codes "counter"
+total_kind totals.Full = codes "counter"
+total_kind totals.Dropped = codes "counter"
+total_kind totals.NotAllowed = codes "counter"
+total_kind totals.Memory = codes "counter"
+total_kind totals.Sent = codes "counter"
+total_kind totals.Lost = codes "counter"
+total_kind totals.Faults = codes "counter"
+total_kind totals.NoName = codes "counter"
+total_kind totals.UnknownName = codes "counter"
+total_kind totals.PublishFrom = codes "counter"
+total_kind totals.RequestFrom = codes "counter"
+total_kind totals.PublishKey = codes "counter"
+total_kind totals.RequestKey = codes "counter"
+
+-- this of the gateway
+abbrev pub total_value : Total → GatewayStatus → Option ℕ
+total_value totals.Polling gateway = Some (number_of gateway.polling)
+total_value totals.Uptime gateway = Some gateway.uptime_seconds
+total_value totals.Routes gateway = Some gateway.routes
+total_value totals.ResidentMemory gateway = gateway.resident_bytes
+total_value totals.KernelDrops gateway = gateway.kernel_drops
+total_value totals.Read gateway = Some gateway.poller.read
+total_value totals.Answered gateway = Some gateway.poller.answered
+total_value totals.Accepted gateway = Some gateway.poller.accepted
+total_value totals.Full gateway = Some gateway.poller.full
+total_value totals.Dropped gateway = Some gateway.poller.dropped
+total_value totals.NotAllowed gateway = Some gateway.poller.not_allowed
+total_value totals.Memory gateway = Some gateway.poller.memory
+total_value totals.Sent gateway = Some gateway.poller.sent
+total_value totals.Lost gateway = Some gateway.poller.lost
+total_value totals.Faults gateway = Some gateway.poller.faults
+total_value totals.NoName gateway = Some gateway.causes.no_name
+total_value totals.UnknownName gateway = Some gateway.causes.unknown_name
+total_value totals.PublishFrom gateway = Some gateway.causes.publish_from
+total_value totals.RequestFrom gateway = Some gateway.causes.request_from
+total_value totals.PublishKey gateway = Some gateway.causes.publish_key
+total_value totals.RequestKey gateway = Some gateway.causes.request_key
+
+-- all counts, in the order in which they are shown
+abbrev pub all_counts : List Count
+all_counts =
+    counts.ReceivedPackets ∷ counts.ReceivedBytes ∷ counts.DeliveredPackets ∷ counts.RepeatedPackets ∷ counts.LatePackets
+    ∷ counts.AheadPackets ∷ counts.ReportedLost ∷ counts.NaksSent ∷ counts.FullWindowAcks ∷ counts.GivenUp ∷ counts.QueuedPackets
+    ∷ counts.QueuedBytes ∷ counts.SentPackets ∷ counts.ResentPackets ∷ counts.NaksTaken ∷ counts.Misdirected ∷ []
+
+-- all states of an open session, in the order in which they are shown
+abbrev pub all_gauges : List Gauge
+all_gauges =
+    gauges.Active ∷ gauges.Open ∷ gauges.Silent ∷ gauges.Latency ∷ gauges.RoundTrip ∷ gauges.RoundTripVariance ∷ gauges.WindowUsed
+    ∷ gauges.WindowAvailable ∷ gauges.FreePlaces ∷ gauges.InFlight ∷ gauges.FlowWindow ∷ []
+
+-- all that is said of the gateway, in the order in which they are shown
+abbrev pub all_totals : List Total
+all_totals =
+    totals.Polling ∷ totals.Uptime ∷ totals.Routes ∷ totals.ResidentMemory ∷ totals.KernelDrops ∷ totals.Read ∷ totals.Answered
+    ∷ totals.Accepted ∷ totals.Full ∷ totals.Dropped ∷ totals.NotAllowed ∷ totals.Memory ∷ totals.Sent ∷ totals.Lost ∷ totals.Faults
+    ∷ totals.NoName ∷ totals.UnknownName ∷ totals.PublishFrom ∷ totals.RequestFrom ∷ totals.PublishKey ∷ totals.RequestKey ∷ []
+
+-- the number and the name of a reason, as labels
+abbrev pub reason_labels : Reason → List ℕ
+reason_labels reasons.Peer = codes "code=\"1002\",reason=\"PEER\"} "
+reason_labels reasons.Resource = codes "code=\"1003\",reason=\"RESOURCE\"} "
+reason_labels reasons.Rogue = codes "code=\"1004\",reason=\"ROGUE\"} "
+reason_labels reasons.Version = codes "code=\"1008\",reason=\"VERSION\"} "
+reason_labels reasons.Unsecure = codes "code=\"1011\",reason=\"UNSECURE\"} "
+reason_labels reasons.MessageApi = codes "code=\"1012\",reason=\"MESSAGEAPI\"} "
+reason_labels reasons.Filter = codes "code=\"1014\",reason=\"FILTER\"} "
+reason_labels reasons.Group = codes "code=\"1015\",reason=\"GROUP\"} "
+
+-- the name of a reason
+abbrev pub reason_name : Reason → List ℕ
+reason_name reasons.Peer = codes "PEER"
+reason_name reasons.Resource = codes "RESOURCE"
+reason_name reasons.Rogue = codes "ROGUE"
+reason_name reasons.Version = codes "VERSION"
+reason_name reasons.Unsecure = codes "UNSECURE"
+reason_name reasons.MessageApi = codes "MESSAGEAPI"
+reason_name reasons.Filter = codes "FILTER"
+reason_name reasons.Group = codes "GROUP"
+
+-- how many were refused for it
+abbrev pub refusal_count : Reason → RefusalCounts → ℕ
+refusal_count reasons.Peer counts = counts.peer
+refusal_count reasons.Resource counts = counts.resource
+refusal_count reasons.Rogue counts = counts.rogue
+refusal_count reasons.Version counts = counts.version
+refusal_count reasons.Unsecure counts = counts.unsecure
+refusal_count reasons.MessageApi counts = counts.message_api
+refusal_count reasons.Filter counts = counts.filter
+refusal_count reasons.Group counts = counts.group
+
+-- all reasons, in the order of their numbers
+abbrev pub all_reasons : List Reason
+all_reasons = reasons.Peer ∷ reasons.Resource ∷ reasons.Rogue ∷ reasons.Version ∷ reasons.Unsecure ∷ reasons.MessageApi ∷ reasons.Filter ∷ reasons.Group ∷ []
+
+-- the name of what is shown of a route, behind its prefix
+abbrev pub figure_name : RouteFigure → List ℕ
+figure_name figures.Allowed = codes "allowed_sessions"
+figure_name figures.Opened = codes "opened_sessions_total"
+figure_name figures.TakeOvers = codes "take_overs_total"
+figure_name figures.RefusedFull = codes "refused_sessions_total"
+figure_name figures.RefusedReserved = codes "refused_reserved_total"
+figure_name figures.RefusedAddress = codes "refused_sessions_per_address_total"
+
+-- its help
+abbrev pub figure_help : RouteFigure → List ℕ
+figure_help figures.Allowed = codes "The greatest number of open sessions."
+figure_help figures.Opened = codes "Sessions opened since the start."
+figure_help figures.TakeOvers = codes "How often a publisher that stood by became the active one."
+figure_help figures.RefusedFull = codes "Conclusions refused with 1003: no slot is free."
+figure_help figures.RefusedReserved = codes "Conclusions refused with 1003: the free slots are reserved for publishers."
+figure_help figures.RefusedAddress = codes "Conclusions refused with 1003: the address has all its sessions."
+
+-- its type
+abbrev pub figure_kind : RouteFigure → List ℕ
+figure_kind figures.Allowed = codes "gauge"
+figure_kind figures.Opened = codes "counter"
+figure_kind figures.TakeOvers = codes "counter"
+figure_kind figures.RefusedFull = codes "counter"
+figure_kind figures.RefusedReserved = codes "counter"
+figure_kind figures.RefusedAddress = codes "counter"
+
+-- the refusals with 1003 by this limit
+abbrev pub limit_figure : RouteFigure → LimitCounts → Option ℕ
+limit_figure figures.RefusedFull limits = Some limits.sessions
+limit_figure figures.RefusedReserved limits = Some limits.reserved
+limit_figure figures.RefusedAddress limits = Some limits.sessions_per_address
+limit_figure _ limits = None
+
+abbrev pub limit_if_known : RouteFigure → Option LimitCounts → Option ℕ
+limit_if_known figure (Some limits) = limit_figure figure limits
+limit_if_known figure None = None
+
+-- this of a route
+abbrev pub route_figure : RouteFigure → RouteStatus → Option ℕ
+route_figure figures.Allowed route = Some route.sessions_allowed
+route_figure figures.Opened route = Some route.opened
+route_figure figures.TakeOvers route = route.take_overs
+route_figure figure route = limit_if_known figure route.limits
+
+-- all of them, in the order in which they are shown
+abbrev pub all_figures : List RouteFigure
+all_figures = figures.Allowed ∷ figures.Opened ∷ figures.TakeOvers ∷ figures.RefusedFull ∷ figures.RefusedReserved ∷ figures.RefusedAddress ∷ []

@@ -1,0 +1,57 @@
+-- What a caller of the status page asks for.
+use Rattle.std.specs.Prelude.{◌≡◌, ℕ, ◌≤◌, ◌<◌, ◌⊎◌, Bool, true, false, ◌==◌, ◌&&◌, nat_lt, List, [], ◌∷◌, length, take, drop, codes}
+use Rattle.std.specs.Prelude.{Option, None, Some, if◌then◌else◌}
+use Rattle.std.specs.Str.{bytes_eq}
+use Rattle.httparse.specs.Grammar.{RequestHead, ReadsRequest, HasNoRequest, NeverHasRequest}
+use Rattle.httparse.specs.Spans.{RequestExceeds}
+use Rattle.srt_status.specs.declared.request.Page.{Page}
+use Rattle.srt_status.specs.declared.request.Page.TheVariants as pages
+use Rattle.srt_status.specs.declared.request.Method.{Method}
+use Rattle.srt_status.specs.declared.request.Method.TheVariants as methods
+use Rattle.srt_status.specs.declared.request.Request.{Request}
+use Rattle.srt_status.specs.declared.request.Request.TheVariants as requests
+
+-- what is left of a target is a query, or nothing
+abbrev pub begins_query : (rest : List ℕ) → Bool
+begins_query [] = true
+begins_query (first ∷ rest) = first == 63
+
+-- a target is this path, with or without a query
+abbrev pub is_for : (path target : List ℕ) → Bool
+is_for path target =
+    if nat_lt (length target) (length path) then false
+    else bytes_eq (take (length path) target) path && begins_query (drop (length path) target)
+
+-- the page of a target
+abbrev pub page_in : (target : List ℕ) → Option Page
+page_in target =
+    if is_for (codes "/") target then Some pages.Overview
+    else (if is_for (codes "/status.json") target then Some pages.Json
+    else (if is_for (codes "/metrics") target then Some pages.Metrics
+    else (if is_for (codes "/healthz") target then Some pages.Health else None)))
+
+abbrev pub shown_by : Method → Option Page → Request
+shown_by method None = requests.Unknown method
+shown_by method (Some page) = requests.Page method page
+
+unfoldable pub shown_in : Method → (target : List ℕ) → Request
+shown_in method target = shown_by method (page_in target)
+
+-- what a head asks for
+unfoldable pub request_of : (method target : List ℕ) → Request
+request_of method target =
+    if bytes_eq method (codes "GET") then shown_in methods.Get target
+    else (if bytes_eq method (codes "HEAD") then shown_in methods.Head target else requests.NotAllowed)
+
+-- a head within these bytes asks for it
+abbrev pub IsAskedFor : (bytes : List ℕ) → Request → Type 0
+IsAskedFor bytes request = (head : RequestHead) × (rest : List ℕ) × ReadsRequest bytes head rest × (request ≡ request_of head.method head.target)
+
+-- what an answer says of the bytes
+abbrev pub WhatItSays : (bytes : List ℕ) → Option Request → Type 0
+WhatItSays bytes None = HasNoRequest bytes × (length bytes < 4096)
+WhatItSays bytes (Some requests.Bad) = NeverHasRequest bytes
+WhatItSays bytes (Some requests.TooLong) = (HasNoRequest bytes × (4096 ≤ length bytes)) ⊎ RequestExceeds 64 bytes
+WhatItSays bytes (Some (requests.Page method page)) = IsAskedFor bytes (requests.Page method page)
+WhatItSays bytes (Some (requests.Unknown method)) = IsAskedFor bytes (requests.Unknown method)
+WhatItSays bytes (Some requests.NotAllowed) = IsAskedFor bytes requests.NotAllowed

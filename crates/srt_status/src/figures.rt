@@ -1,0 +1,599 @@
+//! The families of figures that the page of metrics shows, with their names and help, and the value of each.
+
+ghost use Rattle.std.specs.Prelude.{◌≡◌};
+ghost use Rattle.srt_status.specs.Figures.{count_name, count_help, publisher_count, subscriber_count, gauge_name, gauge_help, gauge_amount};
+ghost use Rattle.srt_status.specs.Figures.{publisher_amount, subscriber_amount, latency_amount, flow_amount, session_count, total_name};
+ghost use Rattle.srt_status.specs.Figures.{total_help, total_kind, total_value, reason_labels, reason_name, refusal_count, figure_name};
+ghost use Rattle.srt_status.specs.Figures.{figure_help, figure_kind, limit_figure, route_figure};
+
+use crate::gateway::{GatewayStatus, RefusalCounts};
+use crate::routes::{
+    Flow, LimitCounts, PublisherCounts, PublisherStatus, RouteStatus, SessionStatus,
+    SubscriberCounts, SubscriberStatus,
+};
+
+/// A value with its unit.
+#[derive(Clone, Copy)]
+pub(crate) enum Amount {
+    /// A number of things or of bytes.
+    Number(u64),
+    /// A time in microseconds, which is shown in seconds.
+    Micros(u64),
+}
+
+/// What sessions count.
+#[derive(Clone, Copy)]
+pub(crate) enum Count {
+    ReceivedPackets,
+    ReceivedBytes,
+    DeliveredPackets,
+    RepeatedPackets,
+    LatePackets,
+    AheadPackets,
+    ReportedLost,
+    NaksSent,
+    FullWindowAcks,
+    GivenUp,
+    QueuedPackets,
+    QueuedBytes,
+    SentPackets,
+    ResentPackets,
+    NaksTaken,
+    Misdirected,
+}
+
+/// All that sessions count, in the order in which it is shown.
+pub(crate) const COUNTS: [Count; 16] = [
+    Count::ReceivedPackets,
+    Count::ReceivedBytes,
+    Count::DeliveredPackets,
+    Count::RepeatedPackets,
+    Count::LatePackets,
+    Count::AheadPackets,
+    Count::ReportedLost,
+    Count::NaksSent,
+    Count::FullWindowAcks,
+    Count::GivenUp,
+    Count::QueuedPackets,
+    Count::QueuedBytes,
+    Count::SentPackets,
+    Count::ResentPackets,
+    Count::NaksTaken,
+    Count::Misdirected,
+];
+
+/// The state of an open session.
+#[derive(Clone, Copy)]
+pub(crate) enum Gauge {
+    Active,
+    Open,
+    Silent,
+    Latency,
+    RoundTrip,
+    RoundTripVariance,
+    WindowUsed,
+    WindowAvailable,
+    FreePlaces,
+    InFlight,
+    FlowWindow,
+}
+
+/// All states of an open session, in the order in which they are shown.
+pub(crate) const GAUGES: [Gauge; 11] = [
+    Gauge::Active,
+    Gauge::Open,
+    Gauge::Silent,
+    Gauge::Latency,
+    Gauge::RoundTrip,
+    Gauge::RoundTripVariance,
+    Gauge::WindowUsed,
+    Gauge::WindowAvailable,
+    Gauge::FreePlaces,
+    Gauge::InFlight,
+    Gauge::FlowWindow,
+];
+
+/// What is shown of the gateway as a whole.
+#[derive(Clone, Copy)]
+pub(crate) enum Total {
+    Polling,
+    Uptime,
+    Routes,
+    ResidentMemory,
+    KernelDrops,
+    Read,
+    Answered,
+    Accepted,
+    Full,
+    Dropped,
+    NotAllowed,
+    Memory,
+    Sent,
+    Lost,
+    Faults,
+    NoName,
+    UnknownName,
+    PublishFrom,
+    RequestFrom,
+    PublishKey,
+    RequestKey,
+}
+
+/// All that is shown of the gateway as a whole, in its order.
+pub(crate) const TOTALS: [Total; 21] = [
+    Total::Polling,
+    Total::Uptime,
+    Total::Routes,
+    Total::ResidentMemory,
+    Total::KernelDrops,
+    Total::Read,
+    Total::Answered,
+    Total::Accepted,
+    Total::Full,
+    Total::Dropped,
+    Total::NotAllowed,
+    Total::Memory,
+    Total::Sent,
+    Total::Lost,
+    Total::Faults,
+    Total::NoName,
+    Total::UnknownName,
+    Total::PublishFrom,
+    Total::RequestFrom,
+    Total::PublishKey,
+    Total::RequestKey,
+];
+
+pub(crate) fn count_name(count: Count) -> &'static str
+    ensures { result.now ≡ count_name count }
+{
+    match count {
+        Count::ReceivedPackets => "received_packets_total",
+        Count::ReceivedBytes => "received_bytes_total",
+        Count::DeliveredPackets => "delivered_packets_total",
+        Count::RepeatedPackets => "repeated_packets_total",
+        Count::LatePackets => "late_packets_total",
+        Count::AheadPackets => "ahead_packets_total",
+        Count::ReportedLost => "reported_lost_packets_total",
+        Count::NaksSent => "naks_sent_total",
+        Count::FullWindowAcks => "full_window_acks_total",
+        Count::GivenUp => "given_up_packets_total",
+        Count::QueuedPackets => "queued_packets_total",
+        Count::QueuedBytes => "queued_bytes_total",
+        Count::SentPackets => "sent_packets_total",
+        Count::ResentPackets => "resent_packets_total",
+        Count::NaksTaken => "naks_taken_total",
+        Count::Misdirected => "misdirected_packets_total",
+    }
+}
+
+pub(crate) fn count_help(count: Count) -> &'static str
+    ensures { result.now ≡ count_help count }
+{
+    match count {
+        Count::ReceivedPackets => "Data packets received from publishers, each counted once.",
+        Count::ReceivedBytes => "Payload bytes received from publishers.",
+        Count::DeliveredPackets => "Packets of publishers that were delivered to the subscribers.",
+        Count::RepeatedPackets => "Packets of publishers that came again.",
+        Count::LatePackets => "Packets of publishers that came too late.",
+        Count::AheadPackets => "Packets of publishers that came ahead of the window.",
+        Count::ReportedLost => "Packets of publishers that were reported as lost.",
+        Count::NaksSent => "NAKs sent to publishers.",
+        Count::FullWindowAcks => "Full ACKs sent to publishers while their window was full.",
+        Count::GivenUp => "Packets given up: of publishers as missing, of subscribers as too late.",
+        Count::QueuedPackets => "Payloads queued for subscribers.",
+        Count::QueuedBytes => "Payload bytes queued for subscribers.",
+        Count::SentPackets => "Data packets sent to subscribers for the first time.",
+        Count::ResentPackets => "Data packets sent to subscribers again.",
+        Count::NaksTaken => "NAKs taken from subscribers.",
+        Count::Misdirected => "Data packets from callers that did not ask to publish.",
+    }
+}
+
+/// What publishers' sessions count of this; None if they don't count it.
+pub(crate) fn publisher_count(count: Count, counts: &PublisherCounts) -> Option<u64>
+    ensures { result ≡ publisher_count count counts.now }
+{
+    match count {
+        Count::ReceivedPackets => Some(counts.received),
+        Count::ReceivedBytes => Some(counts.bytes),
+        Count::DeliveredPackets => Some(counts.delivered),
+        Count::RepeatedPackets => Some(counts.repeats),
+        Count::LatePackets => Some(counts.late),
+        Count::AheadPackets => Some(counts.ahead),
+        Count::ReportedLost => Some(counts.reported_lost),
+        Count::NaksSent => Some(counts.naks),
+        Count::FullWindowAcks => Some(counts.full_window_acks),
+        Count::GivenUp => Some(counts.given_up),
+        Count::QueuedPackets
+        | Count::QueuedBytes
+        | Count::SentPackets
+        | Count::ResentPackets
+        | Count::NaksTaken
+        | Count::Misdirected => None,
+    }
+}
+
+/// What subscribers' sessions count of this; None if they don't count it.
+pub(crate) fn subscriber_count(count: Count, counts: &SubscriberCounts) -> Option<u64>
+    ensures { result ≡ subscriber_count count counts.now }
+{
+    match count {
+        Count::GivenUp => Some(counts.given_up),
+        Count::QueuedPackets => Some(counts.queued),
+        Count::QueuedBytes => Some(counts.bytes),
+        Count::SentPackets => Some(counts.sent),
+        Count::ResentPackets => Some(counts.resent),
+        Count::NaksTaken => Some(counts.naks),
+        Count::Misdirected => Some(counts.misdirected),
+        Count::ReceivedPackets
+        | Count::ReceivedBytes
+        | Count::DeliveredPackets
+        | Count::RepeatedPackets
+        | Count::LatePackets
+        | Count::AheadPackets
+        | Count::ReportedLost
+        | Count::NaksSent
+        | Count::FullWindowAcks => None,
+    }
+}
+
+pub(crate) fn gauge_name(gauge: Gauge) -> &'static str
+    ensures { result.now ≡ gauge_name gauge }
+{
+    match gauge {
+        Gauge::Active => "active",
+        Gauge::Open => "open_seconds",
+        Gauge::Silent => "silent_seconds",
+        Gauge::Latency => "latency_seconds",
+        Gauge::RoundTrip => "round_trip_seconds",
+        Gauge::RoundTripVariance => "round_trip_variance_seconds",
+        Gauge::WindowUsed => "window_used_packets",
+        Gauge::WindowAvailable => "window_available_packets",
+        Gauge::FreePlaces => "free_packets",
+        Gauge::InFlight => "in_flight_packets",
+        Gauge::FlowWindow => "flow_window_packets",
+    }
+}
+
+pub(crate) fn gauge_help(gauge: Gauge) -> &'static str
+    ensures { result.now ≡ gauge_help gauge }
+{
+    match gauge {
+        Gauge::Active => "1 for the active publisher of a route, 0 for one that stands by.",
+        Gauge::Open => "The time since the session was opened.",
+        Gauge::Silent => "The time since something came from the caller.",
+        Gauge::Latency => "The delay that was agreed with the caller.",
+        Gauge::RoundTrip => "The smoothed round-trip time.",
+        Gauge::RoundTripVariance => "The variance of the round-trip time.",
+        Gauge::WindowUsed => "The places of a publisher's window in use.",
+        Gauge::WindowAvailable => "The places of a publisher's window that are available.",
+        Gauge::FreePlaces => "The free places of a subscriber's buffer.",
+        Gauge::InFlight => "The packets of a subscriber in flight.",
+        Gauge::FlowWindow => "The flow window that a subscriber reported last.",
+    }
+}
+
+/// This of a publisher's session; None if it is nothing of one.
+fn publisher_amount(gauge: Gauge, session: &PublisherStatus) -> Option<Amount>
+    ensures { result ≡ publisher_amount gauge session.now }
+{
+    match gauge {
+        Gauge::Active => Some(Amount::Number(u64::from(session.active))),
+        Gauge::WindowUsed => Some(Amount::Number(u64::from(session.window_used))),
+        Gauge::WindowAvailable => Some(Amount::Number(u64::from(session.window_available))),
+        _ => None,
+    }
+}
+
+/// This of a subscriber's session; None if it is nothing of one.
+fn subscriber_amount(gauge: Gauge, session: &SubscriberStatus) -> Option<Amount>
+    ensures { result ≡ subscriber_amount gauge session.now }
+{
+    match gauge {
+        Gauge::FreePlaces => Some(Amount::Number(u64::from(session.free))),
+        Gauge::InFlight => Some(Amount::Number(u64::from(session.in_flight))),
+        Gauge::FlowWindow => Some(Amount::Number(u64::from(session.flow_window))),
+        _ => None,
+    }
+}
+
+/// A latency, if there is one.
+fn latency_amount(latency_ms: Option<u32>) -> Option<Amount>
+    ensures { result ≡ latency_amount latency_ms }
+{
+    match latency_ms {
+        Some(ms) => Some(Amount::Micros(u64::from(ms) * 1000)),
+        None => None,
+    }
+}
+
+/// This of a session, by its role.
+fn flow_amount(gauge: Gauge, flow: &Flow) -> Option<Amount>
+    ensures { result ≡ flow_amount gauge flow.now }
+{
+    match flow {
+        Flow::Publisher(session) => publisher_amount(gauge, session),
+        Flow::Subscriber(session) => subscriber_amount(gauge, session),
+    }
+}
+
+/// This of a session at a moment; None if it is nothing of this session.
+pub(crate) fn gauge_amount(gauge: Gauge, moment: u64, session: &SessionStatus) -> Option<Amount>
+    ensures { result ≡ gauge_amount gauge moment session.now }
+{
+    match gauge {
+        Gauge::Open => Some(Amount::Micros(moment.saturating_sub(session.opened_at))),
+        Gauge::Silent => Some(Amount::Micros(moment.saturating_sub(session.heard_at))),
+        Gauge::Latency => latency_amount(session.latency_ms),
+        Gauge::RoundTrip => Some(Amount::Micros(u64::from(session.round_trip_us))),
+        Gauge::RoundTripVariance => Some(Amount::Micros(u64::from(session.variance_us))),
+        _ => flow_amount(gauge, &session.flow),
+    }
+}
+
+/// This count of a session; None if sessions of its role don't count it.
+pub(crate) fn session_count(count: Count, session: &SessionStatus) -> Option<u64>
+    ensures { result ≡ session_count count session.now }
+{
+    match &session.flow {
+        Flow::Publisher(publisher) => publisher_count(count, &publisher.counts),
+        Flow::Subscriber(subscriber) => subscriber_count(count, &subscriber.counts),
+    }
+}
+
+pub(crate) fn total_name(total: Total) -> &'static str
+    ensures { result.now ≡ total_name total }
+{
+    match total {
+        Total::Polling => "up",
+        Total::Uptime => "uptime_seconds",
+        Total::Routes => "configured_routes",
+        Total::ResidentMemory => "resident_memory_bytes",
+        Total::KernelDrops => "kernel_dropped_datagrams_total",
+        Total::Read => "poller_read_datagrams_total",
+        Total::Answered => "poller_answered_datagrams_total",
+        Total::Accepted => "poller_accepted_datagrams_total",
+        Total::Full => "poller_full_datagrams_total",
+        Total::Dropped => "poller_dropped_datagrams_total",
+        Total::NotAllowed => "poller_not_allowed_datagrams_total",
+        Total::Memory => "poller_memory_datagrams_total",
+        Total::Sent => "poller_sent_datagrams_total",
+        Total::Lost => "poller_lost_datagrams_total",
+        Total::Faults => "poller_faults_total",
+        Total::NoName => "lobby_refused_no_name_total",
+        Total::UnknownName => "lobby_refused_unknown_name_total",
+        Total::PublishFrom => "lobby_refused_publish_from_total",
+        Total::RequestFrom => "lobby_refused_request_from_total",
+        Total::PublishKey => "lobby_refused_publish_key_total",
+        Total::RequestKey => "lobby_refused_request_key_total",
+    }
+}
+
+pub(crate) fn total_help(total: Total) -> &'static str
+    ensures { result.now ≡ total_help total }
+{
+    match total {
+        Total::Polling => "1 if the poller made a round within the last two seconds, else 0.",
+        Total::Uptime => "The time since the start.",
+        Total::Routes => "The routes of the configuration.",
+        Total::ResidentMemory => "The resident memory of the process.",
+        Total::KernelDrops =>
+            "Datagrams dropped by the kernel, since the socket's buffer was full.",
+        Total::Read => "Datagrams read from the socket.",
+        Total::Answered => "Datagrams answered before they belonged to a route.",
+        Total::Accepted => "Datagrams accepted by the inbox of their route.",
+        Total::Full => "Datagrams for a route whose inbox was full.",
+        Total::Dropped => "Datagrams dropped, since they belong to no route and no handshake.",
+        Total::NotAllowed => "Dropped datagrams to a route from an address in none of its lists.",
+        Total::Memory => "Datagrams for whose copy memory was refused.",
+        Total::Sent => "Datagrams sent.",
+        Total::Lost => "Datagrams that could not be sent.",
+        Total::Faults => "Failed waits, reads and sends.",
+        Total::NoName => "Conclusions refused with 1002: no Stream ID, or one with a fault.",
+        Total::UnknownName => "Conclusions refused with 1002: no route has the name.",
+        Total::PublishFrom => "Conclusions refused with 1002: the address is not in publish_from.",
+        Total::RequestFrom => "Conclusions refused with 1002: the address is not in request_from.",
+        Total::PublishKey => "Conclusions refused with 1002: publish_key is missing or wrong.",
+        Total::RequestKey => "Conclusions refused with 1002: request_key is missing or wrong.",
+    }
+}
+
+/// The type of a family, as the format names it.
+pub(crate) fn total_kind(total: Total) -> &'static str
+    ensures { result.now ≡ total_kind total }
+{
+    match total {
+        Total::Polling | Total::Uptime | Total::Routes | Total::ResidentMemory => "gauge",
+        _ => "counter",
+    }
+}
+
+/// This of the gateway; None if it isn't known.
+pub(crate) fn total_value(total: Total, gateway: &GatewayStatus<'_>) -> Option<u64>
+    ensures { result ≡ total_value total gateway.now }
+{
+    let poller = &gateway.poller;
+    match total {
+        Total::Polling => Some(u64::from(gateway.polling)),
+        Total::Uptime => Some(gateway.uptime_seconds),
+        Total::Routes => Some(u64::from(gateway.routes)),
+        Total::ResidentMemory => gateway.resident_bytes,
+        Total::KernelDrops => gateway.kernel_drops,
+        Total::Read => Some(poller.read),
+        Total::Answered => Some(poller.answered),
+        Total::Accepted => Some(poller.accepted),
+        Total::Full => Some(poller.full),
+        Total::Dropped => Some(poller.dropped),
+        Total::NotAllowed => Some(poller.not_allowed),
+        Total::Memory => Some(poller.memory),
+        Total::Sent => Some(poller.sent),
+        Total::Lost => Some(poller.lost),
+        Total::Faults => Some(poller.faults),
+        Total::NoName => Some(gateway.causes.no_name),
+        Total::UnknownName => Some(gateway.causes.unknown_name),
+        Total::PublishFrom => Some(gateway.causes.publish_from),
+        Total::RequestFrom => Some(gateway.causes.request_from),
+        Total::PublishKey => Some(gateway.causes.publish_key),
+        Total::RequestKey => Some(gateway.causes.request_key),
+    }
+}
+
+/// A reason for a refusal.
+#[derive(Clone, Copy)]
+pub(crate) enum Reason {
+    Peer,
+    Resource,
+    Rogue,
+    Version,
+    Unsecure,
+    MessageApi,
+    Filter,
+    Group,
+}
+
+/// All reasons, in the order of their numbers.
+pub(crate) const REASONS: [Reason; 8] = [
+    Reason::Peer,
+    Reason::Resource,
+    Reason::Rogue,
+    Reason::Version,
+    Reason::Unsecure,
+    Reason::MessageApi,
+    Reason::Filter,
+    Reason::Group,
+];
+
+/// The number and the name of a reason, as labels.
+pub(crate) fn reason_labels(reason: Reason) -> &'static str
+    ensures { result.now ≡ reason_labels reason }
+{
+    match reason {
+        Reason::Peer => "code=\"1002\",reason=\"PEER\"} ",
+        Reason::Resource => "code=\"1003\",reason=\"RESOURCE\"} ",
+        Reason::Rogue => "code=\"1004\",reason=\"ROGUE\"} ",
+        Reason::Version => "code=\"1008\",reason=\"VERSION\"} ",
+        Reason::Unsecure => "code=\"1011\",reason=\"UNSECURE\"} ",
+        Reason::MessageApi => "code=\"1012\",reason=\"MESSAGEAPI\"} ",
+        Reason::Filter => "code=\"1014\",reason=\"FILTER\"} ",
+        Reason::Group => "code=\"1015\",reason=\"GROUP\"} ",
+    }
+}
+
+/// The name of a reason.
+pub(crate) fn reason_name(reason: Reason) -> &'static str
+    ensures { result.now ≡ reason_name reason }
+{
+    match reason {
+        Reason::Peer => "PEER",
+        Reason::Resource => "RESOURCE",
+        Reason::Rogue => "ROGUE",
+        Reason::Version => "VERSION",
+        Reason::Unsecure => "UNSECURE",
+        Reason::MessageApi => "MESSAGEAPI",
+        Reason::Filter => "FILTER",
+        Reason::Group => "GROUP",
+    }
+}
+
+/// How many conclusions were refused for this reason.
+pub(crate) fn refusal_count(reason: Reason, counts: &RefusalCounts) -> u64
+    ensures { result ≡ refusal_count reason counts.now }
+{
+    match reason {
+        Reason::Peer => counts.peer,
+        Reason::Resource => counts.resource,
+        Reason::Rogue => counts.rogue,
+        Reason::Version => counts.version,
+        Reason::Unsecure => counts.unsecure,
+        Reason::MessageApi => counts.message_api,
+        Reason::Filter => counts.filter,
+        Reason::Group => counts.group,
+    }
+}
+
+/// What is shown of a route beside what its sessions count.
+#[derive(Clone, Copy)]
+pub(crate) enum RouteFigure {
+    Allowed,
+    Opened,
+    TakeOvers,
+    RefusedFull,
+    RefusedReserved,
+    RefusedAddress,
+}
+
+/// All that is shown of a route beside what its sessions count, in its order.
+pub(crate) const ROUTE_FIGURES: [RouteFigure; 6] = [
+    RouteFigure::Allowed,
+    RouteFigure::Opened,
+    RouteFigure::TakeOvers,
+    RouteFigure::RefusedFull,
+    RouteFigure::RefusedReserved,
+    RouteFigure::RefusedAddress,
+];
+
+pub(crate) fn figure_name(figure: RouteFigure) -> &'static str
+    ensures { result.now ≡ figure_name figure }
+{
+    match figure {
+        RouteFigure::Allowed => "allowed_sessions",
+        RouteFigure::Opened => "opened_sessions_total",
+        RouteFigure::TakeOvers => "take_overs_total",
+        RouteFigure::RefusedFull => "refused_sessions_total",
+        RouteFigure::RefusedReserved => "refused_reserved_total",
+        RouteFigure::RefusedAddress => "refused_sessions_per_address_total",
+    }
+}
+
+pub(crate) fn figure_help(figure: RouteFigure) -> &'static str
+    ensures { result.now ≡ figure_help figure }
+{
+    match figure {
+        RouteFigure::Allowed => "The greatest number of open sessions.",
+        RouteFigure::Opened => "Sessions opened since the start.",
+        RouteFigure::TakeOvers => "How often a publisher that stood by became the active one.",
+        RouteFigure::RefusedFull => "Conclusions refused with 1003: no slot is free.",
+        RouteFigure::RefusedReserved =>
+            "Conclusions refused with 1003: the free slots are reserved for publishers.",
+        RouteFigure::RefusedAddress =>
+            "Conclusions refused with 1003: the address has all its sessions.",
+    }
+}
+
+/// The type of a family, as the format names it.
+pub(crate) fn figure_kind(figure: RouteFigure) -> &'static str
+    ensures { result.now ≡ figure_kind figure }
+{
+    match figure {
+        RouteFigure::Allowed => "gauge",
+        _ => "counter",
+    }
+}
+
+/// How many conclusions a route refused with 1003, by this limit.
+fn limit_figure(figure: RouteFigure, limits: &LimitCounts) -> Option<u64>
+    ensures { result ≡ limit_figure figure limits.now }
+{
+    match figure {
+        RouteFigure::RefusedFull => Some(limits.sessions),
+        RouteFigure::RefusedReserved => Some(limits.reserved),
+        RouteFigure::RefusedAddress => Some(limits.sessions_per_address),
+        _ => None,
+    }
+}
+
+/// This of a route; None if it isn't known.
+pub(crate) fn route_figure(figure: RouteFigure, route: &RouteStatus) -> Option<u64>
+    ensures { result ≡ route_figure figure route.now }
+{
+    match figure {
+        RouteFigure::Allowed => Some(u64::from(route.sessions_allowed)),
+        RouteFigure::Opened => Some(route.opened),
+        RouteFigure::TakeOvers => route.take_overs,
+        _ => match &route.limits {
+            Some(limits) => limit_figure(figure, limits),
+            None => None,
+        },
+    }
+}

@@ -1,0 +1,90 @@
+//! What is known of the gateway as a whole.
+
+/// How many datagrams the gateway's poller counted since the start. Each count stops at 2^64 - 1.
+#[derive(Clone, Copy, Debug, Default, PartialEq, Eq)]
+pub struct PollerCounts {
+    /// Datagrams that were read.
+    pub read: u64,
+    /// Of these, those that the lobby answered.
+    pub answered: u64,
+    /// Of these, those that their route's inbox accepted.
+    pub accepted: u64,
+    /// Of these, those for a route whose inbox was full.
+    pub full: u64,
+    /// Of these, those that the lobby dropped.
+    pub dropped: u64,
+    /// Of those that were dropped, those to a route from an address in none of its lists.
+    pub not_allowed: u64,
+    /// Of these, those for a route for whose copy memory was refused.
+    pub memory: u64,
+    /// Answers and replies that the socket took.
+    pub sent: u64,
+    /// Answers and replies that it didn't take.
+    pub lost: u64,
+    /// Failed waits, reads and sends.
+    pub faults: u64,
+}
+
+/// How many conclusions were refused, by the reason (draft-sharabayko-srt-01, section 4.3, table 7). The numbers and
+/// names are those of `srt_hs::RefusalCode`.
+#[derive(Clone, Copy, Debug, Default, PartialEq, Eq)]
+pub struct RefusalCounts {
+    /// 1002, `PEER`.
+    pub peer: u64,
+    /// 1003, `RESOURCE`.
+    pub resource: u64,
+    /// 1004, `ROGUE`.
+    pub rogue: u64,
+    /// 1008, `VERSION`.
+    pub version: u64,
+    /// 1011, `UNSECURE`.
+    pub unsecure: u64,
+    /// 1012, `MESSAGEAPI`.
+    pub message_api: u64,
+    /// 1014, `FILTER`.
+    pub filter: u64,
+    /// 1015, `GROUP`.
+    pub group: u64,
+}
+
+/// How many conclusions were refused with 1002 before they belonged to a route, by what stood against the caller.
+#[derive(Clone, Copy, Debug, Default, PartialEq, Eq)]
+pub struct CauseCounts {
+    /// It brought no Stream ID, or one with a fault.
+    pub no_name: u64,
+    /// No route has the name that it asked for.
+    pub unknown_name: u64,
+    /// Its address isn't in the route's `publish_from`.
+    pub publish_from: u64,
+    /// Its address isn't in the route's `request_from`.
+    pub request_from: u64,
+    /// It brought no `publish_key` or another one.
+    pub publish_key: u64,
+    /// It brought no `request_key` or another one.
+    pub request_key: u64,
+}
+
+/// The gateway at one moment.
+#[derive(Clone, Copy, Debug)]
+pub struct GatewayStatus<'a> {
+    /// The version of the program, as `srtgw --version` prints it.
+    pub version: &'a str,
+    /// The whole seconds since the start.
+    pub uptime_seconds: u64,
+    /// The moment of the look, in microseconds of the routes' clock.
+    pub moment: u64,
+    /// The number of routes that the configuration names.
+    pub routes: u32,
+    /// Whether the poller made a round within the last two seconds.
+    pub polling: bool,
+    /// What the poller counted.
+    pub poller: PollerCounts,
+    /// The conclusions that were refused before they belonged to a route.
+    pub refused: RefusalCounts,
+    /// Those of them that were refused with 1002.
+    pub causes: CauseCounts,
+    /// The datagrams that the kernel dropped at the socket, since its buffer was full; None if it isn't known.
+    pub kernel_drops: Option<u64>,
+    /// The resident memory of the process, in bytes; None if it isn't known.
+    pub resident_bytes: Option<u64>,
+}

@@ -1,0 +1,40 @@
+//! The texts and the HTTP of the status page of a gateway that runs, with no socket and no thread: the figures for
+//! Prometheus, the status for programs, the page for people, and the requests and responses that carry them.
+//!
+//! It reads nothing of the gateway: its caller passes in what it saw. A body is allocated, which may be refused.
+//!
+//! Types: [`GatewayStatus`] (`gateway.rt`) and [`RouteStatus`] (`routes.rt`), what was seen; [`Request`]
+//! (`request.rt`), what a caller asks for; [`Connection`] (`connection.rt`), the state of one connection.
+//!
+//! Calls: [`put_metrics`] (`metrics.rt`) and [`put_json`] (`json.rt`) put what was seen into a text, [`request_in`] reads
+//! a request, and [`respond`] (`response.rt`) makes the response to it. The names, the help and the values of all
+//! figures are in `figures.rt`, the parts of a text in `text.rt` and `peers.rt`, and [`OVERVIEW`], the page for people,
+//! in `overview.rt`.
+#![tactic(auto)]
+
+mod connection;
+mod figures;
+mod gateway;
+mod json;
+mod metrics;
+mod overview;
+mod peers;
+mod request;
+mod response;
+mod routes;
+mod text;
+
+pub use connection::{Connection, PATIENCE};
+pub use gateway::{CauseCounts, GatewayStatus, PollerCounts, RefusalCounts};
+pub use json::put_json;
+pub use metrics::put_metrics;
+pub use overview::OVERVIEW;
+pub use request::{MAX_REQUEST, Method, Page, Request, request_in};
+pub use response::respond;
+pub use routes::{
+    Flow, LimitCounts, PublisherCounts, PublisherStatus, RouteStatus, SLOTS, SessionStatus,
+    SubscriberCounts, SubscriberStatus,
+};
+
+#[cfg(test)]
+mod tests;

@@ -1,0 +1,467 @@
+//! The page for people.
+
+/// One page with its style and its script: it asks for `/status.json` each second, and shows the routes with their
+/// sessions. It needs no other file. The policy that it is served under (`response.rt`) names its style and its script by
+/// their SHA-256.
+pub const OVERVIEW: &str = r##"<!doctype html>
+<html lang="en">
+<head>
+<meta charset="utf-8">
+<meta name="viewport" content="width=device-width, initial-scale=1">
+<meta name="color-scheme" content="light dark">
+<title>srtgw</title>
+<style>
+:root {
+  --page: #f6f7f8; --card: #ffffff; --line: #e2e5e9; --text: #1b1f24; --dim: #626b76;
+  --in: #0b6bcb; --out: #12805c; --good: #12805c; --warn: #9a5b00; --bad: #b3261e;
+  --warn-back: #fff3dc; --bad-back: #fde8e6; --good-back: #e3f4ec;
+}
+@media (prefers-color-scheme: dark) {
+  :root {
+    --page: #14171a; --card: #1c2024; --line: #2e343a; --text: #e6e9ec; --dim: #98a2ad;
+    --in: #6cb2ff; --out: #58c99b; --good: #58c99b; --warn: #f0b35a; --bad: #ff8f86;
+    --warn-back: #3a2d14; --bad-back: #42201d; --good-back: #173529;
+  }
+}
+* { box-sizing: border-box; }
+html { background: var(--page); color: var(--text); }
+body {
+  margin: 0 auto; max-width: 1180px; padding: 20px 20px 48px;
+  font: 14px/1.45 system-ui, -apple-system, "Segoe UI", Roboto, "Helvetica Neue", Arial, sans-serif;
+  font-variant-numeric: tabular-nums;
+}
+header { display: flex; flex-wrap: wrap; align-items: baseline; gap: 4px 12px; }
+h1 { font-size: 20px; font-weight: 650; margin: 0; letter-spacing: -.01em; }
+.dim { color: var(--dim); }
+.pill { padding: 1px 9px; border-radius: 99px; font-size: 12.5px; font-weight: 600; }
+.pill.good { color: var(--good); background: var(--good-back); }
+.pill.bad { color: var(--bad); background: var(--bad-back); }
+#gone { display: none; margin-top: 12px; padding: 10px 14px; border-radius: 8px; color: var(--bad); background: var(--bad-back); }
+.late #gone { display: block; }
+.late main, .late #sums { opacity: .45; }
+#sums { display: grid; grid-template-columns: repeat(auto-fit, minmax(126px, 1fr)); gap: 8px; margin: 16px 0; }
+#sums div { background: var(--card); border: 1px solid var(--line); border-radius: 8px; padding: 8px 12px; }
+#sums b { display: block; font-size: 17px; font-weight: 600; white-space: nowrap; }
+#sums span { color: var(--dim); font-size: 12.5px; }
+#sums .bad b { color: var(--bad); }
+#filter {
+  width: 100%; max-width: 320px; padding: 7px 11px; font: inherit; color: inherit;
+  background: var(--card); border: 1px solid var(--line); border-radius: 8px;
+}
+#filter:focus-visible, summary:focus-visible { outline: 2px solid var(--in); outline-offset: 1px; }
+main { margin-top: 12px; }
+.route { background: var(--card); border: 1px solid var(--line); border-radius: 8px; margin-bottom: 10px; overflow: hidden; }
+.route > summary {
+  display: flex; flex-wrap: wrap; align-items: center; gap: 4px 14px; padding: 10px 14px; cursor: pointer; list-style: none;
+}
+.route > summary::-webkit-details-marker { display: none; }
+.route > summary::before { content: "›"; color: var(--dim); width: 8px; transition: transform .12s; }
+.route[open] > summary::before { transform: rotate(90deg); }
+.name { font-weight: 620; overflow-wrap: anywhere; }
+.rates { margin-left: auto; display: flex; gap: 16px; white-space: nowrap; }
+.rates .in, .in { color: var(--in); }
+.rates .out, .out { color: var(--out); }
+.grid { border-top: 1px solid var(--line); padding: 4px 14px 8px; }
+.session, .heads {
+  display: grid; gap: 2px 14px; align-items: center;
+  grid-template-columns: minmax(190px, 1.7fr) 92px 128px 88px 104px 104px minmax(116px, 1fr);
+}
+.heads { color: var(--dim); font-size: 12.5px; padding: 6px 15px; position: sticky; top: 0; background: var(--page); z-index: 1; }
+.session { padding: 7px 0; border-top: 1px solid var(--line); }
+.session:first-child { border-top: 0; }
+.number { text-align: right; white-space: nowrap; }
+.who { overflow-wrap: anywhere; }
+.who small, .session small { display: block; color: var(--dim); font-size: 12.5px; }
+.marks { grid-column: 1 / -1; display: flex; flex-wrap: wrap; gap: 4px 6px; }
+.marks:empty { display: none; }
+#refused { margin: 0 0 16px; }
+.route > .marks { padding: 0 14px 8px; }
+.mark { padding: 1px 8px; border-radius: 5px; font-size: 12.5px; color: var(--dim); background: var(--page); }
+.mark.warn { color: var(--warn); background: var(--warn-back); }
+.mark.bad { color: var(--bad); background: var(--bad-back); }
+svg { display: block; width: 128px; height: 28px; }
+svg path { vector-effect: non-scaling-stroke; }
+svg .line { fill: none; stroke: currentColor; stroke-width: 1.5; stroke-linejoin: round; }
+svg .area { fill: currentColor; opacity: .14; }
+#idle > summary { padding: 8px 2px; cursor: pointer; color: var(--dim); }
+#names { columns: 220px; column-gap: 20px; padding: 4px 2px; }
+#names div { overflow-wrap: anywhere; padding: 1px 0; break-inside: avoid; }
+.label { display: none; }
+footer { margin-top: 20px; font-size: 12.5px; color: var(--dim); }
+a { color: inherit; }
+@media (max-width: 860px) {
+  body { padding: 14px 12px 40px; }
+  #sums { grid-template-columns: repeat(2, 1fr); }
+  #filter { max-width: none; }
+  .rates { margin-left: 22px; width: 100%; }
+  .heads { display: none; }
+  .session { grid-template-columns: 1fr 1fr; gap: 6px 14px; padding: 10px 0; }
+  .who { grid-column: 1 / -1; }
+  .number { text-align: left; white-space: normal; }
+  .label { display: block; color: var(--dim); font-size: 12.5px; }
+  .plot { align-self: end; }
+}
+</style>
+</head>
+<body>
+<header>
+  <h1>srtgw</h1>
+  <span class="dim" id="version"></span>
+  <span class="pill" id="state">loading</span>
+  <span class="dim" id="uptime"></span>
+</header>
+<div id="gone" role="status"></div>
+<section id="sums" aria-label="Gateway"></section>
+<section id="refused" class="marks" aria-label="Refused callers"></section>
+<input id="filter" type="search" placeholder="Filter routes and callers" aria-label="Filter routes and callers" autocomplete="off">
+<main>
+  <div class="heads">
+    <span>Caller</span><span class="number">Bit rate</span><span>Last minute</span><span class="number">Round trip</span>
+    <span class="number">Lost</span><span class="number">Sent again</span><span class="number">Window</span>
+  </div>
+  <div id="routes"></div>
+  <details id="idle"><summary></summary><div id="names"></div></details>
+</main>
+<footer>Bit rates are those of payloads, over the last minute. Also here: <a href="/metrics">metrics</a>, <a href="/status.json">status.json</a>, <a href="/healthz">healthz</a>.</footer>
+<script>
+"use strict";
+const SPAN = 60;
+const byId = (id) => document.getElementById(id);
+const seen = new Map();
+const shown = new Map();
+let last = null, answered = Date.now(), idleKey = "";
+
+function make(tag, name, text) {
+  const node = document.createElement(tag);
+  if (name) node.className = name;
+  if (text !== undefined) node.textContent = text;
+  return node;
+}
+function write(node, text) {
+  if (node.textContent !== text) node.textContent = text;
+}
+function count(n) {
+  return Math.round(n).toLocaleString("en").replace(/,/g, "\u202f");
+}
+function bits(n) {
+  if (n === null) return "–";
+  if (n >= 1e9) return (n / 1e9).toFixed(2) + " Gbit/s";
+  if (n >= 1e6) return (n / 1e6).toFixed(n >= 1e8 ? 0 : 2) + " Mbit/s";
+  return (n / 1e3).toFixed(0) + " kbit/s";
+}
+function size(n) {
+  if (n === undefined) return "–";
+  return n >= 1 << 30 ? (n / (1 << 30)).toFixed(2) + " GiB" : (n / (1 << 20)).toFixed(1) + " MiB";
+}
+function lasted(s) {
+  const d = Math.floor(s / 86400), h = Math.floor(s / 3600) % 24, m = Math.floor(s / 60) % 60;
+  if (d) return d + " d " + h + " h";
+  if (h) return h + " h " + m + " min";
+  return m ? m + " min " + Math.floor(s % 60) + " s" : Math.floor(s) + " s";
+}
+function millis(s) {
+  return s === undefined ? "–" : (s * 1000).toFixed(s < 0.1 ? 1 : 0) + " ms";
+}
+
+// What a session counted, second by second: a session is known by its route, its ID and its caller.
+function note(route, session) {
+  const publishes = session.role === "publisher";
+  const key = route.name + " " + session.session + " " + session.peer;
+  let past = seen.get(key);
+  if (!past) seen.set(key, past = { key, rows: [], rates: [] });
+  const row = {
+    at: session.open_seconds,
+    bytes: publishes ? session.received_bytes_total : session.queued_bytes_total,
+    lost: session.given_up_packets_total,
+    resent: publishes ? session.repeated_packets_total : session.resent_packets_total,
+    late: Math.min(session.late_packets_total || 0, session.given_up_packets_total),
+    full: session.full_window_acks_total || 0,
+    stray: session.misdirected_packets_total || 0,
+    reports: publishes ? session.reported_lost_packets_total : session.naks_taken_total,
+  };
+  const before = past.rows[past.rows.length - 1];
+  if (!before || row.at > before.at) {
+    if (before) past.rates.push(Math.max(0, (row.bytes - before.bytes) * 8 / (row.at - before.at)));
+    past.rows.push(row);
+    if (past.rows.length > SPAN + 1) past.rows.shift();
+    if (past.rates.length > SPAN) past.rates.shift();
+  }
+  past.now = row;
+  past.live = last;
+  return past;
+}
+function rate(past) {
+  const rates = past.rates.slice(-3);
+  return rates.length ? rates.reduce((a, b) => a + b, 0) / rates.length : null;
+}
+function recent(past, field) {
+  return past.now[field] - past.rows[0][field];
+}
+function draw(svg, rates) {
+  const top = Math.max(1, ...rates), step = 128 / (SPAN - 1);
+  const points = rates.map((r, i) => [128 - (rates.length - 1 - i) * step, 26 - 23 * r / top]);
+  const line = points.map((p, i) => (i ? "L" : "M") + p[0].toFixed(1) + " " + p[1].toFixed(1)).join("");
+  const area = points.length ? line + "L128 28L" + points[0][0].toFixed(1) + " 28Z" : "";
+  svg.firstChild.setAttribute("d", area);
+  svg.lastChild.setAttribute("d", line);
+}
+function plot() {
+  const svg = document.createElementNS("http://www.w3.org/2000/svg", "svg");
+  svg.setAttribute("viewBox", "0 0 128 28");
+  svg.setAttribute("aria-hidden", "true");
+  for (const name of ["area", "line"]) {
+    svg.append(document.createElementNS("http://www.w3.org/2000/svg", "path"));
+    svg.lastChild.setAttribute("class", name);
+  }
+  return svg;
+}
+
+function marks(session, past) {
+  const list = [];
+  const add = (total, field, text) => {
+    if (total) list.push([recent(past, field) ? "warn" : "", text]);
+  };
+  if (past.now.stray) list.push(["bad", "sends data but did not ask to publish: m=publish is missing"]);
+  if (session.role === "publisher") {
+    add(past.now.late, "late", count(past.now.late) + " packets came too late");
+    add(past.now.full, "full", "window full, " + count(past.now.full) + " times");
+    add(session.ahead_packets_total, "full", count(session.ahead_packets_total) + " packets ahead of the window");
+  }
+  if (session.silent_seconds > 2) list.push(["warn", "silent for " + lasted(session.silent_seconds)]);
+  return list;
+}
+// Callers that were refused, and datagrams dropped, by what stood against them: those of which there are any.
+const CAUSES = [
+  ["lobby_refused_unknown_name_total", "refused: unknown name"],
+  ["lobby_refused_no_name_total", "refused: no name"],
+  ["lobby_refused_publish_from_total", "refused: not in publish_from"],
+  ["lobby_refused_request_from_total", "refused: not in request_from"],
+  ["lobby_refused_publish_key_total", "refused: publish_key missing or wrong"],
+  ["lobby_refused_request_key_total", "refused: request_key missing or wrong"],
+  ["refusals_ROGUE", "refused: 1004 ROGUE"],
+  ["refusals_VERSION", "refused: 1008 VERSION"],
+  ["refusals_UNSECURE", "refused: 1011 UNSECURE"],
+  ["refusals_FILTER", "refused: 1014 FILTER"],
+  ["refusals_GROUP", "refused: 1015 GROUP"],
+  ["poller_not_allowed_datagrams_total", "datagrams dropped: address in no list"],
+];
+const ROUTE_CAUSES = [
+  ["refusals_PEER", "refused: two publishers are open"],
+  ["refusals_ROGUE", "refused: 1004 ROGUE"],
+  ["refusals_MESSAGEAPI", "refused: 1012 MESSAGEAPI"],
+];
+const LIMITS = [
+  ["refused_sessions_total", "refused: no free session"],
+  ["refused_reserved_total", "refused: the free sessions are reserved for publishers"],
+  ["refused_sessions_per_address_total", "refused: sessions_per_address"],
+];
+const LIMITS_TOGETHER = [["refusals_RESOURCE", "refused: 1003 RESOURCE"]];
+// A mark is a warning for a minute after its count grew.
+function showCauses(box, counts, causes) {
+  const now = Date.now(), past = box.past || {};
+  box.past = {};
+  const list = causes.filter(([name]) => counts[name]).map(([name, text]) => {
+    const [before, at] = past[name] || [box.said === undefined ? counts[name] : 0, 0];
+    box.past[name] = [counts[name], counts[name] > before ? now : at];
+    return [now - box.past[name][1] < 1000 * SPAN ? "warn" : "", count(counts[name]) + " " + text];
+  });
+  const said = JSON.stringify(list);
+  if (said === box.said) return;
+  box.said = said;
+  box.replaceChildren(...list.map((m) => make("span", "mark " + m[0], m[1])));
+}
+function cell(row, name, label) {
+  const node = make("div", name);
+  if (label) node.append(make("span", "label", label));
+  node.append(make("span"), make("small"));
+  row.append(node);
+  return node;
+}
+function openSession() {
+  const row = make("div", "session");
+  const parts = {
+    row,
+    who: cell(row, "who"),
+    rate: cell(row, "number", "Bit rate"),
+    plot: row.appendChild(make("div", "plot")),
+    trip: cell(row, "number", "Round trip"),
+    lost: cell(row, "number", "Lost"),
+    resent: cell(row, "number", "Sent again"),
+    window: cell(row, "number", "Window"),
+    marks: row.appendChild(make("div", "marks")),
+    said: "",
+  };
+  parts.svg = parts.plot.appendChild(plot());
+  return parts;
+}
+function fill(node, text, small) {
+  write(node.lastChild.previousSibling, text);
+  write(node.lastChild, small);
+}
+function showSession(parts, session, past) {
+  const publishes = session.role === "publisher";
+  const role = publishes ? (session.active ? "Publisher" : "Standby publisher") : "Subscriber";
+  fill(parts.who, session.peer, role + ", open for " + lasted(session.open_seconds));
+  fill(parts.rate, bits(rate(past)), "");
+  parts.plot.className = "plot " + (publishes ? "in" : "out");
+  draw(parts.svg, past.rates);
+  fill(parts.trip, millis(session.round_trip_seconds), "± " + millis(session.round_trip_variance_seconds));
+  fill(parts.lost, count(past.now.lost), count(past.now.reports) + (publishes ? " reported" : " NAKs"));
+  fill(parts.resent, count(past.now.resent), publishes ? "came again" : "sent again");
+  if (publishes) {
+    fill(parts.window, count(session.window_available_packets) + " free", "latency " + millis(session.latency_seconds));
+  } else {
+    fill(parts.window, count(session.in_flight_packets) + " in flight", "latency " + millis(session.latency_seconds));
+  }
+  const list = marks(session, past), said = JSON.stringify(list);
+  if (said !== parts.said) {
+    parts.said = said;
+    parts.marks.replaceChildren(...list.map((m) => make("span", "mark " + m[0], m[1])));
+  }
+}
+
+function openRoute(name) {
+  const box = make("details", "route");
+  box.open = true;
+  const top = box.appendChild(make("summary"));
+  const parts = { box, sessions: new Map() };
+  top.append(make("span", "name", name));
+  parts.facts = top.appendChild(make("span", "dim"));
+  const rates = top.appendChild(make("span", "rates"));
+  parts.in = rates.appendChild(make("span", "in"));
+  parts.out = rates.appendChild(make("span", "out"));
+  parts.refused = box.appendChild(make("div", "marks"));
+  parts.grid = box.appendChild(make("div", "grid"));
+  return parts;
+}
+// Puts a node behind another one, or first, unless it stands there.
+function put(box, before, node) {
+  const next = before ? before.nextSibling : box.firstChild;
+  if (next !== node) box.insertBefore(node, next);
+}
+function order(a, b) {
+  return (b.role === "publisher") - (a.role === "publisher") || (b.active || 0) - (a.active || 0) || a.peer.localeCompare(b.peer);
+}
+function showRoute(parts, route) {
+  let into = 0, out = 0;
+  const left = new Set(parts.sessions.keys());
+  let place = null;
+  for (const session of route.sessions.slice().sort(order)) {
+    const past = note(route, session);
+    if (session.role === "publisher") {
+      if (session.active) into += rate(past) || 0;
+    } else {
+      out += rate(past) || 0;
+    }
+    left.delete(past.key);
+    let row = parts.sessions.get(past.key);
+    if (!row) parts.sessions.set(past.key, row = openSession());
+    put(parts.grid, place, row.row);
+    place = row.row;
+    if (parts.box.open) showSession(row, session, past);
+  }
+  for (const key of left) {
+    parts.sessions.get(key).row.remove();
+    parts.sessions.delete(key);
+  }
+  write(parts.facts, route.mode + ", " + route.sessions.length + " of " + route.allowed_sessions + " sessions");
+  const limits = route.refused_sessions_total === undefined ? LIMITS_TOGETHER : LIMITS;
+  showCauses(parts.refused, route, ROUTE_CAUSES.concat(limits));
+  write(parts.in, "in " + bits(into));
+  write(parts.out, "out " + bits(out));
+  return [into, out];
+}
+
+function show(status) {
+  const wanted = byId("filter").value.trim().toLowerCase();
+  const fits = (route) => !wanted || route.name.toLowerCase().includes(wanted)
+    || route.sessions.some((s) => s.peer.includes(wanted));
+  let into = 0, out = 0, sessions = 0;
+  const idle = [], left = new Set(shown.keys());
+  let place = null;
+  for (const route of status.routes) {
+    sessions += route.sessions.length;
+    if (!route.sessions.length) {
+      if (fits(route)) idle.push(route.name);
+      continue;
+    }
+    left.delete(route.name);
+    let parts = shown.get(route.name);
+    if (!parts) shown.set(route.name, parts = openRoute(route.name));
+    const [i, o] = showRoute(parts, route);
+    into += i;
+    out += o;
+    parts.box.hidden = !fits(route);
+    put(byId("routes"), place, parts.box);
+    place = parts.box;
+  }
+  for (const name of left) {
+    shown.get(name).box.remove();
+    shown.delete(name);
+  }
+  for (const [key, past] of seen) if (past.live !== last) seen.delete(key);
+  const key = idle.join("\n");
+  if (key !== idleKey || !byId("idle").dataset.drawn) {
+    idleKey = key;
+    byId("idle").dataset.drawn = "1";
+    byId("idle").hidden = !idle.length;
+    write(byId("idle").firstChild, count(idle.length) + (idle.length === 1 ? " route" : " routes") + " without sessions");
+    byId("names").replaceChildren(...idle.map((name) => make("div", "", name)));
+  }
+  const sums = [
+    ["Sessions", count(sessions)],
+    ["Routes in use", count(shown.size) + " of " + count(status.routes.length)],
+    ["In", bits(into)],
+    ["Out", bits(out)],
+    ["Kernel drops", status.kernel_dropped_datagrams_total === undefined ? "–" : count(status.kernel_dropped_datagrams_total), status.kernel_dropped_datagrams_total > 0],
+    ["Not sent", count(status.poller_lost_datagrams_total), status.poller_lost_datagrams_total > 0],
+    ["Memory", size(status.resident_memory_bytes)],
+  ];
+  const box = byId("sums");
+  while (box.children.length < sums.length) {
+    const node = make("div");
+    node.append(make("b"), make("span"));
+    box.append(node);
+  }
+  sums.forEach(([label, value, bad], at) => {
+    const node = box.children[at];
+    node.className = bad ? "bad" : "";
+    write(node.firstChild, value);
+    write(node.lastChild, label);
+  });
+  showCauses(byId("refused"), status, CAUSES);
+  write(byId("version"), status.version);
+  write(byId("uptime"), "up for " + lasted(status.uptime_seconds));
+}
+function state(good, text) {
+  byId("state").className = "pill " + (good ? "good" : "bad");
+  write(byId("state"), text);
+}
+function gone() {
+  const away = Math.round((Date.now() - answered) / 1000);
+  if (away < 3) return;
+  document.body.className = "late";
+  state(false, "no answer");
+  write(byId("gone"), "The gateway hasn't answered for " + lasted(away) + ". What is shown is what it said last.");
+}
+async function look() {
+  try {
+    const answer = await fetch("/status.json", { cache: "no-store", signal: AbortSignal.timeout(2500) });
+    if (!answer.ok) throw new Error(answer.status);
+    last = await answer.json();
+    answered = Date.now();
+    document.body.className = "";
+    state(last.up === 1, last.up === 1 ? "running" : "stalled: no round for two seconds");
+    show(last);
+  } catch {
+    gone();
+  }
+  setTimeout(look, 1000);
+}
+byId("filter").addEventListener("input", () => last && show(last));
+byId("routes").addEventListener("toggle", () => last && show(last), true);
+look();
+</script>
+</body>
+</html>
+"##;

@@ -1,0 +1,204 @@
+//! What is answered to a caller of the status page.
+
+ghost use Rattle.std.specs.Prelude.{◌≡◌, ◌++◌, OnOk, IfOk};
+ghost use Rattle.srt_status.specs.Responses.{common_fields, protocol_text, status_line, head_text, body_text, response_text, plain_text};
+ghost use Rattle.srt_status.specs.Responses.{health_text, overview_text, metrics_text, json_text, page_text, response_of};
+
+use crate::gateway::GatewayStatus;
+use crate::json::put_json;
+use crate::metrics::put_metrics;
+use crate::request::{Method, Page, Request};
+use crate::routes::RouteStatus;
+use crate::text::{put, put_number};
+use std::alloc::{AllocError, Global};
+
+/// The fields of a response for people that isn't a page.
+const PLAIN: &str = "Content-Type: text/plain; charset=utf-8\r\n";
+
+/// The fields of the page of figures.
+const FIGURES: &str = "Content-Type: text/plain; version=0.0.4; charset=utf-8\r\n";
+
+/// The fields of the status for programs.
+const JSON: &str = "Content-Type: application/json\r\n";
+
+/// The fields of the page for people. Its script and its style are named by their SHA-256.
+const HTML: &str =
+    "Content-Type: text/html; charset=utf-8\r\nContent-Security-Policy: default-src 'none'; connect-src 'self'; script-src 'sha256-4oEVOZMlXdgPC9Y8wb79qDFr6hYBPmX51i3AwW4wXu8='; style-src 'sha256-1U9ngPV8bIACa4lT+qDjAglBgvIKv0406B7dB5mKhsQ='; base-uri 'none'; form-action 'none'; frame-ancestors 'none'\r\n";
+
+/// Puts the fields that all responses have.
+#[tactic(auto, unfolding(crate::specs::Responses::common_fields))]
+fn put_common(out: &mut Vec<u8>) -> Result<(), AllocError>
+    ensures { OnOk result (out.new.items ≡ out.old.items ++ common_fields) }
+{
+    put(
+        out,
+        b"Cache-Control: no-store\r\nConnection: close\r\nX-Content-Type-Options: nosniff\r\n",
+    )
+}
+
+#[tactic(auto, unfolding(crate::specs::Responses::protocol_text))]
+fn put_protocol(out: &mut Vec<u8>) -> Result<(), AllocError>
+    ensures { OnOk result (out.new.items ≡ out.old.items ++ protocol_text) }
+{
+    put(out, b"HTTP/1.1 ")
+}
+
+#[tactic(auto, using(crate::proofs::Puts::joined), unfolding(crate::specs::Responses::status_line))]
+fn put_status_line(out: &mut Vec<u8>, status: &str) -> Result<(), AllocError>
+    ensures { OnOk result (out.new.items ≡ out.old.items ++ status_line status.now) }
+{
+    put_protocol(out)?;
+    put(out, status.as_bytes())?;
+    put(out, b"\r\n")
+}
+
+/// Puts the head of a response whose body has this length, in bytes.
+#[tactic(auto, using(crate::proofs::Puts::joined), unfolding(crate::specs::Responses::head_text))]
+fn put_head(out: &mut Vec<u8>, status: &str, fields: &str, length: usize) -> Result<(), AllocError>
+    ensures { OnOk result (out.new.items ≡ out.old.items ++ head_text status.now fields.now length) }
+{
+    put_status_line(out, status)?;
+    put_common(out)?;
+    put(out, fields.as_bytes())?;
+    put(out, b"Content-Length: ")?;
+    put_number(out, length as u64)?;
+    put(out, b"\r\n\r\n")
+}
+
+/// Puts a body, unless the head alone is wanted.
+fn put_body(out: &mut Vec<u8>, method: Method, body: &[u8]) -> Result<(), AllocError>
+    ensures { OnOk result (out.new.items ≡ out.old.items ++ body_text method body.now) }
+{
+    match method {
+        Method::Get => put(out, body),
+        Method::Head => put(out, b""),
+    }
+}
+
+/// A whole response.
+#[tactic(auto, using(crate::proofs::Puts::joined), unfolding(crate::specs::Responses::response_text))]
+fn response(
+    alloc: Global,
+    status: &str,
+    fields: &str,
+    method: Method,
+    body: &[u8],
+) -> Result<Vec<u8>, AllocError>
+    ensures { IfOk result (λ text. text.items ≡ response_text status.now fields.now method body.now) }
+{
+    let mut out = Vec::new(alloc);
+    put_head(&mut out, status, fields, body.len())?;
+    put_body(&mut out, method, body)?;
+    Ok(out)
+}
+
+/// A response that is a line of text.
+#[tactic(auto, unfolding(crate::specs::Responses::plain_text))]
+fn plain(alloc: Global, status: &str, method: Method, line: &[u8]) -> Result<Vec<u8>, AllocError>
+    ensures { IfOk result (λ text. text.items ≡ plain_text status.now method line.now) }
+{
+    response(alloc, status, PLAIN, method, line)
+}
+
+/// Whether the gateway works.
+#[tactic(auto, unfolding(crate::specs::Responses::health_text))]
+fn health(alloc: Global, method: Method, polling: bool) -> Result<Vec<u8>, AllocError>
+    ensures { IfOk result (λ text. text.items ≡ health_text method polling) }
+{
+    if polling {
+        plain(alloc, "200 OK", method, b"ok\n")
+    } else {
+        plain(
+            alloc,
+            "503 Service Unavailable",
+            method,
+            b"no round within two seconds\n",
+        )
+    }
+}
+
+#[tactic(auto, unfolding(crate::specs::Responses::overview_text))]
+fn overview(alloc: Global, method: Method, page: &[u8]) -> Result<Vec<u8>, AllocError>
+    ensures { IfOk result (λ text. text.items ≡ overview_text method page.now) }
+{
+    response(alloc, "200 OK", HTML, method, page)
+}
+
+#[tactic(auto, unfolding(crate::specs::Responses::metrics_text))]
+fn metrics(
+    alloc: Global,
+    method: Method,
+    gateway: &GatewayStatus<'_>,
+    routes: &[RouteStatus],
+) -> Result<Vec<u8>, AllocError>
+    ensures { IfOk result (λ text. text.items ≡ metrics_text method gateway.now routes.now) }
+{
+    let mut body = Vec::new(alloc);
+    put_metrics(&mut body, gateway, routes)?;
+    response(alloc, "200 OK", FIGURES, method, body.as_slice())
+}
+
+#[tactic(auto, unfolding(crate::specs::Responses::json_text))]
+fn json(
+    alloc: Global,
+    method: Method,
+    gateway: &GatewayStatus<'_>,
+    routes: &[RouteStatus],
+) -> Result<Vec<u8>, AllocError>
+    ensures { IfOk result (λ text. text.items ≡ json_text method gateway.now routes.now) }
+{
+    let mut body = Vec::new(alloc);
+    put_json(&mut body, gateway, routes)?;
+    response(alloc, "200 OK", JSON, method, body.as_slice())
+}
+
+fn page_response(
+    alloc: Global,
+    method: Method,
+    page: Page,
+    overview_page: &[u8],
+    gateway: &GatewayStatus<'_>,
+    routes: &[RouteStatus],
+) -> Result<Vec<u8>, AllocError>
+    ensures { IfOk result (λ text. text.items ≡ page_text overview_page.now gateway.now routes.now method page) }
+{
+    match page {
+        Page::Overview => overview(alloc, method, overview_page),
+        Page::Json => json(alloc, method, gateway, routes),
+        Page::Metrics => metrics(alloc, method, gateway, routes),
+        Page::Health => health(alloc, method, gateway.polling),
+    }
+}
+
+/// The response to a request, head and body. The page for people is handed in: [`OVERVIEW`](crate::OVERVIEW). An error
+/// means that memory was refused. Linear in the number of routes for the status and the figures.
+pub fn respond(
+    alloc: Global,
+    request: Request,
+    overview_page: &[u8],
+    gateway: &GatewayStatus<'_>,
+    routes: &[RouteStatus],
+) -> Result<Vec<u8>, AllocError>
+    ensures { IfOk result (λ text. text.items ≡ response_of overview_page.now gateway.now routes.now request) }
+{
+    match request {
+        Request::Page { method, page } => {
+            page_response(alloc, method, page, overview_page, gateway, routes)
+        }
+        Request::Unknown { method } => plain(alloc, "404 Not Found", method, b"not found\n"),
+        Request::NotAllowed => response(
+            alloc,
+            "405 Method Not Allowed",
+            "Allow: GET, HEAD\r\n",
+            Method::Get,
+            b"",
+        ),
+        Request::Bad => plain(alloc, "400 Bad Request", Method::Get, b"bad request\n"),
+        Request::TooLong => plain(
+            alloc,
+            "431 Request Header Fields Too Large",
+            Method::Get,
+            b"too long\n",
+        ),
+    }
+}

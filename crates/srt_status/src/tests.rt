@@ -1,0 +1,458 @@
+//! Texts as programs and people read them, requests as callers send them, and a connection from its beginning to its end.
+
+use crate::{
+    CauseCounts, Connection, Flow, GatewayStatus, LimitCounts, MAX_REQUEST, Method, OVERVIEW,
+    PATIENCE, Page, PollerCounts, PublisherCounts, PublisherStatus, RefusalCounts, Request,
+    RouteStatus, SLOTS, SessionStatus, SubscriberCounts, SubscriberStatus, put_json, put_metrics,
+    request_in, respond,
+};
+use srt_seq::{Mode, Peer};
+use std::process::Abort;
+use std::str;
+use std::test::Fail;
+
+/// 192.0.2.7
+const NEAR: [u8; 16] = [0, 0, 0, 0, 0, 0, 0, 0, 0, 0, 0xff, 0xff, 192, 0, 2, 7];
+
+/// 2001:db8::1
+const FAR: [u8; 16] = [0x20, 0x01, 0x0d, 0xb8, 0, 0, 0, 0, 0, 0, 0, 0, 0, 0, 0, 1];
+
+/// A gateway of one route that has worked for 61 seconds.
+fn gateway() -> GatewayStatus<'static> {
+    GatewayStatus {
+        version: "0.6.0",
+        uptime_seconds: 61,
+        moment: 61_500_000,
+        routes: 1,
+        polling: true,
+        poller: PollerCounts {
+            read: 9,
+            answered: 2,
+            accepted: 3,
+            full: 1,
+            dropped: 2,
+            not_allowed: 1,
+            memory: 1,
+            sent: 8,
+            lost: 7,
+            faults: 6,
+        },
+        refused: RefusalCounts {
+            peer: 5,
+            resource: 0,
+            rogue: 0,
+            version: 4,
+            unsecure: 0,
+            message_api: 0,
+            filter: 0,
+            group: 0,
+        },
+        causes: CauseCounts {
+            no_name: 0,
+            unknown_name: 1,
+            publish_from: 2,
+            request_from: 0,
+            publish_key: 3,
+            request_key: 4,
+        },
+        kernel_drops: None,
+        resident_bytes: Some(1_048_576),
+    }
+}
+
+/// The active publisher at 192.0.2.7.
+fn publisher() -> SessionStatus {
+    SessionStatus {
+        peer: Peer {
+            ip: NEAR,
+            port: 5000,
+        },
+        id: 0x0010_0000,
+        opened_at: 1_500_000,
+        heard_at: 61_499_000,
+        latency_ms: Some(120),
+        round_trip_us: 20_345,
+        variance_us: 7,
+        flow: Flow::Publisher(PublisherStatus {
+            active: true,
+            counts: PublisherCounts {
+                received: 100,
+                bytes: 131_600,
+                delivered: 98,
+                repeats: 2,
+                late: 3,
+                ahead: 4,
+                given_up: 5,
+                reported_lost: 6,
+                naks: 7,
+                full_window_acks: 8,
+            },
+            window_used: 10,
+            window_available: 22,
+        }),
+    }
+}
+
+/// A subscriber at an IPv6 address, in buffer mode.
+fn subscriber() -> SessionStatus {
+    SessionStatus {
+        peer: Peer { ip: FAR, port: 9 },
+        id: 0xfedc_ba98,
+        opened_at: 0,
+        heard_at: 0,
+        latency_ms: None,
+        round_trip_us: 1_000_000,
+        variance_us: 0,
+        flow: Flow::Subscriber(SubscriberStatus {
+            counts: SubscriberCounts {
+                queued: 11,
+                bytes: 12,
+                sent: 13,
+                resent: 14,
+                given_up: 15,
+                naks: 16,
+                misdirected: 17,
+            },
+            free: 18,
+            in_flight: 19,
+            flow_window: 20,
+        }),
+    }
+}
+
+/// A route of this name with these sessions in its slots 1 and 16.
+fn route<R: AllocGlobal>(
+    rt: &R,
+    name: &str,
+    first: Option<SessionStatus>,
+    last: Option<SessionStatus>,
+) -> Result<RouteStatus, Fail> {
+    let mut sessions = [None; SLOTS];
+    sessions[1] = first;
+    sessions[16] = last;
+    Ok(RouteStatus {
+        name: String::from_str(rt.alloc(), name)?,
+        mode: Mode::Live,
+        sessions_allowed: 5,
+        sessions,
+        publishers: PublisherCounts {
+            received: 1000,
+            bytes: 1_316_000,
+            delivered: 990,
+            repeats: 1,
+            late: 2,
+            ahead: 3,
+            given_up: 4,
+            reported_lost: 5,
+            naks: 6,
+            full_window_acks: 7,
+        },
+        subscribers: SubscriberCounts {
+            queued: 8,
+            bytes: 9,
+            sent: 10,
+            resent: 11,
+            given_up: 12,
+            naks: 13,
+            misdirected: 14,
+        },
+        opened: 3,
+        refused: RefusalCounts {
+            peer: 0,
+            resource: 2,
+            rogue: 0,
+            version: 0,
+            unsecure: 0,
+            message_api: 0,
+            filter: 0,
+            group: 1,
+        },
+        limits: Some(LimitCounts {
+            sessions: 0,
+            reserved: 2,
+            sessions_per_address: 0,
+        }),
+        take_overs: Some(1),
+    })
+}
+
+/// Lines of the figures of that gateway with that route, as the text format wants them.
+const LINES: [&str; 24] = [
+    "# HELP srtgw_build_info The version of the program.\n# TYPE srtgw_build_info gauge\nsrtgw_build_info{version=\"0.6.0\"} 1\n# HELP srtgw_up ",
+    "\n# TYPE srtgw_up gauge\nsrtgw_up 1\n",
+    "\nsrtgw_uptime_seconds 61\n",
+    "\nsrtgw_resident_memory_bytes 1048576\n",
+    "\n# TYPE srtgw_poller_read_datagrams_total counter\nsrtgw_poller_read_datagrams_total 9\n",
+    "\nsrtgw_poller_faults_total 6\n",
+    "\nsrtgw_poller_not_allowed_datagrams_total 1\n",
+    "\n# TYPE srtgw_lobby_refused_publish_from_total counter\nsrtgw_lobby_refused_publish_from_total 2\n",
+    "\nsrtgw_lobby_refused_request_key_total 4\n",
+    "\nsrtgw_lobby_refusals_total{code=\"1002\",reason=\"PEER\"} 5\n",
+    "\nsrtgw_route_sessions{route=\"a\\\"b\",role=\"publisher\"} 1\nsrtgw_route_sessions{route=\"a\\\"b\",role=\"subscriber\"} 1\n",
+    "\nsrtgw_route_allowed_sessions{route=\"a\\\"b\"} 5\n",
+    "\nsrtgw_route_refused_reserved_total{route=\"a\\\"b\"} 2\n",
+    "\nsrtgw_route_refusals_total{route=\"a\\\"b\",code=\"1015\",reason=\"GROUP\"} 1\n",
+    "\nsrtgw_route_received_bytes_total{route=\"a\\\"b\",role=\"publisher\"} 1316000\n",
+    "\nsrtgw_route_given_up_packets_total{route=\"a\\\"b\",role=\"publisher\"} 4\nsrtgw_route_given_up_packets_total{route=\"a\\\"b\",role=\"subscriber\"} 12\n",
+    "\nsrtgw_route_misdirected_packets_total{route=\"a\\\"b\",role=\"subscriber\"} 14\n",
+    "\n# TYPE srtgw_session_round_trip_seconds gauge\nsrtgw_session_round_trip_seconds{route=\"a\\\"b\",role=\"publisher\",session=\"00100000\",peer=\"192.0.2.7:5000\"} 0.020345\nsrtgw_session_round_trip_seconds{route=\"a\\\"b\",role=\"subscriber\",session=\"fedcba98\",peer=\"[2001:0db8:0000:0000:0000:0000:0000:0001]:9\"} 1.000000\n",
+    "\nsrtgw_session_open_seconds{route=\"a\\\"b\",role=\"publisher\",session=\"00100000\",peer=\"192.0.2.7:5000\"} 60.000000\n",
+    "\nsrtgw_session_silent_seconds{route=\"a\\\"b\",role=\"publisher\",session=\"00100000\",peer=\"192.0.2.7:5000\"} 0.001000\n",
+    "\n# TYPE srtgw_session_latency_seconds gauge\nsrtgw_session_latency_seconds{route=\"a\\\"b\",role=\"publisher\",session=\"00100000\",peer=\"192.0.2.7:5000\"} 0.120000\n# HELP srtgw_session_round_trip_seconds ",
+    "\nsrtgw_session_window_available_packets{route=\"a\\\"b\",role=\"publisher\",session=\"00100000\",peer=\"192.0.2.7:5000\"} 22\n",
+    "\nsrtgw_session_late_packets_total{route=\"a\\\"b\",role=\"publisher\",session=\"00100000\",peer=\"192.0.2.7:5000\"} 3\n",
+    "\nsrtgw_session_misdirected_packets_total{route=\"a\\\"b\",role=\"subscriber\",session=\"fedcba98\",peer=\"[2001:0db8:0000:0000:0000:0000:0000:0001]:9\"} 17\n",
+];
+
+/// Asserts that a text has each of these pieces.
+fn assert_pieces(rt: &impl Abort, text: &str, pieces: &[&'static str]) {
+    for piece in pieces {
+        assert!(rt; text.contains(*piece));
+    }
+}
+
+#[test]
+fn figures_of_a_gateway(rt: HostRuntime) -> Result<(), Fail> {
+    let routes = [route(&rt, "a\"b", Some(publisher()), Some(subscriber()))?];
+    let mut out = Vec::new(rt.alloc());
+    put_metrics(&mut out, &gateway(), &routes)?;
+    let Ok(text) = str::from_utf8(out.as_slice()) else {
+        panic!(rt; "not UTF-8");
+    };
+    assert_pieces(&rt, text, &LINES);
+    assert!(rt; !text.contains("kernel_dropped"));
+    Ok(())
+}
+
+/// The status of that gateway with one route that has one session.
+const STATUS: &str =
+    "{\"version\":\"0.6.0\",\"up\":1,\"uptime_seconds\":61,\"configured_routes\":1,\"resident_memory_bytes\":1048576,\"poller_read_datagrams_total\":9,\"poller_answered_datagrams_total\":2,\"poller_accepted_datagrams_total\":3,\"poller_full_datagrams_total\":1,\"poller_dropped_datagrams_total\":2,\"poller_not_allowed_datagrams_total\":1,\"poller_memory_datagrams_total\":1,\"poller_sent_datagrams_total\":8,\"poller_lost_datagrams_total\":7,\"poller_faults_total\":6,\"lobby_refused_no_name_total\":0,\"lobby_refused_unknown_name_total\":1,\"lobby_refused_publish_from_total\":2,\"lobby_refused_request_from_total\":0,\"lobby_refused_publish_key_total\":3,\"lobby_refused_request_key_total\":4,\"refusals_PEER\":5,\"refusals_RESOURCE\":0,\"refusals_ROGUE\":0,\"refusals_VERSION\":4,\"refusals_UNSECURE\":0,\"refusals_MESSAGEAPI\":0,\"refusals_FILTER\":0,\"refusals_GROUP\":0,\"routes\":[{\"name\":\"studio\",\"mode\":\"live\",\"allowed_sessions\":5,\"opened_sessions_total\":3,\"take_overs_total\":1,\"refused_sessions_total\":0,\"refused_reserved_total\":2,\"refused_sessions_per_address_total\":0,\"refusals_PEER\":0,\"refusals_RESOURCE\":2,\"refusals_ROGUE\":0,\"refusals_VERSION\":0,\"refusals_UNSECURE\":0,\"refusals_MESSAGEAPI\":0,\"refusals_FILTER\":0,\"refusals_GROUP\":1,\"publishers\":{\"role\":\"publisher\",\"received_packets_total\":1000,\"received_bytes_total\":1316000,\"delivered_packets_total\":990,\"repeated_packets_total\":1,\"late_packets_total\":2,\"ahead_packets_total\":3,\"reported_lost_packets_total\":5,\"naks_sent_total\":6,\"full_window_acks_total\":7,\"given_up_packets_total\":4},\"subscribers\":{\"role\":\"subscriber\",\"given_up_packets_total\":12,\"queued_packets_total\":8,\"queued_bytes_total\":9,\"sent_packets_total\":10,\"resent_packets_total\":11,\"naks_taken_total\":13,\"misdirected_packets_total\":14},\"sessions\":[{\"role\":\"subscriber\",\"session\":\"fedcba98\",\"peer\":\"[2001:0db8:0000:0000:0000:0000:0000:0001]:9\",\"open_seconds\":61.500000,\"silent_seconds\":61.500000,\"round_trip_seconds\":1.000000,\"round_trip_variance_seconds\":0.000000,\"free_packets\":18,\"in_flight_packets\":19,\"flow_window_packets\":20,\"given_up_packets_total\":15,\"queued_packets_total\":11,\"queued_bytes_total\":12,\"sent_packets_total\":13,\"resent_packets_total\":14,\"naks_taken_total\":16,\"misdirected_packets_total\":17}]}]}\n";
+
+#[test]
+fn status_of_a_gateway(rt: HostRuntime) -> Result<(), Fail> {
+    let one = [route(&rt, "studio", None, Some(subscriber()))?];
+    let mut out = Vec::new(rt.alloc());
+    put_json(&mut out, &gateway(), &one)?;
+    assert_eq!(rt; out.as_slice(), STATUS.as_bytes());
+    Ok(())
+}
+
+#[test]
+fn commas_between_routes_and_sessions(rt: HostRuntime) -> Result<(), Fail> {
+    let both = [
+        route(&rt, "one", Some(publisher()), Some(subscriber()))?,
+        route(&rt, "two", None, None)?,
+    ];
+    let mut out = Vec::new(rt.alloc());
+    put_json(&mut out, &gateway(), &both)?;
+    let Ok(text) = str::from_utf8(out.as_slice()) else {
+        panic!(rt; "not UTF-8");
+    };
+    assert_pieces(
+        &rt,
+        text,
+        &[
+            "\"sessions\":[{\"role\":\"publisher\",\"session\":\"00100000\",\"peer\":\"192.0.2.7:5000\",\"active\":1,",
+            "\"given_up_packets_total\":5},{\"role\":\"subscriber\",",
+            "\"misdirected_packets_total\":17}]},{\"name\":\"two\",",
+            "\"sessions\":[]}]}\n",
+        ],
+    );
+    Ok(())
+}
+
+/// What bytes ask for.
+struct Asked {
+    bytes: &'static [u8],
+    request: Option<Request>,
+}
+
+const ASKED: [Asked; 12] = [
+    Asked {
+        bytes: b"GET / HTTP/1.1\r\nHost: x\r\n\r\n",
+        request: Some(Request::Page {
+            method: Method::Get,
+            page: Page::Overview,
+        }),
+    },
+    Asked {
+        bytes: b"GET /status.json?at=1 HTTP/1.1\r\n\r\n",
+        request: Some(Request::Page {
+            method: Method::Get,
+            page: Page::Json,
+        }),
+    },
+    Asked {
+        bytes: b"HEAD /metrics HTTP/1.0\r\n\r\n",
+        request: Some(Request::Page {
+            method: Method::Head,
+            page: Page::Metrics,
+        }),
+    },
+    Asked {
+        bytes: b"GET /healthz HTTP/1.1\r\n\r\n",
+        request: Some(Request::Page {
+            method: Method::Get,
+            page: Page::Health,
+        }),
+    },
+    Asked {
+        bytes: b"GET /metricsx HTTP/1.1\r\n\r\n",
+        request: Some(Request::Unknown {
+            method: Method::Get,
+        }),
+    },
+    Asked {
+        bytes: b"HEAD /favicon.ico HTTP/1.1\r\n\r\n",
+        request: Some(Request::Unknown {
+            method: Method::Head,
+        }),
+    },
+    Asked {
+        bytes: b"POST /metrics HTTP/1.1\r\n\r\n",
+        request: Some(Request::NotAllowed),
+    },
+    Asked {
+        bytes: b"get / HTTP/1.1\r\n\r\n",
+        request: Some(Request::NotAllowed),
+    },
+    Asked {
+        bytes: b"",
+        request: None,
+    },
+    Asked {
+        bytes: b"GET / HTTP/1.1\r\nHost: x\r\n",
+        request: None,
+    },
+    Asked {
+        bytes: b"\x16\x03\x01\x02\x00",
+        request: Some(Request::Bad),
+    },
+    Asked {
+        bytes: b"GET / HTTP/3.0\r\n\r\n",
+        request: Some(Request::Bad),
+    },
+];
+
+fn assert_asked(rt: &impl Abort, rows: &[Asked]) {
+    for row in rows {
+        assert!(rt; request_in(row.bytes) == row.request);
+    }
+}
+
+#[test]
+fn what_bytes_ask_for(rt: HostRuntime) {
+    assert_asked(&rt, &ASKED);
+}
+
+#[test]
+fn a_head_that_is_too_long(rt: HostRuntime) {
+    let mut bytes = [b'a'; MAX_REQUEST];
+    bytes[..5].copy_from_slice(b"GET /");
+    assert_eq!(rt; request_in(&bytes[..4095]), None);
+    assert_eq!(rt; request_in(&bytes), Some(Request::TooLong));
+}
+
+/// Asserts that a request gets this response, where no route is configured.
+fn assert_answer<R: Abort + AllocGlobal>(
+    rt: &R,
+    request: Request,
+    polling: bool,
+    text: &str,
+) -> Result<(), Fail> {
+    let mut status = gateway();
+    status.polling = polling;
+    let response = respond(rt.alloc(), request, b"<p>", &status, &[])?;
+    assert_eq!(rt; response.as_slice(), text.as_bytes());
+    Ok(())
+}
+
+#[test]
+fn responses(rt: HostRuntime) -> Result<(), Fail> {
+    assert_answer(
+        &rt,
+        Request::Page {
+            method: Method::Get,
+            page: Page::Health,
+        },
+        true,
+        "HTTP/1.1 200 OK\r\nCache-Control: no-store\r\nConnection: close\r\nX-Content-Type-Options: nosniff\r\nContent-Type: text/plain; charset=utf-8\r\nContent-Length: 3\r\n\r\nok\n",
+    )?;
+    assert_answer(
+        &rt,
+        Request::Page {
+            method: Method::Head,
+            page: Page::Health,
+        },
+        false,
+        "HTTP/1.1 503 Service Unavailable\r\nCache-Control: no-store\r\nConnection: close\r\nX-Content-Type-Options: nosniff\r\nContent-Type: text/plain; charset=utf-8\r\nContent-Length: 28\r\n\r\n",
+    )?;
+    assert_answer(
+        &rt,
+        Request::NotAllowed,
+        true,
+        "HTTP/1.1 405 Method Not Allowed\r\nCache-Control: no-store\r\nConnection: close\r\nX-Content-Type-Options: nosniff\r\nAllow: GET, HEAD\r\nContent-Length: 0\r\n\r\n",
+    )?;
+    assert_answer(
+        &rt,
+        Request::TooLong,
+        true,
+        "HTTP/1.1 431 Request Header Fields Too Large\r\nCache-Control: no-store\r\nConnection: close\r\nX-Content-Type-Options: nosniff\r\nContent-Type: text/plain; charset=utf-8\r\nContent-Length: 9\r\n\r\ntoo long\n",
+    )
+}
+
+#[test]
+fn the_page_for_people(rt: HostRuntime) -> Result<(), Fail> {
+    let request = Request::Page {
+        method: Method::Get,
+        page: Page::Overview,
+    };
+    let response = respond(rt.alloc(), request, OVERVIEW.as_bytes(), &gateway(), &[])?;
+    let Ok(text) = str::from_utf8(response.as_slice()) else {
+        panic!(rt; "not UTF-8");
+    };
+    assert_pieces(
+        &rt,
+        text,
+        &[
+            "HTTP/1.1 200 OK\r\n",
+            "\r\nContent-Security-Policy: default-src 'none'; connect-src 'self'; script-src 'sha256-",
+            "\r\n\r\n<!doctype html>\n",
+            "fetch(\"/status.json\"",
+            "m=publish is missing",
+        ],
+    );
+    Ok(())
+}
+
+#[test]
+fn a_connection_to_its_end(rt: HostRuntime) -> Result<(), Fail> {
+    let mut connection = Connection::new(rt.alloc(), 1000);
+    connection.receive(b"GET / HT")?;
+    assert!(rt; request_in(connection.received()).is_none());
+    assert!(rt; !connection.is_over(PATIENCE + 999));
+    assert!(rt; connection.is_over(PATIENCE + 1000));
+    connection.receive(b"TP/1.1\r\n\r\n")?;
+    assert!(rt; request_in(connection.received()).is_some());
+    let response = Vec::from_slice(rt.alloc(), b"HTTP/1.1")?;
+    connection.answer(5000, response);
+    assert!(rt; connection.is_answered());
+    assert!(rt; !connection.is_over(PATIENCE + 1000));
+    connection.sent(3);
+    assert_eq!(rt; connection.left(), b"P/1.1".as_slice());
+    connection.sent(5);
+    assert!(rt; connection.left().is_empty());
+    assert!(rt; connection.is_over(5001));
+    Ok(())
+}
+
+#[test]
+fn a_connection_takes_no_more_than_a_request(rt: HostRuntime) -> Result<(), Fail> {
+    let mut connection = Connection::new(rt.alloc(), 0);
+    connection.receive(&[b'a'; 3000])?;
+    connection.receive(&[b'b'; 3000])?;
+    assert_eq!(rt; connection.received().len(), MAX_REQUEST);
+    assert!(rt; connection.received()[2999] == b'a');
+    assert!(rt; connection.received()[3000] == b'b');
+    Ok(())
+}

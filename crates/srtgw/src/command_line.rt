@@ -1,0 +1,205 @@
+//! The command line.
+
+use crate::running::Manner;
+use clap::builder::ValueParser;
+use clap::error::ErrorKind;
+use clap::{Arg, ArgAction, ArgMatches, Command, Error};
+use srt_operate::duration_in;
+use std::alloc::{AllocError, Global};
+
+/// The most rounds of `serve`.
+const MAX_SERVE_ROUNDS: u64 = 1_000_000_000;
+
+/// What the command line asks for. Files are named by their paths.
+#[derive(Clone, Copy)]
+pub enum Task<'a> {
+    /// Check a configuration.
+    Check {
+        /// The configuration's file.
+        config: &'a str,
+        /// Whether the outcome is explained on standard error.
+        explains: bool,
+    },
+    /// Run a tape's events, and print their results.
+    Replay {
+        /// The configuration's file.
+        config: &'a str,
+        /// The tape's file.
+        tape: &'a str,
+    },
+    /// Serve the routes of a configuration.
+    Serve {
+        /// The configuration's file.
+        config: &'a str,
+        /// The number of rounds: how often the socket is polled, at most 1,000,000,000.
+        rounds: u32,
+    },
+    /// Serve the routes of a configuration until the gateway is told to stop, with a log.
+    Run {
+        /// The configuration's file.
+        config: &'a str,
+        /// How it runs.
+        manner: Manner,
+    },
+}
+
+/// What the words of a command line are.
+#[derive(Clone, Copy)]
+pub enum Given<'a> {
+    /// A task.
+    Task(Task<'a>),
+    /// The time of `--for` is no duration.
+    WrongDuration,
+}
+
+/// The version, as CHANGELOG.md has it.
+pub const VERSION: &str = "0.5";
+
+fn path<'a>(alloc: Global, name: &'a str, help: &'a str) -> Arg<'a> {
+    Arg::new(alloc, name)
+        .required(true)
+        .action(ArgAction::Set)
+        .help(help)
+}
+
+fn config<'a>(alloc: Global) -> Arg<'a> {
+    path(
+        alloc,
+        "CONFIG",
+        "The configuration, a TOML file (examples/gateway.toml is one to start from)",
+    )
+}
+
+fn tape<'a>(alloc: Global) -> Arg<'a> {
+    path(
+        alloc,
+        "TAPE",
+        "A text of events, one a line: datagrams that arrive, ticks of the clock, turns of a route, sends",
+    )
+}
+
+fn rounds<'a>(alloc: Global) -> Arg<'a> {
+    Arg::new(alloc, "rounds")
+        .long("rounds")
+        .value_name("N")
+        .required(true)
+        .action(ArgAction::Set)
+        .value_parser(ValueParser::Unsigned(0, MAX_SERVE_ROUNDS))
+        .help(
+            "How many times the socket is polled before the gateway ends, at most 1000000000; an idle round takes up to 10 milliseconds",
+        )
+}
+
+fn explain<'a>(alloc: Global) -> Arg<'a> {
+    Arg::new(alloc, "explain")
+        .long("explain")
+        .action(ArgAction::SetTrue)
+        .help("Says on standard error where the fault is and how to mend it, or what is unwise")
+}
+
+fn duration<'a>(alloc: Global) -> Arg<'a> {
+    Arg::new(alloc, "for")
+        .long("for")
+        .value_name("DURATION")
+        .action(ArgAction::Set)
+        .help("Stops by itself after this time: a number and s, m, h or d, from 1s to 365d")
+}
+
+fn no_time<'a>(alloc: Global) -> Arg<'a> {
+    Arg::new(alloc, "no-time")
+        .long("no-time")
+        .action(ArgAction::SetTrue)
+        .help(
+            "Leaves out the time at the beginning of each line of the log, for a journal that has its own",
+        )
+}
+
+/// The program's commands with their arguments and help. It allocates; the only error is that it is refused.
+pub fn command<'a>(alloc: Global) -> Result<Command<'a>, AllocError> {
+    let check = Command::new(alloc, "check")
+        .about("Prints how many routes a configuration has, or its first fault")
+        .arg(config(alloc))?
+        .arg(explain(alloc))?;
+    let replay = Command::new(alloc, "replay")
+        .about(
+            "Runs the gateway's core over a tape, a text of events, and prints what comes of each event",
+        )
+        .after_help(
+            "docs/PROTOCOL.md has the form of a tape; bin/explain prints one as a person reads it.",
+        )
+        .arg(config(alloc))?
+        .arg(tape(alloc))?;
+    let serve = Command::new(alloc, "serve")
+        .about(
+            "Serves SRT callers at the configuration's UDP address, and prints a report at the end",
+        )
+        .after_help(
+            "docs/OPERATING.md says how to call it, what the report means and how to keep it running.",
+        )
+        .arg(config(alloc))?
+        .arg(rounds(alloc))?;
+    let run = Command::new(alloc, "run")
+        .about(
+            "Serves SRT callers until it is told to stop, tells on standard error what happens, and prints a report at the end",
+        )
+        .after_help(
+            "SIGINT and SIGTERM stop it if it was started by bin/srtgw, which blocks them: then every session gets a SHUTDOWN. docs/OPERATING.md has each line of the log.",
+        )
+        .arg(config(alloc))?
+        .arg(duration(alloc))?
+        .arg(no_time(alloc))?;
+    Command::new(alloc, "srtgw")
+        .about(
+            "A gateway for SRT live streams: what a publisher sends on a route goes to each of the route's subscribers",
+        )
+        .version(VERSION)
+        .subcommand_required(true)
+        .subcommand(check)?
+        .subcommand(replay)?
+        .subcommand(serve)?
+        .subcommand(run)
+}
+
+/// The error of a time of `--for` that is no duration. It allocates; the only error is that it is refused.
+pub fn wrong_duration(alloc: Global) -> Result<Error, AllocError> {
+    let mut command = command(alloc)?;
+    command.error(
+        ErrorKind::ValueValidation,
+        "the time of --for is a number and s, m, h or d, from 1s to 365d, such as 8h",
+    )
+}
+
+/// How a gateway runs by these words; None if the time of `--for` is no duration.
+fn manner_of(matches: &ArgMatches<'_>) -> Option<Manner> {
+    let is_timed = !matches.get_flag("no-time");
+    let lasts = match matches.get_str("for") {
+        Some(text) => Some(duration_in(text.as_bytes())?),
+        None => None,
+    };
+    Some(Manner { lasts, is_timed })
+}
+
+/// The task of a command line that was parsed; None if a word is missing, which `command` doesn't accept.
+pub fn given_in<'a>(matches: &ArgMatches<'a>) -> Option<Given<'a>> {
+    let (name, inner) = matches.subcommand()?;
+    let config = inner.get_str("CONFIG")?;
+    let task = match name {
+        "check" => Task::Check {
+            config,
+            explains: inner.get_flag("explain"),
+        },
+        "serve" => Task::Serve {
+            config,
+            rounds: inner.get_one("rounds")?,
+        },
+        "run" => match manner_of(inner) {
+            Some(manner) => Task::Run { config, manner },
+            None => return Some(Given::WrongDuration),
+        },
+        _ => Task::Replay {
+            config,
+            tape: inner.get_str("TAPE")?,
+        },
+    };
+    Some(Given::Task(task))
+}

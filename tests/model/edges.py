@@ -1,0 +1,47 @@
+"""Moments at which something falls due in the model's sessions. A tape that comes just there, or a microsecond beside it, shows on which
+side an event belongs."""
+from __future__ import annotations
+
+from typing import Iterator
+
+from rules.hub import Hub
+from rules.numbers import MILLISECOND
+from rules.publisher import FULL_ACK_AFTER, Publisher
+from rules.session import IDLE_AFTER, KEEPALIVE_AFTER, Session
+from rules.subscriber import CREDIT_AFTER, LEAST_THRESHOLD, RESEND_AFTER, Subscriber
+
+
+def of_hub(hub: Hub) -> Iterator[int]:
+    """Those of all open sessions."""
+    for lane in hub.lanes:
+        for session in lane.route.open:
+            yield from of_session(session)
+            if isinstance(session, Publisher):
+                yield from of_publisher(session)
+            if isinstance(session, Subscriber):
+                yield from of_subscriber(session)
+
+
+def of_session(it: Session) -> Iterator[int]:
+    """Its end, and its KEEPALIVE."""
+    yield it.heard + IDLE_AFTER
+    yield it.sent + KEEPALIVE_AFTER
+
+
+def of_publisher(it: Publisher) -> Iterator[int]:
+    """Its ACK, its NAK, the payload that is delivered next, a take-over, and the end of a session that drains."""
+    yield FULL_ACK_AFTER + (it.full_acks[-1].moment if it.full_acks else it.opening.moment)
+    yield it.nak_of_all + it.nak_interval()
+    yield from (it.received[number].deadline for number in it.waiting()[:1])
+    if it.entry.takeover_ms is not None:
+        yield it.brought + MILLISECOND * it.entry.takeover_ms
+    if it.shutdown_at is not None:
+        yield IDLE_AFTER + (it.shutdown_at + it.delay if it.entry.is_live else max(it.shutdown_at, it.delivery))
+
+
+def of_subscriber(it: Subscriber) -> Iterator[int]:
+    """When all in flight goes again, when a resend gets its credit, and when the oldest payload is too old."""
+    yield max(it.data_sent, it.growth) + it.rtt + 4 * it.variance + RESEND_AFTER
+    yield it.data_sent + CREDIT_AFTER
+    oldest = it.queued[it.expired - it.initial:][:1]
+    yield from (payload.origin + max(it.delay * 5 // 4, LEAST_THRESHOLD) for payload in oldest)

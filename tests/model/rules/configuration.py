@@ -1,0 +1,323 @@
+"""Configurations: their keys, and the first fault of a wrong one. Python's tomllib reads the TOML."""
+from __future__ import annotations
+
+import re
+import tomllib
+from dataclasses import dataclass
+from enum import Enum
+from typing import Any, Callable, NamedTuple
+
+from .cookies import Peer
+
+Table = dict[str, Any]
+
+MOST_ROUTES = 511
+MOST_ROUNDS = 1_000_000_000
+IPV4_PREFIX = bytes(10) + b"\xff\xff"
+OCTET = r"(0|[1-9][0-9]{0,2})"
+OCTETS = rf"{OCTET}\.{OCTET}\.{OCTET}\.{OCTET}"
+
+
+class Mode(Enum):
+    """How a route delivers: by time (section 4.2.1), or an unbroken stream (section 4.2.2)."""
+
+    LIVE = "live"
+    BUFFER = "buffer"
+
+
+class Callers(Enum):
+    """Whether sessions follow the draft alone, or do some things as callers with libsrt expect them."""
+
+    DRAFT = "draft"
+    LIBSRT = "libsrt"
+
+
+class Fault(Enum):
+    """What can be wrong with a configuration, by the numbers that are printed."""
+
+    TOML = 1
+    UNKNOWN_KEY = 2
+    MISSING = 3
+    WRONG_KIND = 4
+    OUT_OF_RANGE = 5
+    BAD_NAME = 6
+    REPEATED_NAME = 7
+    BAD_SECRET = 8
+    BAD_ADDRESS = 9
+
+
+class ConfigFault(Exception):
+    """The first fault of a configuration, and its key."""
+
+    def __init__(self, fault: Fault, key: str) -> None:
+        super().__init__(f"config fault {fault.value} {key}")
+
+
+class Network(NamedTuple):
+    """The IPv4 addresses whose first bits are these."""
+
+    address: int
+    bits: int
+
+    def has(self, address: int) -> bool:
+        return (address ^ self.address) >> (32 - self.bits) == 0
+
+
+@dataclass(frozen=True)
+class Entry:
+    """A route as it is configured. Keys that weren't given and have no usual value are None."""
+
+    name: str
+    mode: Mode
+    latency_ms: int
+    buffer: int
+    sessions: int
+    inbox: int
+    outbox: int
+    callers: Callers = Callers.DRAFT
+    publish_from: tuple[Network, ...] | None = None
+    request_from: tuple[Network, ...] | None = None
+    publish_key: str | None = None
+    request_key: str | None = None
+    reserved: int = 0
+    sessions_per_address: int | None = None
+    takeover_ms: int | None = None
+    resend_percent: int | None = None
+
+    @property
+    def is_live(self) -> bool:
+        return self.mode is Mode.LIVE
+
+    @property
+    def is_libsrt(self) -> bool:
+        return self.callers is Callers.LIBSRT
+
+
+class Config(NamedTuple):
+    """What a replay needs of a configuration."""
+
+    secret: bytes
+    entries: tuple[Entry, ...]
+
+
+class Limits(NamedTuple):
+    """The least and the greatest value of a number."""
+
+    least: int
+    most: int
+
+    def allow(self, value: int) -> bool:
+        return self.least <= value <= self.most
+
+
+NUMBERS = {
+    "latency_ms": Limits(20, 8000),
+    "buffer": Limits(32, 8192),
+    "sessions": Limits(1, 17),
+    "inbox": Limits(16, 4096),
+    "outbox": Limits(16, 4096),
+}
+TOP_KEYS = frozenset({"secret", "bind", "workers", "status", "route"})
+ADDED_KEYS = (
+    "callers", "publish_from", "request_from", "publish_key", "request_key", "reserved", "sessions_per_address", "takeover_ms",
+    "resend_percent",
+)
+ROUTE_KEYS = frozenset({"name", "mode", *NUMBERS, "open_round", "close_round", *ADDED_KEYS})
+
+
+def is_name(text: str) -> bool:
+    """Whether a text has the form of a route's name."""
+    return re.fullmatch(r"[A-Za-z0-9._/-]{1,64}", text) is not None
+
+
+def first_fault_of_entry(entry: Entry) -> Fault | None:
+    """What keeps a route from being opened: its name's form, or a number outside its limits."""
+    if not is_name(entry.name):
+        return Fault.BAD_NAME
+    return None if all(limits.allow(getattr(entry, key)) for key, limits in NUMBERS.items()) else Fault.OUT_OF_RANGE
+
+
+def address_of(octets: list[str]) -> int | None:
+    """The IPv4 address of four octets; None if one is over 255."""
+    values = [int(it) for it in octets]
+    return int.from_bytes(bytes(values), "big") if max(values) <= 255 else None
+
+
+def ipv4_of(peer: Peer) -> int | None:
+    """The IPv4 address of a peer; None if it has none."""
+    return int.from_bytes(peer.ip[12:], "big") if peer.ip.startswith(IPV4_PREFIX) else None
+
+
+def is_in(given: tuple[Network, ...] | None, peer: Peer) -> bool:
+    """Whether a peer's address is in a list: any is in one that wasn't given, and only IPv4 addresses are in one that was."""
+    address = ipv4_of(peer)
+    return given is None or address is not None and any(it.has(address) for it in given)
+
+
+def is_socket_address(text: str) -> bool:
+    """Whether a text is `a.b.c.d:port`, without leading zeros."""
+    found = re.fullmatch(rf"{OCTETS}:(0|[1-9][0-9]{{0,4}})", text)
+    return found is not None and address_of(list(found.groups()[:4])) is not None and int(found[5]) <= 65535
+
+
+def network_of(text: str) -> Network | None:
+    """The network of a text `a.b.c.d` or `a.b.c.d/n`; None if it has another form, or a bit behind the first n is set."""
+    found = re.fullmatch(rf"{OCTETS}(?:/(0|[1-9][0-9]?))?", text)
+    address = address_of(list(found.groups()[:4])) if found else None
+    if found is None or address is None:
+        return None
+    bits = int(found[5] or 32)
+    return Network(address, bits) if bits <= 32 and address % (1 << (32 - bits)) == 0 else None
+
+
+def wanted(table: Table, key: str) -> Any:
+    """The value of a key that must be there."""
+    if key not in table:
+        raise ConfigFault(Fault.MISSING, key)
+    return table[key]
+
+
+def text(key: str, value: Any) -> str:
+    if not isinstance(value, str):
+        raise ConfigFault(Fault.WRONG_KIND, key)
+    return value
+
+
+def number(key: str, value: Any, least: int, most: int) -> int:
+    if not isinstance(value, int) or isinstance(value, bool):
+        raise ConfigFault(Fault.WRONG_KIND, key)
+    if not least <= value <= most:
+        raise ConfigFault(Fault.OUT_OF_RANGE, key)
+    return value
+
+
+def choice(key: str, value: Any, values: Any) -> Any:
+    """The member of an enumeration that a text names."""
+    if text(key, value) not in [it.value for it in values]:
+        raise ConfigFault(Fault.OUT_OF_RANGE, key)
+    return values(value)
+
+
+def access_key(key: str, value: Any) -> str:
+    """The key that a caller's Stream ID must bring."""
+    if not re.fullmatch(r"[A-Za-z0-9._~-]{1,64}", text(key, value)):
+        raise ConfigFault(Fault.OUT_OF_RANGE, key)
+    return value
+
+
+def networks(key: str, value: Any) -> tuple[Network, ...]:
+    """One to sixteen networks; that each is a text is asked before their forms."""
+    if not isinstance(value, list):
+        raise ConfigFault(Fault.WRONG_KIND, key)
+    if not 1 <= len(value) <= 16:
+        raise ConfigFault(Fault.OUT_OF_RANGE, key)
+    found = [network_of(it) for it in [text(key, it) for it in value]]
+    if None in found:
+        raise ConfigFault(Fault.BAD_ADDRESS, key)
+    return tuple(it for it in found if it is not None)
+
+
+def check_address(table: Table, key: str) -> None:
+    if not is_socket_address(text(key, wanted(table, key))):
+        raise ConfigFault(Fault.BAD_ADDRESS, key)
+
+
+def check_unknown(table: Table, known: frozenset[str]) -> None:
+    """The least unknown key counts, in the order of bytes."""
+    unknown = sorted(set(table) - known)
+    if unknown:
+        raise ConfigFault(Fault.UNKNOWN_KEY, unknown[0])
+
+
+def check_rounds(table: Table) -> None:
+    """A route may open and close in rounds of a server: the second must be after the first. A replay doesn't use them."""
+    opens = number("open_round", table.get("open_round", 0), 0, MOST_ROUNDS)
+    if "close_round" in table:
+        number("close_round", table["close_round"], opens + 1, MOST_ROUNDS)
+
+
+def name_of(table: Table, earlier: list[Entry]) -> str:
+    name = text("name", wanted(table, "name"))
+    if not is_name(name):
+        raise ConfigFault(Fault.BAD_NAME, "name")
+    if any(it.name == name for it in earlier):
+        raise ConfigFault(Fault.REPEATED_NAME, "name")
+    return name
+
+
+def added(table: Table, sessions: int) -> Table:
+    """The values of the optional keys that were given, each looked at in its turn."""
+    readers: dict[str, Callable[[str, Any], Any]] = {
+        "callers": lambda key, value: choice(key, value, Callers),
+        "publish_from": networks,
+        "request_from": networks,
+        "publish_key": access_key,
+        "request_key": access_key,
+        "reserved": lambda key, value: number(key, value, 0, min(2, sessions - 1)),
+        "sessions_per_address": lambda key, value: number(key, value, 1, 17),
+        "takeover_ms": lambda key, value: number(key, value, 100, 5000),
+        "resend_percent": lambda key, value: number(key, value, 5, 1000),
+    }
+    return {key: readers[key](key, table[key]) for key in ADDED_KEYS if key in table}
+
+
+def entry_of(table: Table, earlier: list[Entry]) -> Entry:
+    """A route's table: its keys are looked at in their order, and each is first missing, then of the wrong kind, then wrong in its
+    own way."""
+    check_unknown(table, ROUTE_KEYS)
+    name = name_of(table, earlier)
+    mode = choice("mode", wanted(table, "mode"), Mode)
+    numbers = {key: number(key, wanted(table, key), *limits) for key, limits in NUMBERS.items()}
+    check_rounds(table)
+    return Entry(name, mode, **numbers, **added(table, numbers["sessions"]))
+
+
+def secret_of(table: Table) -> bytes:
+    secret = text("secret", wanted(table, "secret"))
+    if not re.fullmatch(r"[0-9A-Fa-f]{64}", secret):
+        raise ConfigFault(Fault.BAD_SECRET, "secret")
+    return bytes.fromhex(secret)
+
+
+def routes_of(table: Table) -> list[Table]:
+    routes = wanted(table, "route")
+    if not isinstance(routes, list) or not all(isinstance(it, dict) for it in routes):
+        raise ConfigFault(Fault.WRONG_KIND, "route")
+    if not 1 <= len(routes) <= MOST_ROUTES:
+        raise ConfigFault(Fault.OUT_OF_RANGE, "route")
+    return routes
+
+
+def has_great_number(value: Any) -> bool:
+    """Whether a number of more than 64 bits stands in a value."""
+    if isinstance(value, dict):
+        return any(has_great_number(it) for it in value.values())
+    if isinstance(value, list):
+        return any(has_great_number(it) for it in value)
+    return isinstance(value, int) and not -1 << 63 <= value < 1 << 63
+
+
+def table_of(content: bytes) -> Table:
+    try:
+        table = tomllib.loads(content.decode())
+    except ValueError:
+        raise ConfigFault(Fault.TOML, "-") from None
+    if has_great_number(table):
+        raise ConfigFault(Fault.TOML, "-")
+    return table
+
+
+def read(content: bytes) -> Config:
+    """The configuration of a file. Raises its first fault: unknown keys at the top, the top keys in their order, then one route after
+    the other."""
+    table = table_of(content)
+    check_unknown(table, TOP_KEYS)
+    secret = secret_of(table)
+    check_address(table, "bind")
+    number("workers", wanted(table, "workers"), 1, 16)
+    if "status" in table:
+        check_address(table, "status")
+    entries: list[Entry] = []
+    for route in routes_of(table):
+        entries.append(entry_of(route, entries))
+    return Config(secret, tuple(entries))

@@ -1,0 +1,131 @@
+"""What docs/OPERATING.md says of the status page for machines, by Prometheus' own tool and beside the program."""
+from __future__ import annotations
+
+import json
+import os
+import re
+import shutil
+import socket
+import subprocess
+import tempfile
+import textwrap
+import time
+import urllib.parse
+import urllib.request
+from typing import Any
+
+from cases import case
+from documents import block_of, names_in_tables, section_of
+from expecting import expect
+from machine import free_port
+from page import Page
+from running import Shown, live
+
+PROMTOOL = "promtool"
+PROMETHEUS = "prometheus"
+RULES = "srtgw.rules.yml"
+ALERTS = f"{os.path.dirname(os.path.realpath(__file__))}/alerts.yml"
+PREFIXES = re.compile("srtgw_(?:session_|(?=route_)|)")
+
+
+def expect_taken(room: str, *words: str) -> None:
+    """Expects that promtool takes the files of a folder."""
+    it = subprocess.run([PROMTOOL, *words], cwd=room, capture_output=True, text=True)
+    expect(it.returncode == 0, f"promtool {' '.join(words)}: {it.stdout[-800:]}{it.stderr[-300:]}")
+
+
+@case("the status page's configuration of Prometheus and its alerts, as OPERATING has them", needs=[PROMTOOL])
+def prometheus_takes_them():
+    scrapes, fewer = block_of("scrape_configs:"), block_of("    metric_relabel_configs:")
+    with tempfile.TemporaryDirectory(prefix="srtgw-rules-") as room:
+        texts = {RULES: block_of("groups:"), "prometheus.yml": scrapes,
+                 "fewer.yml": scrapes.replace("rule_files:", textwrap.indent(fewer, "    ") + "rule_files:")}
+        for name, text in texts.items():
+            with open(f"{room}/{name}", "w", encoding="utf-8") as file:
+                file.write(text)
+        shutil.copy(ALERTS, room)
+        expect(RULES in scrapes and texts["fewer.yml"] != scrapes, "the blocks of the document don't fit")
+        expect_taken(room, "check", "rules", RULES)
+        for name in ("prometheus.yml", "fewer.yml"):
+            expect_taken(room, "check", "config", name)
+        expect_taken(room, "test", "rules", os.path.basename(ALERTS))
+
+
+class Server:
+    """A Prometheus with the document's configuration, but for the address that it scrapes and how often."""
+
+    def __init__(self, page: Page) -> None:
+        self.room, port = tempfile.mkdtemp(prefix="srtgw-prometheus-"), free_port(socket.SOCK_STREAM)
+        self.address = f"http://127.0.0.1:{port}/api/v1"
+        target = "{}:{}".format(*page.address)
+        text = block_of("scrape_configs:").replace("127.0.0.1:9001", target).replace("scrape_interval: 5s", "scrape_interval: 1s")
+        expect(target in text and "1s" in text, "the document's configuration has another address or interval")
+        for name, its in ((RULES, block_of("groups:")), ("prometheus.yml", text)):
+            with open(f"{self.room}/{name}", "w", encoding="utf-8") as file:
+                file.write(its)
+        words = [PROMETHEUS, "--config.file=prometheus.yml", "--storage.tsdb.path=data", f"--web.listen-address=127.0.0.1:{port}"]
+        nothing = dict(stdin=subprocess.DEVNULL, stdout=subprocess.DEVNULL, stderr=subprocess.DEVNULL)
+        self.process = subprocess.Popen(words, cwd=self.room, **nothing)
+
+    def __enter__(self) -> Server:
+        return self
+
+    def __exit__(self, *why: object) -> None:
+        self.process.terminate()
+        self.process.wait(20)
+        shutil.rmtree(self.room, ignore_errors=True)
+
+    def answer(self, path: str) -> Any:
+        """The data of an answer; None while there is none."""
+        try:
+            with urllib.request.urlopen(f"{self.address}/{path}", timeout=2) as answer:
+                return json.load(answer)["data"]
+        except OSError:
+            return None
+
+    def value(self, expression: str) -> float | None:
+        """The value of an expression; None while it has none."""
+        data = self.answer(f"query?{urllib.parse.urlencode({'query': expression})}")
+        return float(data["result"][0]["value"][1]) if data and data["result"] else None
+
+    def becomes(self, expression: str, wanted: float, seconds: float) -> bool:
+        """Waits until an expression has this value, for at most so many seconds. Returns whether it has."""
+        until = time.monotonic() + seconds
+        while self.value(expression) != wanted and time.monotonic() < until:
+            time.sleep(0.2)
+        return self.value(expression) == wanted
+
+
+@case("the status page is scraped by Prometheus, as OPERATING configures it", needs=[PROMETHEUS])
+def prometheus_scrapes():
+    with Shown([live("studio"), live("evening")], "--no-time") as run:
+        run.is_up()
+        with Server(run.page) as server:
+            expect(server.becomes("srtgw_up", 1, 20), "it isn't scraped, or the metrics say that it is down")
+            expect(server.value('up{job="srtgw"}') == 1, "Prometheus says that the target is down")
+            found = server.value("count(srtgw_route_sessions)")
+            expect(found == 4, f"two roles of two routes are {found} series")
+            loaded = server.answer("rules")
+            expect(loaded and len(loaded["groups"][0]["rules"]) == 5, f"the rules that it has are {loaded}")
+            run.stop()
+            expect(server.becomes('up{job="srtgw"}', 0, 10), "Prometheus doesn't see that it is gone")
+
+
+def short(family: str) -> str:
+    """A family's name as the tables have it: those of sessions and of the gateway without what they all begin with."""
+    return PREFIXES.sub("", family, count=1)
+
+
+@case("the status page's numbers are those that OPERATING explains")
+def numbers_are_explained():
+    with Shown([live("studio")], "--no-time") as run:
+        run.is_up()
+        kinds = run.page.metrics().kinds
+        run.stop()
+    text = section_of("The status page")
+    explained = names_in_tables(text)
+    counts = {it for it in map(short, kinds) if f"route_{it}" in map(short, kinds)}  # They stand for routes and for sessions.
+    shown = {it for it in map(short, kinds) if it.removeprefix("route_") not in counts} | counts
+    expect(shown == explained, f"not explained are {sorted(shown - explained)}, and not shown {sorted(explained - shown)}")
+    used = set(re.findall(r"srtgw_\w+", block_of("groups:")))
+    expect(used <= set(kinds), f"the alerts use {sorted(used - set(kinds))}")

@@ -1,0 +1,132 @@
+"""The status page as a person sees it, in a Chromium without a window."""
+from __future__ import annotations
+
+import threading
+import time
+from contextlib import contextmanager
+from typing import Iterator, NamedTuple
+
+from browser import CHROMIUM, Browser, shown_in
+from caller import Caller, Publisher, Subscriber, endless, start_all
+from cases import case
+from expecting import Wrong, expect, publish
+from lines import peer_of
+from running import Run, Shown, expect_polite, live
+
+IS_GONE = "document.body.innerText.includes('no answer')"
+SIZES = ((1280, 800), (390, 844))  # A desk's window and a telephone's.
+UPDATE = 5.0  # What happens is shown within so many seconds.
+LINES = 100  # A picture with text and a table has more different lines than that.
+
+
+class Scene(NamedTuple):
+    """Who is on the air at the route `studio`."""
+
+    publisher: Publisher
+    standby: Publisher
+    subscribers: list[Subscriber]
+
+    def callers(self) -> list[Caller]:
+        return [self.publisher, self.standby, *self.subscribers]
+
+
+@contextmanager
+def on_the_air(run: Run) -> Iterator[Scene]:
+    """A publisher, one that stands by, and two subscribers."""
+    over = threading.Event()
+    publishers = [Publisher(run.address, publish("studio"), endless(over), 4_000) for _ in range(2)]
+    scene = Scene(*publishers, [Subscriber(run.address, "studio") for _ in range(2)])
+    try:
+        start_all(*scene.callers())
+        yield scene
+    finally:
+        over.set()
+        for it in scene.callers():
+            it.close()
+
+
+def address_of(run: Shown) -> str:
+    return "http://{}:{}/".format(*run.page.address)
+
+
+def expect_text(browser: Browser, wanted: list[str], seconds: float = UPDATE) -> None:
+    """Expects that the page shows these texts, within so many seconds."""
+    until = time.monotonic() + seconds
+    while True:
+        missing = [it for it in wanted if it not in browser.text()]
+        if not missing:
+            return
+        if time.monotonic() >= until:
+            raise Wrong(f"the page lacks {missing}: {browser.text()[:500]!r}")
+        time.sleep(0.05)
+
+
+def expect_without(browser: Browser, text: str) -> None:
+    """Expects that the page doesn't show a text any more, within UPDATE."""
+    until = time.monotonic() + UPDATE
+    while text in browser.text():
+        expect(time.monotonic() < until, f"the page still has {text!r}")
+        time.sleep(0.05)
+
+
+def expect_fits(browser: Browser, width: int, height: int) -> None:
+    """Expects that the page is no wider than the window, that a picture of it isn't empty, and that nothing failed in it."""
+    wide = browser.value("document.documentElement.scrollWidth")
+    expect(wide <= width, f"the page is {wide} pixels wide in a window of {width}")
+    found = shown_in(browser.picture())
+    expect(found[:2] == (width, height) and found[2] >= LINES, f"the picture is {found[0]} x {found[1]}, with {found[2]} different lines")
+    expect(not browser.complaints, f"the browser complains: {browser.complaints}")
+
+
+@case("the status page in a browser: who is on the air, at a desk and on a telephone", needs=[CHROMIUM])
+def shows_who_is_on_the_air():
+    with Shown([live("studio"), live("evening")], "--no-time") as run:
+        run.is_up()
+        with on_the_air(run) as scene:
+            for width, height in SIZES:
+                with Browser(width, height) as browser:
+                    browser.opens(address_of(run))
+                    expect_text(browser, ["studio", *map(peer_of, scene.callers()), "Standby"], 10)
+                    expect("evening" in browser.value("document.body.textContent"), "the route without callers isn't there")
+                    time.sleep(UPDATE)
+                    expect_fits(browser, width, height)
+                    loaded = browser.value("performance.getEntriesByType('resource').map(it => it.name)")
+                    others = [it for it in loaded if not it.startswith(address_of(run))]
+                    expect(not others, f"it loads {others} from elsewhere")
+        expect_polite(run.stop(), ["studio", "evening"])
+
+
+@case("the status page in a browser follows what happens", needs=[CHROMIUM])
+def follows_what_happens():
+    with Shown([live("studio")], "--no-time") as run, Browser(*SIZES[0]) as browser:
+        run.is_up()
+        browser.opens(address_of(run))
+        expect_text(browser, ["running"], 10)
+        with on_the_air(run) as scene:
+            expect_text(browser, list(map(peer_of, scene.callers())))
+            scene.subscribers[0].stop()
+            late = Subscriber(run.address, "studio")
+            start_all(late)
+            expect_text(browser, [peer_of(late)])
+            late.close()
+            expect_without(browser, peer_of(late))
+        expect_without(browser, peer_of(scene.publisher))
+        expect(not browser.complaints, f"the browser complains: {browser.complaints}")
+        run.stop()
+
+
+@case("the status page in a browser says that the gateway is gone, and goes on when it is back", needs=[CHROMIUM])
+def says_that_it_is_gone():
+    with Browser(*SIZES[0]) as browser:
+        with Shown([live("studio")], "--no-time") as run:
+            run.is_up()
+            browser.opens(address_of(run))
+            expect_text(browser, ["running"], 10)
+            time.sleep(UPDATE)
+            expect(not browser.value(IS_GONE), f"it says that the gateway is gone: {browser.text()[:300]!r}")
+            run.stop()
+            expect(browser.waits(IS_GONE, UPDATE), f"it doesn't say that the gateway is gone: {browser.text()[:300]!r}")
+        with Run([live("studio")], "--no-time", port=run.address[1], status="{}:{}".format(*run.page.address)) as again:
+            again.is_up()
+            expect(browser.waits(f"!({IS_GONE})", UPDATE), f"it says so still: {browser.text()[:300]!r}")
+            again.stop()
