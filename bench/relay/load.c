@@ -440,8 +440,8 @@ int main(int count, char **words) {
         }
     qsort(latencies, latency_count, 4, by_size);
     uint64_t got = sum_of_got(&doubled), many = latency_count ? latency_count - 1 : 0;
-    printf("sent %lu wanted %lu got %lu lost %lu doubled %lu p50_us %u p99_us %u cpu_ns %ld relayed %lu datagrams %lu window_ns %ld\n",
+    printf("sent %lu wanted %lu got %lu lost %lu doubled %lu p50_us %u p99_us %u p999_us %u cpu_ns %ld relayed %lu datagrams %lu window_ns %ld\n",
            packets, packets * subscribers, got, packets * subscribers - got, doubled, latencies[many / 2], latencies[many * 99 / 100],
-           last_cpu - first_cpu, last_received - first_received, last_datagrams - first_datagrams, last_time - first_time);
+           latencies[many * 999 / 1000], last_cpu - first_cpu, last_received - first_received, last_datagrams - first_datagrams, last_time - first_time);
     return 0;
 }

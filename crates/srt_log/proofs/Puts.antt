@@ -4,7 +4,7 @@ use Rattle.std.proofs.Common.{arith, append_assoc, length-append}
 use Rattle.std.proofs.Math.Seq.{take-append-add}
 use Rattle.std.proofs.lemmas.List.{length-take-le, take_all, take_more, flat_map_more}
 use Rattle.std.specs.List.{flat_map}
-use Rattle.srt_log.specs.Texts.{put, escaped, escaped_all}
+use Rattle.srt_log.specs.Texts.{put, escaped, escaped_all, readable, readable_all}
 
 twice : (n : ℕ) (x y : List ℕ) → take n (take n x ++ y) ≡ take n (x ++ y)
 twice zero x y = refl
@@ -37,7 +37,14 @@ front_len room a within = length-take-le room a within
 pub followed : (x y z a b : List ℕ) → y ≡ put x a → z ≡ put y b → z ≡ put x (a ++ b)
 followed x y z a b e f = f ∙ ap (λ (l : List ℕ). put l b) e ∙ put_put x a b
 
+-- what is put for a list with one more item
+more : (f : ℕ → List ℕ) (bytes : List ℕ) (i : ℕ) → i < length bytes → flat_map f (take (i + 1) bytes) ≡ flat_map f (take i bytes) ++ f (slice_index bytes i)
+more f bytes i within = ap (flat_map f) (take_more bytes i 0 within) ∙ sym (flat_map_more f [] (take i bytes) (slice_index bytes i))
+
 -- one more byte, as it is shown
 pub one_more : (bytes : List ℕ) (i : ℕ) → i < length bytes → escaped_all (take (i + 1) bytes) ≡ escaped_all (take i bytes) ++ escaped (slice_index bytes i)
-one_more bytes i within =
-    ap (flat_map escaped) (take_more bytes i 0 within) ∙ sym (flat_map_more escaped [] (take i bytes) (slice_index bytes i))
+one_more bytes i within = more escaped bytes i within
+
+pub one_more_readable : (bytes : List ℕ) (i : ℕ) → i < length bytes →
+    readable_all (take (i + 1) bytes) ≡ readable_all (take i bytes) ++ readable (slice_index bytes i)
+one_more_readable bytes i within = more readable bytes i within

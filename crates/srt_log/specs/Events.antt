@@ -17,6 +17,7 @@ use Rattle.srt_log.specs.declared.events.LogEvent.{LogEvent}
 use Rattle.srt_log.specs.declared.events.LogEvent.TheVariants as events
 use Rattle.srt_log.specs.Texts.{put, id_text, escaped_all}
 use Rattle.srt_log.specs.Peers.{peer_text, socket_text}
+use Rattle.srt_log.specs.ConfigEvents.{config_text}
 
 abbrev pub role_text : Role → List ℕ
 role_text Publish = codes "publisher "
@@ -140,6 +141,7 @@ event_text (events.Troubled caller trouble) = troubled_text caller trouble
 event_text (events.Refused code peer asked by) = refused_text code peer asked.now by
 event_text (events.Limited route full reserved per_address) = limited_text route.now full reserved per_address
 event_text (events.Unseen route opened refused) = unseen_text route.now opened refused
+event_text (events.Config event) = config_text event
 event_text events.Unblocked = unblocked_text
 event_text (events.Warned warning) = escaped_all warning.now
 event_text (events.SocketFaults count) = count_text (codes "socket faults ") count

@@ -1,5 +1,6 @@
 pub mod Texts
 pub mod Peers
+pub mod ConfigEvents
 pub mod Events
 pub mod LineLimit
 pub mod Changes

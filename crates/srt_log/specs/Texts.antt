@@ -28,5 +28,12 @@ is_plain byte = nat_le 32 byte && nat_le byte 126 && not (byte == 34) && not (by
 abbrev pub escaped : (byte : ℕ) → List ℕ
 escaped byte = if is_plain byte then byte ∷ [] else 92 ∷ 120 ∷ hex_of_byte byte
 
+-- a byte of a text for people: as it is if it is a printable character of ASCII
+abbrev pub readable : (byte : ℕ) → List ℕ
+readable byte = if nat_le 32 byte && nat_le byte 126 then byte ∷ [] else 92 ∷ 120 ∷ hex_of_byte byte
+
 abbrev pub escaped_all : List ℕ → List ℕ
 escaped_all bytes = flat_map escaped bytes
+
+abbrev pub readable_all : List ℕ → List ℕ
+readable_all bytes = flat_map readable bytes

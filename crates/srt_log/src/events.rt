@@ -1,5 +1,6 @@
 //! What a line of the log says.
 
+use crate::config_events::ConfigEvent;
 use srt_seq::{NotAdmitted, Peer, Role};
 
 /// A session as a line names it.
@@ -149,6 +150,11 @@ pub enum LogEvent<'a> {
         opened: u64,
         /// Conclusions that were refused.
         refused: u64,
+    },
+    /// Something that concerns a configuration that was changed while the gateway runs.
+    Config {
+        /// What it is.
+        event: ConfigEvent<'a>,
     },
     /// SIGINT and SIGTERM aren't blocked, so that either ends the gateway at once.
     Unblocked,

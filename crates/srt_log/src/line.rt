@@ -1,7 +1,7 @@
 //! A line while it is made.
 
 ghost use Rattle.std.specs.Prelude.{◌≡◌, ◌+◌, ◌≤◌, ◌<◌, ◌++◌, ◌∷◌, [], length, decimal};
-ghost use Rattle.srt_log.specs.Texts.{put, hex_digit, id_text, escaped, escaped_all};
+ghost use Rattle.srt_log.specs.Texts.{put, hex_digit, id_text, escaped, escaped_all, readable, readable_all};
 
 use arrayvec::ArrayVec;
 use itoa::Buffer;
@@ -103,6 +103,30 @@ impl Line {
         self.put(b"");
         for byte in bytes {
             self.put_escaped_byte(*byte);
+        }
+    }
+
+    /// Puts a byte of a text for people: itself if it is a printable character of ASCII, else `\x` and its two
+    /// hexadecimal digits.
+    fn put_readable_byte(&mut self, byte: u8)
+        ensures { self.new.text.items ≡ put self.old.text.items (readable byte) }
+    {
+        if byte >= b' ' && byte <= b'~' {
+            self.put(&[byte]);
+        } else {
+            self.put(&[b'\\', b'x', hex_digit(byte / 16), hex_digit(byte % 16)]);
+        }
+    }
+
+    /// Puts a text for people, so that no byte of it is a control character. Quotation marks and backslashes stay as they
+    /// are, since it isn't put in quotes.
+    #[tactic(auto, using(crate::proofs::Puts::put_put, crate::proofs::Puts::one_more_readable))]
+    pub(crate) fn put_readable(&mut self, bytes: &[u8])
+        ensures { self.new.text.items ≡ put self.old.text.items (readable_all bytes.now) }
+    {
+        self.put(b"");
+        for byte in bytes {
+            self.put_readable_byte(*byte);
         }
     }
 

@@ -1,9 +1,9 @@
 //! Lines as a person reads them, the limit over moments, and what comes between looks.
 
 use crate::{
-    Caller, Change, EndReason, LineAllowance, LineLimit, LogEvent, RouteLook, SLOTS, STEPS,
-    SessionCounts, SessionEnd, SessionLook, StopCause, Trouble, Troubles, change_at, event_of,
-    write_line,
+    Caller, Change, CloseCause, ConfigEvent, DifferingKeys, EndReason, LineAllowance, LineLimit,
+    LogEvent, RouteLook, RouteNumbers, SLOTS, STEPS, SessionCounts, SessionEnd, SessionLook,
+    StopCause, Trouble, Troubles, change_at, event_of, write_line,
 };
 use srt_seq::{NotAdmitted, Peer, Role};
 use std::process::Abort;
@@ -318,6 +318,133 @@ fn lines_of_what_came_and_went(rt: HostRuntime) -> Result<(), Fail> {
             warning: b"warning: route 1 (studio): sessions = 1",
         },
         "warning: route 1 (studio): sessions = 1\n",
+    )
+}
+
+/// Asserts that an event of a changed configuration has this line.
+fn assert_config_line<R: Abort + AllocGlobal>(
+    rt: &R,
+    event: ConfigEvent<'_>,
+    line: &str,
+) -> Result<(), Fail> {
+    assert_line(rt, None, LogEvent::Config { event }, line)
+}
+
+#[test]
+fn lines_of_a_change_that_is_taken(rt: HostRuntime) -> Result<(), Fail> {
+    let routes = RouteNumbers {
+        staying: 14,
+        opening: 2,
+        closing: 1,
+        changing: 3,
+    };
+    assert_line(
+        &rt,
+        Some(TIME),
+        LogEvent::Config {
+            event: ConfigEvent::Taken { routes },
+        },
+        "2026-11-26T15:04:05.123Z configuration changed: 14 routes stay, 2 open, 1 close, 3 change\n",
+    )?;
+    let route = b"studio";
+    let cause = CloseCause::Removed;
+    assert_config_line(
+        &rt,
+        ConfigEvent::RouteCloses { route, cause },
+        "studio: closed, it is no longer in the configuration\n",
+    )?;
+    let cause = CloseCause::OtherKeys;
+    assert_config_line(
+        &rt,
+        ConfigEvent::RouteCloses { route, cause },
+        "studio: closed, to open again with other keys\n",
+    )?;
+    assert_config_line(
+        &rt,
+        ConfigEvent::RouteOpens {
+            route,
+            index: 17,
+            megabytes: 11,
+        },
+        "studio: opened with index 17, 11 MB\n",
+    )
+}
+
+/// Asserts that a change of these keys has this line.
+fn assert_differing<R: Abort + AllocGlobal>(
+    rt: &R,
+    differing: [bool; 4],
+    line: &str,
+) -> Result<(), Fail> {
+    let [bind, workers, status, secret] = differing;
+    let keys = DifferingKeys {
+        bind,
+        workers,
+        status,
+        secret,
+    };
+    assert_config_line(rt, ConfigEvent::KeysDiffer { keys }, line)
+}
+
+#[test]
+fn lines_of_keys_that_cannot_change(rt: HostRuntime) -> Result<(), Fail> {
+    assert_differing(
+        &rt,
+        [true, true, true, true],
+        "configuration not taken: bind can't change while the gateway runs (also: workers, status, secret); restart it to change it\n",
+    )?;
+    assert_differing(
+        &rt,
+        [true, false, false, false],
+        "configuration not taken: bind can't change while the gateway runs; restart it to change it\n",
+    )?;
+    assert_differing(
+        &rt,
+        [false, true, false, true],
+        "configuration not taken: workers can't change while the gateway runs (also: secret); restart it to change it\n",
+    )?;
+    assert_differing(
+        &rt,
+        [true, false, true, true],
+        "configuration not taken: bind can't change while the gateway runs (also: status, secret); restart it to change it\n",
+    )?;
+    assert_differing(
+        &rt,
+        [false, false, false, true],
+        "configuration not taken: secret can't change while the gateway runs; restart it to change it\n",
+    )
+}
+
+#[test]
+fn lines_of_a_change_that_is_refused(rt: HostRuntime) -> Result<(), Fail> {
+    assert_config_line(
+        &rt,
+        ConfigEvent::Wrong {
+            why: b"route 2 (studio): mode = \"fast\": allowed are \"live\" and \"buffer\"\n",
+        },
+        "configuration not taken: route 2 (studio): mode = \"fast\": allowed are \"live\" and \"buffer\"\\x0a\n",
+    )?;
+    assert_config_line(
+        &rt,
+        ConfigEvent::NoMemory { route: b"studio" },
+        "configuration not taken: no memory for studio\n",
+    )?;
+    assert_config_line(
+        &rt,
+        ConfigEvent::NoIndexes { opens: 12, left: 3 },
+        "configuration not taken: 12 routes are to open, 3 indexes are left; restart the gateway\n",
+    )?;
+    assert_config_line(
+        &rt,
+        ConfigEvent::Unread {
+            why: b"No such file or directory (os error 2)",
+        },
+        "configuration can't be read: No such file or directory (os error 2)\n",
+    )?;
+    assert_config_line(
+        &rt,
+        ConfigEvent::FewIndexes { left: 111 },
+        "111 of 511 indexes are left; each route that opens while the gateway runs uses one, restart it in a quiet hour\n",
     )
 }
 

@@ -8,6 +8,7 @@ ghost use Rattle.srt_log.specs.Events.{trouble_text, troubled_text, reason_text,
 ghost use Rattle.srt_log.specs.Events.{list_text, key_text, refused_by_text, refused_text, limits_text, limited_text, unseen_text, unblocked_text};
 ghost use Rattle.srt_log.specs.Events.{count_text, cause_text, event_text, time_text, line_text};
 
+use crate::config_lines::put_config;
 use crate::events::{Caller, EndReason, LogEvent, SessionCounts, StopCause, Trouble};
 use crate::line::Line;
 use crate::peers::{put_peer, put_socket};
@@ -346,6 +347,7 @@ fn put_event(line: &mut Line, event: LogEvent<'_>)
             opened,
             refused,
         } => put_unseen(line, route, opened, refused),
+        LogEvent::Config { event } => put_config(line, event),
         LogEvent::Unblocked => line.put(UNBLOCKED),
         LogEvent::Warned { warning } => line.put_escaped(warning),
         LogEvent::SocketFaults { count } => put_count(line, b"socket faults ", count),
@@ -388,7 +390,8 @@ fn line_of(time: Option<[u8; 24]>, event: LogEvent<'_>) -> Line
 /// Writes the line of an event, with its line feed, by one call of `write_all`: at its front the text of its time, if
 /// there is one, and a space. A line of more than 1,023 bytes is cut off there. Bytes that callers chose, and those of
 /// names and warnings, are shown as themselves if they are printable characters of ASCII other than `"` and `\`, else as
-/// `\x` and two hexadecimal digits. An error is the writer's.
+/// `\x` and two hexadecimal digits; in what is said of a configuration's fault these two stand as they are. An error is the
+/// writer's.
 pub fn write_line<W: Write>(
     out: &mut W,
     time: Option<[u8; 24]>,

@@ -1,9 +1,11 @@
 pub mod Within
 pub mod Moments
 pub mod Openings
+pub mod Indexed
 pub mod NamesAtStart
 pub mod Settlings
 pub mod Callers
 pub mod Routes
+pub mod Newcomers
 pub mod Ends
 pub mod Sends

@@ -12,6 +12,7 @@ use Rattle.srt_lobby.proofs.Distinct.{names_are_distinct}
 use Rattle.srt_mailbox.specs.Cells.{CellIdentity}
 use Rattle.srt_poller.specs.declared.ends.Ends.{Ends}
 use Rattle.srt_poller.specs.Schedules.{AllDiffer}
+use Rattle.srt_serve.proofs.Routes.{few_entries}
 use Rattle.srt_serve.specs.NamesAtStart.{until, later_hidden, first_names}
 use Rattle.srt_serve.specs.Opened.{AreOpened, terms_in}
 use Rattle.srt_serve.specs.inside.Polled.{AreReady}
@@ -104,4 +105,5 @@ are_ready schedules entries names routes ends sound scheduled named whose opened
       opened.as_many ∙ many ∙ sym places,
       scheduled ∙ sym places,
       subst (λ (ns : List RouteName). AllDiffer ns) (sym named) (all_differ schedules entries sound),
+      omega (arith, scheduled, few_entries entries sound),
     )

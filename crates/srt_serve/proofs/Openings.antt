@@ -1,8 +1,9 @@
 -- Routes are opened one after another.
-use Rattle.std.proofs.Common.{◌≡◌, inl, inr, ℕ, ◌+◌, ◌<◌, List, [], ◌∷◌, ◌++◌, length, map, take, get_or, slice_get, Some, refl, sym, ap, subst, ◌∙◌, arith}
+use Rattle.std.proofs.Common.{◌≡◌, inl, inr, ℕ, ◌+◌, ◌<◌, List, [], ◌∷◌, ◌++◌, length, map, take, get_or, slice_get, true, Some, refl, sym, ap, subst, ◌∙◌, arith}
 use Rattle.std.proofs.Math.Seq.{get_or-append_seam}
 use Rattle.std.proofs.lemmas.Bool.{cases_lt}
-use Rattle.std.proofs.lemmas.List.{take_more, map-append, get_or_append_left, length-append}
+use Rattle.std.proofs.lemmas.List.{take_more, map-append, get_or_append_left, length-append, length-map}
+use Rattle.srt_mailbox.proofs.Tokens.{one_shown, shown_at}
 use Rattle.srt_seq.specs.declared.shared.Entry.{Entry}
 use Rattle.srt_seq.specs.Terms.{Terms, terms_of}
 use Rattle.srt_mailbox.specs.Cells.{CellIdentity}
@@ -49,6 +50,29 @@ pub clocks_grow : (routes routes' : List CellIdentity) (clocks clocks' : List Pr
     → routes' ≡ routes ++ n ∷ [] → clocks' ≡ clocks ++ new_clock n ∷ [] → clocks ≡ new_clocks routes → clocks' ≡ new_clocks routes'
 clocks_grow routes routes' clocks clocks' n came taken h =
     taken ∙ ap (λ (cs : List Producer). cs ++ new_clock n ∷ []) h ∙ sym (map-append new_clock routes (n ∷ [])) ∙ ap new_clocks (sym came)
+
+-- the lock of a place stands at its index
+pub place_put : {S : Type 0} (id : S → ℕ) (places : List S) (locks : List ℕ) (i n : ℕ) (p : S) (of : ℕ)
+    → locks ≡ map id places → i ≡ n → p ≡ get_or places i p → i < length places → of ≡ id p → slice_get locks n ≡ Some of
+place_put id places locks i n p of shown same there within put =
+    ap (λ (ns : List ℕ). slice_get ns n) shown ∙ ap (slice_get (map id places)) (sym same) ∙ shown_at id places i p within there ∙ ap Some (sym put)
+
+-- the tokens of the places so far, and of one more
+pub tokens_grow : {T S : Type 0} (of : T → ℕ) (who : T → CellIdentity) (id : S → ℕ) (places : List S) (tokens tokens' : List T) (t : T)
+    (routes routes' : List CellIdentity) (n : CellIdentity)
+    →
+    (map of tokens ≡ take (length tokens) (map id places)) × (map who tokens ≡ routes) → tokens' ≡ tokens ++ t ∷ [] → routes' ≡ routes ++ n ∷ []
+    → who t ≡ n → slice_get (map id places) (length routes) ≡ Some (of t)
+    →
+    (map of tokens' ≡ take (length tokens') (map id places)) × (map who tokens' ≡ routes')
+tokens_grow of who id places tokens tokens' t routes routes' n h pushed grew whose at =
+    let many : length routes ≡ length tokens = ap length (sym h.1) ∙ length-map tokens who in (
+      one_shown of id tokens places h.0 tokens' t true pushed (ap (slice_get (map id places)) (sym many) ∙ at),
+      ap (map who) pushed ∙ map-append who tokens (t ∷ [])
+          ∙ ap (λ (ns : List CellIdentity). ns ++ who t ∷ []) h.1
+          ∙ ap (λ (m : CellIdentity). routes ++ m ∷ []) whose
+          ∙ sym grew,
+    )
 
 -- the route that was taken from a place is that which was put there
 pub first_taken : (came came' : List CellIdentity) (n there put : CellIdentity) (e : Ends) (i : ℕ)

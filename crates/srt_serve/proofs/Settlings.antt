@@ -1,7 +1,10 @@
 -- Routes are settled one after another.
 use Rattle.std.proofs.Common.{◌≡◌, ◌↔◌, true, false, ℕ, zero, suc, ◌+◌, ◌<◌, ◌≤◌, Option, None, Some, IsSome}
-use Rattle.std.proofs.Common.{List, [], ◌∷◌, ◌++◌, length, take, drop, slice_get, refl, sym, ap, subst, ◌∙◌}
+use Rattle.std.proofs.Common.{List, [], ◌∷◌, ◌++◌, length, map, take, drop, get_or, slice_get, refl, sym, ap, subst, ◌∙◌}
 use Rattle.std.proofs.Common.{append_assoc, append-nil, arith}
+use Rattle.std.proofs.lemmas.List.{length-map, length-take}
+use Rattle.std.proofs.lemmas.Option.{slice_get-get_or}
+use Rattle.srt_mailbox.proofs.Tokens.{lock_of}
 use Rattle.srt_mailbox.specs.declared.accounts.Account.{Account}
 use Rattle.srt_mailbox.specs.Cells.{CellIdentity, AreEndsOf}
 use Rattle.srt_mailbox.specs.Ends.{Producer}
@@ -98,6 +101,14 @@ has_all (n ∷ routes) (m ∷ others) (suc r) over within same h =
     let tails : take r routes ≡ take r others = cc in
     ap (λ k. k ∷ others) (sym heads)
     ∙ ap (λ ks. n ∷ ks) (has_all routes others r (omega (arith, over)) (omega (arith, within)) (omega (arith, same)) tails)
+
+-- what a token shows is the lock of the place with its index
+pub lock_at : {T S : Type 0} (of : T → ℕ) (id : S → ℕ) (ts : List T) (places : List S) (i : ℕ) (t : T)
+    → map of ts ≡ take (length ts) (map id places) → i < length ts → t ≡ get_or ts i t → slice_get (map id places) i ≡ Some (of t)
+lock_at of id ts places i t shown within there =
+    let inside : i < length (map id places) =
+    omega (arith, ap length shown, length-map ts of, length-take (length ts) (map id places), within) in
+    slice_get-get_or (map id places) i 0 inside ∙ ap Some (sym (lock_of of id ts places shown i t within there))
 
 -- an iterator that has something left gives it
 pub some_given : {X : Type 0} (count : ℕ) (items : List X) (r : Option X)

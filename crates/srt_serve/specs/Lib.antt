@@ -2,6 +2,7 @@ pub mod inside
 pub mod Ticks
 pub mod NamesAtStart
 pub mod Opened
+pub mod Arrived
 pub mod Settled
 pub mod Callers
 pub mod Ran

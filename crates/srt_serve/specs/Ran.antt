@@ -17,7 +17,8 @@ use Rattle.srt_poller.specs.History.{datagrams, attempts, of_lobby, of_route, an
 use Rattle.srt_poller.specs.History.{reads_in, ready_in}
 use Rattle.srt_poller.specs.Reports.{total}
 use Rattle.srt_poller.specs.Tallies.{TalliesWith}
-use Rattle.srt_lobby.specs.Names.{RouteName}
+use Rattle.srt_lobby.specs.Names.{RouteName, as_hidden, name_of}
+use Rattle.srt_poller.specs.Plans.{ArePlans, texts_of}
 use Rattle.srt_serve.specs.Callers.{CallersMayCall}
 use Rattle.srt_serve.specs.NamesAtStart.{first_names}
 use Rattle.srt_serve.specs.Ticks.{IsWithin, tick}
@@ -103,3 +104,17 @@ RanUnder closes class schedules entries rounds old new report accounts =
 abbrev pub Ran : Sorting → List Schedule → List Terms → (rounds : ℕ) → (old new : Told) → Report → List Account → Type 0
 Ran class schedules entries rounds old new report accounts =
     (events : List Event) × (moments : List ℕ) × RanBy class schedules entries rounds old new report accounts events moments × (closes_all_in events ≡ 0)
+
+-- the names with which a run begins, and behind them those of the routes that come to it, hidden
+abbrev pub names_before : List Schedule → (entries came : List Terms) → List RouteName
+names_before schedules entries came = first_names schedules entries ++ map (λ t. as_hidden (name_of t)) came
+
+-- A run of this many rounds, of which some may have closed all. Meanwhile routes with the terms `came` came, in the order of their indexes behind the
+-- others, and those with the indexes `asked` were asked to close, at moments that nobody knew before. The run did what it does if all routes had been
+-- written down beforehand, with the schedules `later`, those that came hidden at first. A route that wasn't asked to close, and whose name no other
+-- one has, kept its schedule (`ArePlans`)
+abbrev pub RanChanging : Sorting → List Schedule → List Terms → (rounds : ℕ) → (old new : Told) → Report → List Account → Type 0
+RanChanging class schedules entries rounds old new report accounts =
+    (came : List Terms) × (asked : List ℕ) × (later : List Schedule) × (events : List Event) × (moments : List ℕ)
+    × ArePlans rounds (λ r. Unit {0}) schedules (texts_of (names_before schedules entries came)) asked later
+    × RanFrom (names_before schedules entries came) class later (entries ++ came) rounds old new report accounts events moments

@@ -42,7 +42,7 @@ mod working;
 pub use refusals::Refusal;
 pub use running::{Gates, Ran, RunFault, Watched, run, run_until};
 pub use ticking::Ticker;
-pub use watching::{Told, Watch};
+pub use watching::{ChangeFault, RouteChanges, Told, Watch};
 
 #[cfg(test)]
 mod tests;

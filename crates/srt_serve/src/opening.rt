@@ -1,6 +1,6 @@
 //! Opens the routes with which a run begins, before any thread is started.
 
-ghost use Rattle.std.specs.Prelude.{◌≡◌, ◌≤◌, ℕ, [], ◌∷◌, ◌++◌, Some, IfOk, OnOk, map, length};
+ghost use Rattle.std.specs.Prelude.{◌≡◌, ◌≤◌, ℕ, [], ◌∷◌, ◌++◌, Some, IfOk, OnOk, map, length, take, slice_get};
 ghost use Rattle.std.specs.Vec.{vec_capacity};
 ghost use Rattle.srt_seq.specs.Terms.{terms_of};
 ghost use Rattle.srt_mailbox.specs.Cells.{CellIdentity};
@@ -14,6 +14,7 @@ use srt_mailbox::{ClockEnd, Place, PollerEnds, Seat, SeatReader};
 use srt_poller::Ends;
 use srt_seq::Entry;
 use std::alloc::{AllocError, Global};
+use std::sync::OnceToken;
 
 /// The first routes of a run, which have been taken from their seats. Each list is in the order of their indexes, and has
 /// room for as many as there are places.
@@ -27,16 +28,20 @@ pub struct Opened<'a> {
     pub arrivals: ClockArrivals<'a>,
     /// The clock's ends of the inboxes.
     pub clocks: Vec<ClockEnd>,
+    /// Of each place, which route it was given. No bytes.
+    pub put: Vec<OnceToken<'a, Seat<Named>>>,
 }
 
-// Puts a route into the next place, and takes the poller's ends from there.
+// Puts a route into the next place, and takes the poller's ends from there. Returns the knowledge that it is there.
 fn take_first<'a>(
     routes: &mut SeatReader<'a, Named>,
     ends: &mut Vec<Ends>,
     places: &'a [Place<Named>],
     seat: Seat<Named>,
-) -> Result<(), AllocError>
+) -> Result<OnceToken<'a, Seat<Named>>, AllocError>
     requires { locks_of routes.old ≡ map (λ p. p.seat.id) places.now }
+    ensures put { IfOk result (λ t. (slice_get (locks_of routes.old) (length (came routes.old)) ≡ Some t.of)
+        × (identity_in t.value.cell ≡ identity_in seat.cell)) }
     ensures taken { OnOk result ((e : TheEnds) × (came routes.new ≡ came routes.old ++ identity_in seat.cell ∷ [])
         × (ends.new.items ≡ ends.old.items ++ e ∷ []) × IsOpened (length (came routes.old)) (identity_in seat.cell) e) }
     ensures places { locks_of routes.new ≡ locks_of routes.old }
@@ -55,7 +60,7 @@ fn take_first<'a>(
     routes.came_to(index, &put);
     let PollerEnds { ingress, drain, .. } = taken;
     ends.push(Ends { ingress, drain })?;
-    Ok(())
+    Ok(put)
 }
 
 // Takes the clock's end of the next route.
@@ -87,6 +92,8 @@ pub fn open_routes<'a>(
     ensures clocks { IfOk result (λ o. o.clocks.items ≡ new_clocks (came o.arrivals.reader)) }
     ensures places { IfOk result (λ o. locks_of o.arrivals.reader ≡ locks_of o.routes) }
     ensures room { IfOk result (λ o. length places.now ≤ vec_capacity o.ends) }
+    ensures put { IfOk result (λ o. (map (λ t. t.of) o.put.items ≡ take (length o.put.items) (locks_of o.routes))
+        × (map (λ t. identity_in t.value.cell) o.put.items ≡ came o.routes)) }
 {
     let mut routes = SeatReader::new(alloc, places)?;
     let mut arrivals = ClockArrivals {
@@ -94,10 +101,12 @@ pub fn open_routes<'a>(
     };
     let mut ends = Vec::with_capacity(alloc, places.len())?;
     let mut clocks = Vec::with_capacity(alloc, places.len())?;
+    let mut put = Vec::with_capacity(alloc, places.len())?;
     let mut index = 0;
     for entry in entries {
         let seat = seat_route(alloc, entry, index)?;
-        take_first(&mut routes, &mut ends, places, seat)?;
+        let token = take_first(&mut routes, &mut ends, places, seat)?;
+        put.push(token)?;
         take_first_clock(&mut arrivals, &mut clocks)?;
         index += 1;
     }
@@ -106,5 +115,6 @@ pub fn open_routes<'a>(
         ends,
         arrivals,
         clocks,
+        put,
     })
 }

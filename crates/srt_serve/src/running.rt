@@ -1,6 +1,6 @@
 //! A run of the gateway, from the opening of its routes to their accounts.
 
-ghost use Rattle.std.specs.Prelude.{◌≡◌, ◌⊎◌, ◌≤◌, ◌^◌, true, None, Err, [], IfOk, IsSome, map, length};
+ghost use Rattle.std.specs.Prelude.{◌≡◌, ◌↔◌, ◌⊎◌, ◌≤◌, ◌^◌, true, false, None, Err, [], IfOk, IsSome, map, length};
 ghost use Rattle.std.specs.Vec.{vec_len, vec_capacity};
 ghost use Rattle.srt_seq.specs.Terms.{terms_of};
 ghost use Rattle.srt_cookie.specs.Cookie.{secret_bytes};
@@ -9,20 +9,21 @@ ghost use Rattle.srt_lobby.specs.Names.{names_of};
 ghost use Rattle.srt_lobby.specs.Opening.{fault_of};
 ghost use Rattle.srt_poller.specs.Devices.{heard, carried};
 ghost use Rattle.srt_serve.specs.NamesAtStart.{later_hidden, first_names};
-ghost use Rattle.srt_serve.specs.Ran.{told_by, RanUntil, RanUnder, Ran as TheRan};
+ghost use Rattle.srt_serve.specs.Ran.{told_by, RanChanging, RanUnder, Ran as TheRan};
 
-use crate::arrivals::{Named, open_places};
+use crate::arrivals::{Named, News, PollerArrivals, open_places};
 use crate::opening::{Opened, open_routes};
 use crate::post::Post;
-use crate::serving::{OtherThreads, PollerState, RunContext, serve_routes};
-use crate::settling::{came_to_all, settle_routes};
+use crate::serving::{OtherThreads, PollerState, RunContext, serve_devices};
+use crate::settling::{began_with, came_to_all, settle_routes};
 use crate::ticking::{Clocks, Ticker, take_new};
 use crate::wakeups::Wakeups;
 use crate::watching::{Nobody, Watch, watch_last};
 use srt_cookie::Secret;
 use srt_lobby::Names;
 use srt_mailbox::{Account, Gate, Place};
-use srt_poller::{Report, Source, Wire};
+use srt_poller::{Plans, Report, Source, Wire};
+use srt_seq::limits::MAX_ROUTES;
 use srt_seq::{Entry, Schedule};
 use std::alloc::{AllocError, Global};
 use std::sync::Wait;
@@ -86,6 +87,8 @@ pub struct Watched<K: Drop, T: Drop> {
 struct Resources {
     names: Names,
     places: Vec<Place<Named>>,
+    news: News,
+    plans: Plans,
     wakeups: Wakeups,
     // none if the run isn't watched
     post: Option<Post>,
@@ -118,7 +121,7 @@ fn open_wakeups(
 }
 
 fn open_post(alloc: Global, is_watched: bool) -> Result<Option<Post>, AllocError>
-    ensures { IfOk result (λ post. IsSome post → is_watched ≡ true) }
+    ensures { IfOk result (λ post. IsSome post ↔ (is_watched ≡ true)) }
 {
     if is_watched {
         let post = Post::open(alloc)?;
@@ -137,19 +140,27 @@ fn open_resources(
 ) -> Result<Resources, AllocError>
     requires { length schedules.now ≡ length entries.now }
     ensures names { IfOk result (λ s. names_of s.names ≡ first_names schedules.now (map terms_of entries.now)) }
-    ensures post { IfOk result (λ s. IsSome s.post → is_watched ≡ true) }
-    ensures accounts { IfOk result (λ s. (s.accounts.items ≡ []) × (length entries.now ≤ vec_capacity s.accounts)) }
+    ensures post { IfOk result (λ s. IsSome s.post ↔ (is_watched ≡ true)) }
+    ensures accounts { IfOk result (λ s. (s.accounts.items ≡ []) × (511 ≤ vec_capacity s.accounts)) }
+    ensures places { IfOk result (λ s. is_watched ≡ true → length s.places.items ≡ 511) }
 {
     let Ok(mut names) = Names::open(alloc, entries) else {
         return Err(AllocError);
     };
     hide_later(&mut names, schedules);
+    let routes = if is_watched {
+        MAX_ROUTES
+    } else {
+        entries.len()
+    };
     Ok(Resources {
         names,
-        places: open_places(alloc, entries.len())?,
-        wakeups: open_wakeups(alloc, entries.len(), workers, is_watched)?,
+        places: open_places(alloc, routes)?,
+        news: News::open(alloc, routes)?,
+        plans: Plans::new(alloc)?,
+        wakeups: open_wakeups(alloc, routes, workers, is_watched)?,
         post: open_post(alloc, is_watched)?,
-        accounts: Vec::with_capacity(alloc, entries.len())?,
+        accounts: Vec::with_capacity(alloc, MAX_ROUTES)?,
     })
 }
 
@@ -178,7 +189,11 @@ where
     requires schedules { length schedules.now ≡ length entries.now }
     requires workers { (1 ≤ vec_len gates.workers) × (vec_len gates.workers ≤ 16) }
     requires few { rounds ≤ 2 ^ 48 }
-    ensures ran { IfOk result (λ r. RanUnder (is_watched ≡ true) (class_of (secret_bytes secret.now)) schedules.now (map terms_of entries.now) r.rounds
+    ensures fixed { is_watched ≡ false → IfOk result (λ r. RanUnder (is_watched ≡ true) (class_of (secret_bytes secret.now)) schedules.now (map terms_of entries.now) r.rounds
+        (told_by (heard (S.gave source.old) (S.calls source.old)) (carried (W.handed wire.old) (W.attempts wire.old)) (K.gave ticker))
+        (told_by (heard (S.gave source.new) (S.calls source.new)) (carried (W.handed wire.new) (W.attempts wire.new)) (K.gave r.ticker))
+        r.report r.accounts.items) }
+    ensures changing { is_watched ≡ true → IfOk result (λ r. RanChanging (class_of (secret_bytes secret.now)) schedules.now (map terms_of entries.now) r.rounds
         (told_by (heard (S.gave source.old) (S.calls source.old)) (carried (W.handed wire.old) (W.attempts wire.old)) (K.gave ticker))
         (told_by (heard (S.gave source.new) (S.calls source.new)) (carried (W.handed wire.new) (W.attempts wire.new)) (K.gave r.ticker))
         r.report r.accounts.items) }
@@ -192,6 +207,8 @@ where
     let Resources {
         names,
         places,
+        news,
+        plans,
         wakeups,
         post,
         accounts,
@@ -204,7 +221,11 @@ where
         ends,
         arrivals,
         clocks,
+        put,
     } = opened;
+    let Ok(openings) = PollerArrivals::new(alloc, routes, &news, MAX_ROUTES) else {
+        return Err(RunFault::OutOfMemory);
+    };
     let told = post.as_ref();
     let context = RunContext {
         rt,
@@ -212,13 +233,17 @@ where
         secret,
         schedules,
         cells: places.as_slice(),
+        routes: entries.len(),
+        news: &news,
         wakeups: &wakeups,
         post: told,
         rounds,
     };
-    let mut polling = PollerState {
+    let polling = PollerState {
         names,
         ends,
+        plans,
+        openings,
         gate: poller,
     };
     let mut others = OtherThreads {
@@ -230,7 +255,8 @@ where
         gates: workers,
         watch,
     };
-    let Some(pumping) = serve_routes(&context, source, wire, &mut polling, &mut others) else {
+    let (polling, pumping) = serve_devices(&context, source, wire, polling, &mut others);
+    let Some(pumping) = pumping else {
         return Err(RunFault::Thread);
     };
     let OtherThreads {
@@ -243,7 +269,11 @@ where
         coming: mut arrivals,
         ticker,
     } = clocks;
-    let PollerState { ends, .. } = polling;
+    let PollerState { ends, openings, .. } = polling;
+    let routes = openings.reader;
+    let Ok(()) = began_with(&routes, &put) else {
+        return Err(RunFault::Busy);
+    };
     watch_last(rt, places.as_slice(), told, &mut watch);
     take_new(&mut clocks, &mut arrivals);
     let Ok(()) = came_to_all(&routes, &arrivals.reader) else {
@@ -334,7 +364,9 @@ where
 ///
 /// A further thread watches. It repeats these steps: it lets the watcher rest (`Watch::next`), tells it what was refused, and shows
 /// it the routes if it looks. After all threads have ended and before the routes are settled, each route is shown once
-/// more, and the refusals that are left are told. The threads end whatever the watcher does; but one that rests for long
+/// more, and the refusals that are left are told. After each rest the watcher is asked for a change of the routes too
+/// (`Watch::change`): those that open get the next of the 511 indexes, and callers find them from one of the next rounds on, once
+/// no other shown route has their name; those that close are offered Close from then on. The threads end whatever the watcher does; but one that rests for long
 /// delays that, as a ticker that waits does.
 pub fn run_until<R, S: Source, W: Wire, K, G, T>(
     rt: &R,
@@ -358,7 +390,7 @@ where
     requires schedules { length schedules.now ≡ length entries.now }
     requires workers { (1 ≤ vec_len gates.workers) × (vec_len gates.workers ≤ 16) }
     requires few { rounds ≤ 2 ^ 48 }
-    ensures ran { IfOk result (λ r. RanUntil (class_of (secret_bytes secret.now)) schedules.now (map terms_of entries.now) r.rounds
+    ensures ran { IfOk result (λ r. RanChanging (class_of (secret_bytes secret.now)) schedules.now (map terms_of entries.now) r.rounds
         (told_by (heard (S.gave source.old) (S.calls source.old)) (carried (W.handed wire.old) (W.attempts wire.old)) (K.gave ticker))
         (told_by (heard (S.gave source.new) (S.calls source.new)) (carried (W.handed wire.new) (W.attempts wire.new)) (K.gave r.ticker))
         r.report r.accounts.items) }

@@ -1,19 +1,43 @@
 //! Settles all routes at the end of a run.
 
-ghost use Rattle.std.specs.Prelude.{◌≡◌, ◌≤◌, List, [], ◌++◌, IfOk, OnOk, length};
+ghost use Rattle.std.specs.Prelude.{◌≡◌, ◌≤◌, List, [], ◌++◌, IfOk, OnOk, length, map, take};
 ghost use Rattle.std.specs.Vec.{vec_capacity};
 ghost use Rattle.srt_mailbox.specs.Cells.{CellIdentity};
+ghost use Rattle.srt_mailbox.specs.Identities.{identity_in};
 ghost use Rattle.srt_mailbox.specs.Places.{came, locks_of};
 ghost use Rattle.srt_serve.specs.Settled.{AreJoined, AreSettled};
 
 use crate::arrivals::Named;
-use srt_mailbox::{Account, ClockEnd, SeatReader};
+use srt_mailbox::{Account, ClockEnd, Seat, SeatReader};
 use srt_poller::Ends;
-use std::sync::Wait;
+use srt_seq::limits::MAX_ROUTES;
+use std::sync::{OnceToken, Wait};
 
 /// A route could not be settled, since another call had claimed it.
 #[derive(Clone, Copy)]
 pub struct Busy;
+
+/// That the reader came at first to the routes that were put into these places before any thread ran. It may have come to
+/// more. If it hasn't come to all of these, or to more than 511, the routes can't be settled.
+pub fn began_with<'a>(
+    routes: &SeatReader<'a, Named>,
+    put: &Vec<OnceToken<'a, Seat<Named>>>,
+) -> Result<(), Busy>
+    requires { map (λ t. t.of) put.now.items ≡ take (length put.now.items) (locks_of routes.now) }
+    ensures began { OnOk result ((more : List CellIdentity) × (came routes.now ≡ map (λ t. identity_in t.value.cell) put.now.items ++ more)) }
+    ensures few { OnOk result (length (came routes.now) ≤ 511) }
+{
+    if routes.routes() < put.len() {
+        return Err(Busy);
+    }
+    if routes.routes() > MAX_ROUTES {
+        return Err(Busy);
+    }
+    for r in 0..put.len() {
+        routes.came_to(r, &put[r]);
+    }
+    Ok(())
+}
 
 /// That the ticking thread's reader came to all routes to which the polling thread's did, the same at each index. It may
 /// have come to more. If it hasn't come to all, the routes can't be settled.

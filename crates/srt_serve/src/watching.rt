@@ -1,13 +1,16 @@
 //! The watching thread of a run: it shows the routes to a watcher, tells it what was refused, and hands on to the poller
 //! what the watcher asks of it.
 
+use crate::arrivals::{Host, Named, News, seat_route};
 use crate::post::Post;
 use crate::refusals::Refusal;
 use crate::wakeups::Wakeups;
-use srt_mailbox::{Look, Serve};
+use srt_mailbox::{Look, Seat, Serve};
 use srt_poller::{Asked, Report};
 use srt_route::Route;
+use srt_seq::Entry;
 use srt_seq::limits::MAX_SESSIONS;
+use std::alloc::Global;
 use std::sync::Wait;
 use std::thread;
 
@@ -38,6 +41,24 @@ pub struct Told {
     pub reports: u64,
 }
 
+/// A change of the routes of a run.
+#[derive(Drop)]
+pub struct RouteChanges {
+    /// The indexes of the routes that close.
+    pub closes: Vec<usize>,
+    /// The entries of the routes that open. They get the next indexes, in this order.
+    pub opens: Vec<Entry>,
+}
+
+/// Why a change wasn't taken. Nothing of it was done.
+#[derive(Clone, Copy, Debug, PartialEq, Eq)]
+pub enum ChangeFault {
+    /// Memory was refused for the entry at this place of `opens`, or that entry is out of its limits.
+    OutOfMemory(usize),
+    /// `opens` has more entries than indexes are left: this many are.
+    NoIndexLeft(usize),
+}
+
 /// Who watches a run, in a thread of its own.
 pub trait Watch {
     /// Rests for some milliseconds, and returns what the poller is asked from then on. `End` is final: whatever a later
@@ -53,6 +74,13 @@ pub trait Watch {
 
     /// A conclusion was refused.
     fn refused(&mut self, refusal: &Refusal);
+
+    /// A change of the routes, if there is one to be made now. Asked after each rest, but not once the poller is asked to
+    /// close all or to end.
+    fn change(&mut self) -> Option<RouteChanges>;
+
+    /// What became of the change that was given last: the index of the first route that opens, if it was taken.
+    fn changed(&mut self, outcome: Result<usize, ChangeFault>);
 }
 
 /// A watcher that asks for nothing and sees nothing, for runs that aren't watched.
@@ -71,6 +99,62 @@ impl Watch for Nobody {
     fn see(&mut self, _index: usize, _route: &Route) {}
 
     fn refused(&mut self, _refusal: &Refusal) {}
+
+    fn change(&mut self) -> Option<RouteChanges> {
+        None
+    }
+
+    fn changed(&mut self, _outcome: Result<usize, ChangeFault>) {}
+}
+
+/// Makes the changes that a watcher asks for.
+#[derive(Drop)]
+pub struct Changer<'a, C> {
+    /// Allocates what the routes need that open.
+    pub alloc: Global,
+    /// The places of all routes, the taken ones first.
+    pub places: &'a [C],
+    /// Tells the polling thread.
+    pub news: &'a News,
+    /// The number of places that are taken.
+    pub routes: usize,
+}
+
+impl<C: Host> Changer<'_, C> {
+    // Opens all routes of a change, without a place.
+    fn open_all(&self, entries: &[Entry]) -> Result<Vec<Seat<Named>>, ChangeFault> {
+        let left = self.places.len().saturating_sub(self.routes);
+        if entries.len() > left {
+            return Err(ChangeFault::NoIndexLeft(left));
+        }
+        let mut seats = Vec::new(self.alloc);
+        for (at, entry) in entries.iter().enumerate() {
+            let Ok(seat) = seat_route(self.alloc, entry, self.routes.wrapping_add(at)) else {
+                return Err(ChangeFault::OutOfMemory(at));
+            };
+            let Ok(()) = seats.push(seat) else {
+                return Err(ChangeFault::OutOfMemory(at));
+            };
+        }
+        Ok(seats)
+    }
+
+    // Makes a change: first all memory is taken, then the routes get their places, and then the polling thread is told.
+    fn make(&mut self, changes: RouteChanges) -> Result<usize, ChangeFault> {
+        let seats = self.open_all(&changes.opens)?;
+        let first = self.routes;
+        for seat in seats {
+            if let Some(place) = self.places.get(self.routes) {
+                place.host(seat);
+            }
+            self.routes = self.routes.wrapping_add(1);
+        }
+        for route in &changes.closes {
+            self.news.close(*route);
+        }
+        self.news.tell();
+        Ok(first)
+    }
 }
 
 /// Whether a session of the route is open.
@@ -155,10 +239,10 @@ impl Counted {
 }
 
 /// Watches until the run is over. After each rest of the watcher the poller is asked what it said, the refusals are told
-/// that wait, and the routes are shown if it looks.
-pub fn watch_routes<R: Wait, C: Serve, T: Watch>(
+/// that wait, the change is made that it asks for, and the routes are shown if it looks.
+pub fn watch_routes<R: Wait, C: Serve + Host, T: Watch>(
     rt: &R,
-    cells: &[C],
+    mut changer: Changer<'_, C>,
     wakeups: &Wakeups,
     post: &Post,
     watch: &mut T,
@@ -185,7 +269,14 @@ pub fn watch_routes<R: Wait, C: Serve, T: Watch>(
         tell_refusals(rt, post, watch);
         let looks = watch.looks();
         let closes = !matches!(asked, Asked::GoOn);
-        let is_quiet = (looks || closes) && look_at_all(rt, cells, watch, looks);
+        if !closes {
+            if let Some(changes) = watch.change() {
+                let outcome = changer.make(changes);
+                watch.changed(outcome);
+            }
+        }
+        let taken = changer.routes.min(changer.places.len());
+        let is_quiet = (looks || closes) && look_at_all(rt, &changer.places[..taken], watch, looks);
         quiet = if is_quiet && closes && !wakeups.any_outbox_ready() {
             quiet.saturating_add(1)
         } else {

@@ -224,6 +224,9 @@ total_name totals.PublishFrom = codes "lobby_refused_publish_from_total"
 total_name totals.RequestFrom = codes "lobby_refused_request_from_total"
 total_name totals.PublishKey = codes "lobby_refused_publish_key_total"
 total_name totals.RequestKey = codes "lobby_refused_request_key_total"
+total_name totals.ChangesTaken = codes "config_changes_taken_total"
+total_name totals.ChangesRefused = codes "config_changes_refused_total"
+total_name totals.Indexes = codes "used_indexes"
 
 -- its help
 abbrev pub total_help : Total → List ℕ
@@ -248,6 +251,9 @@ total_help totals.PublishFrom = codes "Conclusions refused with 1002: the addres
 total_help totals.RequestFrom = codes "Conclusions refused with 1002: the address is not in request_from."
 total_help totals.PublishKey = codes "Conclusions refused with 1002: publish_key is missing or wrong."
 total_help totals.RequestKey = codes "Conclusions refused with 1002: request_key is missing or wrong."
+total_help totals.ChangesTaken = codes "Changed configurations that were taken."
+total_help totals.ChangesRefused = codes "Changed configurations that were not taken."
+total_help totals.Indexes = codes "Indexes that routes have used since the start, of 511."
 
 -- its type
 abbrev pub total_kind : Total → List ℕ
@@ -272,6 +278,9 @@ total_kind totals.PublishFrom = codes "counter"
 total_kind totals.RequestFrom = codes "counter"
 total_kind totals.PublishKey = codes "counter"
 total_kind totals.RequestKey = codes "counter"
+total_kind totals.ChangesTaken = codes "counter"
+total_kind totals.ChangesRefused = codes "counter"
+total_kind totals.Indexes = codes "gauge"
 
 -- this of the gateway
 abbrev pub total_value : Total → GatewayStatus → Option ℕ
@@ -296,6 +305,9 @@ total_value totals.PublishFrom gateway = Some gateway.causes.publish_from
 total_value totals.RequestFrom gateway = Some gateway.causes.request_from
 total_value totals.PublishKey gateway = Some gateway.causes.publish_key
 total_value totals.RequestKey gateway = Some gateway.causes.request_key
+total_value totals.ChangesTaken gateway = Some gateway.changes.taken
+total_value totals.ChangesRefused gateway = Some gateway.changes.refused
+total_value totals.Indexes gateway = Some gateway.changes.indexes
 
 -- all counts, in the order in which they are shown
 abbrev pub all_counts : List Count
@@ -315,7 +327,8 @@ abbrev pub all_totals : List Total
 all_totals =
     totals.Polling ∷ totals.Uptime ∷ totals.Routes ∷ totals.ResidentMemory ∷ totals.KernelDrops ∷ totals.Read ∷ totals.Answered
     ∷ totals.Accepted ∷ totals.Full ∷ totals.Dropped ∷ totals.NotAllowed ∷ totals.Memory ∷ totals.Sent ∷ totals.Lost ∷ totals.Faults
-    ∷ totals.NoName ∷ totals.UnknownName ∷ totals.PublishFrom ∷ totals.RequestFrom ∷ totals.PublishKey ∷ totals.RequestKey ∷ []
+    ∷ totals.NoName ∷ totals.UnknownName ∷ totals.PublishFrom ∷ totals.RequestFrom ∷ totals.PublishKey ∷ totals.RequestKey
+    ∷ totals.ChangesTaken ∷ totals.ChangesRefused ∷ totals.Indexes ∷ []
 
 -- the number and the name of a reason, as labels
 abbrev pub reason_labels : Reason → List ℕ

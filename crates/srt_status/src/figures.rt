@@ -117,10 +117,13 @@ pub(crate) enum Total {
     RequestFrom,
     PublishKey,
     RequestKey,
+    ChangesTaken,
+    ChangesRefused,
+    Indexes,
 }
 
 /// All that is shown of the gateway as a whole, in its order.
-pub(crate) const TOTALS: [Total; 21] = [
+pub(crate) const TOTALS: [Total; 24] = [
     Total::Polling,
     Total::Uptime,
     Total::Routes,
@@ -142,6 +145,9 @@ pub(crate) const TOTALS: [Total; 21] = [
     Total::RequestFrom,
     Total::PublishKey,
     Total::RequestKey,
+    Total::ChangesTaken,
+    Total::ChangesRefused,
+    Total::Indexes,
 ];
 
 pub(crate) fn count_name(count: Count) -> &'static str
@@ -367,6 +373,9 @@ pub(crate) fn total_name(total: Total) -> &'static str
         Total::RequestFrom => "lobby_refused_request_from_total",
         Total::PublishKey => "lobby_refused_publish_key_total",
         Total::RequestKey => "lobby_refused_request_key_total",
+        Total::ChangesTaken => "config_changes_taken_total",
+        Total::ChangesRefused => "config_changes_refused_total",
+        Total::Indexes => "used_indexes",
     }
 }
 
@@ -396,6 +405,9 @@ pub(crate) fn total_help(total: Total) -> &'static str
         Total::RequestFrom => "Conclusions refused with 1002: the address is not in request_from.",
         Total::PublishKey => "Conclusions refused with 1002: publish_key is missing or wrong.",
         Total::RequestKey => "Conclusions refused with 1002: request_key is missing or wrong.",
+        Total::ChangesTaken => "Changed configurations that were taken.",
+        Total::ChangesRefused => "Changed configurations that were not taken.",
+        Total::Indexes => "Indexes that routes have used since the start, of 511.",
     }
 }
 
@@ -404,7 +416,8 @@ pub(crate) fn total_kind(total: Total) -> &'static str
     ensures { result.now ≡ total_kind total }
 {
     match total {
-        Total::Polling | Total::Uptime | Total::Routes | Total::ResidentMemory => "gauge",
+        Total::Polling | Total::Uptime | Total::Routes | Total::ResidentMemory | Total::Indexes =>
+            "gauge",
         _ => "counter",
     }
 }
@@ -436,6 +449,9 @@ pub(crate) fn total_value(total: Total, gateway: &GatewayStatus<'_>) -> Option<u
         Total::RequestFrom => Some(gateway.causes.request_from),
         Total::PublishKey => Some(gateway.causes.publish_key),
         Total::RequestKey => Some(gateway.causes.request_key),
+        Total::ChangesTaken => Some(gateway.changes.taken),
+        Total::ChangesRefused => Some(gateway.changes.refused),
+        Total::Indexes => Some(gateway.changes.indexes),
     }
 }
 

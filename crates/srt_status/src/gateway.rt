@@ -64,6 +64,17 @@ pub struct CauseCounts {
     pub request_key: u64,
 }
 
+/// What became of the changes of the configuration while the gateway runs.
+#[derive(Clone, Copy, Debug, Default, PartialEq, Eq)]
+pub struct ChangeCounts {
+    /// Changed configurations that were taken, and asked for something.
+    pub taken: u64,
+    /// Changed configurations that weren't taken.
+    pub refused: u64,
+    /// The indexes that routes have used so far, those of the start included; there are 511.
+    pub indexes: u64,
+}
+
 /// The gateway at one moment.
 #[derive(Clone, Copy, Debug)]
 pub struct GatewayStatus<'a> {
@@ -73,7 +84,7 @@ pub struct GatewayStatus<'a> {
     pub uptime_seconds: u64,
     /// The moment of the look, in microseconds of the routes' clock.
     pub moment: u64,
-    /// The number of routes that the configuration names.
+    /// The number of routes that the configuration in force names.
     pub routes: u32,
     /// Whether the poller made a round within the last two seconds.
     pub polling: bool,
@@ -83,6 +94,8 @@ pub struct GatewayStatus<'a> {
     pub refused: RefusalCounts,
     /// Those of them that were refused with 1002.
     pub causes: CauseCounts,
+    /// What became of the changes of the configuration.
+    pub changes: ChangeCounts,
     /// The datagrams that the kernel dropped at the socket, since its buffer was full; None if it isn't known.
     pub kernel_drops: Option<u64>,
     /// The resident memory of the process, in bytes; None if it isn't known.

@@ -25,7 +25,7 @@ mod routes;
 mod text;
 
 pub use connection::{Connection, PATIENCE};
-pub use gateway::{CauseCounts, GatewayStatus, PollerCounts, RefusalCounts};
+pub use gateway::{CauseCounts, ChangeCounts, GatewayStatus, PollerCounts, RefusalCounts};
 pub use json::put_json;
 pub use metrics::put_metrics;
 pub use overview::OVERVIEW;

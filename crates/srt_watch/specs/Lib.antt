@@ -1,2 +1,4 @@
-pub mod Census
 pub mod Showing
+pub mod Census
+pub mod ConfigFile
+pub mod Indexes

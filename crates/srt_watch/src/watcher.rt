@@ -1,19 +1,24 @@
-//! A watcher: its rests, its looks, and how it stops the gateway.
+//! A watcher: its rests, its looks, what it asks of the run when the configuration changes, and how it stops the gateway.
 
-use crate::census::{count_cause, count_refusal, grown_limits, note_route};
+use crate::census::{count_cause, count_refusal};
+use crate::config_file::ConfigFile;
+use crate::following::{Following, NoRoom, tell_always};
+use crate::indexes::reaches_mark;
 use crate::log::{LogWriter, When};
 use crate::machine::Machine;
-use crate::showing::{look_at, look_at_none};
+use crate::reload::News;
 use crate::status_server::StatusServer;
-use srt_log::{Change, LogEvent, RouteLook, STEPS, StopCause, change_at, event_of};
+use crate::watched_routes::WatchedRoutes;
+use srt_gateway::{Changes, Config};
+use srt_log::{Change, ConfigEvent, LogEvent, RouteLook, STEPS, StopCause, change_at, event_of};
 use srt_operate::{StopStep, stop_step};
 use srt_poller::{Asked, Report};
 use srt_route::Route;
 use srt_seq::Entry;
-use srt_serve::{Refusal, Told, Watch};
+use srt_seq::limits::MAX_ROUTES;
+use srt_serve::{ChangeFault, Refusal, RouteChanges, Told, Watch};
 use srt_status::{
-    CauseCounts, GatewayStatus, LimitCounts, PollerCounts, PublisherCounts, RefusalCounts,
-    RouteStatus, SubscriberCounts,
+    CauseCounts, ChangeCounts, GatewayStatus, LimitCounts, PollerCounts, RefusalCounts,
 };
 use std::alloc::{AllocError, Global};
 use std::fmt::{Display, InlineText};
@@ -44,6 +49,8 @@ struct Overview {
     // the refusals of the lobby
     refused: RefusalCounts,
     causes: CauseCounts,
+    // what became of changes of the configuration; the indexes are counted when they are shown
+    changes: ChangeCounts,
     drops: Option<u64>,
     memory: Option<u64>,
 }
@@ -56,6 +63,7 @@ impl Overview {
             reported_at: 0,
             refused: RefusalCounts::default(),
             causes: CauseCounts::default(),
+            changes: ChangeCounts::default(),
             drops: None,
             memory: None,
         }
@@ -70,16 +78,25 @@ impl Overview {
         self.poller = told.counts;
     }
 
-    fn status<'v>(&self, version: &'v str, moment: u64, routes: usize) -> GatewayStatus<'v> {
+    fn status<'v>(
+        &self,
+        version: &'v str,
+        moment: u64,
+        routes: &WatchedRoutes,
+    ) -> GatewayStatus<'v> {
         GatewayStatus {
             version,
             uptime_seconds: moment / 1_000_000,
             moment,
-            routes: u32::try_from(routes).unwrap_or(u32::MAX),
+            routes: u32::try_from(routes.shown().len()).unwrap_or(u32::MAX),
             polling: moment.saturating_sub(self.reported_at) < ROUND_MISSED,
             poller: counts_of_poller(&self.poller),
             refused: self.refused,
             causes: self.causes,
+            changes: ChangeCounts {
+                indexes: routes.used() as u64,
+                ..self.changes
+            },
             kernel_drops: self.drops,
             resident_bytes: self.memory,
         }
@@ -101,31 +118,12 @@ fn counts_of_poller(report: &Report) -> PollerCounts {
     }
 }
 
-// A route before its first look.
-fn unseen_route(alloc: Global, entry: &Entry) -> Result<RouteStatus, AllocError> {
-    Ok(RouteStatus {
-        name: String::from_str(alloc, entry.name.as_str())?,
-        mode: entry.mode,
-        sessions_allowed: entry.sessions,
-        sessions: [None; srt_status::SLOTS],
-        publishers: PublisherCounts::default(),
-        subscribers: SubscriberCounts::default(),
-        opened: 0,
-        refused: RefusalCounts::default(),
-        limits: None,
-        take_overs: Some(0),
-    })
-}
-
-fn unseen_routes(alloc: Global, entries: &[Entry]) -> Result<Vec<RouteStatus>, AllocError> {
-    let mut routes = Vec::with_capacity(alloc, entries.len())?;
-    for entry in entries {
-        let route = unseen_route(alloc, entry)?;
-        if routes.push(route).is_err() {
-            return Err(AllocError);
-        }
+// What a refused caller asked for: the route that refused it, or what its Stream ID names.
+fn name_asked<'x>(routes: &'x WatchedRoutes, refusal: &'x Refusal) -> &'x [u8] {
+    match refusal.route {
+        Some(route) => routes.name_of(route).as_bytes(),
+        None => refusal.name.as_slice(),
     }
-    Ok(routes)
 }
 
 /// What the first line of a log says, and when the gateway stops by itself.
@@ -145,19 +143,19 @@ pub struct Start {
     pub version: &'static str,
 }
 
-/// Who watches a gateway: it tells a log of sessions, refusals and faults, shows a page what it saw, and stops the gateway
-/// when the machine asks for that or its time is over.
+/// Who watches a gateway: it tells a log of sessions, refusals and faults, shows a page what it saw, asks for the routes that
+/// a changed configuration opens and closes, and stops the gateway when the machine asks for that or its time is over.
 #[derive(Drop)]
-pub struct Watcher<'a, M: Drop, W: Drop, P: Drop> {
+pub struct Watcher<'a, M: Drop, W: Drop, P: Drop, F: Drop> {
+    alloc: Global,
     machine: M,
     page: P,
     log: LogWriter<W>,
-    entries: &'a [Entry],
-    // the look before the next one, for each route
-    looks: Vec<RouteLook>,
-    // what the page shows: each route and the gateway as a whole, at the last look
-    routes: Vec<RouteStatus>,
+    // the routes of the run, and the gateway as a whole, at the last look
+    routes: WatchedRoutes,
     overview: Overview,
+    // the configuration's file; none if it isn't followed
+    following: Option<Following<'a, F>>,
     version: &'static str,
     // none once the first line is written
     start: Option<Start>,
@@ -176,28 +174,33 @@ pub struct Watcher<'a, M: Drop, W: Drop, P: Drop> {
     warnings: Vec<InlineText<MAX_WARNING>>,
 }
 
-impl<'a, M: Machine + Drop, W: Write + Drop, P: StatusServer + Drop> Watcher<'a, M, W, P> {
-    /// A watcher of the routes of these entries. It writes its lines to `out`, with the time in front of each if it
-    /// `is_timed`, and shows what it saw to `page`. Allocates 7 KB for each route; the only error is that memory is
-    /// refused.
+impl<'a, M, W, P, F> Watcher<'a, M, W, P, F>
+where
+    M: Machine + Drop,
+    W: Write + Drop,
+    P: StatusServer + Drop,
+    F: ConfigFile + Drop,
+{
+    /// A watcher of the routes of these entries, which have the indexes from 0 on in their order. It writes its lines to
+    /// `out`, with the time in front of each if it `is_timed`, and shows what it saw to `page`. Allocates 7 KB for each
+    /// route; the only error is that memory is refused.
     pub fn open(
         alloc: Global,
         machine: M,
         page: P,
         out: W,
         is_timed: bool,
-        entries: &'a [Entry],
+        entries: &[Entry],
         start: Start,
-    ) -> Result<Watcher<'a, M, W, P>, AllocError> {
-        let looks = vec![in alloc; look_at_none(); entries.len()]?;
+    ) -> Result<Watcher<'a, M, W, P, F>, AllocError> {
         Ok(Watcher {
+            alloc,
             machine,
             page,
             log: LogWriter::new(out, is_timed),
-            entries,
-            looks,
-            routes: unseen_routes(alloc, entries)?,
+            routes: WatchedRoutes::open(alloc, entries)?,
             overview: Overview::new(),
+            following: None,
             version: start.version,
             start: Some(start),
             next_look: 0,
@@ -209,6 +212,18 @@ impl<'a, M: Machine + Drop, W: Write + Drop, P: StatusServer + Drop> Watcher<'a,
             missed: 0,
             warnings: Vec::new(alloc),
         })
+    }
+
+    /// Follows the configuration's file from now on: `config` is the one that was read from it, and the watcher's routes
+    /// are its. Allocates 8 bytes for each route; the only error is that memory is refused.
+    pub fn follow(&mut self, config: &'a Config, file: F) -> Result<(), AllocError> {
+        self.following = Some(Following::new(self.alloc, config, file)?);
+        Ok(())
+    }
+
+    /// The name of the route with this index, whether it was closed or not; empty if there is none.
+    pub fn name_of(&self, index: usize) -> &str {
+        self.routes.name_of(index)
     }
 
     fn when(&mut self) -> When {
@@ -248,7 +263,7 @@ impl<'a, M: Machine + Drop, W: Write + Drop, P: StatusServer + Drop> Watcher<'a,
             LogEvent::Started {
                 ip,
                 port: start.port,
-                routes: u32::try_from(self.entries.len()).unwrap_or(u32::MAX),
+                routes: u32::try_from(self.routes.shown().len()).unwrap_or(u32::MAX),
                 workers: start.workers,
                 memory,
             },
@@ -306,51 +321,103 @@ impl<'a, M: Machine + Drop, W: Write + Drop, P: StatusServer + Drop> Watcher<'a,
     // Shows the page what the last look saw.
     fn serve_page(&mut self) {
         let moment = self.machine.moment();
-        let gateway = self
-            .overview
-            .status(self.version, moment, self.entries.len());
-        self.page.serve(&gateway, self.routes.as_slice());
+        let gateway = self.overview.status(self.version, moment, &self.routes);
+        self.page.serve(&gateway, self.routes.shown());
     }
 
     // Writes the lines of what changed between two looks at a route, and counts its take-overs.
     fn tell_changes(&mut self, when: When, index: usize, old: &RouteLook, new: &RouteLook) {
-        let Some(entry) = self.entries.get(index) else {
-            return;
-        };
         for step in 0..STEPS {
             if let Some(change) = change_at(old, new, step) {
                 if let Change::TookOver { .. } = change {
-                    self.count_take_over(index);
+                    self.routes.count_take_over(index);
                 }
-                if let Some(event) = event_of(entry.name.as_bytes(), old, new, change) {
+                let name = self.routes.name_of(index);
+                if let Some(event) = event_of(name.as_bytes(), old, new, change) {
                     self.log.tell(when, event);
                 }
             }
         }
     }
 
-    fn count_take_over(&mut self, index: usize) {
-        if let Some(status) = self.routes.get_mut(index) {
-            if let Some(count) = status.take_overs {
-                status.take_overs = Some(count.saturating_add(1));
-            }
-        }
-    }
-
     // Tells how many conclusions each limit of a route refused since the look before.
     fn tell_limits(&mut self, when: When, index: usize, grown: Option<LimitCounts>) {
-        let (Some(entry), Some(grown)) = (self.entries.get(index), grown) else {
+        let Some(grown) = grown else {
             return;
         };
         self.log.tell(
             when,
             LogEvent::Limited {
-                route: entry.name.as_bytes(),
+                route: self.routes.name_of(index).as_bytes(),
                 full: grown.sessions,
                 reserved: grown.reserved,
                 per_address: grown.sessions_per_address,
             },
         );
+    }
+
+    // Tells why a changed configuration isn't taken, and counts it.
+    fn refuse(&mut self, when: When, event: ConfigEvent<'_>) {
+        tell_always(&mut self.log, when, event);
+        self.overview.changes.refused = self.overview.changes.refused.saturating_add(1);
+    }
+
+    // What the run is to be asked for by a changed configuration.
+    fn ask(&mut self, when: When, config: Config, changes: Changes) -> Option<RouteChanges> {
+        let following = self.following.as_mut()?;
+        match following.ask(self.alloc, &mut self.routes, config, changes) {
+            Ok(asked) => asked,
+            Err(NoRoom::Route(name)) => {
+                let route = name.as_str().as_bytes();
+                self.refuse(when, ConfigEvent::NoMemory { route });
+                None
+            }
+            Err(NoRoom::Lists) => {
+                let why = b"memory was refused";
+                self.refuse(when, ConfigEvent::Wrong { why });
+                None
+            }
+        }
+    }
+
+    // Puts the configuration in force whose change was taken, with its lines.
+    fn take_change(&mut self, when: When) {
+        let Some(following) = self.following.as_mut() else {
+            return;
+        };
+        following.tell(&mut self.log, when);
+        let before = self.routes.used();
+        following.take(self.alloc, &mut self.routes);
+        let used = self.routes.used();
+        self.overview.changes.taken = self.overview.changes.taken.saturating_add(1);
+        if reaches_mark(before, used) {
+            let left = MAX_ROUTES.saturating_sub(used) as u64;
+            tell_always(&mut self.log, when, ConfigEvent::FewIndexes { left });
+        }
+    }
+
+    // Tells why the run didn't take the change that it was asked for.
+    fn drop_change(&mut self, when: When, fault: ChangeFault) {
+        let Some(following) = self.following.as_mut() else {
+            return;
+        };
+        let Some(asked) = following.forget() else {
+            return;
+        };
+        match fault {
+            ChangeFault::OutOfMemory(place) => {
+                let route = match asked.opening.get(place) {
+                    Some(opening) => opening.name().as_bytes(),
+                    None => b"",
+                };
+                self.refuse(when, ConfigEvent::NoMemory { route });
+            }
+            ChangeFault::NoIndexLeft(left) => {
+                let opens = asked.opening.len() as u64;
+                let left = left as u64;
+                self.refuse(when, ConfigEvent::NoIndexes { opens, left });
+            }
+        }
     }
 
     // Why the gateway is to stop, if it is.
@@ -388,7 +455,13 @@ impl<'a, M: Machine + Drop, W: Write + Drop, P: StatusServer + Drop> Watcher<'a,
     }
 }
 
-impl<M: Machine + Drop, W: Write + Drop, P: StatusServer + Drop> Watch for Watcher<'_, M, W, P> {
+impl<M, W, P, F> Watch for Watcher<'_, M, W, P, F>
+where
+    M: Machine + Drop,
+    W: Write + Drop,
+    P: StatusServer + Drop,
+    F: ConfigFile + Drop,
+{
     fn next(&mut self, told: Told) -> Asked {
         self.rest();
         let when = self.when();
@@ -417,46 +490,55 @@ impl<M: Machine + Drop, W: Write + Drop, P: StatusServer + Drop> Watch for Watch
 
     fn see(&mut self, index: usize, route: &Route) {
         let when = self.when();
-        let new = look_at(route, when.moment, self.asked_at.is_some());
-        let Some(place) = self.looks.get_mut(index) else {
+        let stops = self.asked_at.is_some();
+        let Some(looks) = self.routes.look(index, route, when.moment, stops) else {
             return;
         };
-        let old = *place;
-        *place = new;
-        let grown = match self.routes.get_mut(index) {
-            Some(status) => {
-                let before = status.limits.unwrap_or(LimitCounts::default());
-                note_route(route, status);
-                grown_limits(before, status.limits)
-            }
-            None => None,
-        };
-        self.tell_changes(when, index, &old, &new);
-        self.tell_limits(when, index, grown);
+        self.tell_changes(when, index, &looks.old, &looks.new);
+        self.tell_limits(when, index, looks.grown);
     }
 
     fn refused(&mut self, refusal: &Refusal) {
         let when = self.when();
-        let asked = match refusal.route {
-            Some(route) => match self.entries.get(route) {
-                Some(entry) => entry.name.as_bytes(),
-                None => b"",
-            },
-            None => {
-                count_refusal(&mut self.overview.refused, refusal.code);
-                count_cause(&mut self.overview.causes, refusal.cause);
-                refusal.name.as_slice()
-            }
-        };
+        if refusal.route.is_none() {
+            count_refusal(&mut self.overview.refused, refusal.code);
+            count_cause(&mut self.overview.causes, refusal.cause);
+        }
         self.log.tell(
             when,
             LogEvent::Refused {
                 code: refusal.code,
                 peer: refusal.peer,
-                asked,
+                asked: name_asked(&self.routes, refusal),
                 by: refusal.cause,
             },
         );
+    }
+
+    fn change(&mut self) -> Option<RouteChanges> {
+        let when = self.when();
+        let following = self.following.as_mut()?;
+        match following.look(self.alloc, when.moment)? {
+            News::Asked(config, changes) => return self.ask(when, config, changes),
+            News::Unread(why) => {
+                let why = why.as_str().as_bytes();
+                tell_always(&mut self.log, when, ConfigEvent::Unread { why });
+            }
+            News::Wrong(why) => {
+                let why = why.as_str().as_bytes();
+                self.refuse(when, ConfigEvent::Wrong { why });
+            }
+            News::KeysDiffer(keys) => self.refuse(when, ConfigEvent::KeysDiffer { keys }),
+        }
+        None
+    }
+
+    fn changed(&mut self, outcome: Result<usize, ChangeFault>) {
+        let when = self.when();
+        match outcome {
+            Ok(_) => self.take_change(when),
+            Err(fault) => self.drop_change(when, fault),
+        }
     }
 }
 

@@ -1,9 +1,12 @@
-//! The machine as a watcher asks it, and standard error as it writes to it.
+//! The machine as a watcher asks it, the configuration's file as it looks at it, and standard error as it writes to it.
 
 use crate::clocks::Since;
+use crate::files::{MAX_CONFIG, read_file};
 use srt_gateway::BindAddress;
 use srt_operate::{kernel_drops, resident_memory, stop_asked};
-use srt_watch::Machine;
+use srt_watch::{ConfigFile, FileStamp, MAX_REASON, Machine};
+use std::fmt::InlineText;
+use std::fs::metadata;
 use std::io::{self, Error, ErrorKind, Write};
 use std::rt::Files;
 use std::time::{Clock, Duration, Instant, SystemTime};
@@ -72,6 +75,44 @@ impl<R: Clock + Files + AllocGlobal> Machine for Host<'_, R> {
 
     fn drops(&self) -> Option<u64> {
         kernel_drops(self.rt, self.bind.ip, self.bind.port)
+    }
+}
+
+/// The configuration's file.
+#[derive(Drop)]
+pub struct HostFile<'a, R> {
+    rt: &'a R,
+    path: &'a str,
+}
+
+impl<'a, R> HostFile<'a, R> {
+    /// The one at this path.
+    pub fn new(rt: &'a R, path: &'a str) -> HostFile<'a, R> {
+        HostFile { rt, path }
+    }
+}
+
+/// A time in nanoseconds since 1970, modulo 2^64; None if it is before 1970.
+fn nanoseconds(time: SystemTime) -> Option<u64> {
+    let since = time.duration_since(SystemTime::UNIX_EPOCH).ok()?;
+    let whole = since.as_secs().wrapping_mul(1_000_000_000);
+    Some(whole.wrapping_add(u64::from(since.subsec_nanos())))
+}
+
+impl<R: Files + AllocGlobal> ConfigFile for HostFile<'_, R> {
+    fn stamp(&self) -> Option<FileStamp> {
+        let found = metadata(self.rt, self.path).ok()?;
+        Some(FileStamp {
+            written: nanoseconds(found.modified().ok()?)?,
+            size: found.len(),
+        })
+    }
+
+    fn read(&self) -> Result<Vec<u8>, InlineText<MAX_REASON>> {
+        match read_file(self.rt, self.path, MAX_CONFIG) {
+            Ok(content) => Ok(content),
+            Err(unread) => Err(InlineText::of(unread)),
+        }
     }
 }
 

@@ -9,7 +9,7 @@
 //! Calls: `main` reads the words, `command` and `given_in` make a task of them, and `run` does it: `check` reads a
 //! configuration (what `--explain` tells is `srt_explain`'s), `replay` runs a tape, `serve` (`serving.rt`) binds the
 //! UDP socket and runs threads until the rounds are over, `run` (`running.rt`) until it is told to stop, with a watcher
-//! (`srt_watch`) to which `host.rt` is the machine and `status_page.rt` the page. `clocks.rt` has the routes' clock,
+//! (`srt_watch`) to which `host.rt` is the machine and the configuration's file, and `status_page.rt` the page. `clocks.rt` has the routes' clock,
 //! `files.rt` reads whole files up to a limit. docs/OPERATING.md has the commands, docs/PROTOCOL.md each line of output
 //! and each status.
 #![tactic(auto)]

@@ -3,7 +3,7 @@
 use crate::clocks::ClockTicker;
 use crate::command_line::VERSION;
 use crate::faults::Fault;
-use crate::host::{Errors, Host, time_now};
+use crate::host::{Errors, Host, HostFile, time_now};
 use crate::serving::{bind, gates, print_report};
 use crate::status_page::StatusPage;
 use srt_explain::Explained;
@@ -80,10 +80,23 @@ fn explain_run(rt: &impl Eprint, path: &str, fault: RunFault) {
     let _ = eprintln!(rt; "srtgw: {path}: {why}");
 }
 
+/// The watcher of a run of this program.
+type HostWatcher<'a> = Watcher<
+    'a,
+    Host<'a, HostRuntime>,
+    Errors<'a, HostRuntime>,
+    StatusPage,
+    HostFile<'a, HostRuntime>,
+>;
+
 /// Prints the account of each route, a line each, in the order of the routes' indexes.
-fn print_accounts(rt: &impl Print, config: &Config, accounts: &[Account]) -> io::Result<()> {
-    for (entry, account) in config.entries.iter().zip(accounts.iter()) {
-        let name = entry.name.as_str();
+fn print_accounts(
+    rt: &impl Print,
+    watcher: &HostWatcher<'_>,
+    accounts: &[Account],
+) -> io::Result<()> {
+    for (index, account) in accounts.iter().enumerate() {
+        let name = watcher.name_of(index);
         let Account {
             taken,
             left,
@@ -144,6 +157,12 @@ where
     ) else {
         return Err(Fault::Memory);
     };
+    if watcher
+        .follow(config, HostFile::new(machine, path))
+        .is_err()
+    {
+        return Err(Fault::Memory);
+    }
     for warning in explained.warnings.iter() {
         if watcher.warn(explained.text_of(*warning)).is_err() {
             return Err(Fault::Memory);
@@ -176,7 +195,7 @@ where
     };
     watcher.end();
     let printed = print_report(rt, &report);
-    match printed.and_then(|_| print_accounts(rt, config, &accounts)) {
+    match printed.and_then(|_| print_accounts(rt, &watcher, &accounts)) {
         Ok(()) => Ok(()),
         Err(_) => Err(Fault::Output),
     }

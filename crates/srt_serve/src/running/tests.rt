@@ -4,15 +4,17 @@ ghost use Rattle.std.specs.Prelude.{◌≡◌, None, map, length};
 ghost use Rattle.srt_seq.specs.Terms.{terms_of};
 ghost use Rattle.srt_lobby.specs.Opening.{fault_of};
 
+use crate::arrivals::PollerArrivals;
 use crate::opening::{Opened, open_routes};
 use crate::running::{Resources, open_resources};
-use crate::serving::{OtherThreads, PollerState, RunContext, serve_routes};
+use crate::serving::{OtherThreads, PollerState, RunContext, serve_devices};
 use crate::ticking::{Clocks, Ticker};
 use crate::watching::Nobody;
 use srt_cookie::Secret;
 use srt_lobby::Names;
 use srt_mailbox::Ungated;
 use srt_poller::{Polled, Pumping, Read, Sent, Source, Wire};
+use srt_seq::limits::MAX_ROUTES;
 use srt_seq::{Access, Entry, Mode, Peer, Rules, Schedule};
 use std::sync::Wait;
 use std::test::Fail;
@@ -99,6 +101,8 @@ where
     let Resources {
         names,
         places,
+        news,
+        plans,
         wakeups,
         post,
         accounts: _,
@@ -107,11 +111,15 @@ where
         return Err(Fail::from("memory"));
     };
     let Opened {
-        routes: _,
+        routes,
         ends,
         arrivals,
         clocks,
+        put: _,
     } = opened;
+    let Ok(openings) = PollerArrivals::new(alloc, routes, &news, MAX_ROUTES) else {
+        return Err(Fail::from("memory"));
+    };
     let gates = vec![in alloc; Ungated]?;
     let told = post.as_ref();
     let context = RunContext {
@@ -120,14 +128,19 @@ where
         secret: &Secret::new([7; 32]),
         schedules,
         cells: places.as_slice(),
+        routes: entries.len(),
+        news: &news,
         wakeups: &wakeups,
         post: told,
         rounds: 5,
     };
-    let mut polling: PollerState<Ungated> = PollerState {
+    let gate: Option<Ungated> = None;
+    let polling = PollerState {
         names,
         ends,
-        gate: None,
+        plans,
+        openings,
+        gate,
     };
     let mut others = OtherThreads {
         clocks: Clocks {
@@ -139,7 +152,8 @@ where
         watch: Nobody,
     };
     wakeups.finish();
-    Ok(serve_routes(&context, source, wire, &mut polling, &mut others))
+    let (_, pumping) = serve_devices(&context, source, wire, polling, &mut others);
+    Ok(pumping)
 }
 
 #[test]

@@ -4,7 +4,7 @@ use crate::Refusal;
 use crate::tests::datagrams::{FIRST, STUDIO, conclusion_of};
 use crate::tests::watched::{MANY, studio, watched};
 use crate::tests::{ARRIVALS, Again, Meeting, YIELDS, scene_of};
-use crate::watching::{Told, Watch};
+use crate::watching::{ChangeFault, RouteChanges, Told, Watch};
 use srt_poller::{Asked, Report};
 use srt_route::Route;
 use std::sync::Arc;
@@ -116,6 +116,12 @@ impl Watch for Follower {
     fn see(&mut self, _index: usize, _route: &Route) {}
 
     fn refused(&mut self, _refusal: &Refusal) {}
+
+    fn change(&mut self) -> Option<RouteChanges> {
+        None
+    }
+
+    fn changed(&mut self, _outcome: Result<usize, ChangeFault>) {}
 }
 
 /// Each datagram comes once the watcher was told of the one before, so it is told of each number of them. One that finds

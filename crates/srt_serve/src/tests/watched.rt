@@ -4,7 +4,7 @@ ghost use Rattle.std.specs.Prelude.{◌≤◌, ◌^◌};
 
 use crate::tests::datagrams::{FIRST, SECOND, STUDIA, STUDIO, conclusion_of};
 use crate::tests::{ALWAYS, Again, LIMIT, Member, Routes, SECRET, Scene, peer, scene_of};
-use crate::watching::{Told, Watch};
+use crate::watching::{ChangeFault, RouteChanges, Told, Watch};
 use crate::{Gates, Refusal, RunFault, Watched, run_until};
 use srt_cookie::Secret;
 use srt_lobby::Names;
@@ -141,6 +141,12 @@ impl Watch for Guard {
             self.is_late = true;
         }
     }
+
+    fn change(&mut self) -> Option<RouteChanges> {
+        None
+    }
+
+    fn changed(&mut self, _outcome: Result<usize, ChangeFault>) {}
 }
 
 /// The route `studio` alone, for one session.

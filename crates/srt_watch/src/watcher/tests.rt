@@ -5,15 +5,18 @@
 ghost use Rattle.std.specs.Prelude.{◌≡◌};
 ghost use Rattle.srt_seq.specs.Items.{told, moment_of};
 
+mod changing;
+
 use crate::{Machine, Start, StatusServer, Watcher};
 use arrayvec::ArrayVec;
+use changing::Written;
 use srt_poller::{Asked, Report};
 use srt_route::{Reply, Route};
 use srt_seq::{Access, Entry, Item, Mode, NotAdmitted, Peer, Role, Rules};
 use srt_serve::{Refusal, Told, Watch};
 use srt_status::{
-    CauseCounts, Flow, GatewayStatus, PollerCounts, PublisherCounts, RefusalCounts, RouteStatus,
-    SessionStatus,
+    CauseCounts, ChangeCounts, Flow, GatewayStatus, PollerCounts, PublisherCounts, RefusalCounts,
+    RouteStatus, SessionStatus,
 };
 use std::alloc::Global;
 use std::process::Abort;
@@ -95,6 +98,10 @@ struct Shown {
     first: Option<SessionStatus>,
     opened: u64,
     take_overs: Option<u64>,
+    changes: ChangeCounts,
+    routes: u32,
+    // the first letters of the routes' names, in their order
+    initials: ArrayVec<u8, 8>,
 }
 
 impl Shown {
@@ -111,6 +118,9 @@ impl Shown {
             first: None,
             opened: 0,
             take_overs: None,
+            changes: ChangeCounts::default(),
+            routes: 0,
+            initials: ArrayVec::new(),
         }
     }
 }
@@ -128,6 +138,14 @@ impl StatusServer for Shown {
         self.resident_bytes = gateway.resident_bytes;
         self.refused = gateway.refused;
         self.causes = gateway.causes;
+        self.changes = gateway.changes;
+        self.routes = gateway.routes;
+        self.initials.clear();
+        for route in routes {
+            let _ = self
+                .initials
+                .try_extend_from_slice(route.name.as_bytes().first_chunk::<1>().unwrap_or(b"-"));
+        }
         if let Some(route) = routes.first() {
             self.publishers = route.publishers;
             self.first = route.sessions[0];
@@ -137,7 +155,7 @@ impl StatusServer for Shown {
     }
 }
 
-type Watching<'a> = Watcher<'a, Set, Vec<u8>, Shown>;
+type Watching<'a> = Watcher<'a, Set, Vec<u8>, Shown, Written>;
 
 fn entry(alloc: Global) -> Result<Entry, Fail> {
     Ok(Entry {
@@ -166,7 +184,7 @@ fn start(is_blocked: bool, lasts: Option<u64>) -> Start {
 
 fn watcher<'a>(
     alloc: Global,
-    entries: &'a [Entry],
+    entries: &[Entry],
     is_timed: bool,
     start: Start,
 ) -> Result<Watching<'a>, Fail> {

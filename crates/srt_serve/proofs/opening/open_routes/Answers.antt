@@ -1,11 +1,12 @@
-use Rattle.std.proofs.Common.{◌+◌, ℕ, ap, ◌∙◌, arith}
+use Rattle.std.proofs.Common.{◌+◌, ℕ, length, slice_get, sym, ap, ◌∙◌, arith}
+use Rattle.srt_mailbox.specs.Identities.{identity_in}
 use Rattle.srt_mailbox.specs.Places.{came}
-use Rattle.srt_serve.proofs.Openings.{one_more, terms_grow, clocks_grow}
+use Rattle.srt_serve.proofs.Openings.{one_more, terms_grow, clocks_grow, tokens_grow}
 use Rattle.srt_serve.proofs.opening.open_routes.Goals as goal
 
 pub loop-entry-preserved : goal.loop-entry-preserved
 loop-entry-preserved c =
-    let taken = c.in_ok-take_first.ensures.taken in
+    let taken = c.in_ok-token.ensures.taken in
     let clocked = c.in_ok-take_first_clock.ensures.taken in
     record {
       terms =
@@ -17,5 +18,9 @@ loop-entry-preserved c =
       places = c.take_first.ensures.places ∙ c.loop-entry.invariant.places;
       clocked = c.take_first_clock.ensures.places ∙ c.loop-entry.invariant.clocked;
       room = omega (arith, c.loop-entry.invariant.room, c.take_first.ensures.room);
+      put =
+          tokens_grow (λ t. t.of) (λ t. identity_in t.value.cell) (λ p. p.seat.id) c.args.places.now _ _ _ _ _ _
+          c.loop-entry.invariant.put c.in_ok-push.ensures.items taken.1 c.in_ok-token.ensures.put.1
+          (ap (λ ns. slice_get ns (length (came c.loop-entry.routes))) (sym c.loop-entry.invariant.places) ∙ c.in_ok-token.ensures.put.0);
       index = ap (λ (n : ℕ). n + 1) c.loop-entry.invariant.index;
     }

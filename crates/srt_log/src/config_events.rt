@@ -1,0 +1,94 @@
+//! What a line of the log says of a configuration that was changed while the gateway runs.
+
+/// How many routes a changed configuration has of each kind.
+#[derive(Clone, Copy, Debug, PartialEq, Eq)]
+pub struct RouteNumbers {
+    /// Those that stay as they are.
+    pub staying: u64,
+    /// Those that open: no route had their name.
+    pub opening: u64,
+    /// Those that close: it doesn't have their name.
+    pub closing: u64,
+    /// Those that close and open again, since a key of theirs has another value.
+    pub changing: u64,
+}
+
+/// Why a route closes while the gateway runs.
+#[derive(Clone, Copy, Debug, PartialEq, Eq)]
+pub enum CloseCause {
+    /// The configuration doesn't have its name any more.
+    Removed,
+    /// A key of the route has another value.
+    OtherKeys,
+}
+
+/// The keys that can't change while the gateway runs: for each, whether it has another value.
+#[derive(Clone, Copy, Debug, PartialEq, Eq)]
+pub struct DifferingKeys {
+    /// `bind`.
+    pub bind: bool,
+    /// `workers`.
+    pub workers: bool,
+    /// `status`.
+    pub status: bool,
+    /// `secret`. A line that names no key is never asked for, so that this one differs if no other does.
+    pub secret: bool,
+}
+
+/// What a line says of a configuration that was changed.
+#[derive(Clone, Copy)]
+pub enum ConfigEvent<'a> {
+    /// It is taken. A line for each route follows that closes or opens.
+    Taken {
+        /// How many routes it has of each kind.
+        routes: RouteNumbers,
+    },
+    /// A route closes.
+    RouteCloses {
+        /// Its name.
+        route: &'a [u8],
+        /// Why.
+        cause: CloseCause,
+    },
+    /// A route opens.
+    RouteOpens {
+        /// Its name.
+        route: &'a [u8],
+        /// Its index.
+        index: u64,
+        /// The memory that it takes, in megabytes of 1,048,576 bytes.
+        megabytes: u64,
+    },
+    /// It isn't taken: keys have other values that can't change.
+    KeysDiffer {
+        /// Which.
+        keys: DifferingKeys,
+    },
+    /// It isn't taken: it has a fault.
+    Wrong {
+        /// What is wrong, as `check --explain` says it.
+        why: &'a [u8],
+    },
+    /// It isn't taken: memory was refused for a route.
+    NoMemory {
+        /// Its name.
+        route: &'a [u8],
+    },
+    /// It isn't taken: more routes are to open than indexes are left.
+    NoIndexes {
+        /// The routes that are to open.
+        opens: u64,
+        /// The indexes that are left.
+        left: u64,
+    },
+    /// Its file can't be read.
+    Unread {
+        /// Why, in the system's words.
+        why: &'a [u8],
+    },
+    /// Few indexes are left for routes that open while the gateway runs.
+    FewIndexes {
+        /// Their number.
+        left: u64,
+    },
+}

@@ -1,0 +1,246 @@
+//! The indexes that routes have in a run, and what a changed configuration does to them: each route that opens gets the
+//! next one, and none is used again.
+
+ghost use Rattle.std.specs.Prelude.{◌≡◌, ◌++◌, IfOk, OnOk, map, length};
+ghost use Rattle.std.specs.List.{flat_map};
+ghost use Rattle.srt_seq.specs.Terms.{terms_of};
+ghost use Rattle.srt_watch.specs.Indexes.{index_at, reopened_at, closing, index_of, next_after, indexes_from};
+ghost use Rattle.srt_watch.specs.Indexes.{opens, counted, counted_all, numbers_of, asks_nothing, mark_of, reaches_mark, megabytes_of, differing};
+
+use srt_gateway::{Changes, FixedKeys, RouteChange};
+use srt_log::{DifferingKeys, RouteNumbers};
+use srt_seq::Entry;
+use std::alloc::{AllocError, Global};
+
+// The index of the route at a place; every place that is asked for is one of a route.
+fn index_at(indexes: &[usize], place: usize) -> usize
+    ensures { result ≡ index_at indexes.now place }
+{
+    match indexes.get(place) {
+        Some(index) => *index,
+        None => 0,
+    }
+}
+
+// Appends the indexes of the routes at these places.
+#[tactic(auto, using(crate::proofs::Appended::mapped, crate::proofs::Appended::joined))]
+fn append_at(out: &mut Vec<usize>, indexes: &[usize], places: &[usize]) -> Result<(), AllocError>
+    ensures { OnOk result (out.new.items ≡ out.old.items ++ map (index_at indexes.now) places.now) }
+{
+    for place in places {
+        out.push(index_at(indexes, *place))?;
+    }
+    Ok(())
+}
+
+// Appends the index of a route that closes and opens again.
+fn append_if_reopened(
+    out: &mut Vec<usize>,
+    indexes: &[usize],
+    change: RouteChange,
+) -> Result<(), AllocError>
+    ensures { OnOk result (out.new.items ≡ out.old.items ++ reopened_at indexes.now change) }
+{
+    match change {
+        RouteChange::Reopens(place) => {
+            out.push(index_at(indexes, place))?;
+            Ok(())
+        }
+        RouteChange::Stays(_) | RouteChange::Opens => Ok(()),
+    }
+}
+
+// Appends the indexes of the routes that close and open again.
+#[tactic(auto, using(crate::proofs::Appended::flat_mapped, crate::proofs::Appended::joined))]
+fn append_reopened(
+    out: &mut Vec<usize>,
+    indexes: &[usize],
+    changes: &[RouteChange],
+) -> Result<(), AllocError>
+    ensures { OnOk result (out.new.items ≡ out.old.items ++ flat_map (reopened_at indexes.now) changes.now) }
+{
+    for change in changes {
+        append_if_reopened(out, indexes, *change)?;
+    }
+    Ok(())
+}
+
+/// The indexes of the routes that close: first those whose names the changed configuration doesn't have, then those that
+/// open again. `indexes` has those of the routes before. Allocates the list; an error if memory is refused.
+#[tactic(auto, using(crate::proofs::Appended::joined), unfolding(crate::specs::Indexes::closing))]
+pub(crate) fn closing(
+    alloc: Global,
+    changes: &Changes,
+    indexes: &[usize],
+) -> Result<Vec<usize>, AllocError>
+    ensures { IfOk result (λ closes. closes.items ≡ closing indexes.now changes.now.gone.items changes.now.routes.items) }
+{
+    let mut closes = Vec::with_capacity(alloc, changes.gone.len())?;
+    append_at(&mut closes, indexes, changes.gone.as_slice())?;
+    append_reopened(&mut closes, indexes, changes.routes.as_slice())?;
+    Ok(closes)
+}
+
+// The index of a route of a changed configuration, if the next one to be given is this.
+fn index_of(before: &[usize], next: usize, change: RouteChange) -> usize
+    ensures { result ≡ index_of before.now next change }
+{
+    match change {
+        RouteChange::Stays(place) => index_at(before, place),
+        RouteChange::Reopens(_) | RouteChange::Opens => next,
+    }
+}
+
+// The index that is to be given next behind a route.
+fn next_after(next: usize, change: RouteChange) -> usize
+    ensures { result ≡ next_after next change }
+{
+    if opens(change) {
+        next.saturating_add(1)
+    } else {
+        next
+    }
+}
+
+/// Whether a route opens: it is new, or it has closed to open again.
+pub(crate) fn opens(change: RouteChange) -> bool
+    ensures { result ≡ opens change }
+{
+    match change {
+        RouteChange::Stays(_) => false,
+        RouteChange::Reopens(_) | RouteChange::Opens => true,
+    }
+}
+
+/// The index of each route of a changed configuration: the one that it had, if it stays; those that open get the next
+/// ones in their order, from `first` on. `before` has those of the routes before. Allocates the list; an error if memory
+/// is refused.
+#[tactic(auto, using(crate::proofs::Appended::indexes_step, crate::proofs::Appended::indexes_end))]
+pub(crate) fn indexes_after(
+    alloc: Global,
+    changes: &[RouteChange],
+    before: &[usize],
+    first: usize,
+) -> Result<Vec<usize>, AllocError>
+    ensures { IfOk result (λ indexes. indexes.items ≡ indexes_from before.now first changes.now) }
+{
+    let mut indexes = Vec::with_capacity(alloc, changes.len())?;
+    let mut next = first;
+    let mut rest = changes;
+    while !rest.is_empty() {
+        let index = index_of(before, next, rest[0]);
+        next = next_after(next, rest[0]);
+        indexes.push(index)?;
+        rest = &rest[1..];
+    }
+    Ok(indexes)
+}
+
+// The numbers with one route more.
+fn counted(numbers: RouteNumbers, change: RouteChange) -> RouteNumbers
+    ensures { result ≡ counted numbers change }
+{
+    match change {
+        RouteChange::Stays(_) => RouteNumbers {
+            staying: numbers.staying.saturating_add(1),
+            ..numbers
+        },
+        RouteChange::Reopens(_) => RouteNumbers {
+            changing: numbers.changing.saturating_add(1),
+            ..numbers
+        },
+        RouteChange::Opens => RouteNumbers {
+            opening: numbers.opening.saturating_add(1),
+            ..numbers
+        },
+    }
+}
+
+// These numbers with all of these routes.
+#[tactic(auto, using(crate::proofs::Appended::counted_step, crate::proofs::Appended::counted_end))]
+fn counted_all(start: RouteNumbers, changes: &[RouteChange]) -> RouteNumbers
+    ensures { result ≡ counted_all start changes.now }
+{
+    let mut numbers = start;
+    let mut rest = changes;
+    while !rest.is_empty() {
+        numbers = counted(numbers, rest[0]);
+        rest = &rest[1..];
+    }
+    numbers
+}
+
+/// How many routes of each kind a changed configuration has.
+pub(crate) fn numbers_of(changes: &Changes) -> RouteNumbers
+    ensures { result ≡ numbers_of changes.now.gone.items changes.now.routes.items }
+{
+    let start = RouteNumbers {
+        staying: 0,
+        opening: 0,
+        closing: changes.gone.len() as u64,
+        changing: 0,
+    };
+    counted_all(start, changes.routes.as_slice())
+}
+
+/// Whether no route opens or closes: the configuration says the same, perhaps in another order.
+pub(crate) fn asks_nothing(numbers: RouteNumbers) -> bool
+    ensures { result ≡ asks_nothing numbers }
+{
+    numbers.opening == 0 && numbers.closing == 0 && numbers.changing == 0
+}
+
+/// The keys of a configuration that can't change and differ, as the log names them.
+pub(crate) fn differing(fixed: FixedKeys) -> DifferingKeys
+    ensures { result ≡ differing fixed }
+{
+    DifferingKeys {
+        bind: fixed.bind,
+        workers: fixed.workers,
+        status: fixed.status,
+        secret: fixed.secret,
+    }
+}
+
+/// The used indexes from which on the log warns that few are left, and after how many more it does so again.
+const FIRST_MARK: usize = 400;
+
+const MARK_STEP: usize = 25;
+
+// The number of marks that so many used indexes have reached.
+fn mark_of(used: usize) -> usize
+    ensures { result ≡ mark_of used }
+{
+    if used < FIRST_MARK {
+        return 0;
+    }
+    1 + (used - FIRST_MARK) / MARK_STEP
+}
+
+/// Whether a change brings the number of used indexes to the 400th, or to a 25th after it.
+pub(crate) fn reaches_mark(before: usize, after: usize) -> bool
+    ensures { result ≡ reaches_mark before after }
+{
+    mark_of(before) < mark_of(after)
+}
+
+/// The bytes that a packet of a window, a reply or a place of an outbox takes, and those of a megabyte.
+const PACKET_BYTES: u64 = 1536;
+
+const MEGABYTE: u64 = 1 << 20;
+
+/// What a route takes of memory, in megabytes of 1,048,576 bytes, to the nearest: the windows of its sessions and of two
+/// publishers' deliveries, replies and outbox, 1.5 KB for each packet.
+pub(crate) fn megabytes_of(entry: &Entry) -> u64
+    ensures { result ≡ megabytes_of (terms_of entry.now) }
+{
+    let sessions = u64::from(entry.sessions);
+    let packets = (sessions + 2)
+        .saturating_mul(u64::from(entry.buffer))
+        .saturating_add(66 * sessions)
+        .saturating_add(u64::from(entry.outbox));
+    packets
+        .saturating_mul(PACKET_BYTES)
+        .saturating_add(MEGABYTE / 2)
+        / MEGABYTE
+}

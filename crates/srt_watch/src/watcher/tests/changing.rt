@@ -1,0 +1,290 @@
+//! A watcher that follows a configuration's file, over a file in memory that says something else at each look.
+
+use super::{NOTHING, Watching, assert_lines, start, watcher};
+use crate::indexes::{megabytes_of, reaches_mark};
+use crate::{ConfigFile, FileStamp, MAX_REASON};
+use srt_gateway::{Config, read_config};
+use srt_poller::Asked;
+use srt_serve::{ChangeFault, RouteChanges, Watch};
+use srt_status::ChangeCounts;
+use std::alloc::{AllocError, Global};
+use std::cell::Cell;
+use std::fmt::InlineText;
+use std::process::Abort;
+use std::test::Fail;
+
+/// The keys above the routes.
+const HEAD: &str =
+    "secret = \"000102030405060708090a0b0c0d0e0f101112131415161718191a1b1c1d1e1f\"\nbind = \"127.0.0.1:9000\"\nworkers = 2\n";
+
+/// The same with three other values.
+const OTHER_HEAD: &str =
+    "secret = \"000102030405060708090a0b0c0d0e0f101112131415161718191a1b1c1d1e1e\"\nbind = \"127.0.0.1:9001\"\nworkers = 3\n";
+
+/// Routes; the second `studio` has another latency, the third a key that is none.
+const STUDIO: &str =
+    "[[route]]\nname = \"studio\"\nmode = \"live\"\nlatency_ms = 120\nbuffer = 1024\nsessions = 2\ninbox = 16\noutbox = 136\n";
+
+const SLOW_STUDIO: &str =
+    "[[route]]\nname = \"studio\"\nmode = \"live\"\nlatency_ms = 200\nbuffer = 1024\nsessions = 2\ninbox = 16\noutbox = 136\n";
+
+const WRONG_STUDIO: &str =
+    "[[route]]\nname = \"studio\"\nmode = \"live\"\nlatency_ms = 120\nbuffer = 1024\nsessions = 40\ninbox = 16\noutbox = 136\n";
+
+const NEWS: &str =
+    "[[route]]\nname = \"news\"\nmode = \"live\"\nlatency_ms = 120\nbuffer = 1024\nsessions = 2\ninbox = 16\noutbox = 136\n";
+
+const GUEST: &str =
+    "[[route]]\nname = \"guest\"\nmode = \"live\"\nlatency_ms = 120\nbuffer = 1024\nsessions = 2\ninbox = 16\noutbox = 136\n";
+
+/// A file that says the next of these texts at each look; one without parts can't be read.
+#[derive(Drop)]
+pub(super) struct Written {
+    alloc: Global,
+    texts: &'static [&'static [&'static str]],
+    looks: Cell<usize>,
+}
+
+fn text(alloc: Global, parts: &[&'static str]) -> Result<Vec<u8>, AllocError> {
+    let mut text = Vec::new(alloc);
+    for part in parts {
+        text.extend_from_slice(part.as_bytes())?;
+    }
+    Ok(text)
+}
+
+impl ConfigFile for Written {
+    fn stamp(&self) -> Option<FileStamp> {
+        let looks = self.looks.get().saturating_add(1);
+        self.looks.set(looks);
+        Some(FileStamp {
+            written: looks as u64,
+            size: 0,
+        })
+    }
+
+    fn read(&self) -> Result<Vec<u8>, InlineText<MAX_REASON>> {
+        let parts: &[&'static str] = match self.texts.get(self.looks.get().saturating_sub(1)) {
+            Some(parts) => *parts,
+            None => &[],
+        };
+        match text(self.alloc, parts) {
+            Ok(text) if !text.is_empty() => Ok(text),
+            _ => Err(InlineText::of("No such file or directory (os error 2)")),
+        }
+    }
+}
+
+fn config(alloc: Global, parts: &[&'static str]) -> Result<Config, Fail> {
+    let bytes = text(alloc, parts)?;
+    let Ok(text) = str::from_utf8(bytes.as_slice()) else {
+        return Err(Fail::from("a text"));
+    };
+    match read_config(alloc, text) {
+        Ok(config) => Ok(config),
+        Err(_) => Err(Fail::from("a right configuration")),
+    }
+}
+
+/// A watcher that follows a file which says these texts, and was started with `config`.
+fn follower<'a>(
+    alloc: Global,
+    config: &'a Config,
+    texts: &'static [&'static [&'static str]],
+) -> Result<Watching<'a>, Fail> {
+    let mut watcher = watcher(alloc, config.entries.as_slice(), false, start(true, None))?;
+    watcher.follow(
+        config,
+        Written {
+            alloc,
+            texts,
+            looks: Cell::new(0),
+        },
+    )?;
+    let _ = watcher.next(NOTHING);
+    watcher.log.out.clear();
+    Ok(watcher)
+}
+
+/// The change that is asked for at the next look at the file.
+fn next_change(watcher: &mut Watching<'_>) -> Option<RouteChanges> {
+    watcher.machine.moment = watcher.machine.moment.saturating_add(1_000_000);
+    watcher.change()
+}
+
+/// Asserts that a change closes the routes with these indexes, and opens as many routes, the first of this name.
+fn assert_asks(
+    rt: &impl Abort,
+    change: Option<RouteChanges>,
+    closes: &[usize],
+    opens: usize,
+    first: &str,
+) -> Result<(), Fail> {
+    let Some(change) = change else {
+        return Err(Fail::from("a change"));
+    };
+    assert_eq!(rt; change.closes.as_slice(), closes);
+    assert_eq!(rt; change.opens.len(), opens);
+    let name = match change.opens.first() {
+        Some(entry) => entry.name.as_str(),
+        None => "",
+    };
+    assert_eq!(rt; name, first);
+    Ok(())
+}
+
+/// Asserts what the page shows: the initials of its routes, and the counts of changes taken, refused, and of indexes.
+fn assert_page(rt: &impl Abort, watcher: &mut Watching<'_>, initials: &[u8], counts: [u64; 3]) {
+    assert_eq!(rt; watcher.next(NOTHING), Asked::GoOn);
+    let [taken, refused, indexes] = counts;
+    let wanted = ChangeCounts {
+        taken,
+        refused,
+        indexes,
+    };
+    assert_eq!(rt; watcher.page.changes, wanted);
+    assert_eq!(rt; watcher.page.initials.as_slice(), initials);
+    assert_eq!(rt; watcher.page.routes as usize, initials.len());
+}
+
+#[test]
+fn a_change_is_asked_for_and_told(rt: HostRuntime) -> Result<(), Fail> {
+    let config = config(rt.alloc(), &[HEAD, STUDIO, NEWS])?;
+    let mut watcher = follower(
+        rt.alloc(),
+        &config,
+        &[
+            &[HEAD, STUDIO, NEWS],
+            &[HEAD, GUEST, SLOW_STUDIO],
+            &[HEAD, SLOW_STUDIO, GUEST],
+            &[HEAD, NEWS, GUEST],
+        ],
+    )?;
+    watcher.machine.moment = 999_999;
+    assert!(rt; watcher.change().is_none());
+    watcher.machine.moment = 0;
+    assert!(rt; next_change(&mut watcher).is_none());
+    let change = next_change(&mut watcher);
+    assert_asks(&rt, change, &[1, 0], 2, "guest")?;
+    assert!(rt; next_change(&mut watcher).is_none());
+    assert_page(&rt, &mut watcher, b"sn", [0, 0, 2]);
+    watcher.changed(Ok(2));
+    assert_lines(
+        &rt,
+        &mut watcher,
+        "configuration changed: 0 routes stay, 1 open, 1 close, 1 change\nnews: closed, it is no longer in the configuration\nstudio: closed, to open again with other keys\nguest: opened with index 2, 6 MB\nstudio: opened with index 3, 6 MB\n",
+    );
+    assert_page(&rt, &mut watcher, b"gs", [1, 0, 4]);
+    assert!(rt; next_change(&mut watcher).is_none());
+    assert_lines(&rt, &mut watcher, "");
+    assert_page(&rt, &mut watcher, b"sg", [1, 0, 4]);
+    let change = next_change(&mut watcher);
+    assert_asks(&rt, change, &[3], 1, "news")?;
+    watcher.changed(Ok(4));
+    assert_lines(
+        &rt,
+        &mut watcher,
+        "configuration changed: 1 routes stay, 1 open, 1 close, 0 change\nstudio: closed, it is no longer in the configuration\nnews: opened with index 4, 6 MB\n",
+    );
+    assert_page(&rt, &mut watcher, b"ng", [2, 0, 5]);
+    assert_eq!(rt; watcher.name_of(1), "news");
+    assert_eq!(rt; watcher.name_of(3), "studio");
+    Ok(())
+}
+
+#[test]
+fn what_is_not_taken_is_told_once(rt: HostRuntime) -> Result<(), Fail> {
+    let config = config(rt.alloc(), &[HEAD, STUDIO])?;
+    let mut watcher = follower(
+        rt.alloc(),
+        &config,
+        &[
+            &[HEAD, WRONG_STUDIO],
+            &[HEAD, WRONG_STUDIO],
+            &[],
+            &[],
+            &[HEAD, WRONG_STUDIO],
+            &[OTHER_HEAD, STUDIO, NEWS],
+            &[HEAD],
+        ],
+    )?;
+    assert!(rt; next_change(&mut watcher).is_none());
+    assert_lines(
+        &rt,
+        &mut watcher,
+        "configuration not taken: route 1 (studio): sessions = 40: allowed are 1 to 17\n",
+    );
+    assert!(rt; next_change(&mut watcher).is_none());
+    assert_lines(&rt, &mut watcher, "");
+    assert!(rt; next_change(&mut watcher).is_none());
+    assert_lines(
+        &rt,
+        &mut watcher,
+        "configuration can't be read: No such file or directory (os error 2)\n",
+    );
+    assert!(rt; next_change(&mut watcher).is_none());
+    assert!(rt; next_change(&mut watcher).is_none());
+    assert_lines(&rt, &mut watcher, "");
+    assert!(rt; next_change(&mut watcher).is_none());
+    assert_lines(
+        &rt,
+        &mut watcher,
+        "configuration not taken: bind can't change while the gateway runs (also: workers, secret); restart it to change it\n",
+    );
+    assert!(rt; next_change(&mut watcher).is_none());
+    watcher.log.out.clear();
+    assert_page(&rt, &mut watcher, b"s", [0, 3, 1]);
+    Ok(())
+}
+
+#[test]
+fn what_the_run_refuses_is_told(rt: HostRuntime) -> Result<(), Fail> {
+    let config = config(rt.alloc(), &[HEAD, STUDIO])?;
+    let mut watcher = follower(
+        rt.alloc(),
+        &config,
+        &[
+            &[HEAD, STUDIO, NEWS],
+            &[HEAD, STUDIO, NEWS, GUEST],
+            &[HEAD, STUDIO],
+        ],
+    )?;
+    assert!(rt; next_change(&mut watcher).is_some());
+    watcher.changed(Err(ChangeFault::OutOfMemory(0)));
+    assert_lines(
+        &rt,
+        &mut watcher,
+        "configuration not taken: no memory for news\n",
+    );
+    assert!(rt; next_change(&mut watcher).is_some());
+    watcher.changed(Err(ChangeFault::NoIndexLeft(1)));
+    assert_lines(
+        &rt,
+        &mut watcher,
+        "configuration not taken: 2 routes are to open, 1 indexes are left; restart the gateway\n",
+    );
+    assert!(rt; next_change(&mut watcher).is_none());
+    assert_lines(&rt, &mut watcher, "");
+    assert_page(&rt, &mut watcher, b"s", [0, 2, 1]);
+    Ok(())
+}
+
+#[test]
+fn few_indexes_are_told_at_marks(rt: HostRuntime) {
+    assert!(rt; !reaches_mark(2, 399));
+    assert!(rt; reaches_mark(399, 400));
+    assert!(rt; !reaches_mark(400, 424));
+    assert!(rt; reaches_mark(424, 425));
+    assert!(rt; reaches_mark(300, 511));
+    assert!(rt; !reaches_mark(505, 505));
+}
+
+#[test]
+fn memory_of_a_route(rt: HostRuntime) -> Result<(), Fail> {
+    let config = config(rt.alloc(), &[HEAD, STUDIO])?;
+    let Some(entry) = config.entries.first() else {
+        return Err(Fail::from("a route"));
+    };
+    assert_eq!(rt; megabytes_of(entry), 6);
+    Ok(())
+}
