@@ -14,7 +14,7 @@ ghost use Rattle.srt_serve.specs.Ran.{told_by, RanChanging, RanUnder, Ran as The
 use crate::arrivals::{Named, News, PollerArrivals, open_places};
 use crate::opening::{Opened, open_routes};
 use crate::post::Post;
-use crate::serving::{OtherThreads, PollerState, RunContext, serve_devices};
+use crate::serving::{OtherThreads, PollerState, RunContext, serve_routes};
 use crate::settling::{began_with, came_to_all, settle_routes};
 use crate::ticking::{Clocks, Ticker, take_new};
 use crate::wakeups::Wakeups;
@@ -239,7 +239,7 @@ where
         post: told,
         rounds,
     };
-    let polling = PollerState {
+    let mut polling = PollerState {
         names,
         ends,
         plans,
@@ -255,8 +255,7 @@ where
         gates: workers,
         watch,
     };
-    let (polling, pumping) = serve_devices(&context, source, wire, polling, &mut others);
-    let Some(pumping) = pumping else {
+    let Some(pumping) = serve_routes(&context, source, wire, &mut polling, &mut others) else {
         return Err(RunFault::Thread);
     };
     let OtherThreads {

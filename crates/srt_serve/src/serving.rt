@@ -10,7 +10,7 @@ ghost use Rattle.srt_poller.specs.Openings.{news};
 ghost use Rattle.srt_poller.specs.Pumped.{before, after};
 ghost use Rattle.srt_serve.specs.inside.Polled.{AreReady, Polled, AreUntouched};
 
-use crate::arrivals::{Host, News};
+use crate::arrivals::{Host, Named, News};
 use crate::helping::Helper;
 use crate::naming::{ThreadName, name_thread};
 use crate::post::Post;
@@ -20,7 +20,7 @@ use crate::watching::{Changer, Watch, watch_routes};
 use crate::working::work;
 use srt_cookie::Secret;
 use srt_lobby::Names;
-use srt_mailbox::{Gate, Serve};
+use srt_mailbox::{Gate, Place, Serve};
 use srt_poller::{Ends, Openings, Plans, Pumping, Source, Wire, pump_changing, pump_under};
 use srt_seq::Schedule;
 use std::alloc::Global;
@@ -225,92 +225,33 @@ where
     );
 }
 
-/// The polling thread's devices, and what it has for itself.
-#[derive(Drop)]
-pub struct Polling<'s, 'w, S, W, G: Drop, O: Drop> {
-    /// Where datagrams come from.
-    pub source: &'s mut S,
-    /// Where they are sent.
-    pub wire: &'w mut W,
-    /// The routes as callers find them.
-    pub state: PollerState<G, O>,
-}
-
-/// What a polling thread does until the run is over. Code that starts threads is generic over this trait.
-pub trait Rounds {
-    ghost use Rattle.std.specs.Prelude.{ℕ, List, IsSome, IfSome, IfNone, ◌≤◌, ◌^◌};
-    ghost use Rattle.srt_cookie.specs.Cookie.{secret_bytes};
-    ghost use Rattle.srt_lobby.specs.Lobby.{class_of};
-    ghost use Rattle.srt_seq.specs.declared.shared.Schedule.{Schedule as TheSchedule};
-    ghost use Rattle.srt_poller.specs.History.{Sorting};
-    ghost use Rattle.srt_poller.specs.declared.report.Report.{Report};
-
-    /// What it needs to begin, with these schedules, and whether it is watched.
-    ghost ready: { Self → List TheSchedule → (watched : Type 0) → Type 0 };
-
-    /// What becomes of it once it has polled: whether it is watched, how datagrams are sorted, the schedules, the most rounds,
-    /// those that were made, and the report.
-    ghost polled: { Self → Self → (watched : Type 0) → Sorting → List TheSchedule → (rounds made : ℕ) → Report → Type 0 };
-
-    /// Its devices weren't touched.
-    ghost untouched: { Self → Self → Type 0 };
-
-    /// Waits until all threads have arrived, polls, and ends the run. `None` if they don't arrive; then nothing was read.
-    fn poll<R: Wait, C: Serve>(&mut self, context: &RunContext<R, C>) -> Option<Pumping>
-        requires ready { ready self.old context.now.schedules.now (IsSome context.now.post) }
-        requires few { context.now.rounds ≤ 2 ^ 48 }
-        ensures pumped { IfSome result (λ pumping. polled self.old self.new (IsSome context.now.post) (class_of (secret_bytes context.now.secret.now))
-            context.now.schedules.now context.now.rounds pumping.rounds pumping.report) }
-        ensures unread { IfNone result (untouched self.old self.new) };
-}
-
-impl<S: Source, W: Wire, G: Gate + Drop, O: Openings + Drop> Rounds
-    for Polling<'_, '_, S, W, G, O> {
-    ghost use Rattle.std.specs.Prelude.{◌≤◌};
-    ghost use Rattle.std.specs.Vec.{vec_capacity};
-    ghost use Rattle.srt_lobby.specs.Names.{names_of};
-    ghost use Rattle.srt_poller.specs.Devices.{heard, carried};
-    ghost use Rattle.srt_poller.specs.Openings.{news};
-    ghost use Rattle.srt_poller.specs.Pumped.{before, after};
-    ghost use Rattle.srt_serve.specs.inside.Polled.{AreReady, Polled, AreUntouched};
-
-    ghost ready = { λ s schedules watched. AreReady schedules (names_of s.state.names) s.state.ends.items × (watched → 511 ≤ vec_capacity s.state.ends) };
-
-    ghost polled = { λ a b watched class schedules rounds made report. Polled watched class schedules rounds made
-        (news (O.came a.state.openings) (O.asked a.state.openings)) (news (O.came b.state.openings) (O.asked b.state.openings))
-        (before (names_of a.state.names) (heard (S.gave a.source.now) (S.calls a.source.now))
-        (carried (W.handed a.wire.now) (W.attempts a.wire.now)) a.state.ends.items)
-        (after (names_of b.state.names) (heard (S.gave b.source.now) (S.calls b.source.now))
-        (carried (W.handed b.wire.now) (W.attempts b.wire.now)) b.state.ends.items report) };
-
-    ghost untouched = { λ a b. AreUntouched a.source.now b.source.now a.wire.now b.wire.now };
-
-    fn poll<R: Wait, C: Serve>(&mut self, context: &RunContext<R, C>) -> Option<Pumping> {
-        poll(context, self.source, self.wire, &mut self.state)
-    }
-}
-
 /// Starts the workers and the ticking thread, watches in one more if the run is watched, and then polls. All threads have
 /// ended when it returns. `None` if one could not be started, or wasn't running after ten seconds; then nothing was read.
-pub fn serve_routes<R, P, D, G, C, T>(
-    context: &RunContext<R, C>,
-    polling: &mut P,
+pub fn serve_routes<R, S: Source, W: Wire, O, D, G, T>(
+    context: &RunContext<R, Place<Named>>,
+    source: &mut S,
+    wire: &mut W,
+    polling: &mut PollerState<G, O>,
     others: &mut OtherThreads<D, G, T>,
 ) -> Option<Pumping>
 where
     R: Threads + Wait + Sync,
-    P: Rounds + Drop,
+    O: Openings + Drop,
     D: Clockwork + Send + Drop,
     G: Gate + Send + Drop,
-    C: Serve + Host + Sync,
     T: Watch + Send + Drop,
-    requires ready { P.ready polling.old context.now.schedules.now (IsSome context.now.post) }
+    requires ready { AreReady context.now.schedules.now (names_of polling.old.names) polling.old.ends.items }
+    requires room { IsSome context.now.post → 511 ≤ vec_capacity polling.old.ends }
     requires few { context.now.rounds ≤ 2 ^ 48 }
     ensures pumped { IfSome result (λ pumping.
-        P.polled polling.old polling.new (IsSome context.now.post) (class_of (secret_bytes context.now.secret.now))
-        context.now.schedules.now context.now.rounds pumping.rounds pumping.report) }
+        Polled (IsSome context.now.post) (class_of (secret_bytes context.now.secret.now)) context.now.schedules.now context.now.rounds pumping.rounds
+        (news (O.came polling.old.openings) (O.asked polling.old.openings)) (news (O.came polling.new.openings) (O.asked polling.new.openings))
+        (before (names_of polling.old.names) (heard (S.gave source.old) (S.calls source.old))
+        (carried (W.handed wire.old) (W.attempts wire.old)) polling.old.ends.items)
+        (after (names_of polling.new.names) (heard (S.gave source.new) (S.calls source.new))
+        (carried (W.handed wire.new) (W.attempts wire.new)) polling.new.ends.items pumping.report)) }
     ensures ticked { D.ticked others.old.clocks others.new.clocks }
-    ensures unread { IfNone result (P.untouched polling.old polling.new) }
+    ensures unread { IfNone result (AreUntouched source.old source.new wire.old wire.new) }
 {
     let clocks = &mut others.clocks;
     let gates = &mut others.gates;
@@ -318,49 +259,11 @@ where
     let (_, pumping) = join_mut(
         context.rt,
         &mut || tick_and_start(context, clocks, gates, watch),
-        &mut || polling.poll(context),
+        &mut ||
+            requires ready { AreReady context.now.schedules.now (names_of polling.now.names) polling.now.ends.items }
+            requires room { IsSome context.now.post → 511 ≤ vec_capacity polling.now.ends }
+            requires few { context.now.rounds ≤ 2 ^ 48 }
+        { poll(context, source, wire, polling) },
     );
     pumping
-}
-
-/// As `serve_routes`, with these devices.
-pub fn serve_devices<'s, 'w, R, S: Source, W: Wire, O, D, G, C, T>(
-    context: &RunContext<R, C>,
-    source: &'s mut S,
-    wire: &'w mut W,
-    state: PollerState<G, O>,
-    others: &mut OtherThreads<D, G, T>,
-) -> (PollerState<G, O>, Option<Pumping>)
-where
-    R: Threads + Wait + Sync,
-    O: Openings + Drop,
-    D: Clockwork + Send + Drop,
-    G: Gate + Send + Drop,
-    C: Serve + Host + Sync,
-    T: Watch + Send + Drop,
-    requires ready { AreReady context.now.schedules.now (names_of state.names) state.ends.items }
-    requires room { IsSome context.now.post → 511 ≤ vec_capacity state.ends }
-    requires few { context.now.rounds ≤ 2 ^ 48 }
-    ensures pumped { IfSome result.1 (λ pumping.
-        Polled (IsSome context.now.post) (class_of (secret_bytes context.now.secret.now)) context.now.schedules.now context.now.rounds pumping.rounds
-        (news (O.came state.openings) (O.asked state.openings)) (news (O.came result.0.openings) (O.asked result.0.openings))
-        (before (names_of state.names) (heard (S.gave source.old) (S.calls source.old))
-        (carried (W.handed wire.old) (W.attempts wire.old)) state.ends.items)
-        (after (names_of result.0.names) (heard (S.gave source.new) (S.calls source.new))
-        (carried (W.handed wire.new) (W.attempts wire.new)) result.0.ends.items pumping.report)) }
-    ensures ticked { D.ticked others.old.clocks others.new.clocks }
-    ensures unread { IfNone result.1 (AreUntouched source.old source.new wire.old wire.new) }
-{
-    let mut polling = Polling {
-        source,
-        wire,
-        state,
-    };
-    let pumping = serve_routes(context, &mut polling, others);
-    let Polling {
-        source: _,
-        wire: _,
-        state,
-    } = polling;
-    (state, pumping)
 }

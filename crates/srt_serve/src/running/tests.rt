@@ -7,7 +7,7 @@ ghost use Rattle.srt_lobby.specs.Opening.{fault_of};
 use crate::arrivals::PollerArrivals;
 use crate::opening::{Opened, open_routes};
 use crate::running::{Resources, open_resources};
-use crate::serving::{OtherThreads, PollerState, RunContext, serve_devices};
+use crate::serving::{OtherThreads, PollerState, RunContext, serve_routes};
 use crate::ticking::{Clocks, Ticker};
 use crate::watching::Nobody;
 use srt_cookie::Secret;
@@ -135,7 +135,7 @@ where
         rounds: 5,
     };
     let gate: Option<Ungated> = None;
-    let polling = PollerState {
+    let mut polling = PollerState {
         names,
         ends,
         plans,
@@ -152,8 +152,7 @@ where
         watch: Nobody,
     };
     wakeups.finish();
-    let (_, pumping) = serve_devices(&context, source, wire, polling, &mut others);
-    Ok(pumping)
+    Ok(serve_routes(&context, source, wire, &mut polling, &mut others))
 }
 
 #[test]

@@ -11,25 +11,22 @@ use Rattle.srt_serve.proofs.Indexed.{opened_indexed}
 use Rattle.srt_serve.proofs.Newcomers.{same_places, changed_joined, ran_fixed, ran_changing}
 use Rattle.srt_serve.proofs.NamesAtStart.{are_ready}
 use Rattle.srt_serve.proofs.Routes.{few_entries}
-use Rattle.srt_serve.proofs.Sends.{places_sync, arrivals_send, clocks_send}
+use Rattle.srt_serve.proofs.Sends.{arrivals_send, clocks_send}
 use Rattle.srt_serve.proofs.running.run_with.Goals as goal
 
 pub new-requires : goal.new-requires
 new-requires g c = opened_indexed _ _ c.in-Ok-open_routes.ensures.opened
 
-pub serve_devices-polling-requires-sync-C : goal.serve_devices-polling-requires-sync-C
-serve_devices-polling-requires-sync-C g c κs within = search (sendable, places_sync)
+pub serve_routes-requires-send-D : goal.serve_routes-requires-send-D
+serve_routes-requires-send-D g c κs within = search (sendable, clocks_send, arrivals_send, clock_is.the_send) depth 12
 
-pub serve_devices-polling-requires-send-D : goal.serve_devices-polling-requires-send-D
-serve_devices-polling-requires-send-D g c κs within = search (sendable, clocks_send, arrivals_send, clock_is.the_send) depth 12
-
-pub serve_devices-polling-requires-clause-ready : goal.serve_devices-polling-requires-clause-ready
-serve_devices-polling-requires-clause-ready g c κs within =
+pub serve_routes-requires-clause-ready : goal.serve_routes-requires-clause-ready
+serve_routes-requires-clause-ready g c κs within =
     are_ready c.args.schedules.now _ _ _ _ c.requires.entries (c.requires.schedules ∙ sym (length-map c.args.entries.now terms_of))
     c.in-Ok.ensures.names c.in-Ok-open_routes.ensures.entries c.in-Ok-open_routes.ensures.opened
 
-pub serve_devices-polling-requires-clause-room : goal.serve_devices-polling-requires-clause-room
-serve_devices-polling-requires-clause-room g c κs within some =
+pub serve_routes-requires-clause-room : goal.serve_routes-requires-clause-room
+serve_routes-requires-clause-room g c κs within some =
     omega (
       arith,
       c.in-Ok.ensures.places (c.in-Ok.ensures.post.0 (sym c.as_ref-told.ensures.variant ∙ some)),
@@ -40,20 +37,20 @@ serve_devices-polling-requires-clause-room g c κs within some =
 pub began_with-requires : goal.began_with-requires
 began_with-requires g c =
     let locks : locks_of _ ≡ locks_of _ =
-    same_places _ _ _ _ _ _ _ _ _ _ _ _ _ _ _ _ _ _ _ _ (rw c.in-Some.is at c.serve_devices-polling.ensures.pumped) ∙ ap locks_of c.in-Ok-new.ensures.0 in
+    same_places _ _ _ _ _ _ _ _ _ _ _ _ _ _ _ _ _ _ _ _ c.in-Some.ensures.pumped ∙ ap locks_of c.in-Ok-new.ensures.0 in
     c.in-Ok-open_routes.ensures.put.0 ∙ ap (take (length _)) (sym locks)
 
 pub came_to_all-requires : goal.came_to_all-requires
 came_to_all-requires g c =
-    c.take_new.ensures.same ∙ c.serve_devices-polling.ensures.ticked.0 ∙ c.in-Ok-open_routes.ensures.places
-    ∙ sym (same_places _ _ _ _ _ _ _ _ _ _ _ _ _ _ _ _ _ _ _ _ (rw c.in-Some.is at c.serve_devices-polling.ensures.pumped) ∙ ap locks_of c.in-Ok-new.ensures.0)
+    c.take_new.ensures.same ∙ c.in-Some.ensures.ticked.0 ∙ c.in-Ok-open_routes.ensures.places
+    ∙ sym (same_places _ _ _ _ _ _ _ _ _ _ _ _ _ _ _ _ _ _ _ _ c.in-Some.ensures.pumped ∙ ap locks_of c.in-Ok-new.ensures.0)
 
 pub settle_routes-requires-clause-joined : goal.settle_routes-requires-clause-joined
 settle_routes-requires-clause-joined g c =
     changed_joined _ _ _ _ _ _ _ _ _ _ _ _ _ _ _ _ c.in-Ok-came_to_all.ensures.0 _ _ _ _ _
     (subst (λ (ns : List CellIdentity). AreOpened ns _) (ap came (sym c.in-Ok-new.ensures.0)) c.in-Ok-open_routes.ensures.opened)
-    c.serve_devices-polling.result.0.openings.indexed (rw c.in-Some.is at c.serve_devices-polling.ensures.pumped)
-    (all_ticked _ _ _ _ _ _ _ _ _ c.serve_devices-polling.ensures.ticked.1 c.in-Ok-open_routes.ensures.clocks c.take_new.ensures.taken.1
+    c.in-Some.new.polling.openings.indexed c.in-Some.ensures.pumped
+    (all_ticked _ _ _ _ _ _ _ _ _ c.in-Some.ensures.ticked.1 c.in-Ok-open_routes.ensures.clocks c.take_new.ensures.taken.1
     c.take_new.ensures.taken.2)
     c.in-Ok-came_to_all.ensures.1
 
@@ -69,10 +66,10 @@ returns-clause-fixed g c off =
     ran_fixed _ _ _ _ _ _ _ _ _ _ _ _ _ _ _ _ _ _ _ _ c.in-Ok-began_with.ensures.began.0 c.in-Ok-came_to_all.ensures.0 _ _ _ _ _ unknown (few_entries _ c.requires.entries) c.in-Ok.ensures.names
     (ap terms_in (ap came c.in-Ok-new.ensures.0) ∙ c.in-Ok-open_routes.ensures.entries)
     (subst (λ (ns : List CellIdentity). AreOpened ns _) (ap came (sym c.in-Ok-new.ensures.0)) c.in-Ok-open_routes.ensures.opened)
-    c.serve_devices-polling.result.0.openings.indexed
+    c.in-Some.new.polling.openings.indexed
     (grew ∙ ap (λ (ns : List CellIdentity). ns ++ _) (c.in-Ok-open_routes.ensures.put.1 ∙ sym (ap came c.in-Ok-new.ensures.0)))
-    (rw c.in-Some.is at c.serve_devices-polling.ensures.pumped) c.serve_devices-polling.ensures.ticked.1.1
-    (all_ticked _ _ _ _ _ _ _ _ _ c.serve_devices-polling.ensures.ticked.1 c.in-Ok-open_routes.ensures.clocks c.take_new.ensures.taken.1
+    c.in-Some.ensures.pumped c.in-Some.ensures.ticked.1.1
+    (all_ticked _ _ _ _ _ _ _ _ _ c.in-Some.ensures.ticked.1 c.in-Ok-open_routes.ensures.clocks c.take_new.ensures.taken.1
     c.take_new.ensures.taken.2)
     c.in-Ok-came_to_all.ensures.1 c.in-Ok-settle_routes.ensures)
 
@@ -82,12 +79,12 @@ returns-clause-changing g c on =
     ran_changing _ _ _ _ _ _ _ _ _ _ _ _ _ _ _ _ _ _ _ _ c.in-Ok-began_with.ensures.began.0 c.in-Ok-came_to_all.ensures.0 _ _ _ _ _ (c.as_ref-told.ensures.variant ∙ c.in-Ok.ensures.post.1 on) c.in-Ok-began_with.ensures.few c.in-Ok.ensures.names
     (ap terms_in (ap came c.in-Ok-new.ensures.0) ∙ c.in-Ok-open_routes.ensures.entries)
     (subst (λ (ns : List CellIdentity). AreOpened ns _) (ap came (sym c.in-Ok-new.ensures.0)) c.in-Ok-open_routes.ensures.opened)
-    c.serve_devices-polling.result.0.openings.indexed
+    c.in-Some.new.polling.openings.indexed
     (grew ∙ ap (λ (ns : List CellIdentity). ns ++ _) (c.in-Ok-open_routes.ensures.put.1 ∙ sym (ap came c.in-Ok-new.ensures.0)))
-    (rw c.in-Some.is at c.serve_devices-polling.ensures.pumped) c.serve_devices-polling.ensures.ticked.1.1
-    (all_ticked _ _ _ _ _ _ _ _ _ c.serve_devices-polling.ensures.ticked.1 c.in-Ok-open_routes.ensures.clocks c.take_new.ensures.taken.1
+    c.in-Some.ensures.pumped c.in-Some.ensures.ticked.1.1
+    (all_ticked _ _ _ _ _ _ _ _ _ c.in-Some.ensures.ticked.1 c.in-Ok-open_routes.ensures.clocks c.take_new.ensures.taken.1
     c.take_new.ensures.taken.2)
     c.in-Ok-came_to_all.ensures.1 c.in-Ok-settle_routes.ensures
 
 pub returns-clause-rounds : goal.returns-clause-rounds
-returns-clause-rounds g c = rounds_for _ _ _ _ _ _ _ _ (λ some. c.in-Ok.ensures.post.0 (sym c.as_ref-told.ensures.variant ∙ some)) (rw c.in-Some.is at c.serve_devices-polling.ensures.pumped)
+returns-clause-rounds g c = rounds_for _ _ _ _ _ _ _ _ (λ some. c.in-Ok.ensures.post.0 (sym c.as_ref-told.ensures.variant ∙ some)) c.in-Some.ensures.pumped
