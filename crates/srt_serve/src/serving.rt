@@ -10,7 +10,7 @@ ghost use Rattle.srt_poller.specs.Openings.{news};
 ghost use Rattle.srt_poller.specs.Pumped.{before, after};
 ghost use Rattle.srt_serve.specs.inside.Polled.{AreReady, Polled, AreUntouched};
 
-use crate::arrivals::{Host, Named, News};
+use crate::arrivals::{Host, News};
 use crate::helping::Helper;
 use crate::naming::{ThreadName, name_thread};
 use crate::post::Post;
@@ -20,7 +20,7 @@ use crate::watching::{Changer, Watch, watch_routes};
 use crate::working::work;
 use srt_cookie::Secret;
 use srt_lobby::Names;
-use srt_mailbox::{Gate, Place, Serve};
+use srt_mailbox::{Gate, Serve};
 use srt_poller::{Ends, Openings, Plans, Pumping, Source, Wire, pump_changing, pump_under};
 use srt_seq::Schedule;
 use std::alloc::Global;
@@ -227,18 +227,20 @@ where
 
 /// Starts the workers and the ticking thread, watches in one more if the run is watched, and then polls. All threads have
 /// ended when it returns. `None` if one could not be started, or wasn't running after ten seconds; then nothing was read.
-pub fn serve_routes<R, S: Source, W: Wire, O, D, G, T>(
-    context: &RunContext<R, Place<Named>>,
+pub fn serve_routes<R, S: Source, W: Wire, P, O, D, G, C, T>(
+    context: &RunContext<R, C>,
     source: &mut S,
     wire: &mut W,
-    polling: &mut PollerState<G, O>,
+    polling: &mut PollerState<P, O>,
     others: &mut OtherThreads<D, G, T>,
 ) -> Option<Pumping>
 where
     R: Threads + Wait + Sync,
+    P: Gate + Drop,
     O: Openings + Drop,
     D: Clockwork + Send + Drop,
     G: Gate + Send + Drop,
+    C: Serve + Host + Sync,
     T: Watch + Send + Drop,
     requires ready { AreReady context.now.schedules.now (names_of polling.old.names) polling.old.ends.items }
     requires room { IsSome context.now.post → 511 ≤ vec_capacity polling.old.ends }
@@ -256,6 +258,7 @@ where
     let clocks = &mut others.clocks;
     let gates = &mut others.gates;
     let watch = &mut others.watch;
+    // The polling thread's gate has a type of its own, `P`: what both closures capture may share no type parameter.
     let (_, pumping) = join_mut(
         context.rt,
         &mut || tick_and_start(context, clocks, gates, watch),
