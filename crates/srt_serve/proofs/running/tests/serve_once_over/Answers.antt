@@ -5,11 +5,14 @@ use Rattle.srt_seq.specs.Terms.{terms_of}
 use Rattle.srt_mailbox.proofs.inbox.ClockEnd.TheSendSync as clock_is
 use Rattle.srt_serve.proofs.Indexed.{opened_indexed}
 use Rattle.srt_serve.proofs.NamesAtStart.{are_ready}
-use Rattle.srt_serve.proofs.Sends.{arrivals_send, clocks_send}
+use Rattle.srt_serve.proofs.Sends.{places_sync, arrivals_send, clocks_send}
 use Rattle.srt_serve.proofs.running.tests.serve_once_over.Goals as goal
 
 pub new-requires : goal.new-requires
 new-requires g c = opened_indexed _ _ c.in-Ok-open_routes.ensures.opened
+
+pub serve_routes-requires-sync-C : goal.serve_routes-requires-sync-C
+serve_routes-requires-sync-C g c κs within = search (sendable, places_sync)
 
 pub serve_routes-requires-send-D : goal.serve_routes-requires-send-D
 serve_routes-requires-send-D g c κs within = search (sendable, clocks_send, arrivals_send, clock_is.the_send) depth 12
