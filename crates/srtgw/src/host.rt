@@ -6,8 +6,9 @@ use srt_gateway::BindAddress;
 use srt_operate::{kernel_drops, resident_memory, stop_asked};
 use srt_watch::{ConfigFile, FileStamp, MAX_REASON, Machine};
 use std::fmt::InlineText;
-use std::fs::metadata;
+use std::fs::{Metadata, metadata};
 use std::io::{self, Error, ErrorKind, Write};
+use std::os::unix::fs::MetadataExt;
 use std::rt::Files;
 use std::time::{Clock, Duration, Instant, SystemTime};
 use std::{str, thread};
@@ -85,30 +86,43 @@ pub struct HostFile<'a, R> {
     path: &'a str,
 }
 
-impl<'a, R> HostFile<'a, R> {
-    /// The one at this path.
-    pub fn new(rt: &'a R, path: &'a str) -> HostFile<'a, R> {
-        HostFile { rt, path }
+/// Whether a pipe or a device is at this path: what comes of one can be read once, and reading may wait for ever.
+fn is_pipe_at(rt: &impl Files, path: &str) -> bool {
+    match metadata(rt, path) {
+        Ok(found) => !found.is_file() && !found.is_dir(),
+        Err(_) => false,
     }
 }
 
-/// A time in nanoseconds since 1970, modulo 2^64; None if it is before 1970.
-fn nanoseconds(time: SystemTime) -> Option<u64> {
-    let since = time.duration_since(SystemTime::UNIX_EPOCH).ok()?;
-    let whole = since.as_secs().wrapping_mul(1_000_000_000);
-    Some(whole.wrapping_add(u64::from(since.subsec_nanos())))
+impl<'a, R: Files> HostFile<'a, R> {
+    /// The one at this path. None if a pipe or a device is there, which can't be followed.
+    pub fn at(rt: &'a R, path: &'a str) -> Option<HostFile<'a, R>> {
+        if is_pipe_at(rt, path) {
+            return None;
+        }
+        Some(HostFile { rt, path })
+    }
+}
+
+/// When a file's content or attributes changed last, in nanoseconds since 1970, modulo 2^64.
+fn changed_at(file: &Metadata) -> u64 {
+    let whole = (file.ctime() as u64).wrapping_mul(1_000_000_000);
+    whole.wrapping_add(file.ctime_nsec() as u64)
 }
 
 impl<R: Files + AllocGlobal> ConfigFile for HostFile<'_, R> {
     fn stamp(&self) -> Option<FileStamp> {
         let found = metadata(self.rt, self.path).ok()?;
         Some(FileStamp {
-            written: nanoseconds(found.modified().ok()?)?,
+            changed: changed_at(&found),
             size: found.len(),
         })
     }
 
     fn read(&self) -> Result<Vec<u8>, InlineText<MAX_REASON>> {
+        if is_pipe_at(self.rt, self.path) {
+            return Err(InlineText::of("it is a pipe or a device"));
+        }
         match read_file(self.rt, self.path, MAX_CONFIG) {
             Ok(content) => Ok(content),
             Err(unread) => Err(InlineText::of(unread)),
