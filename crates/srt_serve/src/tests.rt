@@ -17,7 +17,7 @@ use srt_mailbox::{ClockEnd, Gate, RouteCell, Serve, Ungated, open_route};
 use srt_poller::{Polled, Read, Report, Sent, Source, Wire};
 use srt_samples::{Difference, Sample, first_difference, shutdown};
 use srt_seq::{Access, Entry, Mode, Peer, Rules, Schedule};
-use std::alloc::Global;
+use std::alloc::{AllocError, Global};
 use std::process::Abort;
 use std::sync::atomic::{AtomicBool, AtomicU64, Ordering};
 use std::sync::{Arc, Wait};
@@ -25,6 +25,7 @@ use std::test::Fail;
 use std::thread;
 use std::thread::Threads;
 
+mod changing;
 mod counts;
 mod datagrams;
 mod posts;
@@ -433,6 +434,21 @@ const ALWAYS: Schedule = Schedule {
     close_round: None,
 };
 
+/// An entry of a live route for one session, with this name and window.
+fn entry_of(alloc: Global, name: &str, buffer: u32) -> Result<Entry, AllocError> {
+    Ok(Entry {
+        name: String::from_str(alloc, name)?,
+        mode: Mode::Live,
+        latency_ms: 120,
+        buffer,
+        sessions: 1,
+        inbox: 16,
+        outbox: 16,
+        access: Access::anyone(),
+        rules: Rules::DRAFT,
+    })
+}
+
 impl Routes {
     fn none(alloc: Global) -> Routes {
         Routes {
@@ -448,17 +464,7 @@ impl Routes {
         buffer: u32,
         schedule: Schedule,
     ) -> Result<(), Fail> {
-        self.entries.push(Entry {
-            name: String::from_str(alloc, name)?,
-            mode: Mode::Live,
-            latency_ms: 120,
-            buffer,
-            sessions: 1,
-            inbox: 16,
-            outbox: 16,
-            access: Access::anyone(),
-            rules: Rules::DRAFT,
-        })?;
+        self.entries.push(entry_of(alloc, name, buffer)?)?;
         self.schedules.push(schedule)?;
         Ok(())
     }

@@ -8,8 +8,14 @@ pub const FIRST: u32 = 1;
 
 pub const SECOND: u32 = 2;
 
-/// The socket ID of the first session of the first route.
-const SESSION: u32 = 0x10_0000;
+/// The socket IDs of the first sessions of these routes: of the first three, and of the one with index 510.
+pub const FIRST_ROUTE: u32 = 0x10_0000;
+
+pub const SECOND_ROUTE: u32 = 0x20_0000;
+
+pub const THIRD_ROUTE: u32 = 0x30_0000;
+
+pub const LAST_ROUTE: u32 = 0x1ff0_0000;
 
 /// The cookie of port 5000 in the first minute.
 const COOKIE: u32 = 0xecc9_58a6;
@@ -65,23 +71,28 @@ pub fn conclusion_of<'a>(caller: u32, blocks: &'a [Block<'a>]) -> Sample<'a> {
     )
 }
 
-/// The answer to the first caller of the route `studio` with a window of 1024 packets.
-pub fn conclusion_answer<'a>() -> Sample<'a> {
+/// The answer to a caller whose session has this socket ID, with a window of so many packets.
+pub fn answer_to<'a>(caller: u32, session: u32, window: u32) -> Sample<'a> {
     handshake_packet(
         Handshake {
             version: 5,
             fields: 1,
             initial: 5,
             mtu: 1500,
-            window: 1024,
+            window,
             phase: Phase::Conclusion,
-            id: SESSION,
+            id: session,
             cookie: 0,
             address: 0,
         },
         &RESPONSE,
     )
-    .to(FIRST)
+    .to(caller)
+}
+
+/// The answer to the first caller of the route `studio` with a window of 1024 packets.
+pub fn conclusion_answer<'a>() -> Sample<'a> {
+    answer_to(FIRST, FIRST_ROUTE, 1024)
 }
 
 /// The lobby's answer to the first caller while there is no route `studio`: 1002.

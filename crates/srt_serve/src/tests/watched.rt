@@ -1,15 +1,16 @@
 //! Runs that are watched: how they end, and what a watcher is shown and told.
 
 ghost use Rattle.std.specs.Prelude.{◌≤◌, ◌^◌};
+ghost use Rattle.std.specs.Vec.{vec_len};
 
 use crate::tests::datagrams::{FIRST, SECOND, STUDIA, STUDIO, conclusion_of};
 use crate::tests::{ALWAYS, Again, LIMIT, Member, Routes, SECRET, Scene, peer, scene_of};
 use crate::watching::{ChangeFault, RouteChanges, Told, Watch};
-use crate::{Gates, Refusal, RunFault, Watched, run_until};
+use crate::{Gates, Refusal, RunFault, Ticker, Watched, run_until};
 use srt_cookie::Secret;
 use srt_lobby::Names;
-use srt_mailbox::Ungated;
-use srt_poller::Asked;
+use srt_mailbox::{Gate, Ungated};
+use srt_poller::{Asked, Source, Wire};
 use srt_route::{Route, SessionView};
 use srt_seq::{Peer, Role};
 use std::alloc::{AllocError, Global};
@@ -156,6 +157,53 @@ pub(super) fn studio(alloc: Global) -> Result<Routes, Fail> {
     Ok(routes)
 }
 
+/// A run of these routes, which must be right, over these devices, with these gates and this watcher, for at most `rounds`
+/// rounds.
+pub(super) fn watched_over<R, S: Source, W: Wire, K, G, T>(
+    rt: &R,
+    routes: &Routes,
+    source: &mut S,
+    wire: &mut W,
+    ticker: K,
+    gates: Gates<G>,
+    watch: T,
+    rounds: u64,
+) -> Result<Watched<K, T>, Fail>
+where
+    R: AllocGlobal + Threads + Wait + Sync,
+    K: Ticker + Send + Drop,
+    G: Gate + Send + Drop,
+    T: Watch + Send + Drop,
+    requires workers { (1 ≤ vec_len gates.workers) × (vec_len gates.workers ≤ 16) }
+    requires few { rounds ≤ 2 ^ 48 }
+{
+    let alloc = rt.alloc();
+    let Ok(_names) = Names::open(alloc, &routes.entries) else {
+        return Err(Fail::from("the entries are right"));
+    };
+    if routes.schedules.len() != routes.entries.len() {
+        return Err(Fail::from("there is a schedule for each entry"));
+    }
+    match run_until(
+        rt,
+        alloc,
+        &Secret::new(SECRET),
+        &routes.entries,
+        &routes.schedules,
+        source,
+        wire,
+        ticker,
+        gates,
+        watch,
+        rounds,
+    ) {
+        Ok(ran) => Ok(ran),
+        Err(RunFault::OutOfMemory) => Err(Fail::from("memory")),
+        Err(RunFault::Thread) => Err(Fail::from("a thread")),
+        Err(RunFault::Busy) => Err(Fail::from("nobody has a route")),
+    }
+}
+
 /// A run of these routes, which must be right, with two workers and this watcher, for at most `rounds` rounds.
 pub(super) fn watched<R, T>(
     rt: &R,
@@ -169,36 +217,21 @@ where
     T: Watch + Send + Drop,
     requires { rounds ≤ 2 ^ 48 }
 {
-    let alloc = rt.alloc();
-    let Ok(_names) = Names::open(alloc, &routes.entries) else {
-        return Err(Fail::from("the entries are right"));
-    };
-    if routes.schedules.len() != routes.entries.len() {
-        return Err(Fail::from("there is a schedule for each entry"));
-    }
     let ticker = Member::of(&scene.meeting)?;
     let gates = Gates {
         poller: Some(Ungated),
-        workers: vec![in alloc; Ungated, Ungated]?,
+        workers: vec![in rt.alloc(); Ungated, Ungated]?,
     };
-    match run_until(
+    watched_over(
         rt,
-        alloc,
-        &Secret::new(SECRET),
-        &routes.entries,
-        &routes.schedules,
+        routes,
         &mut scene.source,
         &mut scene.wire,
         ticker,
         gates,
         watch,
         rounds,
-    ) {
-        Ok(ran) => Ok(ran),
-        Err(RunFault::OutOfMemory) => Err(Fail::from("memory")),
-        Err(RunFault::Thread) => Err(Fail::from("a thread")),
-        Err(RunFault::Busy) => Err(Fail::from("nobody has a route")),
-    }
+    )
 }
 
 /// The source waits once in each round. The watcher never looks; after the run it is shown both routes.
