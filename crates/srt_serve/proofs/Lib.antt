@@ -9,3 +9,9 @@ pub mod Routes
 pub mod Newcomers
 pub mod Ends
 pub mod Sends
+pub mod Isolation
+pub mod OwnNames
+pub mod Sorted
+pub mod Marks
+pub mod LeftAlone
+pub mod OpenRoutes

@@ -6,4 +6,6 @@ pub mod Arrived
 pub mod Settled
 pub mod Callers
 pub mod Ran
+pub mod Isolation
+pub mod Unchanged
 pub mod Refusals

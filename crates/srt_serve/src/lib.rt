@@ -24,6 +24,7 @@
 mod arrivals;
 mod bit_set;
 mod helping;
+pub mod laws;
 mod naming;
 mod notifier;
 mod opening;
