@@ -3,25 +3,37 @@ from __future__ import annotations
 
 import os
 import re
+import resource
 import threading
 import time
 
-from caller import Caller, Publisher, Subscriber, endless, start_all, stream
+import packets
+from caller import Caller, Publisher, Subscriber, endless, indexes, start_all, stream
 from cases import case
 from expecting import expect, expect_refusal, expect_run, publish
-from lines import ended_line
+from lines import ended_line, opened_line, took_over_line
 from machine import free_port
-from running import SECRET, Run, Shown, configuration, expect_polite, live
+from running import SECRET, Run, Shown, Skipped, configuration, expect_polite, live
 
 LOOK = 4.0  # The file is looked at each second, and a change of it is made then. A line that is there sooner is found sooner.
 CLOSED = 4.0  # From a line that says that a route closes until its callers know it.
+SETTLING = 0.04  # Shorter than a file has to stay the same before it is read.
 SMALL = dict(buffer=190, sessions=3, inbox=16)
+PATIENT = dict(latency_ms=400, buffer=512, sessions=3)  # Of a route that loses nothing where the machine stands still for a while.
 INDEXES = 511
 TAKEN = r"configuration changed: (\d+) routes stay, (\d+) open, (\d+) close, (\d+) change"
 REMOVED, CHANGED = "closed, it is no longer in the configuration", "closed, to open again with other keys"
 
 
+def tiny(name, latency_ms=120):
+    """A route that takes little memory."""
+    return live(name, latency_ms=latency_ms, buffer=32, sessions=1, inbox=16)
+
+
 def text_of(run, routes, **others):
+    """The text of a configuration of these routes, with the run's own addresses."""
+    if isinstance(run, Shown):
+        others.setdefault("status", "{}:{}".format(*run.page.address))
     return configuration(routes, run.address[1], **others)
 
 
@@ -64,6 +76,14 @@ def expect_silent(run, first, seconds=2.5):
     time.sleep(seconds)
     told = [it for it in run.texts(first) if "configuration" in it or "opened with index" in it]
     expect(not told, f"it says {told}")
+
+
+def expect_counts(run, **wanted):
+    """Expects what the page says of the configuration: the numbers of its routes, of changes taken and refused, and of indexes."""
+    names = dict(routes="configured_routes", taken="config_changes_taken_total", refused="config_changes_refused_total", indexes="used_indexes")
+    state = run.page.state()
+    told = {it: state[names[it]] for it in wanted}
+    expect(told == wanted, f"the page says {told}, and not {wanted}")
 
 
 def expect_shut(run, caller, name):
@@ -186,8 +206,7 @@ def route_changed():
     with Shown([live("studio"), live("news", **SMALL)], "--no-time") as run:
         run.is_up()
         air, gone = OnAir(run, "studio"), OnAir(run, "news")
-        shown = f"{run.page.address[0]}:{run.page.address[1]}"
-        first = changed(run, [live("studio"), live("news", latency_ms=300, **SMALL)], (1, 0, 0, 1), status=shown)
+        first = changed(run, [live("studio"), live("news", latency_ms=300, **SMALL)], (1, 0, 0, 1))
         closed(run, "news", CHANGED, first)
         opened(run, "news", 2, first)
         for one in gone.callers():
@@ -199,8 +218,7 @@ def route_changed():
         time.sleep(1)
         state = run.page.state()
         expect([it["name"] for it in state["routes"]] == ["studio", "news"], f"the page shows {[it['name'] for it in state['routes']]}")
-        told = {it: state[it] for it in ("configured_routes", "config_changes_taken_total", "config_changes_refused_total", "used_indexes")}
-        expect(list(told.values()) == [2, 1, 0, 3], f"the page says {told}")
+        expect_counts(run, routes=2, taken=1, refused=0, indexes=3)
         air.end()
         expect_polite(run.stop(), ["studio", "news", "news"])
 
@@ -211,8 +229,7 @@ def order_changed():
     with Shown(routes, "--no-time") as run:
         run.is_up()
         air = OnAir(run, "news")
-        shown = f"{run.page.address[0]}:{run.page.address[1]}"
-        before = written(run, text_of(run, routes[::-1], status=shown))
+        before = written(run, text_of(run, routes[::-1]))
         expect_silent(run, before)
         names = [it["name"] for it in run.page.state()["routes"]]
         expect(names == ["guest", "news", "studio"], f"the page shows {names}")
@@ -246,14 +263,54 @@ def half_written():
     with Run([live("studio")], "--no-time") as run:
         run.is_up()
         air = OnAir(run, "studio")
-        text = text_of(run, [live("studio")]) + '[[route]]\nname = "news"\nmode = "li'
+        whole = text_of(run, [live("studio"), live("news", **SMALL)])
+        half, rest = whole[:whole.rindex('mode = "li') + 10], whole[whole.rindex('mode = "li') + 10:]
         before = len(run.lines)
         with open(run.file, "w") as it:
-            it.write(text)
+            it.write(half)
         run.line(r"configuration not taken: line \d+, column .*", LOOK, before)
         expect(not run.find(TAKEN, before), f"half of a file is taken: {run.texts(before)}")
+        with open(run.file, "a") as it:
+            it.write(rest)
+        opened(run, "news", 1, before)
+        expect(run.find(TAKEN, before)[1].groups() == ("1", "1", "0", "0"), f"the log says {run.texts(before)}")
         air.end()
-        expect_polite(run.stop(), ["studio"])
+        expect_polite(run.stop(), ["studio", "news"])
+
+
+def write_by_and_by(path, pieces, seconds):
+    """Writes a file in its place, a piece at a time. Returns the longest time between two pieces."""
+    longest, last = 0.0, time.monotonic()
+    with open(path, "w") as it:
+        for piece in pieces:
+            it.write(piece)
+            it.flush()
+            longest, last = max(longest, time.monotonic() - last), time.monotonic()
+            time.sleep(seconds)
+    return longest
+
+
+@case("a file that is being written isn't read, though what is there so far is right")
+def being_written():
+    """Each piece but the first is one route more. The file grows for a third of each second, in steps shorter than the gateway waits."""
+    routes = [live("studio"), *(tiny(f"r{at}") for at in range(30))]
+    with Run(routes, "--no-time") as run:
+        run.is_up()
+        air, index, played = OnAir(run, "studio"), len(routes), 0
+        for turn in range(1, 13):
+            pieces = [text_of(run, routes[:1]), *routes[1:-1], tiny("r29", 120 + turn)]
+            before = len(run.lines)
+            longest = write_by_and_by(run.file, pieces, 0.01)
+            opened(run, "r29", index, before)
+            if longest > SETTLING:
+                break  # The machine is too busy for what this case shows.
+            taken = [it for it in run.texts(before) if re.fullmatch(TAKEN, it)]
+            expect(taken == ["configuration changed: 30 routes stay, 0 open, 0 close, 1 change"], f"a part of a file is taken: {run.texts(before)}")
+            index, played = index + 1, played + 1
+        air.end()
+        run.stop()
+        if not played:
+            raise Skipped("the machine is too busy to write a file in time")
 
 
 @case("keys that can't change are named, and nothing else of the file is taken")
@@ -285,10 +342,14 @@ def unreadable():
             expect_silent(run, number + 1)
             before = written(run, good)
             expect_silent(run, before)
-        before = written(run, good + "#" * 65_536)
-        run.line("configuration can't be read: larger than 65536 bytes", LOOK, before)
-        before = written(run, good)
-        expect_silent(run, before)
+        for size in (65_536, 4_000_000):
+            before = written(run, good + "#" * size)
+            run.line("configuration can't be read: larger than 65536 bytes", LOOK, before)
+            before = written(run, good)
+            expect_silent(run, before)
+        os.unlink(run.file)
+        os.mkdir(run.file)
+        run.line(r"configuration can't be read: Is a directory \(os error 21\)", LOOK, before)
         expect_polite(run.stop(), ["studio"])
 
 
@@ -298,7 +359,7 @@ def same_again():
         run.is_up()
         air = OnAir(run, "studio")
         good = text_of(run, [live("studio"), live("news", **SMALL)])
-        for text in (good, good + "# a remark\n", good):
+        for text in (good, good + "# a remark\n", good.replace("\n", "\r\n"), good):
             before = written(run, text)
             expect_silent(run, before)
         os.utime(run.file, (0, 0))
@@ -307,11 +368,154 @@ def same_again():
         expect_polite(run.stop(), ["studio", "news"])
 
 
+@case("a file of the same size and the same time of its last writing is taken too")
+def same_stamp():
+    """As a deployment leaves it that gives each file the same time."""
+    with Run([live("studio"), live("news", **SMALL)], "--no-time") as run:
+        run.is_up()
+        air = OnAir(run, "studio")
+        for index, latency_ms in enumerate((200, 300), 2):
+            text = text_of(run, [live("studio"), live("news", latency_ms=latency_ms, **SMALL)])
+            before = len(run.lines)
+            with open(f"{run.file}.new", "w") as it:
+                it.write(text)
+            os.utime(f"{run.file}.new", (1, 1))
+            os.replace(f"{run.file}.new", run.file)
+            opened(run, "news", index, before)
+        air.end()
+        expect_polite(run.stop(), ["studio", "news", "news", "news"])
+
+
+@case("a change whose memory is refused is refused as a whole, and the next one is taken")
+def memory_refused():
+    with Shown([live("studio")], "--no-time") as run:
+        run.is_up()
+        air = OnAir(run, "studio")
+        with open(f"/proc/{run.process.pid}/statm") as it:
+            size = int(it.read().split()[0]) * os.sysconf("SC_PAGE_SIZE")
+        resource.prlimit(run.process.pid, resource.RLIMIT_AS, (size + (100 << 20),) * 2)
+        some = [live("studio"), live("news", **SMALL)]
+        refused(run, text_of(run, [*some, live("large", buffer=8192, sessions=17)]), "no memory for large")
+        expect_refusal(1002, Caller(run.address, "news"), "a route of a change that wasn't taken")
+        expect_counts(run, routes=1, taken=0, refused=1, indexes=1)
+        first = changed(run, some, (1, 1, 0, 0))
+        opened(run, "news", 1, first)
+        expect_stream(run, "news")
+        air.end()
+        expect_polite(run.stop(), ["studio", "news"])
+
+
+# Beside what routes do.
+
+
+class Bursts(threading.Thread):
+    """Sends a session's KEEPALIVEs, 30 at a time, so that its route's inbox has no room for all of them."""
+
+    def __init__(self, caller):
+        super().__init__(daemon=True)
+        self.caller, self.over = caller, threading.Event()
+
+    def run(self):
+        while not self.over.wait(0.01):
+            for _ in range(30):
+                self.caller.send_control(packets.KEEPALIVE)
+
+    def end(self):
+        self.over.set()
+        self.join()
+
+
+def wait_for_full(run):
+    """Waits until further datagrams found an inbox full."""
+    first = run.page.metrics().total("srtgw_poller_full_datagrams_total")
+    until = time.monotonic() + 10
+    while run.page.metrics().total("srtgw_poller_full_datagrams_total") == first:
+        expect(time.monotonic() < until, "no inbox is full")
+        time.sleep(0.1)
+
+
+@case("routes open and close while the inbox of one is full, and that one closes too")
+def full_inbox():
+    steady = [live("studio", **PATIENT), live("news", **SMALL)]
+    with Shown(steady, "--no-time") as run:
+        run.is_up()
+        air, busy = OnAir(run, "studio"), called(Subscriber(run.address, "news"))
+        bursts = Bursts(busy)
+        bursts.start()
+        try:
+            wait_for_full(run)
+            first = changed(run, [*steady, live("guest", **PATIENT)], (2, 1, 0, 0))
+            opened(run, "guest", 2, first)
+            expect_stream(run, "guest")
+            first = changed(run, steady, (2, 0, 1, 0))
+            closed(run, "guest", REMOVED, first)
+            wait_for_full(run)
+            first = changed(run, [steady[0], live("news", latency_ms=300, **SMALL)], (1, 0, 0, 1))
+            closed(run, "news", CHANGED, first)
+            opened(run, "news", 3, first)
+            expect_shut(run, busy, "news")
+        finally:
+            bursts.end()
+        busy.stop()
+        expect_stream(run, "news")
+        air.end()
+        expect_polite(run.stop(), ["studio", "news", "guest", "news"])
+
+
+class Changing(threading.Thread):
+    """Writes the configuration of a run five times a second, with routes that stay and one that is another one each time."""
+
+    def __init__(self, run, steady):
+        super().__init__(daemon=True)
+        self.gateway, self.steady, self.over = run, steady, threading.Event()
+
+    def run(self):
+        turn = 0
+        while not self.over.wait(0.2):
+            turn += 1
+            written(self.gateway, text_of(self.gateway, [*self.steady, tiny(f"t{turn % 5}", 120 + turn % 7)]))
+
+    def end(self):
+        self.over.set()
+        self.join()
+
+
+@case("a backup encoder stands by, and takes over, on a route that stays while others change")
+def standby_beside_changes():
+    count, other = 500, 1_000_000  # The backup's payloads begin with this number.
+    steady = [live("studio", **PATIENT), live("news", **SMALL)]
+    with Run(steady, "--no-time") as run:
+        run.is_up()
+        changing, over = Changing(run, steady), threading.Event()
+        changing.start()
+        try:
+            run.line(TAKEN, LOOK)
+            player = Subscriber(run.address, "studio")
+            main = Publisher(run.address, publish("studio"), stream(count), 4_000)
+            backup = Publisher(run.address, publish("studio"), endless(over, other), 4_000)
+            start_all(player, main, backup)
+            run.line(opened_line("studio", "publisher", backup, PATIENT["latency_ms"], standby=True), LOOK)
+            expect(main.wait_delivered(15) and player.wait(5, count), "the main encoder's stream doesn't flow")
+            main.close()
+            number, _ = run.line(took_over_line("studio", backup), LOOK)
+            run.line(TAKEN, LOOK, number)
+            over.set()
+            expect(backup.wait_delivered(10), "the backup's stream doesn't flow")
+        finally:
+            changing.end()
+        time.sleep(0.5)
+        found = indexes(list(player.got))
+        rest = found[count:]
+        expect(found[:count] == list(range(count)), f"the main encoder's payloads didn't come in order: {found[:count][-3:]}")
+        expect(len(rest) >= 100 and rest == list(range(rest[0], rest[0] + len(rest))) and rest[0] >= other, f"of the backup's came {rest[:3]} to {rest[-3:]}")
+        expect(rest[-1] - other + 1 == backup.next - backup.initial, f"the backup's last ones are missing: {rest[-3:]}")
+        expect(not player.shut.is_set() and not backup.shut.is_set(), "a caller of a route that stays got a SHUTDOWN")
+        for one in (backup, player):
+            one.close()
+        expect(run.stop().status == 0, "the status isn't 0")
+
+
 # Many changes.
-
-
-def tiny(name, latency_ms=120):
-    return live(name, latency_ms=latency_ms, buffer=32, sessions=1, inbox=16)
 
 
 @case("511 indexes are used up: the log warns, and then says that a restart is needed")
@@ -342,24 +546,28 @@ def indexes_used_up():
         expect(len(end.accounts) == INDEXES, f"there are {len(end.accounts)} accounts")
 
 
-@case("200 changes in 20 seconds or more beside 16 routes with callers")
+@case("200 changes in 20 seconds or more, right and wrong ones, beside 16 routes with callers")
 def many_changes():
-    """The file is written ten times a second. Each second one of its states is taken, and none is half a file."""
-    steady = [live(f"s{at}", **SMALL) for at in range(16)]
+    """The file is written ten times a second. Some of its states are taken, or told as wrong, and none is half a file."""
+    steady = [live(f"s{at}", **PATIENT) for at in range(16)]
+    wrong = live("wrong", sessions=40)
     with Run(steady, "--no-time") as run:
         run.is_up()
         airs = [OnAir(run, f"s{at}", 20_000) for at in range(16)]
         began = time.monotonic()
         for turn in range(200):
-            written(run, text_of(run, [*steady, tiny(f"t{turn % 7}", 120 + turn % 3)]))
+            written(run, text_of(run, [*steady, wrong if turn % 3 == 2 else tiny(f"t{turn % 7}", 120 + turn % 4)]))
             time.sleep(max(0, began + 0.1 * (turn + 1) - time.monotonic()))
         written(run, text_of(run, [*steady, tiny("last")]))
         run.line(r"last: opened with index \d+, \d+ MB", 2 * LOOK)
         texts = run.texts()
-        taken = [re.fullmatch(TAKEN, it) for it in texts]
-        expect(sum(map(bool, taken)) >= 10, f"{sum(map(bool, taken))} changes are told: {texts[-8:]}")
-        expect(all(it[1] == "16" for it in taken if it), f"a route that is the same didn't stay: {[it[0] for it in taken if it]}")
-        expect(not any("not taken" in it or "can't be read" in it for it in texts), f"a file isn't taken: {texts[-8:]}")
+        taken = [it for it in (re.fullmatch(TAKEN, it) for it in texts) if it]
+        refusals = [it for it in texts if it.startswith("configuration not taken: ")]
+        expect(len(taken) >= 5 and refusals, f"{len(taken)} changes are taken, {len(refusals)} refused: {texts[-8:]}")
+        expect(all(it[1] == "16" for it in taken), f"a route that is the same didn't stay: {[it[0] for it in taken]}")
+        why = "configuration not taken: route 17 (wrong): sessions = 40: allowed are 1 to 17"
+        expect(set(refusals) == {why}, f"it says {set(refusals)}")
+        expect(not any("can't be read" in it for it in texts), f"a file can't be read: {texts[-8:]}")
         called(Subscriber(run.address, "last")).close()
         for air in airs:
             air.end()
@@ -380,3 +588,26 @@ def stops_after_change():
         air.stop()
         expect_polite(end, ["studio", "news"])
         expect(end.seconds <= 2.5, f"it took {end.seconds:.2f} s")
+
+
+@case("a stop in the middle of a change of a hundred routes is polite")
+def stops_in_a_change():
+    """The gateway looks at its file each second from the look that took the first change."""
+    count = 100
+    for delay in (1.0, 1.06, 1.1, 1.2):
+        with Run([live("studio")], "--no-time") as run:
+            run.is_up()
+            air = OnAir(run, "studio")
+            first = changed(run, [live("studio"), tiny("r0")], (1, 1, 0, 0))
+            looked = run.lines[first].came
+            written(run, text_of(run, [live("studio"), *(tiny(f"r{at}") for at in range(count))]))
+            time.sleep(max(0, looked + delay - time.time()))
+            end = run.stop()
+            for one in air.callers():
+                expect(one.shut.wait(5), f"a caller got no SHUTDOWN, {delay} s after the first change")
+            air.stop()
+            names = ["studio", *(f"r{at}" for at in range(count))]
+            expect(len(end.accounts) >= 2, f"the accounts are {end.output!r}")
+            expect_polite(end, names[:len(end.accounts)])
+            expect(end.seconds <= 3, f"it took {end.seconds:.2f} s, {delay} s after the first change")
+            expect(run.texts()[-1] == "stopped", f"the log ends with {run.texts()[-3:]}")

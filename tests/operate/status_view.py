@@ -1,6 +1,7 @@
 """The status page as a person sees it, in a Chromium without a window."""
 from __future__ import annotations
 
+import json
 import threading
 import time
 from contextlib import contextmanager
@@ -9,6 +10,7 @@ from typing import Iterator, NamedTuple
 from browser import CHROMIUM, Browser, shown_in
 from caller import Caller, Publisher, Subscriber, endless, start_all
 from cases import case
+from changing import changed, refused, text_of, tiny
 from expecting import Wrong, expect, publish
 from lines import peer_of
 from running import Run, Shown, expect_polite, live
@@ -113,6 +115,33 @@ def follows_what_happens():
         expect_without(browser, peer_of(scene.publisher))
         expect(not browser.complaints, f"the browser complains: {browser.complaints}")
         run.stop()
+
+
+def class_of(browser: Browser, text: str) -> str:
+    """The class of the part of the page that has just this text."""
+    return browser.value(f"[...document.querySelectorAll('.mark, #sums div')].find(it => it.innerText === {json.dumps(text)})?.className ?? 'none'")
+
+
+@case("the status page in a browser tells of changed configurations and of the indexes that are left", needs=[CHROMIUM])
+def tells_of_changes():
+    steady = [live("studio"), live("evening")]
+    for width, height in SIZES:
+        with Shown(steady, "--no-time") as run, Browser(width, height) as browser:
+            run.is_up()
+            browser.opens(address_of(run))
+            expect_text(browser, ["running", "509\nIndexes left"], 10)
+            expect("configuration" not in browser.text(), f"it tells of changes before there are any: {browser.text()[:300]!r}")
+            changed(run, [*steady, *(tiny(f"r{at}") for at in range(9))], (2, 9, 0, 0))
+            expect_text(browser, ["1 × configuration changed", "500\nIndexes left"])
+            refused(run, text_of(run, [live("studio", sessions=40)]), ".*")
+            expect_text(browser, ["1 × configuration not taken, see the log"])
+            found = [class_of(browser, it) for it in ("1 × configuration changed", "1 × configuration not taken, see the log", "500\nIndexes left")]
+            expect([it.split() for it in found] == [["mark"], ["mark", "warn"], []], f"the parts are of the classes {found}")
+            changed(run, [*steady, *(tiny(f"s{at}") for at in range(389))], (2, 389, 9, 0), 10)
+            expect_text(browser, ["2 × configuration changed", "111\nIndexes left"])
+            expect(class_of(browser, "111\nIndexes left") == "bad", "few indexes are shown as many")
+            expect_fits(browser, width, height)
+            run.stop()
 
 
 @case("the status page in a browser says that the gateway is gone, and goes on when it is back", needs=[CHROMIUM])

@@ -74,7 +74,7 @@ main { margin-top: 12px; }
 .who small, .session small { display: block; color: var(--dim); font-size: 12.5px; }
 .marks { grid-column: 1 / -1; display: flex; flex-wrap: wrap; gap: 4px 6px; }
 .marks:empty { display: none; }
-#refused { margin: 0 0 16px; }
+#told { margin: 0 0 16px; }
 .route > .marks { padding: 0 14px 8px; }
 .mark { padding: 1px 8px; border-radius: 5px; font-size: 12.5px; color: var(--dim); background: var(--page); }
 .mark.warn { color: var(--warn); background: var(--warn-back); }
@@ -112,7 +112,7 @@ a { color: inherit; }
 </header>
 <div id="gone" role="status"></div>
 <section id="sums" aria-label="Gateway"></section>
-<section id="refused" class="marks" aria-label="Refused callers"></section>
+<section id="told" class="marks" aria-label="Refused callers and changes of the configuration"></section>
 <input id="filter" type="search" placeholder="Filter routes and callers" aria-label="Filter routes and callers" autocomplete="off">
 <main>
   <div class="heads">
@@ -126,6 +126,8 @@ a { color: inherit; }
 <script>
 "use strict";
 const SPAN = 60;
+// Of the indexes that a run has, as many are few as are left when the log warns.
+const INDEXES = 511, FEW_INDEXES = 111;
 const byId = (id) => document.getElementById(id);
 const seen = new Map();
 const shown = new Map();
@@ -230,7 +232,8 @@ function marks(session, past) {
   if (session.silent_seconds > 2) list.push(["warn", "silent for " + lasted(session.silent_seconds)]);
   return list;
 }
-// Callers that were refused, and datagrams dropped, by what stood against them: those of which there are any.
+// Callers that were refused, and datagrams dropped, by what stood against them, and changed configurations: those of which
+// there are any.
 const CAUSES = [
   ["lobby_refused_unknown_name_total", "refused: unknown name"],
   ["lobby_refused_no_name_total", "refused: no name"],
@@ -244,6 +247,8 @@ const CAUSES = [
   ["refusals_FILTER", "refused: 1014 FILTER"],
   ["refusals_GROUP", "refused: 1015 GROUP"],
   ["poller_not_allowed_datagrams_total", "datagrams dropped: address in no list"],
+  ["config_changes_refused_total", "\u00d7 configuration not taken, see the log"],
+  ["config_changes_taken_total", "\u00d7 configuration changed", true],
 ];
 const ROUTE_CAUSES = [
   ["refusals_PEER", "refused: two publishers are open"],
@@ -256,14 +261,14 @@ const LIMITS = [
   ["refused_sessions_per_address_total", "refused: sessions_per_address"],
 ];
 const LIMITS_TOGETHER = [["refusals_RESOURCE", "refused: 1003 RESOURCE"]];
-// A mark is a warning for a minute after its count grew.
+// A mark is a warning for a minute after its count grew, unless that is good news.
 function showCauses(box, counts, causes) {
   const now = Date.now(), past = box.past || {};
   box.past = {};
-  const list = causes.filter(([name]) => counts[name]).map(([name, text]) => {
+  const list = causes.filter(([name]) => counts[name]).map(([name, text, good]) => {
     const [before, at] = past[name] || [box.said === undefined ? counts[name] : 0, 0];
     box.past[name] = [counts[name], counts[name] > before ? now : at];
-    return [now - box.past[name][1] < 1000 * SPAN ? "warn" : "", count(counts[name]) + " " + text];
+    return [!good && now - box.past[name][1] < 1000 * SPAN ? "warn" : "", count(counts[name]) + " " + text];
   });
   const said = JSON.stringify(list);
   if (said === box.said) return;
@@ -377,7 +382,7 @@ function show(status) {
   const fits = (route) => !wanted || route.name.toLowerCase().includes(wanted)
     || route.sessions.some((s) => s.peer.includes(wanted));
   let into = 0, out = 0, sessions = 0;
-  const idle = [], left = new Set(shown.keys());
+  const idle = [], away = new Set(shown.keys());
   let place = null;
   for (const route of status.routes) {
     sessions += route.sessions.length;
@@ -385,7 +390,7 @@ function show(status) {
       if (fits(route)) idle.push(route.name);
       continue;
     }
-    left.delete(route.name);
+    away.delete(route.name);
     let parts = shown.get(route.name);
     if (!parts) shown.set(route.name, parts = openRoute(route.name));
     const [i, o] = showRoute(parts, route);
@@ -395,7 +400,7 @@ function show(status) {
     put(byId("routes"), place, parts.box);
     place = parts.box;
   }
-  for (const name of left) {
+  for (const name of away) {
     shown.get(name).box.remove();
     shown.delete(name);
   }
@@ -408,6 +413,7 @@ function show(status) {
     write(byId("idle").firstChild, count(idle.length) + (idle.length === 1 ? " route" : " routes") + " without sessions");
     byId("names").replaceChildren(...idle.map((name) => make("div", "", name)));
   }
+  const left = INDEXES - status.used_indexes;
   const sums = [
     ["Sessions", count(sessions)],
     ["Routes in use", count(shown.size) + " of " + count(status.routes.length)],
@@ -416,6 +422,7 @@ function show(status) {
     ["Kernel drops", status.kernel_dropped_datagrams_total === undefined ? "–" : count(status.kernel_dropped_datagrams_total), status.kernel_dropped_datagrams_total > 0],
     ["Not sent", count(status.poller_lost_datagrams_total), status.poller_lost_datagrams_total > 0],
     ["Memory", size(status.resident_memory_bytes)],
+    ["Indexes left", count(left), left <= FEW_INDEXES && status.config_changes_taken_total > 0],
   ];
   const box = byId("sums");
   while (box.children.length < sums.length) {
@@ -429,7 +436,7 @@ function show(status) {
     write(node.firstChild, value);
     write(node.lastChild, label);
   });
-  showCauses(byId("refused"), status, CAUSES);
+  showCauses(byId("told"), status, CAUSES);
   write(byId("version"), status.version);
   write(byId("uptime"), "up for " + lasted(status.uptime_seconds));
 }

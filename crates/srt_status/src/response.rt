@@ -23,7 +23,7 @@ const JSON: &str = "Content-Type: application/json\r\n";
 
 /// The fields of the page for people. Its script and its style are named by their SHA-256.
 const HTML: &str =
-    "Content-Type: text/html; charset=utf-8\r\nContent-Security-Policy: default-src 'none'; connect-src 'self'; script-src 'sha256-4oEVOZMlXdgPC9Y8wb79qDFr6hYBPmX51i3AwW4wXu8='; style-src 'sha256-1U9ngPV8bIACa4lT+qDjAglBgvIKv0406B7dB5mKhsQ='; base-uri 'none'; form-action 'none'; frame-ancestors 'none'\r\n";
+    "Content-Type: text/html; charset=utf-8\r\nContent-Security-Policy: default-src 'none'; connect-src 'self'; script-src 'sha256-glDJ0ROEkiWI+dc6gnzdSIVUHjvFALFEGF8Emwb3+tg='; style-src 'sha256-ZdMAgURMM9m33Ln7ZysFyOigbpzF4Wc+XiyzqYoP4hQ='; base-uri 'none'; form-action 'none'; frame-ancestors 'none'\r\n";
 
 /// Puts the fields that all responses have.
 #[tactic(auto, unfolding(crate::specs::Responses::common_fields))]

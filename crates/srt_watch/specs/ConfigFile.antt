@@ -1,21 +1,42 @@
 -- When the file of a configuration is read, and whether what it has is new.
-use Rattle.std.specs.Prelude.{ℕ, ◌==◌, Bool, true, not, ◌||◌, List, Option, None, Some}
+use Rattle.std.specs.Prelude.{ℕ, ◌==◌, Bool, true, false, not, ◌||◌, List, Option, None, Some, if◌then◌else◌}
 use Rattle.std.specs.Str.{bytes_eq}
 use Rattle.srt_watch.specs.declared.config_file.FileStamp.{FileStamp}
 use Rattle.srt_watch.specs.declared.config_file.LastLook.{LastLook}
+use Rattle.srt_watch.specs.declared.config_file.Phase.{Phase, Settling, Read, Known}
 
--- the content may be another one: size or time differ, or one of them isn't known
-abbrev pub differs : (before now : Option FileStamp) → Bool
+-- the content may be another one: size or time differ, or it is the first look
+abbrev pub differs : (before : Option FileStamp) → (now : FileStamp) → Bool
 differs None now = true
-differs (Some before) None = true
-differs (Some before) (Some now) = not (before.written == now.written) || not (before.size == now.size)
+differs (Some before) now = not (before.changed == now.changed) || not (before.size == now.size)
 
--- a file that differs is read at that look and at the next one
+abbrev pub next_phase : Phase → Phase
+next_phase Settling = Read
+next_phase Read = Known
+next_phase Known = Known
+
+-- it isn't known whether who writes the file is at work still
+abbrev pub settles : Phase → Bool
+settles Settling = true
+settles Read = false
+settles Known = false
+
+abbrev pub is_settling : LastLook → Bool
+is_settling last = settles last.phase
+
+abbrev pub is_known : Phase → Bool
+is_known Settling = false
+is_known Read = false
+is_known Known = true
+
+-- a file that differs is read at the next two looks at which it is the same; one of which the system says nothing is read each time
 abbrev pub reads : LastLook → Option FileStamp → Bool
-reads last now = differs last.stamp now || last.was_new
+reads last None = true
+reads last (Some now) = if differs last.stamp now then false else not (is_known last.phase)
 
 abbrev pub after_look : LastLook → Option FileStamp → LastLook
-after_look last now = record { stamp = now; was_new = differs last.stamp now }
+after_look last None = record { stamp = None; phase = Known }
+after_look last (Some now) = record { stamp = Some now; phase = if differs last.stamp now then Settling else next_phase last.phase }
 
 -- another content than the one that was looked at last, if one was
 abbrev pub is_other : (last : Option (List ℕ)) → (content : List ℕ) → Bool

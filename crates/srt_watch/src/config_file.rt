@@ -1,7 +1,7 @@
 //! The configuration's file, as a watcher asks for it.
 
 ghost use Rattle.std.specs.Prelude.{◌≡◌, option_map};
-ghost use Rattle.srt_watch.specs.ConfigFile.{differs, is_other, reads, after_look};
+ghost use Rattle.srt_watch.specs.ConfigFile.{differs, is_other, is_settling, next_phase, reads, after_look};
 
 use std::fmt::InlineText;
 
@@ -11,8 +11,9 @@ pub const MAX_REASON: usize = 896;
 /// What the system says of a file without its content.
 #[derive(Clone, Copy, Debug, PartialEq, Eq)]
 pub struct FileStamp {
-    /// When it was written last: nanoseconds since 1970, modulo 2^64.
-    pub written: u64,
+    /// When its content or one of its attributes changed last: nanoseconds since 1970, modulo 2^64. Nobody can set this
+    /// time, as the time of the last writing can be set.
+    pub changed: u64,
     /// Its size in bytes.
     pub size: u64,
 }
@@ -27,15 +28,33 @@ pub trait ConfigFile {
 }
 
 /// Whether a file may have another content than at the look before.
-fn differs(before: Option<FileStamp>, now: Option<FileStamp>) -> bool
+fn differs(before: Option<FileStamp>, now: FileStamp) -> bool
     ensures { result ≡ differs before now }
 {
     match before {
-        Some(before) => match now {
-            Some(now) => before.written != now.written || before.size != now.size,
-            None => true,
-        },
+        Some(before) => before.changed != now.changed || before.size != now.size,
         None => true,
+    }
+}
+
+/// How far a file is that was found to be another one.
+#[derive(Clone, Copy, Debug, PartialEq, Eq)]
+pub(crate) enum Phase {
+    /// It was other than at the look before: who writes it may be at work still.
+    Settling,
+    /// It was the same at two looks, and was read at the second one.
+    Read,
+    /// It was read once more.
+    Known,
+}
+
+// The phase behind one in which a file is found to be the same.
+fn next_phase(phase: Phase) -> Phase
+    ensures { result ≡ next_phase phase }
+{
+    match phase {
+        Phase::Settling => Phase::Read,
+        Phase::Read | Phase::Known => Phase::Known,
     }
 }
 
@@ -44,8 +63,7 @@ fn differs(before: Option<FileStamp>, now: Option<FileStamp>) -> bool
 pub(crate) struct LastLook {
     // what the system said of it
     stamp: Option<FileStamp>,
-    // that was other than at the look before
-    was_new: bool,
+    phase: Phase,
 }
 
 impl LastLook {
@@ -53,21 +71,36 @@ impl LastLook {
     pub(crate) fn none() -> LastLook {
         LastLook {
             stamp: None,
-            was_new: false,
+            phase: Phase::Known,
         }
     }
 
-    /// Whether the file is to be read, by what the system says of it now: if that is other than at the last look, and once
-    /// more at the next one, since a file that is written twice within the unit of the system's times may look the same.
+    /// Whether the file is found to be another one, and isn't read yet: it is to be looked at again soon.
+    pub(crate) fn is_settling(&self) -> bool
+        ensures { result ≡ is_settling self.now }
+    {
+        matches!(self.phase, Phase::Settling)
+    }
+
+    /// Whether the file is to be read, by what the system says of it now. One that is other than at the last look isn't, as
+    /// it may be half written; it is read if it is the same at the next look, and at the one after it, since a file that is
+    /// written twice within the unit of the system's times may look the same. If the system says nothing, reading tells why.
     pub(crate) fn reads(&mut self, stamp: Option<FileStamp>) -> bool
         ensures result { result ≡ reads self.old stamp }
         ensures new { self.new ≡ after_look self.old stamp }
     {
-        let is_new = differs(self.stamp, stamp);
-        let reads = is_new | self.was_new;
+        let before = *self;
         self.stamp = stamp;
-        self.was_new = is_new;
-        reads
+        let Some(now) = stamp else {
+            self.phase = Phase::Known;
+            return true;
+        };
+        if differs(before.stamp, now) {
+            self.phase = Phase::Settling;
+            return false;
+        }
+        self.phase = next_phase(before.phase);
+        !matches!(before.phase, Phase::Known)
     }
 }
 

@@ -20,6 +20,9 @@ use std::io::Write;
 /// The time between two looks at the configuration's file, in microseconds.
 const FILE_LOOK: u64 = 1_000_000;
 
+/// The time from the look that finds another file to the next one, in microseconds: who writes it has to be ready by then.
+const SETTLING: u64 = 50_000;
+
 /// A change that the run is asked for, with all that it takes of memory here.
 #[derive(Drop)]
 pub(crate) struct AskedChange {
@@ -66,16 +69,35 @@ fn copied(alloc: Global, entry: &Entry) -> Result<Entry, AllocError>
     })
 }
 
-// Appends the copy of an entry, and what is kept of its route here.
-fn open_one(
-    alloc: Global,
-    entry: &Entry,
-    opens: &mut Vec<Entry>,
-    opening: &mut Vec<OpeningRoute>,
-) -> Result<(), AllocError> {
-    opens.push(copied(alloc, entry)?)?;
-    opening.push(OpeningRoute::new(alloc, entry)?)?;
-    Ok(())
+// The routes of a change that open, in their order.
+#[derive(Drop)]
+struct Opens {
+    // their entries, for the run
+    entries: Vec<Entry>,
+    // what is kept of them here
+    routes: Vec<OpeningRoute>,
+}
+
+impl Opens {
+    fn add(&mut self, alloc: Global, entry: &Entry) -> Result<(), AllocError> {
+        self.entries.push(copied(alloc, entry)?)?;
+        self.routes.push(OpeningRoute::new(alloc, entry)?)?;
+        Ok(())
+    }
+
+    // Those of a configuration that asks for these changes. Allocates; the error names the route whose memory is refused.
+    fn of(alloc: Global, config: &Config, changes: &Changes) -> Result<Opens, NoRoom> {
+        let mut opened = Opens {
+            entries: Vec::new(alloc),
+            routes: Vec::new(alloc),
+        };
+        for (change, entry) in changes.routes.iter().zip(config.entries.iter()) {
+            if opens(*change) && opened.add(alloc, entry).is_err() {
+                return Err(NoRoom::Route(InlineText::of(entry.name.as_str())));
+            }
+        }
+        Ok(opened)
+    }
 }
 
 /// The configuration that the gateway follows.
@@ -110,13 +132,47 @@ impl<'a, F: ConfigFile + Drop> Following<'a, F> {
         })
     }
 
-    /// What is new in the file, once a second. None if nothing is, or while the run hasn't answered the last change.
+    /// What is new in the file, which is looked at once a second, and sooner while it may be half written. None if nothing
+    /// is, or while the run hasn't answered the last change.
     pub(crate) fn look(&mut self, alloc: Global, moment: u64) -> Option<News> {
         if moment < self.next_look || self.asked.is_some() {
             return None;
         }
-        self.next_look = moment.saturating_add(FILE_LOOK);
-        self.reload.look(alloc)
+        let news = self.reload.look(alloc);
+        let rest = if self.reload.is_settling() {
+            SETTLING
+        } else {
+            FILE_LOOK
+        };
+        self.next_look = moment.saturating_add(rest);
+        news
+    }
+
+    // A change with all that it takes of memory here.
+    fn prepared(
+        &self,
+        alloc: Global,
+        routes: &mut WatchedRoutes,
+        config: Config,
+        changes: Changes,
+        opening: Vec<OpeningRoute>,
+    ) -> Result<AskedChange, AllocError> {
+        let indexes = indexes_after(
+            alloc,
+            changes.routes.as_slice(),
+            self.indexes.as_slice(),
+            routes.used(),
+        )?;
+        let shown = routes.make_room(alloc, opening.len(), config.entries.len())?;
+        let numbers = numbers_of(&changes);
+        Ok(AskedChange {
+            config,
+            changes,
+            numbers,
+            indexes,
+            opening,
+            shown,
+        })
     }
 
     /// Takes all memory that a change needs here, and returns what the run is to be asked for; None if no route opens or
@@ -128,37 +184,21 @@ impl<'a, F: ConfigFile + Drop> Following<'a, F> {
         config: Config,
         changes: Changes,
     ) -> Result<Option<RouteChanges>, NoRoom> {
-        let mut opens_here = Vec::new(alloc);
-        let mut opening = Vec::new(alloc);
-        for (change, entry) in changes.routes.iter().zip(config.entries.iter()) {
-            if opens(*change) && open_one(alloc, entry, &mut opens_here, &mut opening).is_err() {
-                return Err(NoRoom::Route(InlineText::of(entry.name.as_str())));
-            }
-        }
+        let Opens {
+            entries,
+            routes: opening,
+        } = Opens::of(alloc, &config, &changes)?;
         let closes = closing(alloc, &changes, self.indexes.as_slice())?;
-        let indexes = indexes_after(
-            alloc,
-            changes.routes.as_slice(),
-            self.indexes.as_slice(),
-            routes.used(),
-        )?;
-        let shown = routes.make_room(alloc, opening.len(), config.entries.len())?;
-        let numbers = numbers_of(&changes);
-        self.asked = Some(AskedChange {
-            config,
-            changes,
-            numbers,
-            indexes,
-            opening,
-            shown,
-        });
-        if asks_nothing(numbers) {
+        let asked = self.prepared(alloc, routes, config, changes, opening)?;
+        let is_same = asks_nothing(asked.numbers);
+        self.asked = Some(asked);
+        if is_same {
             self.take(alloc, routes);
             return Ok(None);
         }
         Ok(Some(RouteChanges {
             closes,
-            opens: opens_here,
+            opens: entries,
         }))
     }
 

@@ -68,8 +68,13 @@ impl<'a, F: ConfigFile + Drop> Reload<'a, F> {
         self.in_force = Held::Later(config);
     }
 
-    /// Looks at the file. None if it says nothing new: its content is that of the last look, or it can't be read and that
-    /// was told. Reads it and allocates what its configuration takes.
+    /// Whether the file was another one at the last look, and is to be looked at again soon.
+    pub(crate) fn is_settling(&self) -> bool {
+        self.last_look.is_settling()
+    }
+
+    /// Looks at the file. None if it says nothing new: it may be half written, its content is that of the last look, or it
+    /// can't be read and that was told. Reads it and allocates what its configuration takes.
     pub(crate) fn look(&mut self, alloc: Global) -> Option<News> {
         let stamp = self.file.stamp();
         if !self.last_look.reads(stamp) {

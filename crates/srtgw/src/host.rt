@@ -6,8 +6,9 @@ use srt_gateway::BindAddress;
 use srt_operate::{kernel_drops, resident_memory, stop_asked};
 use srt_watch::{ConfigFile, FileStamp, MAX_REASON, Machine};
 use std::fmt::InlineText;
-use std::fs::metadata;
+use std::fs::{Metadata, metadata};
 use std::io::{self, Error, ErrorKind, Write};
+use std::os::unix::fs::MetadataExt;
 use std::rt::Files;
 use std::time::{Clock, Duration, Instant, SystemTime};
 use std::{str, thread};
@@ -92,18 +93,17 @@ impl<'a, R> HostFile<'a, R> {
     }
 }
 
-/// A time in nanoseconds since 1970, modulo 2^64; None if it is before 1970.
-fn nanoseconds(time: SystemTime) -> Option<u64> {
-    let since = time.duration_since(SystemTime::UNIX_EPOCH).ok()?;
-    let whole = since.as_secs().wrapping_mul(1_000_000_000);
-    Some(whole.wrapping_add(u64::from(since.subsec_nanos())))
+/// When a file's content or attributes changed last, in nanoseconds since 1970, modulo 2^64.
+fn changed_at(file: &Metadata) -> u64 {
+    let whole = (file.ctime() as u64).wrapping_mul(1_000_000_000);
+    whole.wrapping_add(file.ctime_nsec() as u64)
 }
 
 impl<R: Files + AllocGlobal> ConfigFile for HostFile<'_, R> {
     fn stamp(&self) -> Option<FileStamp> {
         let found = metadata(self.rt, self.path).ok()?;
         Some(FileStamp {
-            written: nanoseconds(found.modified().ok()?)?,
+            changed: changed_at(&found),
             size: found.len(),
         })
     }

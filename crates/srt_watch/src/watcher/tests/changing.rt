@@ -1,6 +1,7 @@
 //! A watcher that follows a configuration's file, over a file in memory that says something else at each look.
 
 use super::{NOTHING, Watching, assert_lines, start, watcher};
+use crate::config_file::LastLook;
 use crate::indexes::{megabytes_of, reaches_mark};
 use crate::{ConfigFile, FileStamp, MAX_REASON};
 use srt_gateway::{Config, read_config};
@@ -37,7 +38,7 @@ const NEWS: &str =
 const GUEST: &str =
     "[[route]]\nname = \"guest\"\nmode = \"live\"\nlatency_ms = 120\nbuffer = 1024\nsessions = 2\ninbox = 16\noutbox = 136\n";
 
-/// A file that says the next of these texts at each look; one without parts can't be read.
+/// A file that says each of these texts at two looks, and then the next one; one without parts can't be read.
 #[derive(Drop)]
 pub(super) struct Written {
     alloc: Global,
@@ -53,18 +54,24 @@ fn text(alloc: Global, parts: &[&'static str]) -> Result<Vec<u8>, AllocError> {
     Ok(text)
 }
 
+impl Written {
+    // The place of the text that it says at the last look.
+    fn place(&self) -> usize {
+        self.looks.get().saturating_sub(1) / 2
+    }
+}
+
 impl ConfigFile for Written {
     fn stamp(&self) -> Option<FileStamp> {
-        let looks = self.looks.get().saturating_add(1);
-        self.looks.set(looks);
+        self.looks.set(self.looks.get().saturating_add(1));
         Some(FileStamp {
-            written: looks as u64,
+            changed: self.place() as u64,
             size: 0,
         })
     }
 
     fn read(&self) -> Result<Vec<u8>, InlineText<MAX_REASON>> {
-        let parts: &[&'static str] = match self.texts.get(self.looks.get().saturating_sub(1)) {
+        let parts: &[&'static str] = match self.texts.get(self.place()) {
             Some(parts) => *parts,
             None => &[],
         };
@@ -106,9 +113,13 @@ fn follower<'a>(
     Ok(watcher)
 }
 
-/// The change that is asked for at the next look at the file.
+/// The change that is asked for at the next two looks at the file. The first one finds another file, and asks for nothing.
 fn next_change(watcher: &mut Watching<'_>) -> Option<RouteChanges> {
     watcher.machine.moment = watcher.machine.moment.saturating_add(1_000_000);
+    if watcher.change().is_some() {
+        return None;
+    }
+    watcher.machine.moment = watcher.machine.moment.saturating_add(50_000);
     watcher.change()
 }
 
@@ -267,6 +278,24 @@ fn what_the_run_refuses_is_told(rt: HostRuntime) -> Result<(), Fail> {
     assert_lines(&rt, &mut watcher, "");
     assert_page(&rt, &mut watcher, b"s", [0, 2, 1]);
     Ok(())
+}
+
+/// What the system says of a file that changed at this moment.
+fn stamp_at(changed: u64) -> Option<FileStamp> {
+    Some(FileStamp { changed, size: 0 })
+}
+
+#[test]
+fn a_file_that_is_being_written_is_not_read(rt: HostRuntime) {
+    let mut last = LastLook::none();
+    assert!(rt; !last.reads(stamp_at(1)) && last.is_settling());
+    assert!(rt; !last.reads(stamp_at(2)) && last.is_settling());
+    assert!(rt; last.reads(stamp_at(2)) && !last.is_settling());
+    assert!(rt; last.reads(stamp_at(2)));
+    assert!(rt; !last.reads(stamp_at(2)) && !last.is_settling());
+    assert!(rt; last.reads(None) && !last.is_settling());
+    assert!(rt; last.reads(None));
+    assert!(rt; !last.reads(stamp_at(2)) && last.is_settling());
 }
 
 #[test]
