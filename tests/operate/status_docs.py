@@ -106,7 +106,7 @@ def prometheus_scrapes():
             found = server.value("count(srtgw_route_sessions)")
             expect(found == 4, f"two roles of two routes are {found} series")
             loaded = server.answer("rules")
-            expect(loaded and len(loaded["groups"][0]["rules"]) == 5, f"the rules that it has are {loaded}")
+            expect(loaded and len(loaded["groups"][0]["rules"]) == 7, f"the rules that it has are {loaded}")
             run.stop()
             expect(server.becomes('up{job="srtgw"}', 0, 10), "Prometheus doesn't see that it is gone")
 
