@@ -3,7 +3,8 @@ use Rattle.std.specs.Prelude.{ℕ, ◌==◌, Bool, true, false, not, ◌||◌, L
 use Rattle.std.specs.Str.{bytes_eq}
 use Rattle.srt_watch.specs.declared.config_file.FileStamp.{FileStamp}
 use Rattle.srt_watch.specs.declared.config_file.LastLook.{LastLook}
-use Rattle.srt_watch.specs.declared.config_file.Phase.{Phase, Settling, Read, Known}
+use Rattle.srt_watch.specs.declared.config_file.Phase.{Phase}
+use Rattle.srt_watch.specs.declared.config_file.Phase.TheVariants.{Settling, Read, Known}
 
 -- the content may be another one: size or time differ, or it is the first look
 abbrev pub differs : (before : Option FileStamp) → (now : FileStamp) → Bool
