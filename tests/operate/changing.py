@@ -13,7 +13,7 @@ from cases import case
 from expecting import expect, expect_refusal, expect_run, publish
 from lines import ended_line, opened_line, took_over_line
 from machine import free_port
-from running import SECRET, Run, Shown, Skipped, configuration, expect_polite, live
+from running import SECRET, Run, Shown, Skipped, configuration, expect_polite, launcher, live
 
 LOOK = 4.0  # The file is looked at each second, and a change of it is made then. A line that is there sooner is found sooner.
 CLOSED = 4.0  # From a line that says that a route closes until its callers know it.
@@ -347,9 +347,24 @@ def unreadable():
             run.line("configuration can't be read: larger than 65536 bytes", LOOK, before)
             before = written(run, good)
             expect_silent(run, before)
-        os.unlink(run.file)
-        os.mkdir(run.file)
-        run.line(r"configuration can't be read: Is a directory \(os error 21\)", LOOK, before)
+        for makes, unmakes, why in ((os.mkdir, os.rmdir, r"Is a directory \(os error 21\)"), (os.mkfifo, os.unlink, "it is a pipe or a device")):
+            os.unlink(run.file)
+            makes(run.file)
+            run.line(f"configuration can't be read: {why}", LOOK, before)
+            unmakes(run.file)
+            before = written(run, good)
+            expect_silent(run, before)
+        expect_polite(run.stop(), ["studio"])
+
+
+@case("a configuration that comes by a pipe is read once")
+def from_a_pipe():
+    words = ["bash", "-c", f"exec {launcher()} run <(cat gateway.toml) --no-time"]
+    with Run([live("studio")], command=words) as run:
+        run.is_up()
+        air = OnAir(run, "studio")
+        expect_silent(run, 0, 3)
+        air.end()
         expect_polite(run.stop(), ["studio"])
 
 

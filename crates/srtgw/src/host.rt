@@ -86,10 +86,21 @@ pub struct HostFile<'a, R> {
     path: &'a str,
 }
 
-impl<'a, R> HostFile<'a, R> {
-    /// The one at this path.
-    pub fn new(rt: &'a R, path: &'a str) -> HostFile<'a, R> {
-        HostFile { rt, path }
+/// Whether a pipe or a device is at this path: what comes of one can be read once, and reading may wait for ever.
+fn is_pipe_at(rt: &impl Files, path: &str) -> bool {
+    match metadata(rt, path) {
+        Ok(found) => !found.is_file() && !found.is_dir(),
+        Err(_) => false,
+    }
+}
+
+impl<'a, R: Files> HostFile<'a, R> {
+    /// The one at this path. None if a pipe or a device is there, which can't be followed.
+    pub fn at(rt: &'a R, path: &'a str) -> Option<HostFile<'a, R>> {
+        if is_pipe_at(rt, path) {
+            return None;
+        }
+        Some(HostFile { rt, path })
     }
 }
 
@@ -109,6 +120,9 @@ impl<R: Files + AllocGlobal> ConfigFile for HostFile<'_, R> {
     }
 
     fn read(&self) -> Result<Vec<u8>, InlineText<MAX_REASON>> {
+        if is_pipe_at(self.rt, self.path) {
+            return Err(InlineText::of("it is a pipe or a device"));
+        }
         match read_file(self.rt, self.path, MAX_CONFIG) {
             Ok(content) => Ok(content),
             Err(unread) => Err(InlineText::of(unread)),

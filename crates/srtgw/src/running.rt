@@ -157,11 +157,10 @@ where
     ) else {
         return Err(Fault::Memory);
     };
-    if watcher
-        .follow(config, HostFile::new(machine, path))
-        .is_err()
-    {
-        return Err(Fault::Memory);
+    if let Some(file) = HostFile::at(machine, path) {
+        if watcher.follow(config, file).is_err() {
+            return Err(Fault::Memory);
+        }
     }
     for warning in explained.warnings.iter() {
         if watcher.warn(explained.text_of(*warning)).is_err() {
