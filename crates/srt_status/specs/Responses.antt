@@ -50,7 +50,7 @@ health_text method polling =
 unfoldable pub overview_text : Method → (page : List ℕ) → List ℕ
 overview_text method page =
     response_text (codes "200 OK")
-    (codes "Content-Type: text/html; charset=utf-8\r\nContent-Security-Policy: default-src 'none'; connect-src 'self'; script-src 'sha256-4oEVOZMlXdgPC9Y8wb79qDFr6hYBPmX51i3AwW4wXu8='; style-src 'sha256-1U9ngPV8bIACa4lT+qDjAglBgvIKv0406B7dB5mKhsQ='; base-uri 'none'; form-action 'none'; frame-ancestors 'none'\r\n")
+    (codes "Content-Type: text/html; charset=utf-8\r\nContent-Security-Policy: default-src 'none'; connect-src 'self'; script-src 'sha256-glDJ0ROEkiWI+dc6gnzdSIVUHjvFALFEGF8Emwb3+tg='; style-src 'sha256-ZdMAgURMM9m33Ln7ZysFyOigbpzF4Wc+XiyzqYoP4hQ='; base-uri 'none'; form-action 'none'; frame-ancestors 'none'\r\n")
     method page
 
 -- the figures
