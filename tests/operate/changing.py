@@ -320,8 +320,13 @@ def fixed_keys():
         air = OnAir(run, "studio")
         end = "; restart it to change it"
         both = [live("studio"), live("news", **SMALL)]
-        refused(run, text_of(run, both, workers=3), re.escape(f"workers can't change while the gateway runs{end}"))
-        other = configuration(both, free_port(), 3, f"127.0.0.1:{free_port()}").replace(SECRET, bytes(range(32)).hex())
+        page, secret = f"127.0.0.1:{free_port()}", bytes(range(32)).hex()
+        text = text_of(run, both)
+        changes = dict(bind=configuration(both, free_port()), workers=text_of(run, both, workers=3), status=text_of(run, both, status=page),
+                       secret=text.replace(SECRET, secret))
+        for key, other in changes.items():
+            refused(run, other, re.escape(f"{key} can't change while the gateway runs{end}"))
+        other = configuration(both, free_port(), 3, page).replace(SECRET, secret)
         refused(run, other, re.escape(f"bind can't change while the gateway runs (also: workers, status, secret){end}"))
         expect_refusal(1002, Caller(run.address, "news"), "a route of a file that wasn't taken")
         before = written(run, text_of(run, [live("studio")]))
