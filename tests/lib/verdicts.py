@@ -73,10 +73,16 @@ def are_known(crate: Crate) -> bool:
     return kept().get(crate.name) == checksums_of(crate)
 
 
-def shows_all(result: trying.Result) -> bool:
-    """Whether a result has a refusal of each edit of the crate's folder in tests/edits, and nothing that is wrong."""
-    edits = [os.path.basename(it) for it in trying.edits_of(result.crate, outside_only=True)]
-    return not result.wrong() and not set(edits) - set(result.edits(trying.REFUSED))
+def why_not_all(result: trying.Result) -> str:
+    """Why a result doesn't show that each edit of the crate's folder in tests/edits is refused for its meaning, or an empty text."""
+    if result.wrong():
+        return "not all is as it must be"
+    by_name = [it.copy.edit for it in result.outcomes if it.by_name]
+    if by_name:
+        return f"{by_name[0]} is refused only by a name that is gone"
+    edits = {os.path.basename(it) for it in trying.edits_of(result.crate, outside_only=True)}
+    untried = sorted(edits - set(result.edits(trying.REFUSED)))
+    return f"{untried[0]} wasn't tried" if untried else ""
 
 
 def commit() -> str:
