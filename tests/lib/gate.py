@@ -8,9 +8,11 @@ import time
 from concurrent.futures import ThreadPoolExecutor
 
 import trying
+import verdicts
 from machine import Meter
 from parts import OF_FILES, PARTS, QUICK, Count, all_of, counted, note_failed
 from tree import PROGRAM, TOP, Crate, above, crates, files_of, read
+from trying import Plan
 
 TEST = re.compile(r"(?m)^\s*#\[test\]")
 
@@ -33,15 +35,20 @@ def verdict() -> Count:
     return counted(["rt", "ci"], r"(\d+) passed, (\d+) failed")
 
 
-def wrong_bodies(wanted: list[Crate], outside_only: bool) -> Count:
-    """Tries the edits of these crates beside one another: those of tests/edits alone, or those of must-fail/ that can be tried so too."""
+def wrong_bodies(plans: list[Plan]) -> Count:
+    """Tries these plans of edits. What isn't tried isn't counted."""
     count = Count()
-    for it in trying.try_all(wanted, outside_only=outside_only):
+    for it in trying.try_all(plans):
         trying.tell(it)
         for wrong in it.wrong():
             note_failed(f"edits of {it.crate}: {wrong}")
         count = count.and_also(Count(len(it.edits(trying.REFUSED)), len(it.wrong())))
     return count
+
+
+def plan_of_all(crate: Crate) -> Plan:
+    """All edits of a crate in tests/edits, with unchanged copies where these weren't proved as they stand."""
+    return trying.plan_of(crate, trying.edits_of(crate.name, outside_only=True), verdicts.needs_controls(crate))
 
 
 def changed() -> list[Crate]:
@@ -82,7 +89,7 @@ def of_crates(names: list[str]) -> Count:
     section("edits one by one")
     good = subprocess.run(["rt", "must-fail", *(it.name for it in wanted)], cwd=TOP).returncode == 0
     section("edits beside one another")
-    return all_of([count, Count(int(good), int(not good)), wrong_bodies(wanted, outside_only=True)])
+    return all_of([count, Count(int(good), int(not good)), wrong_bodies([plan_of_all(it) for it in wanted])])
 
 
 def print_minutes(minutes: dict[str, float], began: float) -> None:
@@ -94,7 +101,8 @@ def print_minutes(minutes: dict[str, float], began: float) -> None:
 
 
 def whole() -> Count:
-    """The gate. What needs no proof runs before the wrong bodies, so that a plain mistake is seen early."""
+    """The gate. What needs no proof runs before the wrong bodies, so that a plain mistake is seen early. Of these it tries all of
+    each crate for which the verdicts may be others than those that were kept, and a sample of the others."""
     began, meter = time.monotonic(), Meter()
     meter.start()
     count = all_of([PARTS[it]() for it in OF_FILES])
@@ -105,6 +113,6 @@ def whole() -> Count:
             section(name)
             count = count.and_also(PARTS[name]())
         section("wrong bodies, beside one another")
-        count = count.and_also(wrong_bodies(list(crates().values()), outside_only=True))
+        count = count.and_also(wrong_bodies(verdicts.plans_of_gate(crates().values())))
     print_minutes(meter.stop(), began)
     return count

@@ -15,9 +15,8 @@ import copying
 import placing
 from copying import Copy
 from placing import Placed
-from tree import SOURCES, TOP, Crate, read, sum_of, write, files_of
+from tree import SOURCES, TOP, Crate
 
-CONTROLS = f"{TOP}/tests/edits/controls"
 # The most copies that one run of the prover judges, and the memory that such a run may take, in bytes. A run reads the libraries
 # and proves what its copies call, so few and large ones cost less; one of 29 copies took half of this memory.
 MOST = 36
@@ -38,6 +37,16 @@ class Batch(NamedTuple):
     placed: list[Placed] = []
 
 
+class Plan(NamedTuple):
+    """What is to be tried of a crate: its batches, why its other edits can't be tried beside others, by their paths, and of how many
+    edits it is known that they were refused at the same content."""
+
+    crate: str
+    batches: list[Batch]
+    alone: dict[str, str]
+    known: int = 0
+
+
 class Outcome(NamedTuple):
     """What became of a copy, or of an edit in its place, and whether it was refused only since a proof names what the edit took away."""
 
@@ -47,12 +56,15 @@ class Outcome(NamedTuple):
 
 
 class Result(NamedTuple):
-    """What a crate's edits came to, and what the prover said of each batch that left something unknown."""
+    """What became of a plan, and what the prover said of each batch that left something unknown."""
 
-    crate: str
+    plan: Plan
     outcomes: list[Outcome]
-    alone: dict[str, str]
     unclear: list[str]
+
+    @property
+    def crate(self) -> str:
+        return self.plan.crate
 
     def edits(self, result: str) -> list[str]:
         return [it.copy.edit for it in self.outcomes if it.copy.edit and it.result == result]
@@ -83,26 +95,6 @@ def edits_of(crate: str, outside_only: bool = False) -> list[str]:
     return inside + sorted(glob.glob(f"{TOP}/tests/edits/{crate}/*.edit"))
 
 
-def stamp_of(crate: Crate) -> str:
-    """A checksum of what the controls of a crate's copies rest on: its sources, its edited functions, and the copying."""
-    copies, _ = copying.copies_of(crate.folder, edits_of(crate.name))
-    functions = sorted({f"{it.of.path} {it.of.owner} {it.of.name}" for it in copies})
-    return sum_of([*files_of(crate.folder), copying.__file__], "\n".join(functions))
-
-
-def stamps() -> dict[str, str]:
-    """For each crate the stamp at which its controls were proved last."""
-    if not os.path.isfile(CONTROLS):
-        return {}
-    return dict(line.split() for line in read(CONTROLS).splitlines() if line and not line.startswith("#"))
-
-
-def keep_stamps(new: dict[str, str]) -> None:
-    """Writes down the stamps of crates whose controls were proved."""
-    head = "# For each crate the checksum of the sources and edited functions whose unchanged copies were all proved (tests/edits/README.md).\n"
-    write(CONTROLS, head + "".join(f"{crate} {stamp}\n" for crate, stamp in sorted({**stamps(), **new}.items())))
-
-
 def trials_of(crate: Crate, edits: list[str]) -> tuple[list[Copy], list[Placed], dict[str, str]]:
     """The copies that can be made of these edits of a crate, those of the others that can be judged in their places, and why the
     rest can't be judged beside others, by the edits' paths."""
@@ -127,6 +119,19 @@ def rounds_of(crate: str, placed: list[Placed]) -> list[Batch]:
             rounds.append(free := [])
         free.append(it)
     return [Batch(crate, [], those) for those in [*rounds, *([it] for it in placed if it.is_law)]]
+
+
+def plan_of(crate: Crate, edits: list[str], with_controls: bool) -> Plan:
+    """These edits of a crate, beside unchanged copies if these are wanted too."""
+    copies, placed, alone = trials_of(crate, edits)
+    controls = copying.controls_of(crate.folder, copies) if with_controls else []
+    return Plan(crate.name, batches_of(crate.name, copies + controls) + rounds_of(crate.name, placed), alone)
+
+
+def is_built_below(crate: Crate) -> bool:
+    """Whether the libraries below a crate are built from the sources as they stand."""
+    it = next(it for it in toolchain().crates_below(TOP) if it.name == crate.name)
+    return all(library.is_built() for library in it.below())
 
 
 def checked(rtlib: Any, batch: Batch) -> str:
@@ -183,42 +188,38 @@ def judged_in_parts(rtlib: Any, batch: Batch) -> list[tuple[list[Outcome], str]]
     return [it for part in parts for it in judged_in_parts(rtlib, part)]
 
 
-def lanes() -> int:
+def free_lanes() -> int:
     """How many runs of the prover have a processor and memory each."""
     with open("/proc/meminfo") as file:
         free = next(int(line.split()[1]) * 1024 for line in file if line.startswith("MemAvailable:"))
     return max(1, min(len(os.sched_getaffinity(0)), free // MEMORY))
 
 
-def try_all(crates: Iterable[Crate], with_controls: bool | None = None, outside_only: bool = False) -> Iterator[Result]:
-    """Tries the edits of these crates by copies, over the libraries that are built; those of tests/edits alone, if `outside_only`.
-    Controls are tried too if that is asked for; if nothing is said, for each crate whose stamp isn't the one at which its controls
-    were proved last. Gives each crate's result, in order, as soon as it is there."""
-    rtlib, kept = toolchain(), stamps()
+def try_all(plans: Iterable[Plan], lanes: int = 0) -> Iterator[Result]:
+    """Tries these plans over the libraries that are built, with so many runs of the prover at a time, or as many as the machine
+    carries. Gives each crate's result, in order, as soon as it is there."""
+    rtlib, plans = toolchain(), list(plans)
     rtlib.guarded()
-    prepared = []
-    for crate in crates:
-        copies, placed, alone = trials_of(crate, edits_of(crate.name, outside_only))
-        needs = with_controls if with_controls is not None else kept.get(crate.name) != stamp_of(crate)
-        batches = batches_of(crate.name, copies + (copying.controls_of(crate.folder, copies) if needs else []))
-        prepared.append((crate, alone, batches + rounds_of(crate.name, placed)))
-    with ThreadPoolExecutor(lanes()) as pool:
+    with ThreadPoolExecutor(lanes or free_lanes()) as pool:
         # The runs of the upper crates take longest, so they begin first.
-        begun = {crate: [(it, pool.submit(judged_in_parts, rtlib, it)) for it in batches] for crate, _, batches in reversed(prepared)}
-        for crate, alone, _ in prepared:
-            judged = [part for _, ran in begun[crate] for part in ran.result()]
+        begun = {plan.crate: [pool.submit(judged_in_parts, rtlib, it) for it in plan.batches] for plan in reversed(plans)}
+        for plan in plans:
+            judged = [part for ran in begun[plan.crate] for part in ran.result()]
             found = [it for outcomes, _ in judged for it in outcomes]
             unclear = [text for outcomes, text in judged if any(it.result == UNKNOWN for it in outcomes)]
-            yield Result(crate.name, found, alone, unclear)
+            yield Result(plan, found, unclear)
 
 
 def tell(result: Result) -> None:
     """Prints a crate's line, and what the prover said last if nothing is known of some copy."""
-    wrong, refused = result.wrong(), result.edits(REFUSED)
+    wrong, refused, known = result.wrong(), result.edits(REFUSED), result.plan.known
     by_name = [it.copy.edit for it in result.outcomes if it.by_name]
     controls = sum(not it.copy.edit for it in result.outcomes)
     beside = f", beside {controls} unchanged copies that are proved" if controls else ""
+    sample = f", a sample of {known} that were refused before at this content" if known else ""
     names = f"; only by a name that is gone: {', '.join(by_name)}" if by_name else ""
-    print(f"edits of {result.crate}: " + (f"wrong: {wrong}" if wrong else f"ok, {len(refused)} refused beside others{beside}{names}"), flush=True)
+    tried = f"ok, {len(refused)} refused beside others{beside}{sample}{names}"
+    said = tried if result.outcomes or not known else f"not tried: {known} were refused before at this content"
+    print(f"edits of {result.crate}: " + (f"wrong: {wrong}" if wrong else said), flush=True)
     for text in result.unclear:
         print(text[-3000:], flush=True)
