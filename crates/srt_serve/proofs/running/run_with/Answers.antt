@@ -1,4 +1,4 @@
-use Rattle.std.proofs.Common.{◌≡◌, ◌∙◌, ◌++◌, true, false, sym, ap, subst, List, map, take, length, arith}
+use Rattle.std.proofs.Common.{◌≡◌, ◌∙◌, ◌++◌, true, false, sym, ap, subst, List, take, length, arith}
 use Rattle.std.proofs.lemmas.List.{length-map}
 use denote.Param.Send.{sendable}
 use Rattle.srt_seq.specs.Terms.{terms_of}
@@ -36,9 +36,8 @@ serve_routes-requires-clause-room g c κs within some =
 
 pub began_with-requires : goal.began_with-requires
 began_with-requires g c =
-    let locks : locks_of _ ≡ locks_of _ =
-    same_places _ _ _ _ _ _ _ _ _ _ _ _ _ _ _ _ _ _ _ _ c.in-Some.ensures.pumped ∙ ap locks_of c.in-Ok-new.ensures.0 in
-    c.in-Ok-open_routes.ensures.put.0 ∙ ap (take (length _)) (sym locks)
+    c.in-Ok-open_routes.ensures.put.0
+    ∙ ap (take _) (sym (same_places _ _ _ _ _ _ _ _ _ _ _ _ _ _ _ _ _ _ _ _ c.in-Some.ensures.pumped ∙ ap locks_of c.in-Ok-new.ensures.0))
 
 pub came_to_all-requires : goal.came_to_all-requires
 came_to_all-requires g c =
@@ -48,8 +47,9 @@ came_to_all-requires g c =
 pub settle_routes-requires-clause-joined : goal.settle_routes-requires-clause-joined
 settle_routes-requires-clause-joined g c =
     changed_joined _ _ _ _ _ _ _ _ _ _ _ _ _ _ _ _ c.in-Ok-came_to_all.ensures.0 _ _ _ _ _
-    (subst (λ (ns : List CellIdentity). AreOpened ns _) (ap came (sym c.in-Ok-new.ensures.0)) c.in-Ok-open_routes.ensures.opened)
-    c.in-Some.new.polling.openings.indexed c.in-Some.ensures.pumped
+    (subst (λ (ns : List CellIdentity). AreOpened ns c.in-Ok-open_routes.opened.ends.items) (ap came (sym c.in-Ok-new.ensures.0))
+    c.in-Ok-open_routes.ensures.opened)
+    c.serve_routes.new.polling.openings.indexed c.in-Some.ensures.pumped
     (all_ticked _ _ _ _ _ _ _ _ _ c.in-Some.ensures.ticked.1 c.in-Ok-open_routes.ensures.clocks c.take_new.ensures.taken.1
     c.take_new.ensures.taken.2)
     c.in-Ok-came_to_all.ensures.1
@@ -63,11 +63,14 @@ returns-clause-fixed g c off =
     (let bad : false ≡ true = sym off ∙ c.in-Ok.ensures.post.0 (sym c.as_ref-told.ensures.variant ∙ some) in cc) in
     ran_for _ _ _ _ _ _ _ _ (λ some. c.in-Ok.ensures.post.0 (sym c.as_ref-told.ensures.variant ∙ some)) (
     let grew = c.in-Ok-began_with.ensures.began.1 in
-    ran_fixed _ _ _ _ _ _ _ _ _ _ _ _ _ _ _ _ _ _ _ _ c.in-Ok-began_with.ensures.began.0 c.in-Ok-came_to_all.ensures.0 _ _ _ _ _ unknown (few_entries _ c.requires.entries) c.in-Ok.ensures.names
+    ran_fixed _ _ _ _ _ _ _ _ _ _ _ _ _ _ _ _ _ _ _ _ c.in-Ok-began_with.ensures.began.0 c.in-Ok-came_to_all.ensures.0 _ _ _ _ _
+    unknown (few_entries _ c.requires.entries) c.in-Ok.ensures.names
     (ap terms_in (ap came c.in-Ok-new.ensures.0) ∙ c.in-Ok-open_routes.ensures.entries)
-    (subst (λ (ns : List CellIdentity). AreOpened ns _) (ap came (sym c.in-Ok-new.ensures.0)) c.in-Ok-open_routes.ensures.opened)
-    c.in-Some.new.polling.openings.indexed
-    (grew ∙ ap (λ (ns : List CellIdentity). ns ++ _) (c.in-Ok-open_routes.ensures.put.1 ∙ sym (ap came c.in-Ok-new.ensures.0)))
+    (subst (λ (ns : List CellIdentity). AreOpened ns c.in-Ok-open_routes.opened.ends.items) (ap came (sym c.in-Ok-new.ensures.0))
+    c.in-Ok-open_routes.ensures.opened)
+    c.serve_routes.new.polling.openings.indexed
+    (grew ∙ ap (λ (ns : List CellIdentity). ns ++ c.in-Ok-began_with.ensures.began.0)
+    (c.in-Ok-open_routes.ensures.put.1 ∙ sym (ap came c.in-Ok-new.ensures.0)))
     c.in-Some.ensures.pumped c.in-Some.ensures.ticked.1.1
     (all_ticked _ _ _ _ _ _ _ _ _ c.in-Some.ensures.ticked.1 c.in-Ok-open_routes.ensures.clocks c.take_new.ensures.taken.1
     c.take_new.ensures.taken.2)
@@ -76,11 +79,14 @@ returns-clause-fixed g c off =
 pub returns-clause-changing : goal.returns-clause-changing
 returns-clause-changing g c on =
     let grew = c.in-Ok-began_with.ensures.began.1 in
-    ran_changing _ _ _ _ _ _ _ _ _ _ _ _ _ _ _ _ _ _ _ _ c.in-Ok-began_with.ensures.began.0 c.in-Ok-came_to_all.ensures.0 _ _ _ _ _ (c.as_ref-told.ensures.variant ∙ c.in-Ok.ensures.post.1 on) c.in-Ok-began_with.ensures.few c.in-Ok.ensures.names
+    ran_changing _ _ _ _ _ _ _ _ _ _ _ _ _ _ _ _ _ _ _ _ c.in-Ok-began_with.ensures.began.0 c.in-Ok-came_to_all.ensures.0 _ _ _ _ _
+    (c.as_ref-told.ensures.variant ∙ c.in-Ok.ensures.post.1 on) c.in-Ok-began_with.ensures.few c.in-Ok.ensures.names
     (ap terms_in (ap came c.in-Ok-new.ensures.0) ∙ c.in-Ok-open_routes.ensures.entries)
-    (subst (λ (ns : List CellIdentity). AreOpened ns _) (ap came (sym c.in-Ok-new.ensures.0)) c.in-Ok-open_routes.ensures.opened)
-    c.in-Some.new.polling.openings.indexed
-    (grew ∙ ap (λ (ns : List CellIdentity). ns ++ _) (c.in-Ok-open_routes.ensures.put.1 ∙ sym (ap came c.in-Ok-new.ensures.0)))
+    (subst (λ (ns : List CellIdentity). AreOpened ns c.in-Ok-open_routes.opened.ends.items) (ap came (sym c.in-Ok-new.ensures.0))
+    c.in-Ok-open_routes.ensures.opened)
+    c.serve_routes.new.polling.openings.indexed
+    (grew ∙ ap (λ (ns : List CellIdentity). ns ++ c.in-Ok-began_with.ensures.began.0)
+    (c.in-Ok-open_routes.ensures.put.1 ∙ sym (ap came c.in-Ok-new.ensures.0)))
     c.in-Some.ensures.pumped c.in-Some.ensures.ticked.1.1
     (all_ticked _ _ _ _ _ _ _ _ _ c.in-Some.ensures.ticked.1 c.in-Ok-open_routes.ensures.clocks c.take_new.ensures.taken.1
     c.take_new.ensures.taken.2)
