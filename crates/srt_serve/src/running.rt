@@ -365,8 +365,13 @@ where
 /// it the routes if it looks. After all threads have ended and before the routes are settled, each route is shown once
 /// more, and the refusals that are left are told. After each rest the watcher is asked for a change of the routes too
 /// (`Watch::change`): those that open get the next of the 511 indexes, and callers find them from one of the next rounds on, once
-/// no other shown route has their name; those that close are offered Close from then on. The threads end whatever the watcher does; but one that rests for long
-/// delays that, as a ticker that waits does.
+/// no other shown route has their name; those that close are offered Close from then on. The threads end whatever the
+/// watcher does; but one that rests for long delays that, as a ticker that waits does.
+///
+/// The accounts are those of the routes that the poller came to, in the order of their indexes: of the entries, and of
+/// the routes that it took at the beginning of a round. A route that the watching thread opens after the poller took
+/// routes for the last time has no account, and the contract says nothing of it. No caller has found it, and the watcher
+/// is shown it after the run.
 pub fn run_until<R, S: Source, W: Wire, K, G, T>(
     rt: &R,
     alloc: Global,
