@@ -5,7 +5,7 @@ use Rattle.std.proofs.lemmas.Bool.{cases_lt}
 use Rattle.std.proofs.lemmas.List.{get_or_append_left, length-append}
 use Rattle.srt_mailbox.specs.Cells.{CellIdentity}
 use Rattle.srt_poller.specs.declared.ends.Ends.{Ends}
-use Rattle.srt_serve.specs.Arrived.{AreIndexed}
+use Rattle.srt_serve.specs.inside.Arrived.{AreIndexed}
 use Rattle.srt_serve.specs.Opened.{AreOpened}
 
 some_of : {X : Type 0} (xs : List X) (r : ℕ) → r < length xs → X

@@ -19,7 +19,7 @@ use Rattle.srt_poller.specs.Openings.{NewRoute, ToldRoute, told_route, names_in,
 use Rattle.srt_poller.specs.Plans.{ArePlans, texts_of}
 use Rattle.srt_poller.specs.Pumped.{PumpedUnder, before, after}
 use Rattle.srt_poller.proofs.Replanning.{plans_as}
-use Rattle.srt_serve.specs.Arrived.{AreIndexed, told_of}
+use Rattle.srt_serve.specs.inside.Arrived.{AreIndexed, told_of}
 use Rattle.srt_serve.specs.NamesAtStart.{first_names}
 use Rattle.srt_serve.specs.Opened.{IsOpened, AreOpened, terms_in, new_clock, new_clocks}
 use Rattle.srt_serve.specs.Ran.{RanChanging, RanUnder, RanUnderFrom, told_by, names_before}

@@ -2,7 +2,6 @@ pub mod inside
 pub mod Ticks
 pub mod NamesAtStart
 pub mod Opened
-pub mod Arrived
 pub mod Settled
 pub mod Callers
 pub mod Ran

@@ -5,7 +5,7 @@ ghost use Rattle.srt_seq.specs.Terms.{terms_of};
 ghost use Rattle.srt_lobby.specs.Names.{as_hidden, name_of, new_name};
 ghost use Rattle.srt_mailbox.specs.Identities.{identity_in};
 ghost use Rattle.srt_mailbox.specs.Places.{came, locks_of};
-ghost use Rattle.srt_serve.specs.Arrived.{AreIndexed, told_of};
+ghost use Rattle.srt_serve.specs.inside.Arrived.{AreIndexed, told_of};
 ghost use Rattle.srt_serve.specs.Opened.{new_clocks};
 
 use crate::bit_set::AtomicBitSet;
@@ -154,7 +154,7 @@ impl<'a, 'n> PollerArrivals<'a, 'n> {
 
 impl Openings for PollerArrivals<'_, '_> {
     ghost use Rattle.std.specs.Prelude.{Some};
-    ghost use Rattle.srt_serve.specs.Arrived.{marked};
+    ghost use Rattle.srt_serve.specs.inside.Arrived.{marked};
 
     ghost came = { λ s. Some (map told_of (came s.reader)) };
 
