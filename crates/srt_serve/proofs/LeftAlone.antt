@@ -1,5 +1,6 @@
 -- A route that is left as it was.
-use Rattle.std.proofs.Common.{◌≡◌, ℕ, zero, suc, ◌<◌, ◌==◌, ◌&&◌, ◌||◌, Bool, true, false, Option, None, Some, List, [], ◌∷◌, ◌++◌, length, map, slice_get, get_or}
+use Rattle.std.proofs.Common.{◌≡◌, ℕ, zero, suc, ◌<◌, ◌==◌, ◌&&◌, ◌||◌, Bool, true, false, Option, None, Some}
+use Rattle.std.proofs.Common.{List, [], ◌∷◌, ◌++◌, length, map, slice_get, get_or}
 use Rattle.std.proofs.Common.{◌⊎◌, inl, inr, refl, sym, ap, subst, ◌∙◌, append-nil, arith}
 use Rattle.std.specs.Prelude.{if◌then◌else◌}
 use Rattle.std.specs.List.{list_any}
@@ -23,8 +24,10 @@ use Rattle.srt_poller.specs.Plans.{texts_of, IsAlone, is_asked, Became, IsPlanOf
 use Rattle.srt_serve.specs.NamesAtStart.{until, later_hidden, first_names}
 use Rattle.srt_serve.specs.Unchanged.{sorted_by, sorted_to, missed_by, missed, is_received, received, item_of, OwnScheduleDecides, AcceptedAreSorted}
 use Rattle.srt_serve.specs.Unchanged.{closes_route, beginning_by, beginnings, own_marks, LeftAsItWas, NothingChanged, ChangingRunsAreSo, UnchangingRunsAreSo}
-use Rattle.srt_serve.specs.Unchanged.{is_closed_in, HeardAlike, SortsByOwnName, NamesAreAlone, RefusedChangesNothing, AsIfNothingHappened}
+use Rattle.srt_serve.specs.Unchanged.{is_closed_in, HeardAlike, SortsByOwnName}
+use Rattle.srt_serve.specs.Unchanged.{NamesAreAlone, RefusedChangesNothing, AsIfNothingHappened, SentAsIfNothingHappened}
 use Rattle.srt_serve.proofs.NamesAtStart.{as_many_later, texts_at_start}
+use Rattle.srt_serve.proofs.Isolation.{routes_are_isolated, same_items_are_taken}
 use Rattle.srt_serve.proofs.OwnNames.{lobby_sorts_by_own_name}
 use Rattle.srt_serve.proofs.Sorted.{some_same, same_texts, sorted_alike}
 use Rattle.srt_serve.proofs.Marks.{marks_are_own}
@@ -260,21 +263,32 @@ refused_changes_nothing schedules entries t sound many is =
     }
 
 pub as_if_nothing_happened : AsIfNothingHappened
-as_if_nothing_happened secret schedules entries came asked t u sound changing unchanging class class' calls_are r terms s there at alone unasked begin =
-    let is = (left_as_it_was schedules entries came asked t changing r terms s there at unasked alone).0 in
+as_if_nothing_happened secret schedules entries came asked t u r terms s h =
+    let is = (left_as_it_was schedules entries came asked t h.changing r terms s h.there h.scheduled h.unasked h.alone).0 in
     let alone_there : IsAlone (texts_of u.names) r =
-    subst (λ (ns : List RouteName). IsAlone (texts_of ns) r) (sym unchanging.names_are) (names_are_alone schedules entries sound r) in
-    let is' = (nothing_changed schedules entries u unchanging r terms s there at alone_there).0 in
+    subst (λ (ns : List RouteName). IsAlone (texts_of ns) r) (sym h.unchanging.names_are) (names_are_alone schedules entries h.sound r) in
+    let is' = (nothing_changed schedules entries u h.unchanging r terms s h.there h.scheduled alone_there).0 in
     let heard : HeardAlike t u =
     record {
-      sorts = subst SortsByOwnName (sym class) (lobby_sorts_by_own_name secret);
-      same_class = class' ∙ sym class;
-      same_calls = calls_are;
+      sorts = subst SortsByOwnName (sym h.sorts) (lobby_sorts_by_own_name secret);
+      same_class = h.sorts_there ∙ sym h.sorts;
+      same_calls = h.same_calls;
     } in
     let sorted : sorted_to r t.events ≡ sorted_to r u.events =
-    own_schedule_decides t u r (until s.open_round (name_of terms)) s changing.ran.follow unchanging.ran.follow heard is is' begin in (
+    own_schedule_decides t u r (until s.open_round (name_of terms)) s h.changing.ran.follow h.unchanging.ran.follow heard is is' h.same_beginnings in (
       sorted,
+      λ none none'.
+          received_are_sorted r t.events none ∙ ap (map item_of) sorted
+          ∙ sym (received_are_sorted r u.events none'),
       λ none none' still.
           open_are_sorted r t.events none still ∙ ap (map item_of) sorted
-          ∙ sym (open_are_sorted r u.events none' (ap is_closed_in (sym begin) ∙ still)),
+          ∙ sym (open_are_sorted r u.events none' (ap is_closed_in (sym h.same_beginnings) ∙ still)),
     )
+
+pub sent_as_if_nothing_happened : SentAsIfNothingHappened
+sent_as_if_nothing_happened secret schedules entries came asked t u r terms s h a b ran ran' served served' ticks places =
+    routes_are_isolated terms r t.events u.events t.moments u.moments a b ran ran'
+    (same_items_are_taken terms terms r t.events u.events t.moments u.moments a b ran ran'
+    ((as_if_nothing_happened secret schedules entries came asked t u r terms s h).2 served.none_missed served'.none_missed served.stays_open)
+    ticks places served.none_left served'.none_left)
+    served.sent_all served'.sent_all

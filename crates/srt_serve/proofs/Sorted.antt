@@ -1,5 +1,6 @@
 -- Which datagrams of a run are sorted to a route, by the calls of the source and by whether the route is shown in each round.
-use Rattle.std.proofs.Common.{◌≡◌, ℕ, zero, suc, ◌+◌, ◌==◌, Bool, true, false, Option, Some, None, List, [], ◌∷◌, ◌++◌, map, slice_get, refl, sym, ap, subst, ◌∙◌}
+use Rattle.std.proofs.Common.{◌≡◌, ℕ, zero, suc, ◌+◌, ◌==◌, Bool, true, false, Option, Some, None, List, [], ◌∷◌}
+use Rattle.std.proofs.Common.{◌++◌, map, slice_get, refl, sym, ap, subst, ◌∙◌}
 use Rattle.std.specs.Prelude.{if◌then◌else◌}
 use Rattle.std.specs.Option.{option_map}
 use Rattle.std.proofs.lemmas.Bool.{eq-eqb, eqb-true}
@@ -240,20 +241,20 @@ module _ (class : Sorting) (sorts : SortsByOwnName class) (base : List RouteName
           ∙ ap (λ (ms : List Bool). by_calls old (ms ++ marks_from r schedules next events) (ReadFailed ∷ calls events))
           (sym (reading_none s.phase (is_shown_at s.names r) follow.0))
       sorted_by_calls s (Answers arrival bytes sent ∷ events) same follow old mark =
-          read_more s (state_by schedules s (Answers arrival bytes sent)) events arrival (Answer bytes) old follow.0.0 (mark follow.0.0) same follow.0.1 refl refl
-          (sorted_by_calls (state_by schedules s (Answers arrival bytes sent)) events same follow.1 old (λ reads. mark follow.0.0))
+          read_more s (state_by schedules s (Answers arrival bytes sent)) events arrival (Answer bytes) old follow.0.0 (mark follow.0.0) same follow.0.1 refl
+          refl (sorted_by_calls (state_by schedules s (Answers arrival bytes sent)) events same follow.1 old (λ reads. mark follow.0.0))
       sorted_by_calls s (Accepts arrival route ∷ events) same follow old mark =
-          read_more s (state_by schedules s (Accepts arrival route)) events arrival (Route route) old follow.0.0 (mark follow.0.0) same follow.0.1 refl refl
-          (sorted_by_calls (state_by schedules s (Accepts arrival route)) events same follow.1 old (λ reads. mark follow.0.0))
+          read_more s (state_by schedules s (Accepts arrival route)) events arrival (Route route) old follow.0.0 (mark follow.0.0) same follow.0.1 refl
+          refl (sorted_by_calls (state_by schedules s (Accepts arrival route)) events same follow.1 old (λ reads. mark follow.0.0))
       sorted_by_calls s (Overflows arrival route ∷ events) same follow old mark =
-          read_more s (state_by schedules s (Overflows arrival route)) events arrival (Route route) old follow.0.0 (mark follow.0.0) same follow.0.1 refl refl
-          (sorted_by_calls (state_by schedules s (Overflows arrival route)) events same follow.1 old (λ reads. mark follow.0.0))
+          read_more s (state_by schedules s (Overflows arrival route)) events arrival (Route route) old follow.0.0 (mark follow.0.0) same follow.0.1 refl
+          refl (sorted_by_calls (state_by schedules s (Overflows arrival route)) events same follow.1 old (λ reads. mark follow.0.0))
       sorted_by_calls s (Refuses arrival route ∷ events) same follow old mark =
-          read_more s (state_by schedules s (Refuses arrival route)) events arrival (Route route) old follow.0.0 (mark follow.0.0) same follow.0.1 refl refl
-          (sorted_by_calls (state_by schedules s (Refuses arrival route)) events same follow.1 old (λ reads. mark follow.0.0))
+          read_more s (state_by schedules s (Refuses arrival route)) events arrival (Route route) old follow.0.0 (mark follow.0.0) same follow.0.1 refl
+          refl (sorted_by_calls (state_by schedules s (Refuses arrival route)) events same follow.1 old (λ reads. mark follow.0.0))
       sorted_by_calls s (Drops arrival cause ∷ events) same follow old mark =
-          read_more s (state_by schedules s (Drops arrival cause)) events arrival (Dropped cause) old follow.0.0 (mark follow.0.0) same follow.0.1 refl refl
-          (sorted_by_calls (state_by schedules s (Drops arrival cause)) events same follow.1 old (λ reads. mark follow.0.0))
+          read_more s (state_by schedules s (Drops arrival cause)) events arrival (Dropped cause) old follow.0.0 (mark follow.0.0) same follow.0.1 refl
+          refl (sorted_by_calls (state_by schedules s (Drops arrival cause)) events same follow.1 old (λ reads. mark follow.0.0))
       sorted_by_calls s (Sends route reply sent ∷ events) same follow old mark =
           let next = state_by schedules s (Sends route reply sent) in
           let m = is_shown_at s.names r in

@@ -10,6 +10,7 @@ use Rattle.srt_lobby.specs.Names.{RouteName, is_shown_at, has_name_at, name_of}
 use Rattle.srt_lobby.specs.Lobby.{class_of}
 use Rattle.srt_lobby.specs.Opening.{fault_of}
 use Rattle.srt_mailbox.specs.declared.accounts.Account.{Account}
+use Rattle.srt_mailbox.specs.Inbox.{ticked_of}
 use Rattle.srt_poller.specs.declared.report.Report.{Report}
 use Rattle.srt_poller.specs.Devices.{Arrival}
 use Rattle.srt_poller.specs.Schedules.{CloseOffer, begun}
@@ -17,8 +18,8 @@ use Rattle.srt_poller.specs.History.{Sorting, Event, Begins, Accepts, Overflows,
 use Rattle.srt_poller.specs.History.{closes_all_in}
 use Rattle.srt_poller.specs.Plans.{IsAlone, is_asked, texts_of, ArePlans}
 use Rattle.srt_serve.specs.NamesAtStart.{until, first_names}
-use Rattle.srt_serve.specs.Ran.{Told, RanChanging, RanUntil, names_before}
-use Rattle.srt_serve.specs.Isolation.{Trace, trace, IsTrace}
+use Rattle.srt_serve.specs.Ran.{RouteRan, Told, RanChanging, RanUntil, names_before}
+use Rattle.srt_serve.specs.Isolation.{Trace, trace, IsTrace, sent_for, HasSentAll, places_of}
 
 -- no other shown route has the name of this one
 abbrev pub IsOnlyShown : (names : List RouteName) (r : ℕ) → Type 0
@@ -228,17 +229,46 @@ RefusedChangesNothing =
     (schedules : List Schedule) (entries : List Terms) (t : Trace) → fault_of entries ≡ None → length schedules ≡ length entries
     → IsChanging schedules entries [] [] t → IsUnchanging schedules entries t
 
--- As if nothing had happened: take a run to which routes came and in which some were asked to close, and one without changes, of the same schedules and
--- entries and the same secret, in which the source gave the same. To a route that wasn't asked to close, and whose name no other one has, the same
--- datagrams are sorted in both, in the same order, if the same rounds close all and its inbox accepts Close in the same rounds. And if its inbox turns
--- none of them away and accepts no Close, it accepts the same in both
+-- A run to which routes came and in which some were asked to close, and one without changes, of the same schedules and entries and the same secret, in
+-- which the source gave the same. This route wasn't asked to close, and no other one has its name. The same rounds close all, and its inbox accepts Close
+-- in the same rounds
+pub record AreAlike (secret : List ℕ) (schedules : List Schedule) (entries came : List Terms) (asked : List ℕ) (t u : Trace) (r : ℕ) (terms : Terms)
+    (s : Schedule) : Type 0 where
+  pub sound : fault_of entries ≡ None
+  pub changing : IsChanging schedules entries came asked t
+  pub unchanging : IsUnchanging schedules entries u
+  pub sorts : t.class ≡ class_of secret
+  pub sorts_there : u.class ≡ class_of secret
+  pub same_calls : calls t.events ≡ calls u.events
+  pub there : slice_get entries r ≡ Some terms
+  pub scheduled : slice_get schedules r ≡ Some s
+  pub alone : IsAlone (texts_of t.names) r
+  pub unasked : is_asked asked r ≡ false
+  pub same_beginnings : beginnings r t.events ≡ beginnings r u.events
+
+-- As if nothing had happened: the same datagrams are sorted to the route in both runs, in the same order. If its inbox turns none of them away, it accepts
+-- the same datagrams; and if it accepts no Close, it accepts nothing else, and so the same items
 abbrev pub AsIfNothingHappened : Type 0
 AsIfNothingHappened =
-    (secret : List ℕ) (schedules : List Schedule) (entries came : List Terms) (asked : List ℕ) (t u : Trace)
-    → fault_of entries ≡ None → IsChanging schedules entries came asked t → IsUnchanging schedules entries u
-    → t.class ≡ class_of secret → u.class ≡ class_of secret → calls t.events ≡ calls u.events
-    → (r : ℕ) (terms : Terms) (s : Schedule) → slice_get entries r ≡ Some terms → slice_get schedules r ≡ Some s
-    → IsAlone (texts_of t.names) r → is_asked asked r ≡ false
-    → beginnings r t.events ≡ beginnings r u.events
+    (secret : List ℕ) (schedules : List Schedule) (entries came : List Terms) (asked : List ℕ) (t u : Trace) (r : ℕ) (terms : Terms) (s : Schedule)
+    → AreAlike secret schedules entries came asked t u r terms s
     → (sorted_to r t.events ≡ sorted_to r u.events)
+    × (missed r t.events ≡ [] → missed r u.events ≡ [] → received (accepted r t.events) ≡ received (accepted r u.events))
     × (missed r t.events ≡ [] → missed r u.events ≡ [] → is_closed_in (beginnings r t.events) ≡ false → accepted r t.events ≡ accepted r u.events)
+
+-- the inbox of the route turns nothing away and accepts no Close, all that entered it was taken, and all replies were sent
+pub record IsServed (t : Trace) (r : ℕ) (a : Account) : Type 0 where
+  pub none_missed : missed r t.events ≡ []
+  pub stays_open : is_closed_in (beginnings r t.events) ≡ false
+  pub none_left : a.left ≡ 0
+  pub sent_all : HasSentAll r t.events a
+
+-- then the same datagrams are sent for the route, byte for byte, if it took the same ticks at the same places
+abbrev pub SentAsIfNothingHappened : Type 0
+SentAsIfNothingHappened =
+    (secret : List ℕ) (schedules : List Schedule) (entries came : List Terms) (asked : List ℕ) (t u : Trace) (r : ℕ) (terms : Terms) (s : Schedule)
+    → AreAlike secret schedules entries came asked t u r terms s
+    → (a b : Account) → (ran : RouteRan terms r t.events t.moments a) → (ran' : RouteRan terms r u.events u.moments b)
+    → IsServed t r a → IsServed u r b
+    → ticked_of ran.taken ≡ ticked_of ran'.taken → places_of ran.taken ≡ places_of ran'.taken
+    → sent_for r t.events ≡ sent_for r u.events

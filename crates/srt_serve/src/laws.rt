@@ -2,7 +2,7 @@
 
 ghost use Rattle.srt_serve.specs.Isolation.{SentIsFront, SentIsWhole, RoutesAreIsolated, SameItemsAreTaken, RunsAreIsolated};
 ghost use Rattle.srt_serve.specs.Unchanged.{LobbySortsByOwnName, SortedAlike, MarksAreOwn, OwnScheduleDecides};
-ghost use Rattle.srt_serve.specs.Unchanged.{OpenRoutesBeginAlike, AcceptedAreSorted, AsIfNothingHappened};
+ghost use Rattle.srt_serve.specs.Unchanged.{OpenRoutesBeginAlike, AcceptedAreSorted, AsIfNothingHappened, SentAsIfNothingHappened};
 ghost use Rattle.srt_serve.specs.Unchanged.{ChangingRunsAreSo, UnchangingRunsAreSo, LeftAsItWas, NothingChanged, NamesAreAlone};
 ghost use Rattle.srt_serve.specs.Unchanged.{RefusedChangesNothing};
 
@@ -48,5 +48,6 @@ pub fn unchanged_routes()
     ensures alone { NamesAreAlone }
     // The two laws between a run in which others open and close, and one without changes.
     ensures same { AsIfNothingHappened }
+    ensures sent { SentAsIfNothingHappened }
     ensures refused { RefusedChangesNothing }
 {}

@@ -18,7 +18,8 @@
 //! does for routes in `helping.rt`; `settling.rt` settles the routes. How threads wake each other is `wakeups.rt`, with
 //! `bit_set.rt` and `notifier.rt`; how long they sleep, and how much work makes them share it, is `pacing.rt`. What the
 //! polling thread and the watching one tell each other is `post.rt`, with `refusals.rt`; `naming.rt` names the threads.
-//! `specs/Ran.antt` says what a run did.
+//! `specs/Ran.antt` says what a run did, and `laws.rt` what follows of two runs: no opening or closing of one route
+//! changes what is sorted to another one, or sent for it.
 #![tactic(auto)]
 
 mod arrivals;
