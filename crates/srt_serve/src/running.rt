@@ -189,11 +189,13 @@ where
     requires schedules { length schedules.now ≡ length entries.now }
     requires workers { (1 ≤ vec_len gates.workers) × (vec_len gates.workers ≤ 16) }
     requires few { rounds ≤ 2 ^ 48 }
-    ensures fixed { is_watched ≡ false → IfOk result (λ r. RanUnder (is_watched ≡ true) (class_of (secret_bytes secret.now)) schedules.now (map terms_of entries.now) r.rounds
+    ensures fixed { is_watched ≡ false → IfOk result (λ r. RanUnder (is_watched ≡ true)
+        (class_of (secret_bytes secret.now)) schedules.now (map terms_of entries.now) r.rounds
         (told_by (heard (S.gave source.old) (S.calls source.old)) (carried (W.handed wire.old) (W.attempts wire.old)) (K.gave ticker))
         (told_by (heard (S.gave source.new) (S.calls source.new)) (carried (W.handed wire.new) (W.attempts wire.new)) (K.gave r.ticker))
         r.report r.accounts.items) }
-    ensures changing { is_watched ≡ true → IfOk result (λ r. RanChanging (class_of (secret_bytes secret.now)) schedules.now (map terms_of entries.now) r.rounds
+    ensures changing { is_watched ≡ true → IfOk result (λ r. RanChanging
+        (class_of (secret_bytes secret.now)) schedules.now (map terms_of entries.now) r.rounds
         (told_by (heard (S.gave source.old) (S.calls source.old)) (carried (W.handed wire.old) (W.attempts wire.old)) (K.gave ticker))
         (told_by (heard (S.gave source.new) (S.calls source.new)) (carried (W.handed wire.new) (W.attempts wire.new)) (K.gave r.ticker))
         r.report r.accounts.items) }
