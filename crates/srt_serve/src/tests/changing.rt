@@ -1,7 +1,7 @@
 //! Routes that open and close while the threads of a run run, by a watcher that follows a script. What is expected was
 //! worked out from the rules by hand.
 
-ghost use Rattle.std.specs.Prelude.{◌≤◌};
+ghost use Rattle.std.specs.Prelude.{◌≤◌, None};
 ghost use Rattle.std.specs.Vec.{vec_len};
 
 use super::datagrams::{
