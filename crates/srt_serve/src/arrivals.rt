@@ -76,22 +76,27 @@ impl TickEnds<ClockEnd> for ClockArrivals<'_> {
 pub struct News {
     // something was told since the polling thread looked last
     is_told: AtomicBool,
-    // the routes that are to close
+    // the routes that were asked to close so far
+    asked: AtomicBitSet,
+    // those of them that the polling thread hasn't taken
     closings: AtomicBitSet,
 }
 
 impl News {
-    /// For this many routes at most. Allocates a bit for each; an error means that memory was refused.
+    /// For this many routes at most. Allocates two bits for each; an error means that memory was refused.
     pub fn open(alloc: Global, routes: usize) -> Result<News, AllocError> {
         Ok(News {
             is_told: AtomicBool::new(false),
+            asked: AtomicBitSet::open(alloc, routes)?,
             closings: AtomicBitSet::open(alloc, routes)?,
         })
     }
 
-    /// Asks that this route be closed, once `tell` is called.
+    /// Asks that this route be closed, once `tell` is called. A route that was asked before isn't asked again.
     pub fn close(&self, route: usize) {
-        self.closings.set(route);
+        if self.asked.set(route) {
+            self.closings.set(route);
+        }
     }
 
     /// Lets the polling thread look, before its next round. For the watching thread, after all else of a change.

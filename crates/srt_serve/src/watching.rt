@@ -44,7 +44,7 @@ pub struct Told {
 /// A change of the routes of a run.
 #[derive(Drop)]
 pub struct RouteChanges {
-    /// The indexes of the routes that close.
+    /// The indexes of the routes that close. One that no route has yet, or that was asked before, changes nothing.
     pub closes: Vec<usize>,
     /// The entries of the routes that open. They get the next indexes, in this order.
     pub opens: Vec<Entry>,
@@ -150,7 +150,9 @@ impl<C: Host> Changer<'_, C> {
             self.routes = self.routes.wrapping_add(1);
         }
         for route in &changes.closes {
-            self.news.close(*route);
+            if *route < first {
+                self.news.close(*route);
+            }
         }
         self.news.tell();
         Ok(first)
