@@ -19,6 +19,8 @@ from trying import Plan, Result
 TEST = re.compile(r"(?m)^\s*#\[test\]")
 # The gate has three hours. An edit that can't begin within this time of its beginning, in seconds, is left out, and said to be.
 EDITS_WITHIN = 140 * 60
+# The parts that run beside the edits, since no clock decides them.
+BESIDE_EDITS = ("refusals",)
 
 
 def section(title: str) -> None:
@@ -134,10 +136,13 @@ def whole() -> Count:
     section("proofs")
     count = count.and_also(verdict())
     if not count.failed:
-        for name in (it for it in PARTS if it not in OF_FILES):
+        for name in (it for it in PARTS if it not in OF_FILES and it not in BESIDE_EDITS):
             section(name)
             count = count.and_also(PARTS[name]())
-        section("wrong bodies, beside one another")
-        count = count.and_also(wrong_bodies(verdicts.plans_of_gate(crates().values()), began + EDITS_WITHIN))
+        section(f"wrong bodies, beside one another; {', '.join(BESIDE_EDITS)}")
+        with ThreadPoolExecutor(1) as pool:
+            beside = pool.submit(lambda: all_of([PARTS[it]() for it in BESIDE_EDITS]))
+            count = count.and_also(wrong_bodies(verdicts.plans_of_gate(crates().values()), began + EDITS_WITHIN))
+            count = count.and_also(beside.result())
     print_minutes(meter.stop(), began)
     return count
