@@ -71,15 +71,19 @@ impl ConfigFile for Written {
     }
 
     fn read(&self) -> Result<Vec<u8>, InlineText<MAX_REASON>> {
-        let parts: &[&'static str] = match self.texts.get(self.place()) {
-            Some(parts) => *parts,
-            None => &[],
+        let Some(parts) = self.texts.get(self.place()) else {
+            return Err(missing());
         };
-        match text(self.alloc, parts) {
+        match text(self.alloc, *parts) {
             Ok(text) if !text.is_empty() => Ok(text),
-            _ => Err(InlineText::of("No such file or directory (os error 2)")),
+            _ => Err(missing()),
         }
     }
+}
+
+// What the system says of a file that isn't there.
+fn missing() -> InlineText<MAX_REASON> {
+    InlineText::of("No such file or directory (os error 2)")
 }
 
 fn config(alloc: Global, parts: &[&'static str]) -> Result<Config, Fail> {
