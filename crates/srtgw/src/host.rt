@@ -104,10 +104,12 @@ impl<'a, R: Files> HostFile<'a, R> {
     }
 }
 
-/// When a file's content or attributes changed last, in nanoseconds since 1970, modulo 2^64.
+/// When a file's content or attributes changed last, in nanoseconds since 1970, modulo 2^64. A time before 1970 counts as its
+/// beginning.
 fn changed_at(file: &Metadata) -> u64 {
-    let whole = (file.ctime() as u64).wrapping_mul(1_000_000_000);
-    whole.wrapping_add(file.ctime_nsec() as u64)
+    let whole = u64::try_from(file.ctime()).unwrap_or(0);
+    let rest = u64::try_from(file.ctime_nsec()).unwrap_or(0);
+    whole.wrapping_mul(1_000_000_000).wrapping_add(rest)
 }
 
 impl<R: Files + AllocGlobal> ConfigFile for HostFile<'_, R> {
