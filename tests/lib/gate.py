@@ -1,20 +1,26 @@
 """The gate and the steps below it: proofs, tests and wrong bodies of crates."""
 from __future__ import annotations
 
+import math
 import os
 import re
 import subprocess
 import time
 from concurrent.futures import ThreadPoolExecutor
+from typing import Iterator
 
 import trying
 import verdicts
 from machine import Meter
 from parts import OF_FILES, PARTS, QUICK, Count, all_of, counted, note_failed
 from tree import PROGRAM, TOP, Crate, above, crates, files_of, read
-from trying import Plan
+from trying import Plan, Result
 
 TEST = re.compile(r"(?m)^\s*#\[test\]")
+# The gate has three hours. An edit that can't begin within this time of its beginning, in seconds, is left out, and said to be.
+EDITS_WITHIN = 140 * 60
+# The parts that run beside the edits, since no clock decides them.
+BESIDE_EDITS = ("refusals",)
 
 
 def section(title: str) -> None:
@@ -35,11 +41,32 @@ def verdict() -> Count:
     return counted(["rt", "ci"], r"(\d+) passed, (\d+) failed")
 
 
-def wrong_bodies(plans: list[Plan]) -> Count:
-    """Tries these plans of edits. What isn't tried isn't counted."""
+def tried(plans: list[Plan], until: float) -> Iterator[tuple[Result, int]]:
+    """Tries these plans, each batch if it can begin before this moment. Gives each crate's result, and how many of its edits were
+    left out."""
+
+    def result_of(part: Plan) -> Result | None:
+        return None if time.monotonic() > until else next(trying.try_all([part], lanes=1))
+
+    with ThreadPoolExecutor(trying.free_lanes()) as pool:
+        # The runs of the upper crates take longest, so they begin first.
+        begun = {
+            plan.crate: [(it, pool.submit(result_of, plan._replace(batches=[it]))) for it in plan.batches] for plan in reversed(plans)
+        }
+        for plan in plans:
+            ended = [(batch, ran.result()) for batch, ran in begun[plan.crate]]
+            results = [it for _, it in ended if it]
+            left_out = sum(bool(it.edit) for batch, result in ended if not result for it in [*batch.copies, *batch.placed])
+            yield Result(plan, [it for result in results for it in result.outcomes], [it for result in results for it in result.unclear]), left_out
+
+
+def wrong_bodies(plans: list[Plan], until: float = math.inf) -> Count:
+    """Tries these plans of edits, each batch if it can begin before this moment. What isn't tried isn't counted."""
     count = Count()
-    for it in trying.try_all(plans):
+    for it, left_out in tried(plans, until):
         trying.tell(it)
+        if left_out and not it.plan.known:
+            print(f"edits of {it.crate}: {left_out} not tried, since the time for edits was over: tests/edits/run {it.crate}", flush=True)
         for wrong in it.wrong():
             note_failed(f"edits of {it.crate}: {wrong}")
         count = count.and_also(Count(len(it.edits(trying.REFUSED)), len(it.wrong())))
@@ -102,17 +129,20 @@ def print_minutes(minutes: dict[str, float], began: float) -> None:
 
 def whole() -> Count:
     """The gate. What needs no proof runs before the wrong bodies, so that a plain mistake is seen early. Of these it tries all of
-    each crate for which the verdicts may be others than those that were kept, and a sample of the others."""
+    each crate for which the verdicts may be others than those that were kept, and a sample of the others, as far as time allows."""
     began, meter = time.monotonic(), Meter()
     meter.start()
     count = all_of([PARTS[it]() for it in OF_FILES])
     section("proofs")
     count = count.and_also(verdict())
     if not count.failed:
-        for name in (it for it in PARTS if it not in OF_FILES):
+        for name in (it for it in PARTS if it not in OF_FILES and it not in BESIDE_EDITS):
             section(name)
             count = count.and_also(PARTS[name]())
-        section("wrong bodies, beside one another")
-        count = count.and_also(wrong_bodies(verdicts.plans_of_gate(crates().values())))
+        section(f"wrong bodies, beside one another; {', '.join(BESIDE_EDITS)}")
+        with ThreadPoolExecutor(1) as pool:
+            beside = pool.submit(lambda: all_of([PARTS[it]() for it in BESIDE_EDITS]))
+            count = count.and_also(wrong_bodies(verdicts.plans_of_gate(crates().values()), began + EDITS_WITHIN))
+            count = count.and_also(beside.result())
     print_minutes(meter.stop(), began)
     return count
