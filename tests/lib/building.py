@@ -21,7 +21,11 @@ PROGRAM = "srtgw"
 
 
 class NotBuilt(Exception):
-    """A crate couldn't be built; its text is the end of what the toolchain said."""
+    """A crate could not be built: what to tell, and all that the toolchain said."""
+
+    def __init__(self, text: str, said: str = "") -> None:
+        super().__init__(text)
+        self.said = said
 
 
 def free_memory() -> int:
@@ -75,7 +79,7 @@ def build(crate: Crate, jobs: int) -> str:
         ran = subprocess.run(words, cwd=here, stdin=subprocess.DEVNULL, stdout=subprocess.PIPE, stderr=subprocess.STDOUT, text=True, errors="replace")
         made = f"{here}/out/{crate.name if is_program(crate) else 'rlib'}"
         if ran.returncode or not os.path.exists(made):
-            raise NotBuilt(f"{crate.name} could not be built; the end of the log:\n{ran.stdout[-2000:]}")
+            raise NotBuilt(f"{crate.name} could not be built; the end of the log:\n{ran.stdout[-2000:]}", ran.stdout)
         take_back(crate, room)
     return ran.stdout
 
@@ -140,8 +144,12 @@ def build_all(wanted: list[Crate], log: TextIO, tell: Callable[[str], None]) -> 
             tell(f"{len(done)} of {len(wanted)} crates built, {clock(began)} so far; under way: {under_way}")
             for it in wait(running, return_when=FIRST_COMPLETED).done:
                 crate, _, start = running.pop(it)
-                log.write(f"== {crate.name}, {time.monotonic() - start:.0f} s\n{it.result()}")
+                why = it.exception()
+                said = why.said if isinstance(why, NotBuilt) else it.result()
+                log.write(f"== {crate.name}, {time.monotonic() - start:.0f} s\n{said}")
                 log.flush()
+                if why:
+                    raise why
                 done.add(crate.name)
 
 
