@@ -18,7 +18,7 @@ from trying import Plan, Result
 
 TEST = re.compile(r"(?m)^\s*#\[test\]")
 # The gate has three hours. An edit that can't begin within this time of its beginning, in seconds, is left out, and said to be.
-EDITS_WITHIN = 140 * 60
+EDITS_WITHIN = 120 * 60
 # The parts that run beside the edits, since no clock decides them.
 BESIDE_EDITS = ("refusals",)
 
