@@ -19,6 +19,7 @@ IS_GONE = "document.body.innerText.includes('no answer')"
 SIZES = ((1280, 800), (390, 844))  # A desk's window and a telephone's.
 UPDATE = 5.0  # What happens is shown within so many seconds.
 LINES = 100  # A picture with text and a table has more different lines than that.
+LONGEST = "99.99 Mbit/s"  # No number above the routes has a longer text.
 
 
 class Scene(NamedTuple):
@@ -75,6 +76,8 @@ def expect_fits(browser: Browser, width: int, height: int) -> None:
     """Expects that the page is no wider than the window, that a picture of it isn't empty, and that nothing failed in it."""
     wide = browser.value("document.documentElement.scrollWidth")
     expect(wide <= width, f"the page is {wide} pixels wide in a window of {width}")
+    narrow = browser.value(f"[...document.querySelectorAll('#sums b')].filter(it => (it.textContent = {json.dumps(LONGEST)}, it.scrollWidth > it.clientWidth)).length")
+    expect(narrow == 0, f"{narrow} numbers of the gateway have no room for {LONGEST}")
     found = shown_in(browser.picture())
     expect(found[:2] == (width, height) and found[2] >= LINES, f"the picture is {found[0]} x {found[1]}, with {found[2]} different lines")
     expect(not browser.complaints, f"the browser complains: {browser.complaints}")

@@ -39,9 +39,9 @@ h1 { font-size: 20px; font-weight: 650; margin: 0; letter-spacing: -.01em; }
 #gone { display: none; margin-top: 12px; padding: 10px 14px; border-radius: 8px; color: var(--bad); background: var(--bad-back); }
 .late #gone { display: block; }
 .late main, .late #sums { opacity: .45; }
-#sums { display: grid; grid-template-columns: repeat(auto-fit, minmax(126px, 1fr)); gap: 8px; margin: 16px 0; }
+#sums { display: grid; grid-template-columns: repeat(auto-fit, minmax(132px, 1fr)); gap: 8px; margin: 16px 0; }
 #sums div { background: var(--card); border: 1px solid var(--line); border-radius: 8px; padding: 8px 12px; }
-#sums b { display: block; font-size: 17px; font-weight: 600; white-space: nowrap; }
+#sums b { display: block; font-size: 15px; font-weight: 600; white-space: nowrap; }
 #sums span { color: var(--dim); font-size: 12.5px; }
 #sums .bad b { color: var(--bad); }
 #filter {
