@@ -1,5 +1,5 @@
 -- The class of a datagram and the routes.
-use Rattle.std.proofs.Common.{◌≡◌, ℕ, ◌-◌, ◌+◌, ◌/◌, ◌^◌, ◌<◌, ◌≤◌, Bool, true, false, cond, ◌&&◌, List, length, Option, None, Some, Result}
+use Rattle.std.proofs.Common.{◌≡◌, ℕ, ◌-◌, ◌+◌, ◌/◌, ◌^◌, ◌<◌, ◌≤◌, Bool, true, false, cond, ◌&&◌, List, length, Option, None, Some, Result, slice_get}
 use Rattle.std.proofs.Common.{Ok, Err, nat_lt, ◌==◌, refl, sym, ap, ◌∙◌, arith}
 use Rattle.std.proofs.lemmas.Bool.Decides.{nat_tests}
 use Rattle.srt_seq.specs.declared.shared.Peer.{Peer}
@@ -76,48 +76,6 @@ only_a_handshake secret names peer moment r (packets.DropRequest message first l
 only_a_handshake secret names peer moment r packets.PeerError h = cc
 only_a_handshake secret names peer moment r packets.UserDefined h = cc
 
-module _ (secret : List ℕ) (names others : List RouteName) (r : ℕ) (name : RouteName) (has : HasRoute names r name)
-    (have : HasRoute others r name) (peer : Peer) (moment : ℕ) where
-  index_follows : (asked : List ℕ) → index_of names asked ≡ Some r → index_of others asked ≡ Some r
-  index_follows asked h = name_found others r name asked have.distinct have.named (found_name names r name asked has.named h)
-
-  named_follows : (bytes : List ℕ) (ask : Result Ask AskFault) → route_named names peer bytes ask ≡ Some r → route_named others peer bytes ask ≡ Some r
-  named_follows bytes (Ok ask) h =
-      let was = admitted_is names peer ask.role (key_of bytes) r (index_of names (name_of bytes ask)) h in
-      ap (admitted others peer ask.role (key_of bytes)) (index_follows (name_of bytes ask) was.is)
-      ∙ ap (λ (b : Bool). cond b (Some r) None) (ap (admits_caller peer ask.role (key_of bytes)) (have.named ∙ sym has.named) ∙ was.admits)
-  named_follows bytes (Err fault) h = h
-
-  asked_follows : (id : Option (List ℕ)) → route_asked names peer id ≡ Some r → route_asked others peer id ≡ Some r
-  asked_follows (Some bytes) h = named_follows bytes (ask_in bytes) h
-  asked_follows None h = h
-
-  reason_follows : (hs : Handshake) (reason : Option RefusalCode) → Follows r (by_reason names peer hs reason) (by_reason others peer hs reason)
-  reason_follows hs (Some code) h = h
-  reason_follows hs None h = ap (by_route hs) (asked_follows hs.blocks.stream_id (route_is hs r (route_asked names peer hs.blocks.stream_id) h))
-
-  conclusion_follows : (hs : Handshake) → Follows r (of_conclusion names peer hs) (of_conclusion others peer hs)
-  unfolding of_conclusion
-  conclusion_follows hs = reason_follows hs (reason_of hs)
-
-  kind_follows : (hs : Handshake) (kind : HsKind) → Follows r (by_kind secret names peer moment hs kind) (by_kind secret others peer moment hs kind)
-  kind_follows hs kinds.Induction h = h
-  kind_follows hs kinds.WaveHand h = h
-  kind_follows hs kinds.Conclusion h = by_test r (is_right secret peer moment hs.cookie) _ _ _ _ (conclusion_follows hs) (λ e. e) h
-  kind_follows hs kinds.Agreement h = h
-  kind_follows hs kinds.Done h = h
-  kind_follows hs (kinds.Refusal number) h = h
-
-  handshake_follows : (hs : Result Handshake HsFault) → Follows r (of_handshake secret names peer moment hs) (of_handshake secret others peer moment hs)
-  handshake_follows (Ok hs) h = kind_follows hs hs.kind h
-  handshake_follows (Err fault) h = h
-
-  body_follows : (body : Body) → Follows r (of_body secret names peer moment body) (of_body secret others peer moment body)
-  body_follows body h =
-      let at = only_a_handshake secret names peer moment r body h in
-      ap (of_body secret others peer moment) at.1
-      ∙ handshake_follows (handshake_in at.0) (sym (ap (of_body secret names peer moment) at.1) ∙ h)
-
 pub record IsPlace (names : List RouteName) (peer : Peer) (place r : ℕ) : Type 0 where
   pub is : place ≡ r + 1
   pub is_there : is_shown_at names r ≡ true
@@ -153,28 +111,74 @@ place_goes names peer place r h =
     ∙ ap (λ (b : Bool). placed true b (knows_caller_at names r peer) r) h.is_there
     ∙ ap (λ (k : Bool). placed true true k r) h.is_known
 
-session_follows : (names others : List RouteName) (r : ℕ) (name : RouteName) (has : HasRoute names r name) (have : HasRoute others r name)
-    (peer : Peer) (dest : ℕ)
-    → Follows r (to_session names peer dest) (to_session others peer dest)
-session_follows names others r name has have peer dest h =
-    let place = place_is names peer (dest / 2 ^ 20) r h in
-    let same = have.named ∙ sym has.named in
-    place_goes others peer (dest / 2 ^ 20) r
-    (record { is = place.is; is_there = ap shows same ∙ place.is_there; is_known = ap (knows_caller peer) same ∙ place.is_known })
+-- the route is the same in both lists, and is found in the second one by each name by which it is found in the first one
+pub record IsFoundAgain (names others : List RouteName) (r : ℕ) : Type 0 where
+  pub finds : (asked : List ℕ) → index_of names asked ≡ Some r → index_of others asked ≡ Some r
+  pub same : slice_get others r ≡ slice_get names r
 
-packet_follows : (secret : List ℕ) (names others : List RouteName) (r : ℕ) (name : RouteName)
-    → HasRoute names r name → HasRoute others r name → (peer : Peer) (moment : ℕ) (packet : Result Packet PacketFault) →
-    Follows r (of_packet secret names peer moment packet) (of_packet secret others peer moment packet)
-packet_follows secret names others r name has have peer moment (Ok packet) h =
-    by_test r (packet.dest == 0) _ _ _ _ (body_follows secret names others r name has have peer moment packet.body)
-    (session_follows names others r name has have peer packet.dest) h
-packet_follows secret names others r name has have peer moment (Err fault) h = h
+module _ (secret : List ℕ) (names others : List RouteName) (r : ℕ) (again : IsFoundAgain names others r) (peer : Peer) (moment : ℕ) where
+  named_follows : (bytes : List ℕ) (ask : Result Ask AskFault) → route_named names peer bytes ask ≡ Some r → route_named others peer bytes ask ≡ Some r
+  named_follows bytes (Ok ask) h =
+      let was = admitted_is names peer ask.role (key_of bytes) r (index_of names (name_of bytes ask)) h in
+      ap (admitted others peer ask.role (key_of bytes)) (again.finds (name_of bytes ask) was.is)
+      ∙ ap (λ (b : Bool). cond b (Some r) None) (ap (admits_caller peer ask.role (key_of bytes)) again.same ∙ was.admits)
+  named_follows bytes (Err fault) h = h
+
+  asked_follows : (id : Option (List ℕ)) → route_asked names peer id ≡ Some r → route_asked others peer id ≡ Some r
+  asked_follows (Some bytes) h = named_follows bytes (ask_in bytes) h
+  asked_follows None h = h
+
+  reason_follows : (hs : Handshake) (reason : Option RefusalCode) → Follows r (by_reason names peer hs reason) (by_reason others peer hs reason)
+  reason_follows hs (Some code) h = h
+  reason_follows hs None h = ap (by_route hs) (asked_follows hs.blocks.stream_id (route_is hs r (route_asked names peer hs.blocks.stream_id) h))
+
+  conclusion_follows : (hs : Handshake) → Follows r (of_conclusion names peer hs) (of_conclusion others peer hs)
+  unfolding of_conclusion
+  conclusion_follows hs = reason_follows hs (reason_of hs)
+
+  kind_follows : (hs : Handshake) (kind : HsKind) → Follows r (by_kind secret names peer moment hs kind) (by_kind secret others peer moment hs kind)
+  kind_follows hs kinds.Induction h = h
+  kind_follows hs kinds.WaveHand h = h
+  kind_follows hs kinds.Conclusion h = by_test r (is_right secret peer moment hs.cookie) _ _ _ _ (conclusion_follows hs) (λ e. e) h
+  kind_follows hs kinds.Agreement h = h
+  kind_follows hs kinds.Done h = h
+  kind_follows hs (kinds.Refusal number) h = h
+
+  handshake_follows : (hs : Result Handshake HsFault) → Follows r (of_handshake secret names peer moment hs) (of_handshake secret others peer moment hs)
+  handshake_follows (Ok hs) h = kind_follows hs hs.kind h
+  handshake_follows (Err fault) h = h
+
+  body_follows : (body : Body) → Follows r (of_body secret names peer moment body) (of_body secret others peer moment body)
+  body_follows body h =
+      let at = only_a_handshake secret names peer moment r body h in
+      ap (of_body secret others peer moment) at.1
+      ∙ handshake_follows (handshake_in at.0) (sym (ap (of_body secret names peer moment) at.1) ∙ h)
+
+  session_follows : (dest : ℕ) → Follows r (to_session names peer dest) (to_session others peer dest)
+  session_follows dest h =
+      let place = place_is names peer (dest / 2 ^ 20) r h in
+      place_goes others peer (dest / 2 ^ 20) r
+      (record {
+        is = place.is;
+        is_there = ap shows again.same ∙ place.is_there;
+        is_known = ap (knows_caller peer) again.same ∙ place.is_known;
+      })
+
+  pub packet_follows : (packet : Result Packet PacketFault) → Follows r (of_packet secret names peer moment packet) (of_packet secret others peer moment packet)
+  packet_follows (Ok packet) h = by_test r (packet.dest == 0) _ _ _ _ (body_follows packet.body) (session_follows packet.dest) h
+  packet_follows (Err fault) h = h
+
+found_again : (names others : List RouteName) (r : ℕ) (name : RouteName) → HasRoute names r name → HasRoute others r name → IsFoundAgain names others r
+found_again names others r name has have = record {
+  finds = λ asked h. name_found others r name asked have.distinct have.named (found_name names r name asked has.named h);
+  same = have.named ∙ sym has.named;
+}
 
 pub own : RouteIsItsOwn
 unfolding class_of
 own secret names others r name has have datagram moment = (
-  packet_follows secret names others r name has have datagram.peer moment (packet_in datagram.bytes),
-  packet_follows secret others names r name have has datagram.peer moment (packet_in datagram.bytes),
+  packet_follows secret names others r (found_again names others r name has have) datagram.peer moment (packet_in datagram.bytes),
+  packet_follows secret others names r (found_again others names r name have has) datagram.peer moment (packet_in datagram.bytes),
 )
 
 -- a datagram for a route is for a route that is shown, and so exists
