@@ -111,11 +111,15 @@ impl AtomicBitSet {
         }
     }
 
-    /// Sets all bits. Costs a store for each 64 routes.
-    pub fn set_all(&self) {
-        let mut left = self.routes;
+    /// Sets the bits of the first `routes` routes, and leaves the others as they are. Costs a locked operation for each 64 of
+    /// them.
+    pub fn set_first(&self, routes: usize) {
+        let mut left = routes.min(self.routes);
         for word in &self.words {
-            word.store(all_of(left), Ordering::SeqCst);
+            if left == 0 {
+                return;
+            }
+            word.fetch_or(all_of(left), Ordering::SeqCst);
             left = left.saturating_sub(64);
         }
     }

@@ -194,7 +194,7 @@ pub fn tick<R: Wait, K: Ticker + Drop, E: TickEnd + Drop, A: TickEnds<E> + Drop>
         }
         let moment = clocks.ticker.next();
         tick_with_new(rt, &mut clocks.ends, &mut clocks.coming, moment);
-        wakeups.ticked();
+        wakeups.ticked(clocks.ends.len());
         thread::yield_now();
     }
 }

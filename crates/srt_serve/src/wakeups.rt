@@ -232,9 +232,10 @@ impl Wakeups {
         }
     }
 
-    /// All routes were ticked: sets `inbox_ready` of each, and wakes a worker, unless one is in `doze`.
-    pub fn ticked(&self) {
-        self.inbox_ready.set_all();
+    /// The first `routes` routes were ticked, all that are there: sets `inbox_ready` of each, and wakes a worker, unless
+    /// one is in `doze`.
+    pub fn ticked(&self, routes: usize) {
+        self.inbox_ready.set_first(routes);
         if !self.dozing.load(Ordering::SeqCst) {
             self.work.notify_one();
         }

@@ -117,7 +117,7 @@ fn is_served<R: Wait + Clock>(rt: &R, wakeups: &Wakeups, desk: &Desk) -> bool {
 /// Notifies many times, and then asks for a worker several times. Whether one came each time.
 fn notify_and_ask<R: Wait + Clock>(rt: &R, wakeups: &Wakeups, desks: &[Desk]) -> bool {
     for _ in 0..NOTIFICATIONS {
-        wakeups.ticked();
+        wakeups.ticked(1);
     }
     let mut is_good = true;
     if let Some(desk) = desks.first() {

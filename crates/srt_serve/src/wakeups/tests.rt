@@ -83,9 +83,10 @@ impl Flags {
         }
     }
 
-    fn put_all(&mut self) {
-        for flag in self.flags.iter_mut() {
-            *flag = true;
+    /// Sets the flags of the first `count` routes.
+    fn put_first(&mut self, count: usize) {
+        for route in 0..count {
+            self.put(route);
         }
     }
 
@@ -266,8 +267,9 @@ impl Both {
     fn step(&mut self, rt: &impl Abort) -> bool {
         match self.dice.below(64) {
             0 => {
-                self.inbox_ready.put_all();
-                self.wakeups.ticked();
+                let count = self.dice.index();
+                self.inbox_ready.put_first(count);
+                self.wakeups.ticked(count);
                 !self.is_dozing
             }
             1..4 => self.end_read(rt),
