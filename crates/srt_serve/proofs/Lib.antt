@@ -7,6 +7,7 @@ pub mod Settlings
 pub mod Callers
 pub mod Routes
 pub mod Newcomers
+pub mod Latecomers
 pub mod Ends
 pub mod Sends
 pub mod Isolation

@@ -1,13 +1,15 @@
 //! A run of the gateway, from the opening of its routes to their accounts.
 
-ghost use Rattle.std.specs.Prelude.{◌≡◌, ◌↔◌, ◌⊎◌, ◌≤◌, ◌^◌, true, false, None, Err, [], IfOk, IsSome, map, length};
+ghost use Rattle.std.specs.Prelude.{◌≡◌, ◌↔◌, ◌⊎◌, ◌≤◌, ◌^◌, true, false, None, Err, List, [], ◌++◌, IfOk, IsSome, map, length};
 ghost use Rattle.std.specs.Vec.{vec_len, vec_capacity};
 ghost use Rattle.srt_seq.specs.Terms.{terms_of};
 ghost use Rattle.srt_cookie.specs.Cookie.{secret_bytes};
 ghost use Rattle.srt_lobby.specs.Lobby.{class_of};
 ghost use Rattle.srt_lobby.specs.Names.{names_of};
 ghost use Rattle.srt_lobby.specs.Opening.{fault_of};
+ghost use Rattle.srt_lobby.specs.Changing.{AreHidden};
 ghost use Rattle.srt_poller.specs.Devices.{heard, carried};
+ghost use Rattle.srt_poller.specs.Openings.{NewRoute, names_in, ends_in, news, news_more};
 ghost use Rattle.srt_serve.specs.NamesAtStart.{later_hidden, first_names};
 ghost use Rattle.srt_serve.specs.Ran.{told_by, RanChanging, RanUnder, Ran as TheRan};
 
@@ -22,7 +24,7 @@ use crate::watching::{Nobody, Watch, watch_last};
 use srt_cookie::Secret;
 use srt_lobby::Names;
 use srt_mailbox::{Account, Gate, Place};
-use srt_poller::{Plans, Report, Source, Wire};
+use srt_poller::{Ends, Openings, Plans, Report, Source, Wire};
 use srt_seq::limits::MAX_ROUTES;
 use srt_seq::{Entry, Schedule};
 use std::alloc::{AllocError, Global};
@@ -164,6 +166,26 @@ fn open_resources(
     })
 }
 
+// Takes the poller's ends of the routes that have come since its last round, as long as there is room for them. None are
+// taken if the run isn't watched.
+fn take_late<O: Openings>(ends: &mut Vec<Ends>, openings: &mut O, is_watched: bool)
+    ensures { (more : List NewRoute) × ((more ≡ []) ⊎ (is_watched ≡ true)) × AreHidden (names_in more)
+        × (news (O.came openings.new) (O.asked openings.new) ≡ news_more (news (O.came openings.old) (O.asked openings.old)) more [])
+        × (ends.new.items ≡ ends.old.items ++ ends_in more) }
+{
+    if !is_watched {
+        return;
+    }
+    for at in ends.len()..ends.capacity() {
+        let Some(newcomer) = openings.next() else {
+            return;
+        };
+        let Ok(()) = ends.push(newcomer.ends) else {
+            unreachable!();
+        };
+    }
+}
+
 // Runs the gateway as `run` and `run_until` do. If it isn't watched, the watcher is never asked and sees nothing.
 #[tactic(auto, unfolding(crate::specs::inside::Polled::AreUntouched))]
 fn run_with<'a, R, S: Source, W: Wire, K, G, T>(
@@ -270,7 +292,12 @@ where
         coming: mut arrivals,
         ticker,
     } = clocks;
-    let PollerState { ends, openings, .. } = polling;
+    let PollerState {
+        mut ends,
+        mut openings,
+        ..
+    } = polling;
+    take_late(&mut ends, &mut openings, is_watched);
     let routes = openings.reader;
     let Ok(()) = began_with(&routes, &put) else {
         return Err(RunFault::Busy);
@@ -370,10 +397,9 @@ where
 /// no other shown route has their name; those that close are offered Close from then on. The threads end whatever the
 /// watcher does; but one that rests for long delays that, as a ticker that waits does.
 ///
-/// The accounts are those of the routes that the poller came to, in the order of their indexes: of the entries, and of
-/// the routes that it took at the beginning of a round. A route that the watching thread opens after the poller took
-/// routes for the last time has no account, and the contract says nothing of it. No caller has found it, and the watcher
-/// is shown it after the run.
+/// The accounts are those of all routes, in the order of their indexes: of the entries, and of the routes that opened. One
+/// that the watching thread opens after the poller took routes for the last time is among them: no caller found it, so
+/// that its inbox got ticks at most.
 pub fn run_until<R, S: Source, W: Wire, K, G, T>(
     rt: &R,
     alloc: Global,

@@ -1,0 +1,14 @@
+use Rattle.std.proofs.Common.{◌≡◌, ◌≤◌}
+use Rattle.std.specs.Vec.{vec_len, vec_capacity}
+use Rattle.srt_poller.specs.Openings.{news}
+use Rattle.srt_serve.proofs.Latecomers.{TakenLate}
+use Rattle.srt_serve.proofs.running.take_late.Given as goal
+
+abbrev pub invariant-loop-at : goal.invariant-loop-at
+invariant-loop-at g l = record {
+  room : vec_capacity l.fn.ends ≤ vec_capacity l.ends;
+  places : vec_len l.ends ≡ l.at;
+  taken :
+      TakenLate (news (g.O.Openings.came l.fn.openings) (g.O.Openings.asked l.fn.openings))
+      (news (g.O.Openings.came l.openings) (g.O.Openings.asked l.openings)) l.fn.ends.items l.ends.items;
+}
