@@ -1,7 +1,7 @@
 //! Routes that open and close while the threads of a run run, by a watcher that follows a script. What is expected was
 //! worked out from the rules by hand.
 
-ghost use Rattle.std.specs.Prelude.{◌≤◌, None};
+ghost use Rattle.std.specs.Prelude.{◌≤◌, ◌^◌, None};
 ghost use Rattle.std.specs.Vec.{vec_len};
 
 use super::datagrams::{
@@ -152,6 +152,8 @@ enum Step {
     Rest,
     /// The gates let turns of the first route pass from now on.
     Free,
+    /// Nobody calls, until the source holds a round.
+    Held,
 }
 
 /// What the threads of a run with a script share.
@@ -163,6 +165,8 @@ struct Stage {
     ticks: AtomicU64,
     /// Gates let turns of the first route pass.
     is_free: AtomicBool,
+    /// The source holds a round.
+    is_held: AtomicBool,
     /// The script is over, so that nobody waits any more.
     is_over: AtomicBool,
     /// A thread waited too long.
@@ -185,6 +189,7 @@ impl Stage {
                 call: AtomicU64::new(0),
                 ticks: AtomicU64::new(0),
                 is_free: AtomicBool::new(false),
+                is_held: AtomicBool::new(false),
                 is_over: AtomicBool::new(false),
                 is_late: AtomicBool::new(false),
                 taken,
@@ -253,6 +258,39 @@ impl Source for Line {
         let len = datagram.len().min(2048);
         buffer[..len].copy_from_slice(&datagram.as_slice()[..len]);
         Read::Datagram(peer(), len, MOMENT)
+    }
+
+    fn failures(&self) -> u64 {
+        0
+    }
+}
+
+/// A source that gives nothing. It holds each round until the script is over.
+#[derive(Drop)]
+struct Hold {
+    stage: Arc<Stage>,
+}
+
+impl Source for Hold {
+    ghost failures = { λ source. 0 };
+
+    ghost gave = { λ source. None };
+
+    ghost calls = { λ source. None };
+
+    fn wait(&mut self) -> Polled {
+        self.stage.is_held.store(true, Ordering::SeqCst);
+        for turn in 0..YIELDS {
+            if !self.stage.waits(turn) {
+                break;
+            }
+            thread::yield_now();
+        }
+        Polled::Ready
+    }
+
+    fn next(&mut self, _buffer: &mut [u8; 2048]) -> Read {
+        Read::Empty
     }
 
     fn failures(&self) -> u64 {
@@ -343,7 +381,8 @@ impl Gate for Barrier {
     }
 }
 
-/// A watcher that takes these steps, one after the other, and then asks to end. It rests by a yield.
+/// A watcher that takes these steps, one after the other, and asks to end in the rest that ends the last one. It rests by
+/// a yield.
 #[derive(Drop)]
 struct Script {
     alloc: Global,
@@ -399,6 +438,7 @@ impl Script {
             Step::Silence(_) => self.is_silent as u64,
             Step::Rest => told.reports,
             Step::Free => self.stage.is_free.load(Ordering::SeqCst) as u64,
+            Step::Held => self.stage.is_held.load(Ordering::SeqCst) as u64,
         }
     }
 
@@ -416,6 +456,7 @@ impl Script {
                 self.stage.ticks.fetch_add(1, Ordering::SeqCst);
             }
             Step::Free => self.stage.is_free.store(true, Ordering::SeqCst),
+            Step::Held => self.before = 0,
         }
     }
 
@@ -477,19 +518,14 @@ impl Watch for Script {
     fn next(&mut self, told: Told) -> Asked {
         thread::yield_now();
         self.rests = self.rests.saturating_add(1);
-        let step = match self.steps.get(self.at) {
-            Some(step) => *step,
-            None => {
-                self.stage.is_over.store(true, Ordering::SeqCst);
-                return Asked::End;
-            }
-        };
-        if !self.stage.waits(self.rests) {
-            self.stage.is_over.store(true, Ordering::SeqCst);
-            return Asked::End;
+        if let Some(step) = self.steps.get(self.at) {
+            self.follow(*step, told);
         }
-        self.follow(step, told);
-        Asked::GoOn
+        if self.at < self.steps.len() && self.stage.waits(self.rests) {
+            return Asked::GoOn;
+        }
+        self.stage.is_over.store(true, Ordering::SeqCst);
+        Asked::End
     }
 
     fn looks(&mut self) -> bool {
@@ -560,8 +596,44 @@ impl Played {
     }
 }
 
-/// Plays a script to its end with these gates. Asserts that nobody waited too long, that each datagram that was sent is a
-/// known one, and that these became of the changes.
+/// Plays a script to its end over this source, with these gates, for at most `rounds` rounds. Asserts that nobody waited too
+/// long, that each datagram that was sent is a known one, and that these became of the changes.
+fn play_over<R, S: Source, G>(
+    rt: &R,
+    stage: Arc<Stage>,
+    source: &mut S,
+    steps: &'static [Step],
+    gates: Gates<G>,
+    outcomes: &[Result<usize, ChangeFault>],
+    rounds: u64,
+) -> Result<Played, Fail>
+where
+    R: AllocGlobal + Threads + Wait + Abort + Sync,
+    G: Gate + Send + Drop,
+    requires workers { (1 ≤ vec_len gates.workers) × (vec_len gates.workers ≤ 16) }
+    requires few { rounds ≤ 2 ^ 48 }
+{
+    let alloc = rt.alloc();
+    let mut wire = Counter {
+        stage: Arc::try_clone(&stage)?,
+        replies: replies(alloc)?,
+    };
+    let ticker = Beats {
+        stage: Arc::try_clone(&stage)?,
+        given: 0,
+    };
+    let script = Script::new(alloc, Arc::try_clone(&stage)?, steps);
+    let routes = studio(alloc)?;
+    let ran = watched_over(
+        rt, &routes, source, &mut wire, ticker, gates, script, rounds,
+    )?;
+    assert!(rt; !stage.is_late.load(Ordering::SeqCst));
+    assert_eq!(rt; stage.others.load(Ordering::SeqCst), 0);
+    assert_eq!(rt; ran.watch.outcomes.as_slice(), outcomes);
+    Ok(Played { stage, ran })
+}
+
+/// Plays a script over the conclusions that it lets come.
 fn play<R, G>(
     rt: &R,
     stage: Arc<Stage>,
@@ -574,36 +646,12 @@ where
     G: Gate + Send + Drop,
     requires { (1 ≤ vec_len gates.workers) × (vec_len gates.workers ≤ 16) }
 {
-    let alloc = rt.alloc();
     let mut source = Line {
         stage: Arc::try_clone(&stage)?,
-        conclusions: conclusions(alloc)?,
+        conclusions: conclusions(rt.alloc())?,
         next: 0,
     };
-    let mut wire = Counter {
-        stage: Arc::try_clone(&stage)?,
-        replies: replies(alloc)?,
-    };
-    let ticker = Beats {
-        stage: Arc::try_clone(&stage)?,
-        given: 0,
-    };
-    let script = Script::new(alloc, Arc::try_clone(&stage)?, steps);
-    let routes = studio(alloc)?;
-    let ran = watched_over(
-        rt,
-        &routes,
-        &mut source,
-        &mut wire,
-        ticker,
-        gates,
-        script,
-        MANY,
-    )?;
-    assert!(rt; !stage.is_late.load(Ordering::SeqCst));
-    assert_eq!(rt; stage.others.load(Ordering::SeqCst), 0);
-    assert_eq!(rt; ran.watch.outcomes.as_slice(), outcomes);
-    Ok(Played { stage, ran })
+    play_over(rt, stage, &mut source, steps, gates, outcomes, MANY)
 }
 
 /// Plays a script whose turns all pass.
@@ -682,6 +730,37 @@ fn a_refused_change_does_nothing(rt: HostRuntime) -> Result<(), Fail> {
     assert!(rt; played.account(0)?.drained == played.stage.taken(ANSWER_OF_0));
     assert!(rt; played.account(1)?.drained == played.stage.taken(ANSWER_OF_1));
     Ok(())
+}
+
+/// A route opens, and the run ends at once.
+const OPENS_AND_ENDS: &[Step] = &[Step::Change(&[], &[NEW_STUDIA])];
+
+/// Whether the poller still begins a round or not.
+#[test]
+fn a_route_that_opens_just_before_the_end_has_its_account(rt: HostRuntime) -> Result<(), Fail> {
+    let played = play_ungated(&rt, OPENS_AND_ENDS, &[Ok(1)])?;
+    assert_eq!(rt; played.ran.accounts.len(), 2);
+    played.assert_account(&rt, 1, 0, 0)
+}
+
+/// A route opens in the only round, after the poller took routes for the last time.
+const OPENS_LATE: &[Step] = &[Step::Held, Step::Change(&[], &[NEW_STUDIA, SMALL_STUDIA])];
+
+#[test]
+fn a_route_that_opens_in_the_last_round_has_its_account(rt: HostRuntime) -> Result<(), Fail> {
+    let alloc = rt.alloc();
+    let stage = Stage::open(alloc, 7)?;
+    let mut source = Hold {
+        stage: Arc::try_clone(&stage)?,
+    };
+    let gates = Gates {
+        poller: Some(Ungated),
+        workers: vec![in alloc; Ungated, Ungated]?,
+    };
+    let played = play_over(&rt, stage, &mut source, OPENS_LATE, gates, &[Ok(1)], 1)?;
+    assert!(rt; played.ran.rounds == 1 && played.ran.accounts.len() == 3);
+    played.assert_account(&rt, 1, 0, 0)?;
+    played.assert_account(&rt, 2, 0, 0)
 }
 
 /// The first route closes, and nobody finds it any more.
