@@ -76,7 +76,8 @@ def expect_fits(browser: Browser, width: int, height: int) -> None:
     """Expects that the page is no wider than the window, that a picture of it isn't empty, and that nothing failed in it."""
     wide = browser.value("document.documentElement.scrollWidth")
     expect(wide <= width, f"the page is {wide} pixels wide in a window of {width}")
-    narrow = browser.value(f"[...document.querySelectorAll('#sums b')].filter(it => (it.textContent = {json.dumps(LONGEST)}, it.scrollWidth > it.clientWidth)).length")
+    overflows = f"it => (it.textContent = {json.dumps(LONGEST)}, it.scrollWidth > it.clientWidth)"
+    narrow = browser.value(f"[...document.querySelectorAll('#sums b')].filter({overflows}).length")
     expect(narrow == 0, f"{narrow} numbers of the gateway have no room for {LONGEST}")
     found = shown_in(browser.picture())
     expect(found[:2] == (width, height) and found[2] >= LINES, f"the picture is {found[0]} x {found[1]}, with {found[2]} different lines")
