@@ -13,7 +13,7 @@ import rules
 from index import Index
 from texts import Document, parsed, ticked
 
-LOOSE = {"PROOFS.md", "CHANGELOG.md", "PERFORMANCE.md"}
+LOOSE = {"PROOFS.md", "proving-traps.md", "CHANGELOG.md", "PERFORMANCE.md"}
 Answer = Tuple[str, List[str]]
 
 
