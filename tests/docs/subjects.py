@@ -10,6 +10,7 @@ import links
 import names
 import promises
 import rules
+import sizes
 from index import Index
 from texts import Document, parsed, ticked
 
@@ -126,5 +127,6 @@ def of_tree(index: Index, outside: Dict[str, str]) -> Dict[str, Callable[[], Ans
     found["versions"] = lambda: ("the newest is the program's", rules.wrong_versions(index))
     found["sections"] = lambda: counted(rules.wrong_sections(index), "sections")
     found["lines"] = lambda: counted(rules.wrong_lines(index), "crates without a line over 160 characters")
+    found["sizes"] = lambda: counted(sizes.wrong_sizes(index), "documents with a greatest size")
     found["counts"] = lambda: (rules.counts(index), rules.wrong_counts(index))
     return found
