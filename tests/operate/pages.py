@@ -14,6 +14,7 @@ from concurrent.futures import ThreadPoolExecutor
 from typing import Iterator, NamedTuple
 
 from cases import case
+from documents import PAGES
 from expecting import Wrong, expect
 from installing import commands, help_of, options
 from running import SECRET, Run, live
@@ -230,6 +231,37 @@ def defaults_are_right():
             os.replace(f"{run.file}.new", run.file)
             run.line(rf"configuration changed: {2 - changed} routes stay, 1 open, {1 if changed else 0} close, {changed} change", 5, before)
         run.stop()
+
+
+# ---- sizes and durations ----
+
+
+def number_in(path: str, pattern: str) -> tuple[str, ...]:
+    """What a page says where it has this form."""
+    found = re.search(pattern, read(path))
+    if not found:
+        raise Wrong(f"{os.path.relpath(path, TOP)} has no {pattern!r}")
+    return tuple(it.replace(",", "") for it in found.groups())
+
+
+def status_of(*words: str) -> int:
+    """The status of a command whose file isn't there: 1 if its line is right, 2 if it is wrong."""
+    return subprocess.run([PROGRAM, *words], cwd="/", stdin=subprocess.DEVNULL, capture_output=True, timeout=20).returncode
+
+
+@case("the greatest configuration, duration and number of rounds are those that the pages name")
+def sizes_are_right():
+    text = text_of(keys_in(read(KEYS)), FULL)
+    most = int(number_in(KEYS, r"TOML file of at most ([\d,]+) bytes")[0])
+    for size, wanted in ((most, "routes 1"), (most + 1, "file fault")):
+        said = checked(text + "#" * (size - len(text)))
+        expect(said == wanted, f"a configuration of {size} bytes: {said}")
+    low, first, high, last = number_in(f"{PAGES}/start.md", r"; (\d+) (\w) to (\d+) (\w)\)")
+    tried = ((f"{low}{first}", 1), (f"{high}{last}", 1), (f"{int(low) - 1}{first}", 2), (f"{int(high) + 1}{last}", 2))
+    wrong = [it for it, status in tried if status_of("run", "nowhere.toml", "--for", it) != status]
+    rounds = int(number_in(f"{PAGES}/configuration.md", r"So ([\d,]+) rounds, the most")[0])
+    wrong += [str(it) for it, status in ((rounds, 1), (rounds + 1, 2)) if status_of("serve", "nowhere.toml", "--rounds", str(it)) != status]
+    expect(not wrong, f"not as the pages say: {', '.join(wrong)}")
 
 
 # ---- configurations and command lines ----

@@ -109,6 +109,9 @@ def prometheus_scrapes():
             expect(found == 4, f"two roles of two routes are {found} series")
             loaded = server.answer("rules")
             expect(loaded and len(loaded["groups"][0]["rules"]) == 7, f"the rules that it has are {loaded}")
+            for expression in expressions_of_dashboard():
+                whole = re.sub(r"\$(?:instance|route)\b", ".*", expression)
+                expect(server.answer(f"query?{urllib.parse.urlencode({'query': whole})}") is not None, f"Prometheus doesn't take {whole!r}")
             run.stop()
             expect(server.becomes('up{job="srtgw"}', 0, 10), "Prometheus doesn't see that it is gone")
 
@@ -117,13 +120,20 @@ def used_by_alerts() -> set[str]:
     return set(re.findall(r"srtgw_\w+", read(f"{OPERATE}/{RULES}")))
 
 
+def dashboard() -> Any:
+    return json.loads(read(f"{OPERATE}/srtgw-dashboard.json"))
+
+
+def expressions_of_dashboard() -> list[str]:
+    return [target["expr"] for panel in dashboard()["panels"] for target in panel["targets"]]
+
+
 def used_by_dashboard() -> set[str]:
     """The metrics of the dashboard's panels and variables. Raises Wrong if a panel has none."""
-    board = json.loads(read(f"{OPERATE}/srtgw-dashboard.json"))
-    texts = [" ".join(target["expr"] for target in panel["targets"]) for panel in board["panels"]]
-    expect(all("srtgw_" in it for it in texts), "a panel of the dashboard shows no metric")
-    queries = [str(it.get("definition", "")) for it in board["templating"]["list"]]
-    return set(re.findall(r"srtgw_\w+", " ".join(texts + queries)))
+    expressions = expressions_of_dashboard()
+    expect(all("srtgw_" in it for it in expressions), "a panel of the dashboard shows no metric")
+    queries = [str(it.get("definition", "")) for it in dashboard()["templating"]["list"]]
+    return set(re.findall(r"srtgw_\w+", " ".join(expressions + queries)))
 
 
 def short(family: str) -> str:
