@@ -123,13 +123,12 @@ def values_of(key: Key) -> Iterator[tuple[str, int]]:
         yield from ((f"'{it}'", 0 if it in marks else fault) for it in string.punctuation + " " if it != "'")
 
 
-def tries_of(keys: list[Key]) -> Iterator[Try]:
-    """A configuration for each value at a limit and beyond it, of a wrong kind, and without the key."""
-    for key in keys:
+def tries_of(keys: list[Key], only: set[Key]) -> Iterator[Try]:
+    """A configuration for each value of these keys at a limit and beyond it, of a wrong kind, and without the key."""
+    for key in (it for it in keys if it in only):
         others = {it: value for it, value in FULL.items() if it != key.name and not (key.name == "open_round" and it == "close_round")}
         if key.name == "sessions":
             others.pop("reserved")
-        whole = FULL["reserved"] if key.name == "sessions" else ""
         right = "routes 1"
         if key.kind == "tables":
             low, high = between(key)
@@ -143,7 +142,11 @@ def tries_of(keys: list[Key]) -> Iterator[Try]:
         for value in WRONG_KINDS[key.kind]:
             yield Try(f"{key.name} = {value}", text_of(keys, {**others, key.name: value}), f"config fault 4 {key.name}")
         missing = f"config fault 3 {key.name}" if key.is_required() else right
-        yield Try(f"without {key.name}", text_of(keys, {**others, **({"reserved": "0"} if whole else {})}), missing)
+        yield Try(f"without {key.name}", text_of(keys, others), missing)
+
+
+def tries_of_pairs(keys: list[Key]) -> Iterator[Try]:
+    """What the limits say of two keys together."""
     yield Try("reserved as many as sessions", text_of(keys, {**FULL, "sessions": "2", "reserved": "2"}), "config fault 5 reserved")
     yield Try("reserved below sessions", text_of(keys, {**FULL, "sessions": "3", "reserved": "2"}), "routes 1")
     yield Try("close_round at open_round", text_of(keys, {**FULL, "open_round": "5", "close_round": "5"}), "config fault 5 close_round")
@@ -158,12 +161,7 @@ def routes(keys: list[Key], count: int) -> str:
     return "".join(text_of(of_route, {**required, "name": f'"r{number}"'}) for number in range(count))
 
 
-def wrong_keys(text: str) -> list[str]:
-    """What a table of keys says that isn't so in the program."""
-    keys = keys_in(text)
-    if {it.name for it in keys} != {*FULL, "route"}:
-        return [f"the table has the keys {sorted(it.name for it in keys)}"]
-    tries = list(tries_of(keys))
+def wrong_tries(tries: list[Try]) -> list[str]:
     with ThreadPoolExecutor(2) as pool:
         said = list(pool.map(lambda it: checked(it.text), tries))
     return [f"{one.what}: check prints {line!r}, and by the table {one.wanted!r}" for one, line in zip(tries, said) if line != one.wanted]
@@ -171,7 +169,10 @@ def wrong_keys(text: str) -> list[str]:
 
 @case("CONFIGURATION has each key, limit and kind as the program checks them")
 def keys_are_right():
-    wrong = wrong_keys(read(KEYS))
+    keys = keys_in(read(KEYS))
+    names = sorted(it.name for it in keys)
+    expect(names == sorted({*FULL, "route"}), f"the table has the keys {names}")
+    wrong = wrong_tries([*tries_of(keys, set(keys)), *tries_of_pairs(keys)])
     expect(not wrong, f"{len(wrong)} wrong: {'; '.join(wrong[:3])}")
 
 
@@ -199,7 +200,9 @@ def wrong_keys_are_found():
     text = read(KEYS)
     for old, new in PLANTED:
         expect(old in text, f"the table has no {old!r}")
-        expect(wrong_keys(text.replace(old, new)), f"{new!r} in place of {old!r} isn't found")
+        keys = keys_in(text.replace(old, new))
+        changed = set(keys) - set(keys_in(text))
+        expect(changed and wrong_tries(list(tries_of(keys, changed))), f"{new!r} in place of {old!r} isn't found")
 
 
 # ---- defaults ----
@@ -231,6 +234,40 @@ def defaults_are_right():
             os.replace(f"{run.file}.new", run.file)
             run.line(rf"configuration changed: {2 - changed} routes stay, 1 open, {1 if changed else 0} close, {changed} change", 5, before)
         run.stop()
+
+
+# ---- warnings ----
+
+
+def warning_of(values: dict[str, str]) -> list[str]:
+    """The warnings that `check --explain` prints of a configuration with these values."""
+    with tempfile.NamedTemporaryFile("w", suffix=".toml") as it:
+        it.write(text_of(keys_in(read(KEYS)), values))
+        it.flush()
+        said = subprocess.run([PROGRAM, "check", it.name, "--explain"], capture_output=True, text=True)
+    expect(said.stdout == "routes 1\n", f"it prints {said.stdout!r}")
+    return [it.partition("warning: ")[2] for it in said.stderr.splitlines()]
+
+
+RISKS = {
+    "secret": dict(secret='"000102030405060708090a0b0c0d0e0f101112131415161718191a1b1c1d1e1f"'), "status": dict(status='"0.0.0.0:1"'),
+    "outbox": dict(outbox="333"), "buffer": dict(buffer="189"), "sessions": dict(sessions="1", outbox="70"), "publish_key": dict(publish_key='"a"'),
+    "request_key": dict(request_key='"a"'), "takeover_ms": dict(mode='"buffer"', takeover_ms="500"),
+    "sessions_per_address": dict(sessions_per_address="5"), "reserved": dict(sessions="3", reserved="2"),
+}
+
+
+@case("CONFIGURATION has the warnings of `check --explain`")
+def warnings_are_right():
+    rows = [it.cells for it in parsed("", read(KEYS)).pieces if it.is_row() and it.head[:2] == ["key", "warning"]]
+    said = {key: re.findall('"([^"]+)"', cells[1]) for cells in rows for key in ticked(cells[0])}
+    expect(sorted(said) == sorted(RISKS), f"the table has {sorted(said)}")
+    calm = {it: FULL[it] for it in REQUIRED}
+    expect(warning_of(calm) == [], f"without a risk it warns: {warning_of(calm)}")
+    for key, values in RISKS.items():
+        lines = warning_of({**calm, **values})
+        fits = len(lines) == 1 and re.match(rf"(?:route 1 \(studio\): )?{key}\b", lines[0]) and said[key] and all(it in lines[0] for it in said[key])
+        expect(fits, f"{key}: it warns {lines}, and the table has {said[key]}")
 
 
 # ---- sizes and durations ----
