@@ -253,7 +253,7 @@ class Checker:
 
 def keys_of(index: Index) -> Tuple[Set[str], Set[str]]:
     """The keys of a configuration's table and of a route's, as the code has them."""
-    folder = "crates/srt_gateway/src/config/"
+    folder = "crates/srt_config/src/config/"
     texts = dict(re.findall(r'Key::(\w+) => "(\w+)"', index.text(f"{folder}faults.rt")))
     both = []
     for path, name in (("reading.rt", "TOP_KEYS"), ("routes.rt", "ROUTE_KEYS")):

@@ -8,11 +8,11 @@ use Rattle.srt_seq.specs.Access.{RoleTerms, AccessTerms}
 use Rattle.srt_seq.specs.Terms.{Terms}
 use Rattle.srt_seq.specs.declared.shared.Mode.{Mode}
 use Rattle.srt_seq.specs.declared.shared.Mode.TheVariants as mode
-use Rattle.srt_gateway.specs.declared.config.address.BindAddress.{BindAddress}
+use Rattle.srt_config.specs.declared.config.address.BindAddress.{BindAddress}
 use Rattle.srt_explain.specs.declared.warnings.Warning.{Warning}
 use Rattle.srt_explain.specs.declared.warnings.Warning.TheVariants.{ExampleSecret, ExposedStatus, SmallOutbox, SmallWindow, OneSession, OpenKey}
 use Rattle.srt_explain.specs.declared.warnings.Warning.TheVariants.{UnusedTakeover, UnusedAddressLimit, OneUnreserved}
-use Rattle.srt_gateway.specs.Keys.{given_or_0}
+use Rattle.srt_config.specs.Keys.{given_or_0}
 
 -- the most replies of one event of a route
 abbrev pub replies_of : Terms → ℕ

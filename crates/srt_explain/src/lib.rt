@@ -1,7 +1,7 @@
 //! Explanations of a configuration, for people: what is wrong and where, or what is right and unwise.
 //!
 //! It opens no file and prints nothing: the bytes of the configuration are an argument, and texts are those of values
-//! (`Display`). What is right, and which fault counts, is decided by `srt_gateway`; here it gets its place, its value,
+//! (`Display`). What is right, and which fault counts, is decided by `srt_config`; here it gets its place, its value,
 //! what is allowed instead, and a hint.
 //!
 //! Types: `Explained`, a right configuration and its `Warning`s; `Explanation`, a fault with its place (`RouteAt`,

@@ -3,7 +3,7 @@
 use crate::explanation::{Explanation, Hint, RouteAt};
 use crate::values::{ValueKind, choice_of, kind_of};
 use crate::warnings::{Warning, WarningText};
-use srt_gateway::{
+use srt_config::{
     BindAddress, ConfigFault, Key, MAX_KEY, MAX_NETWORKS, MAX_ROUND, ROUTE_KEYS, TOP_KEYS,
 };
 use srt_seq::Role;

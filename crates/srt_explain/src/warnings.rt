@@ -11,7 +11,7 @@ ghost use Rattle.srt_explain.specs.Warnings.{limit_warning, has_one_unreserved, 
 ghost use Rattle.srt_explain.specs.Warnings.{warnings_of};
 
 use crate::values::text_at;
-use srt_gateway::{BindAddress, Config, Key};
+use srt_config::{BindAddress, Config, Key};
 use srt_seq::{Access, Entry, Mode, Role, RoleAccess};
 use std::alloc::{AllocError, Global};
 use toml::Table;

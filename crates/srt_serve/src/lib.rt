@@ -1,7 +1,7 @@
 //! The running gateway: it starts the threads, stops them, and settles the routes.
 //!
 //! One thread polls, one ticks, and workers serve the routes; the polling thread serves some of them too. One more
-//! watches, in a run that is watched. The crate reads no configuration (`srt_gateway` does), binds no socket and reads
+//! watches, in a run that is watched. The crate reads no configuration (`srt_config` does), binds no socket and reads
 //! no clock (the program hands in a source, a wire and a ticker), and takes no signals.
 //!
 //! Types: `Gates` has a gate for each thread that serves routes; a `Ticker` gives the moments at which routes are ticked;

@@ -224,8 +224,13 @@ where
     ensures rounds { IfOk result (λ r. (r.rounds ≤ rounds) × ((r.rounds ≡ rounds) ⊎ (is_watched ≡ true))) }
     ensures unread { (result ≡ Err RunFault.OutOfMemory) ⊎ (result ≡ Err RunFault.Thread) → (source.new ≡ source.old) × (wire.new ≡ wire.old) }
 {
-    let Gates { poller, workers } = gates;
-    let Ok(resources) = open_resources(alloc, entries, schedules, workers.len(), is_watched) else {
+    let Ok(resources) = open_resources(
+        alloc,
+        entries,
+        schedules,
+        gates.workers.len(),
+        is_watched,
+    ) else {
         return Err(RunFault::OutOfMemory);
     };
     let Resources {
@@ -237,7 +242,81 @@ where
         post,
         accounts,
     } = resources;
-    let Ok(opened) = open_routes(alloc, entries, places.as_slice()) else {
+    let told = post.as_ref();
+    run_over(
+        rt,
+        alloc,
+        secret,
+        entries,
+        schedules,
+        source,
+        wire,
+        ticker,
+        gates,
+        watch,
+        is_watched,
+        rounds,
+        names,
+        plans,
+        accounts,
+        places.as_slice(),
+        &news,
+        &wakeups,
+        told,
+    )
+}
+
+// As `run_with`, over what was allocated.
+#[tactic(auto, unfolding(crate::specs::inside::Polled::AreUntouched))]
+fn run_over<'a, R, S: Source, W: Wire, K, G, T>(
+    rt: &'a R,
+    alloc: Global,
+    secret: &'a Secret,
+    entries: &[Entry],
+    schedules: &'a [Schedule],
+    source: &mut S,
+    wire: &mut W,
+    ticker: K,
+    gates: Gates<G>,
+    watch: T,
+    is_watched: bool,
+    rounds: u64,
+    names: Names,
+    plans: Plans,
+    accounts: Vec<Account>,
+    places: &'a [Place<Named>],
+    news: &'a News,
+    wakeups: &'a Wakeups,
+    told: Option<&'a Post>,
+) -> Result<Watched<K, T>, RunFault>
+where
+    R: Threads + Wait + Sync,
+    K: Ticker + Send + Drop,
+    G: Gate + Send + Drop,
+    T: Watch + Send + Drop,
+    requires entries { fault_of (map terms_of entries.now) ≡ None }
+    requires schedules { length schedules.now ≡ length entries.now }
+    requires workers { (1 ≤ vec_len gates.workers) × (vec_len gates.workers ≤ 16) }
+    requires few { rounds ≤ 2 ^ 48 }
+    requires names { names_of names ≡ first_names schedules.now (map terms_of entries.now) }
+    requires accounts { (accounts.items ≡ []) × (511 ≤ vec_capacity accounts) }
+    requires places { is_watched ≡ true → length places.now ≡ 511 }
+    requires post { IsSome told ↔ (is_watched ≡ true) }
+    ensures fixed { is_watched ≡ false → IfOk result (λ r. RanUnder (is_watched ≡ true)
+        (class_of (secret_bytes secret.now)) schedules.now (map terms_of entries.now) r.rounds
+        (told_by (heard (S.gave source.old) (S.calls source.old)) (carried (W.handed wire.old) (W.attempts wire.old)) (K.gave ticker))
+        (told_by (heard (S.gave source.new) (S.calls source.new)) (carried (W.handed wire.new) (W.attempts wire.new)) (K.gave r.ticker))
+        r.report r.accounts.items) }
+    ensures changing { is_watched ≡ true → IfOk result (λ r. RanChanging
+        (class_of (secret_bytes secret.now)) schedules.now (map terms_of entries.now) r.rounds
+        (told_by (heard (S.gave source.old) (S.calls source.old)) (carried (W.handed wire.old) (W.attempts wire.old)) (K.gave ticker))
+        (told_by (heard (S.gave source.new) (S.calls source.new)) (carried (W.handed wire.new) (W.attempts wire.new)) (K.gave r.ticker))
+        r.report r.accounts.items) }
+    ensures rounds { IfOk result (λ r. (r.rounds ≤ rounds) × ((r.rounds ≡ rounds) ⊎ (is_watched ≡ true))) }
+    ensures unread { (result ≡ Err RunFault.OutOfMemory) ⊎ (result ≡ Err RunFault.Thread) → (source.new ≡ source.old) × (wire.new ≡ wire.old) }
+{
+    let Gates { poller, workers } = gates;
+    let Ok(opened) = open_routes(alloc, entries, places) else {
         return Err(RunFault::OutOfMemory);
     };
     let Opened {
@@ -247,19 +326,18 @@ where
         clocks,
         put,
     } = opened;
-    let Ok(openings) = PollerArrivals::new(alloc, routes, &news, MAX_ROUTES) else {
+    let Ok(openings) = PollerArrivals::new(alloc, routes, news, MAX_ROUTES) else {
         return Err(RunFault::OutOfMemory);
     };
-    let told = post.as_ref();
     let context = RunContext {
         rt,
         alloc,
         secret,
         schedules,
-        cells: places.as_slice(),
+        cells: places,
         routes: entries.len(),
-        news: &news,
-        wakeups: &wakeups,
+        news,
+        wakeups,
         post: told,
         rounds,
     };
@@ -302,7 +380,7 @@ where
     let Ok(()) = began_with(&routes, &put) else {
         return Err(RunFault::Busy);
     };
-    watch_last(rt, places.as_slice(), told, &mut watch);
+    watch_last(rt, places, told, &mut watch);
     take_new(&mut clocks, &mut arrivals);
     let Ok(()) = came_to_all(&routes, &arrivals.reader) else {
         return Err(RunFault::Busy);

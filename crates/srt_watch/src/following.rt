@@ -8,7 +8,7 @@ use crate::indexes::{asks_nothing, closing, indexes_after, megabytes_of, numbers
 use crate::log::{LogWriter, When};
 use crate::reload::{News, Reload};
 use crate::watched_routes::{OpeningRoute, WatchedRoutes};
-use srt_gateway::{Changes, Config, RouteChange};
+use srt_config::{Changes, Config, RouteChange};
 use srt_log::{CloseCause, ConfigEvent, LogEvent, RouteNumbers};
 use srt_seq::Entry;
 use srt_serve::RouteChanges;

@@ -16,7 +16,7 @@
 //! `reload.rt` has the configuration in force and compares it with the file's, `config_file.rt` says when that is read,
 //! `indexes.rt` which routes of the run close and which indexes the others have. `machine.rt`, `status_server.rt` and
 //! `config_file.rt` have the traits. The words of each line are `srt_log`'s, those of the page `srt_status`'s, what a
-//! changed configuration asks is `srt_gateway`'s, and when a stop is over is `srt_operate`'s.
+//! changed configuration asks is `srt_config`'s, and when a stop is over is `srt_operate`'s.
 #![tactic(auto)]
 
 mod census;

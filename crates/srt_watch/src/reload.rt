@@ -2,8 +2,8 @@
 
 use crate::config_file::{ConfigFile, LastLook, MAX_REASON, is_other};
 use crate::indexes::differing;
+use srt_config::{Changes, Config, changes_between};
 use srt_explain::explain;
-use srt_gateway::{Changes, Config, changes_between};
 use srt_log::DifferingKeys;
 use std::alloc::Global;
 use std::fmt::InlineText;

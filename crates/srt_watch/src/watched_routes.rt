@@ -2,7 +2,7 @@
 
 use crate::census::{grown_limits, note_route};
 use crate::showing::{look_at, look_at_none};
-use srt_gateway::RouteChange;
+use srt_config::RouteChange;
 use srt_log::RouteLook;
 use srt_route::Route;
 use srt_seq::{Entry, Mode};

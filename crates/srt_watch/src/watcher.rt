@@ -9,7 +9,7 @@ use crate::machine::Machine;
 use crate::reload::News;
 use crate::status_server::StatusServer;
 use crate::watched_routes::WatchedRoutes;
-use srt_gateway::{Changes, Config};
+use srt_config::{Changes, Config};
 use srt_log::{Change, ConfigEvent, LogEvent, RouteLook, STEPS, StopCause, change_at, event_of};
 use srt_operate::{StopStep, stop_step};
 use srt_poller::{Asked, Report};

@@ -1,7 +1,7 @@
 -- How a run ends.
 use Rattle.std.specs.Prelude.{ℕ, Bool, true, false, Result, Ok, Err}
-use Rattle.srt_gateway.specs.declared.replaying.ReplayFault.{ReplayFault}
-use Rattle.srt_gateway.specs.declared.replaying.ReplayFault.TheVariants as replays
+use Rattle.srt_replay.specs.declared.replaying.ReplayFault.{ReplayFault}
+use Rattle.srt_replay.specs.declared.replaying.ReplayFault.TheVariants as replays
 use Rattle.srtgw.specs.declared.faults.Fault.{Fault}
 use Rattle.srtgw.specs.declared.faults.Fault.TheVariants.{File, Config, Replay, Bind, Run, Memory, Output}
 

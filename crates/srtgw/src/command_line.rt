@@ -114,13 +114,17 @@ fn no_time<'a>(alloc: Global) -> Arg<'a> {
         )
 }
 
-/// The program's commands with their arguments and help. It allocates; the only error is that it is refused.
-pub fn command<'a>(alloc: Global) -> Result<Command<'a>, AllocError> {
-    let check = Command::new(alloc, "check")
+/// The command `check`.
+fn check<'a>(alloc: Global) -> Result<Command<'a>, AllocError> {
+    Command::new(alloc, "check")
         .about("Prints how many routes a configuration has, or its first fault")
         .arg(config(alloc))?
-        .arg(explain(alloc))?;
-    let replay = Command::new(alloc, "replay")
+        .arg(explain(alloc))
+}
+
+/// The command `replay`.
+fn replay<'a>(alloc: Global) -> Result<Command<'a>, AllocError> {
+    Command::new(alloc, "replay")
         .about(
             "Runs the gateway's core over a tape, a text of events, and prints what comes of each event",
         )
@@ -128,8 +132,12 @@ pub fn command<'a>(alloc: Global) -> Result<Command<'a>, AllocError> {
             "docs/PROTOCOL.md has the form of a tape; bin/explain prints one as a person reads it.",
         )
         .arg(config(alloc))?
-        .arg(tape(alloc))?;
-    let serve = Command::new(alloc, "serve")
+        .arg(tape(alloc))
+}
+
+/// The command `serve`.
+fn serve<'a>(alloc: Global) -> Result<Command<'a>, AllocError> {
+    Command::new(alloc, "serve")
         .about(
             "Serves SRT callers at the configuration's UDP address, and prints a report at the end",
         )
@@ -137,8 +145,12 @@ pub fn command<'a>(alloc: Global) -> Result<Command<'a>, AllocError> {
             "docs/OPERATING.md says how to call it, what the report means and how to keep it running.",
         )
         .arg(config(alloc))?
-        .arg(rounds(alloc))?;
-    let run = Command::new(alloc, "run")
+        .arg(rounds(alloc))
+}
+
+/// The command `run`.
+fn run<'a>(alloc: Global) -> Result<Command<'a>, AllocError> {
+    Command::new(alloc, "run")
         .about(
             "Serves SRT callers until it is told to stop, tells on standard error what happens, and prints a report at the end",
         )
@@ -147,17 +159,33 @@ pub fn command<'a>(alloc: Global) -> Result<Command<'a>, AllocError> {
         )
         .arg(config(alloc))?
         .arg(duration(alloc))?
-        .arg(no_time(alloc))?;
+        .arg(no_time(alloc))
+}
+
+/// The commands that open no socket.
+fn with_files<'a>(alloc: Global, all: Command<'a>) -> Result<Command<'a>, AllocError> {
+    all.subcommand(check(alloc)?)?.subcommand(replay(alloc)?)
+}
+
+/// The commands that serve callers.
+fn with_callers<'a>(alloc: Global, all: Command<'a>) -> Result<Command<'a>, AllocError> {
+    all.subcommand(serve(alloc)?)?.subcommand(run(alloc)?)
+}
+
+/// The program without its commands.
+fn program<'a>(alloc: Global) -> Command<'a> {
     Command::new(alloc, "srtgw")
         .about(
             "A gateway for SRT live streams: what a publisher sends on a route goes to each of the route's subscribers",
         )
         .version(VERSION)
         .subcommand_required(true)
-        .subcommand(check)?
-        .subcommand(replay)?
-        .subcommand(serve)?
-        .subcommand(run)
+}
+
+/// The program's commands with their arguments and help. It allocates; the only error is that it is refused.
+pub fn command<'a>(alloc: Global) -> Result<Command<'a>, AllocError> {
+    let all = with_files(alloc, program(alloc))?;
+    with_callers(alloc, all)
 }
 
 /// The error of a time of `--for` that is no duration. It allocates; the only error is that it is refused.

@@ -3,8 +3,9 @@
 ghost use Rattle.std.specs.Prelude.{◌≡◌};
 ghost use Rattle.srtgw.specs.Ends.{is_printed};
 
-use srt_gateway::{ConfigFault, ReplayFault};
+use srt_config::ConfigFault;
 use srt_poller::BindFault;
+use srt_replay::ReplayFault;
 use srt_serve::RunFault;
 use thiserror::Error;
 

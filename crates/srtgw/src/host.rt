@@ -2,7 +2,7 @@
 
 use crate::clocks::Since;
 use crate::files::{MAX_CONFIG, read_file};
-use srt_gateway::BindAddress;
+use srt_config::BindAddress;
 use srt_operate::{kernel_drops, resident_memory, stop_asked};
 use srt_watch::{ConfigFile, FileStamp, MAX_REASON, Machine};
 use std::fmt::InlineText;

@@ -1,8 +1,8 @@
 //! `srtgw`: the gateway's program. It reads the command line and files, calls the crates that do the work, and prints
 //! what they return.
 //!
-//! It has no rules of the protocol or of the configuration: these are in `srt_gateway` and below. Nothing is kept on
-//! disk. A run ends with status 0 when its work is done, 1 with a fault, 2 with a wrong command line.
+//! It has no rules of the protocol or of the configuration: these are in `srt_config`, `srt_replay` and below.
+//! Nothing is kept on disk. A run ends with status 0 when its work is done, 1 with a fault, 2 with a wrong command line.
 //!
 //! Types: `Task` (`command_line.rt`), what the command line asks for; `Fault` (`faults.rt`), why a run ended early.
 //!
@@ -34,8 +34,9 @@ use faults::Fault;
 use files::{MAX_CONFIG, MAX_TAPE, read_file};
 use running::{Manner, run_gateway};
 use serving::{print_report, serve};
+use srt_config::{Config, ConfigFault, read_config};
 use srt_explain::{Explained, explain};
-use srt_gateway::{Config, ConfigFault, CountedReader, CountedWriter, read_config, replay};
+use srt_replay::{CountedReader, CountedWriter, replay};
 use std::io::{self, BufWriter, ErrorKind};
 use std::net::Net;
 use std::process::ExitCode;

@@ -1,17 +1,20 @@
 //! `srtgw run`: the gateway at a UDP socket, until it is told to stop.
 
-use crate::clocks::ClockTicker;
+ghost use Rattle.std.specs.Prelude.{◌≤◌};
+ghost use Rattle.std.specs.Vec.{vec_len};
+
+use crate::clocks::{ClockTicker, Since};
 use crate::command_line::VERSION;
 use crate::faults::Fault;
 use crate::host::{Errors, Host, HostFile, time_now};
 use crate::serving::{bind, gates, print_report};
 use crate::status_page::StatusPage;
+use srt_config::Config;
 use srt_explain::Explained;
-use srt_gateway::Config;
 use srt_mailbox::Account;
 use srt_operate::signals_are_blocked;
-use srt_poller::BindFault;
-use srt_serve::{RunFault, Watched, run_until};
+use srt_poller::{BindFault, MioSource, MioWire, Report, Ungated};
+use srt_serve::{Gates, RunFault, Watched, run_until};
 use srt_watch::{Start, Watcher};
 use std::io::{self, ErrorKind};
 use std::net::{Ipv4Addr, Net};
@@ -111,6 +114,121 @@ fn print_accounts(
     Ok(())
 }
 
+/// A watcher of this run, which follows the configuration's file and has told what is unwise in it.
+fn open_watcher<'a>(
+    rt: &(impl Eprint + Files + AllocGlobal),
+    machine: &'a HostRuntime,
+    path: &'a str,
+    explained: &'a Explained,
+    manner: Manner,
+    start: Option<Instant>,
+) -> Result<HostWatcher<'a>, Fault> {
+    let config = &explained.config;
+    let beginning = Start {
+        ip: config.bind.ip,
+        port: config.bind.port,
+        workers: config.workers,
+        is_blocked: signals_are_blocked(rt),
+        lasts: manner.lasts,
+        version: VERSION,
+    };
+    let page = open_page(rt, machine, config)?;
+    let host = Host::new(machine, start, config.bind);
+    let Ok(mut watcher) = Watcher::open(
+        rt.alloc(),
+        host,
+        page,
+        Errors::new(machine),
+        manner.is_timed,
+        config.entries.as_slice(),
+        beginning,
+    ) else {
+        return Err(Fault::Memory);
+    };
+    tell_watcher(machine, path, explained, &mut watcher)?;
+    Ok(watcher)
+}
+
+/// Has the watcher follow the configuration's file, and tell what is unwise in it.
+fn tell_watcher<'a>(
+    machine: &'a HostRuntime,
+    path: &'a str,
+    explained: &'a Explained,
+    watcher: &mut HostWatcher<'a>,
+) -> Result<(), Fault> {
+    if let Some(file) = HostFile::at(machine, path) {
+        if watcher.follow(&explained.config, file).is_err() {
+            return Err(Fault::Memory);
+        }
+    }
+    for warning in explained.warnings.iter() {
+        if watcher.warn(explained.text_of(*warning)).is_err() {
+            return Err(Fault::Memory);
+        }
+    }
+    Ok(())
+}
+
+/// Ends the log, and prints the report and an account of each route.
+fn tell_end(
+    rt: &impl Print,
+    mut watcher: HostWatcher<'_>,
+    report: &Report,
+    accounts: &[Account],
+) -> Result<(), Fault> {
+    watcher.end();
+    let printed = print_report(rt, report);
+    match printed.and_then(|_| print_accounts(rt, &watcher, accounts)) {
+        Ok(()) => Ok(()),
+        Err(_) => Err(Fault::Output),
+    }
+}
+
+/// Runs the gateway at this socket with this watcher, and tells how it ended.
+fn run_watched<R>(
+    rt: &R,
+    path: &str,
+    config: &Config,
+    source: &mut MioSource<Since<'_, R>>,
+    wire: &mut MioWire,
+    start: Option<Instant>,
+    gates: Gates<Ungated>,
+    watcher: HostWatcher<'_>,
+) -> Result<(), Fault>
+where
+    R: Print + Eprint + Files + AllocGlobal + Net + Clock + Threads + Wait + Sync,
+    requires { (1 ≤ vec_len gates.workers) × (vec_len gates.workers ≤ 16) }
+{
+    let ran = run_until(
+        rt,
+        rt.alloc(),
+        &config.secret.of_run(time_now(rt)),
+        config.entries.as_slice(),
+        config.schedules.as_slice(),
+        source,
+        wire,
+        ClockTicker::new(rt, start),
+        gates,
+        watcher,
+        MAX_RUN_ROUNDS,
+    );
+    match ran {
+        Ok(watched) => {
+            let Watched {
+                report,
+                accounts,
+                watch,
+                ..
+            } = watched;
+            tell_end(rt, watch, &report, &accounts)
+        }
+        Err(fault) => {
+            explain_run(rt, path, fault);
+            Err(Fault::Run(fault))
+        }
+    }
+}
+
 /// Serves the routes of an explained configuration until SIGINT or SIGTERM is pending or its time is over, and tells a
 /// log on standard error what happens. Then every route is closed, and what is left is sent, for a second at most.
 /// Prints the report and an account of each route. `path` is that of the configuration. The watcher, which has a thread
@@ -135,67 +253,6 @@ where
         }
     };
     let gates = gates(rt.alloc(), config.workers)?;
-    let beginning = Start {
-        ip: config.bind.ip,
-        port: config.bind.port,
-        workers: config.workers,
-        is_blocked: signals_are_blocked(rt),
-        lasts: manner.lasts,
-        version: VERSION,
-    };
-    let page = open_page(rt, machine, config)?;
-    let host = Host::new(machine, start, config.bind);
-    let entries = config.entries.as_slice();
-    let Ok(mut watcher) = Watcher::open(
-        rt.alloc(),
-        host,
-        page,
-        Errors::new(machine),
-        manner.is_timed,
-        entries,
-        beginning,
-    ) else {
-        return Err(Fault::Memory);
-    };
-    if let Some(file) = HostFile::at(machine, path) {
-        if watcher.follow(config, file).is_err() {
-            return Err(Fault::Memory);
-        }
-    }
-    for warning in explained.warnings.iter() {
-        if watcher.warn(explained.text_of(*warning)).is_err() {
-            return Err(Fault::Memory);
-        }
-    }
-    let ran = run_until(
-        rt,
-        rt.alloc(),
-        &config.secret.of_run(time_now(rt)),
-        entries,
-        config.schedules.as_slice(),
-        &mut source,
-        &mut wire,
-        ClockTicker::new(rt, start),
-        gates,
-        watcher,
-        MAX_RUN_ROUNDS,
-    );
-    let Watched {
-        report,
-        accounts,
-        watch: mut watcher,
-        ..
-    } = match ran {
-        Ok(watched) => watched,
-        Err(fault) => {
-            explain_run(rt, path, fault);
-            return Err(Fault::Run(fault));
-        }
-    };
-    watcher.end();
-    let printed = print_report(rt, &report);
-    match printed.and_then(|_| print_accounts(rt, &watcher, &accounts)) {
-        Ok(()) => Ok(()),
-        Err(_) => Err(Fault::Output),
-    }
+    let watcher = open_watcher(rt, machine, path, explained, manner, start)?;
+    run_watched(rt, path, config, &mut source, &mut wire, start, gates, watcher)
 }

@@ -5,7 +5,7 @@ ghost use Rattle.std.specs.Vec.{vec_len};
 
 use crate::clocks::{ClockTicker, Since};
 use crate::faults::Fault;
-use srt_gateway::Config;
+use srt_config::Config;
 use srt_poller::{BindFault, MioSource, MioWire, Report, Ungated};
 use srt_serve::{Gates, run};
 use std::alloc::{AllocError, Global};

@@ -1,7 +1,7 @@
 //! The sockets of the status page: who asks, and what is sent to whom. What bytes ask for, and what is answered, is
 //! `srt_status`'s.
 
-use srt_gateway::BindAddress;
+use srt_config::BindAddress;
 use srt_status::{Connection, GatewayStatus, OVERVIEW, RouteStatus, request_in, respond};
 use srt_watch::StatusServer;
 use std::alloc::{AllocError, Global};

@@ -1,8 +1,9 @@
 //! The line of each fault, as docs/PROTOCOL.md has them ("The program's output").
 
 use crate::faults::Fault;
-use srt_gateway::{ConfigFault, Key, ReplayFault};
+use srt_config::{ConfigFault, Key};
 use srt_poller::BindFault;
+use srt_replay::ReplayFault;
 use srt_serve::RunFault;
 use std::fmt::InlineText;
 use std::process::Abort;

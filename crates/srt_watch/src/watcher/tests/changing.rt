@@ -4,7 +4,7 @@ use super::{NOTHING, Watching, assert_lines, start, watcher};
 use crate::config_file::LastLook;
 use crate::indexes::{megabytes_of, reaches_mark};
 use crate::{ConfigFile, FileStamp, MAX_REASON};
-use srt_gateway::{Config, read_config};
+use srt_config::{Config, read_config};
 use srt_poller::Asked;
 use srt_serve::{ChangeFault, RouteChanges, Watch};
 use srt_status::ChangeCounts;
