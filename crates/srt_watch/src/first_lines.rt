@@ -11,7 +11,7 @@ use std::io::Write;
 const MAX_WARNING: usize = 512;
 
 /// What the first line of a log says, and when the gateway stops by itself.
-#[derive(Clone, Copy, Debug)]
+#[derive(Clone, Copy)]
 pub struct Start {
     /// The IPv4 address of the socket.
     pub ip: [u8; 4],

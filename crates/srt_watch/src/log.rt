@@ -7,7 +7,7 @@ use std::io::Write;
 use std::mem;
 
 /// When something happened.
-#[derive(Clone, Copy, Debug)]
+#[derive(Clone, Copy)]
 pub(crate) struct When {
     /// The moment, in microseconds of the routes' clock.
     pub moment: u64,
