@@ -157,9 +157,9 @@ fn assert_page(rt: &impl Abort, watcher: &mut Watching<'_>, initials: &[u8], cou
         refused,
         indexes,
     };
-    assert_eq!(rt; watcher.page.changes, wanted);
-    assert_eq!(rt; watcher.page.initials.as_slice(), initials);
-    assert_eq!(rt; watcher.page.routes as usize, initials.len());
+    assert!(rt; watcher.page.server.changes == wanted);
+    assert_eq!(rt; watcher.page.server.initials.as_slice(), initials);
+    assert_eq!(rt; watcher.page.server.routes as usize, initials.len());
 }
 
 #[test]
