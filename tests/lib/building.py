@@ -13,7 +13,7 @@ from concurrent.futures import FIRST_COMPLETED, Future, ThreadPoolExecutor, wait
 from typing import Callable, Iterable, NamedTuple, TextIO
 
 from durations import KEPT, NOTHING, Durations
-from planning import Plan
+from planning import Plan, by_one_job
 from tree import TOP, Crate, below, crates, make_room
 
 # What a check by one job may take of memory, in bytes.
@@ -223,6 +223,7 @@ def build_all(wanted: list[Crate], log: TextIO, tell: Callable[[str], None]) -> 
                 log.flush()
                 if why:
                     raise why
-                if over := it.result().over:
-                    durations.keep(crate, over, it.result().seconds)
+                built = it.result()
+                if built.over:
+                    durations.keep(crate, built.over, by_one_job(built.seconds, jobs) if built.over == NOTHING else built.seconds)
                 progress.done.add(crate.name)

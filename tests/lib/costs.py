@@ -18,8 +18,8 @@ from trying import is_built_below, toolchain
 
 SUFFIX = ".oantt"
 DERIVATION = "Lts"
-# The modules that a function of this path has, and no other: its theorem, and the derivation for the borrow checker.
-OF_FUNCTION = re.compile(rf"(.+)\.(?:Statement|{DERIVATION})")
+# The module that each function has, and nothing else: its derivation for the borrow checker.
+OF_FUNCTION = re.compile(rf"(.+)\.{DERIVATION}")
 
 
 class Cost(NamedTuple):
@@ -71,8 +71,7 @@ def costs_in(crate: str, incremental: str, is_timed: bool) -> list[Cost]:
     sums: dict[str, list[float]] = {name: [0, 0, 0.0] for name in functions | {""}}
     for it in kept:
         name = owner(it.path, functions)
-        of_derivation = name and f"{it.path}.".startswith(f"{name}.{DERIVATION}.")
-        sums[name][0 if of_derivation else 1] += it.bytes
+        sums[name][0 if it.path == f"{name}.{DERIVATION}" else 1] += it.bytes
         sums[name][2] += it.seconds
     rows = [Cost(crate, name.replace(".", "::"), int(lts), int(rest), spent if is_timed else None) for name, (lts, rest, spent) in sums.items()]
     return sorted(rows, key=lambda it: (not it.function, -it.derivation, it.function)) if kept else []

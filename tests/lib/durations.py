@@ -8,9 +8,10 @@ import os
 import statistics
 from typing import Iterable
 
-from tree import TOP, Crate, below, files_of, read, write
+from tree import TOP, Crate, below, crates, files_of, read, write
 
 SHIPPED = f"{TOP}/tests/lib/build_seconds.txt"
+WHAT = "Processor seconds of each crate, proved from nothing by one job: bin/build reckons with them where it hasn't built a crate before."
 # Over what a crate is proved: from nothing, or over what earlier checks kept.
 NOTHING, KEPT = "nothing", "kept"
 # The seconds of a build that finds nothing to do, and what share of a proof from nothing one over kept work takes, if it isn't known.
@@ -97,6 +98,15 @@ class Durations:
         except OSError:
             # A build without a place to keep them is still a build.
             pass
+
+
+def ship(source: str, durations: Durations) -> int:
+    """Writes the figures that the repository ships anew, by what builds from nothing took on this machine, and returns how many
+    crates have new ones. `source` says which machine it is, and when."""
+    new = {name: it for name, it in durations.known[NOTHING].items() if name in crates()}
+    rows = {**{name: it for name, it in durations.shipped.items() if name in crates()}, **new}
+    write(SHIPPED, f"# {source}\n# {WHAT}\n" + "".join(f"{name} {it:.0f}\n" for name, it in sorted(rows.items())))
+    return len(new)
 
 
 def size_of(crate: Crate) -> int:

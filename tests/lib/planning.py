@@ -12,6 +12,11 @@ BATCHED = 0.75
 OVERHEAD = 1.3
 
 
+def by_one_job(seconds: float, jobs: int) -> float:
+    """The seconds of one processor that a proof from nothing takes by one job, by what it took by so many."""
+    return seconds / (1 - BATCHED + BATCHED * OVERHEAD) if jobs > 1 else seconds
+
+
 class Plan:
     """Crates that are built side by side on `lanes` processors, with the seconds that each takes of one."""
 
