@@ -198,14 +198,15 @@ class Progress:
         return f"{so_far}, {minutes(self.left())} left; under way: {', '.join(self.running)}"
 
 
-def build_all(wanted: list[Crate], log: TextIO, tell: Callable[[str], None]) -> None:
+def build_all(wanted: list[Crate], log: TextIO, tell: Callable[[str], None]) -> float:
     """Builds these crates, each after those that it uses, as many at a time as there are processors. It tells how far it is as crates
-    end, and each minute."""
+    end, and each minute. Returns the processor seconds of all."""
     clear_rooms()
     durations = Durations()
     plan = plan_of(wanted, durations)
     progress = Progress(plan)
     running: dict[Future[Built], tuple[Crate, float]] = {}
+    spent = 0.0
     with ThreadPoolExecutor(plan.lanes) as pool:
         while len(progress.done) < len(wanted):
             while begins := plan.next({name: jobs for name, (jobs, _) in progress.running.items()}, progress.done, jobs_of_memory()):
@@ -218,12 +219,15 @@ def build_all(wanted: list[Crate], log: TextIO, tell: Callable[[str], None]) -> 
                 crate, start = running.pop(it)
                 jobs, _ = progress.running.pop(crate.name)
                 why = it.exception()
-                said = why.said if isinstance(why, NotBuilt) else it.result().said
-                log.write(f"== {crate.name}, {time.monotonic() - start:.0f} s\n{said}")
-                log.flush()
+                if isinstance(why, NotBuilt):
+                    log.write(f"== {crate.name}, not built\n{why.said}")
                 if why:
                     raise why
                 built = it.result()
+                spent += built.seconds
+                log.write(f"== {crate.name}, {time.monotonic() - start:.0f} s with --jobs {jobs}, {built.seconds:.0f} s of processors\n{built.said}")
+                log.flush()
                 if built.over:
                     durations.keep(crate, built.over, by_one_job(built.seconds, jobs) if built.over == NOTHING else built.seconds)
                 progress.done.add(crate.name)
+    return spent

@@ -49,16 +49,20 @@ def is_built(crate: Crate) -> bool:
     return bool(made) and all(changed_at(it.folder) < os.stat(made[0]).st_mtime for it in below([crate.name]))
 
 
+def known_here() -> dict[str, dict[str, float]]:
+    """What this machine's builds took, by over what they proved a crate, and by the crate; nothing where no file of that form is."""
+    try:
+        said = json.loads(read(file_of_machine()))
+        return {over: {str(name): float(it) for name, it in said[over].items()} for over in (NOTHING, KEPT)}
+    except (OSError, ValueError, KeyError, AttributeError, TypeError):
+        return {NOTHING: {}, KEPT: {}}
+
+
 class Durations:
     """The processor seconds of crates, by over what they are proved."""
 
     def __init__(self) -> None:
-        self.known: dict[str, dict[str, float]] = {NOTHING: {}, KEPT: {}}
-        try:
-            said = json.loads(read(file_of_machine()))
-            self.known = {kind: {str(name): float(it) for name, it in said[kind].items()} for kind in self.known}
-        except (OSError, ValueError, KeyError, AttributeError, TypeError):
-            pass
+        self.known = known_here()
         self.source, self.shipped = shipped()
 
     def ratio(self) -> float:
@@ -89,6 +93,8 @@ class Durations:
 
     def keep(self, crate: Crate, over: str, seconds: float) -> None:
         """Keeps what a build of the crate took, over nothing or over kept work, for later ones on this machine."""
+        # Another build may have written since this one began.
+        self.known = known_here()
         self.known[over][crate.name] = round(seconds, 1)
         file = file_of_machine()
         try:
