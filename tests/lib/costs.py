@@ -1,7 +1,7 @@
 """What the proof of each function costs, by the modules that the toolchain keeps of it in a crate's out/incremental.
 
-A large part of a check's time goes into the derivations for the borrow checker, a module `Lts` for each function; its seconds grow
-with its bytes. A file's time says when its module was checked, so that the seconds between two files are the later module's, where
+The largest single part of a check's time are the derivations for the borrow checker, a module `Lts` for each function; its seconds
+grow with its bytes. A file's time says when its module was checked, so that the seconds between two files are the later module's, where
 one process wrote all of them one after the other."""
 from __future__ import annotations
 
