@@ -42,8 +42,9 @@ class Kept(NamedTuple):
 
 
 def folder_in(incremental: str) -> str | None:
-    """The folder with what checks by the newest of the toolchain's builds kept."""
-    return max(glob.glob(f"{incremental}/antt-checked-*"), key=os.path.getmtime, default=None)
+    """The folder with what checks by the newest of the toolchain's builds kept. Beside it may stand what a check offered that refused."""
+    found = [it for it in glob.glob(f"{incremental}/antt-checked-*") if not it.endswith("-offers")]
+    return max(found, key=os.path.getmtime, default=None)
 
 
 def modules(crate: str, folder: str) -> Iterator[Kept]:
