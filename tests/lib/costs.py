@@ -34,10 +34,11 @@ class Cost(NamedTuple):
 
 
 class Kept(NamedTuple):
-    """A module that was kept: its place below the crate, its bytes, and its seconds."""
+    """A module that was kept: its place below the crate, its bytes, when it was written, and its seconds."""
 
     path: str
     bytes: int
+    written: int
     seconds: float
 
 
@@ -55,7 +56,7 @@ def modules(crate: str, folder: str) -> Iterator[Kept]:
         spent = (stat.st_mtime_ns - before) / 1e9 if before else 0.0
         before = stat.st_mtime_ns
         place = re.fullmatch(rf"Rattle-{crate}(?:-proofs|-specs)?\.(?:proofs\.|specs\.|contracts\.)*(.+)", name[: -len(SUFFIX)])
-        yield Kept(place[1] if place else name, stat.st_size, spent)
+        yield Kept(place[1] if place else name, stat.st_size, stat.st_mtime_ns, spent)
 
 
 def owner(path: str, functions: set[str]) -> str:
@@ -64,18 +65,37 @@ def owner(path: str, functions: set[str]) -> str:
     return next((it for it in (".".join(words[:count]) for count in range(len(words), 0, -1)) if it in functions), "")
 
 
+def functions_in(crate: str, folder: str, kept: list[Kept]) -> tuple[set[str], set[str]]:
+    """The crate's functions, and those that are gone, of which the toolchain still keeps what it proved: the module `TheLink` of the
+    last whole check names the others, and what was written after it is of a function that is new."""
+    link = f"{folder}/Rattle-{crate}-proofs.TheLink{SUFFIX}"
+    found = {of[1]: it.written for it in kept if (of := OF_FUNCTION.fullmatch(it.path))}
+    if not os.path.exists(link):
+        return set(found), set()
+    with open(link, "rb") as file:
+        linked = {name.decode().replace("::", ".") for name in re.findall(rb'"found-' + crate.encode() + rb'::([^"]+)"', file.read())}
+    gone = {name for name, written in found.items() if name not in linked and written < os.stat(link).st_mtime_ns}
+    return set(found) - gone, gone
+
+
 def costs_in(crate: str, incremental: str, is_timed: bool) -> list[Cost]:
     """The costs of a crate's functions and, at the end, of what belongs to none, by what was kept there."""
     folder = folder_in(incremental)
     kept = list(modules(crate, folder)) if folder else []
-    functions = {of[1] for it in kept if (of := OF_FUNCTION.fullmatch(it.path))}
-    sums: dict[str, list[float]] = {name: [0, 0, 0.0] for name in functions | {""}}
+    if not folder or not kept:
+        return []
+    functions, gone = functions_in(crate, folder, kept)
+    sums: dict[str, list[float]] = {name: [0, 0, 0.0] for name in functions | gone | {""}}
     for it in kept:
-        name = owner(it.path, functions)
+        name = owner(it.path, functions | gone)
         sums[name][0 if it.path == f"{name}.{DERIVATION}" else 1] += it.bytes
         sums[name][2] += it.seconds
-    rows = [Cost(crate, name.replace(".", "::"), int(lts), int(rest), spent if is_timed else None) for name, (lts, rest, spent) in sums.items()]
-    return sorted(rows, key=lambda it: (not it.function, -it.derivation, it.function)) if kept else []
+    rows = [
+        Cost(crate, name.replace(".", "::"), int(lts), int(rest), spent if is_timed else None)
+        for name, (lts, rest, spent) in sums.items()
+        if name not in gone
+    ]
+    return sorted(rows, key=lambda it: (not it.function, -it.derivation, it.function))
 
 
 def costs_of(crate: Crate) -> list[Cost]:
