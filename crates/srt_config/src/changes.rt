@@ -50,7 +50,7 @@ impl FixedKeys {
 }
 
 /// What a changed configuration asks.
-#[derive(Debug, Drop)]
+#[derive(Drop)]
 pub struct Changes {
     /// Which of the keys differ that can't change.
     pub fixed: FixedKeys,
@@ -155,8 +155,31 @@ fn change_of(before: &Config, places: &Places, entry: &Entry, schedule: Schedule
     change_at(before, entry, schedule, place)
 }
 
-// What becomes of each of these routes. There are as many schedules.
+// What becomes of each of these routes, found by their names among those before. There are as many schedules.
 #[tactic(auto, using(crate::proofs::Compared::changes_step, crate::proofs::Compared::changes_end))]
+fn changes_by(
+    alloc: Global,
+    before: &Config,
+    places: &Places,
+    entries: &[Entry],
+    schedules: &[Schedule],
+) -> Result<Vec<RouteChange>, AllocError>
+    requires places { places.now.entries.now ≡ before.now.entries.items }
+    requires many { length schedules.now ≡ length entries.now }
+    ensures { IfOk result (λ changes. changes.items ≡ changes_of (settings_of before.now) (map terms_of entries.now) schedules.now) }
+{
+    let mut changes = Vec::with_capacity(alloc, entries.len())?;
+    let mut rest = entries;
+    let mut later = schedules;
+    while !rest.is_empty() {
+        changes.push(change_of(before, places, &rest[0], later[0]))?;
+        rest = &rest[1..];
+        later = &later[1..];
+    }
+    Ok(changes)
+}
+
+// What becomes of each of these routes. There are as many schedules.
 fn changes_of(
     alloc: Global,
     before: &Config,
@@ -167,15 +190,7 @@ fn changes_of(
     ensures { IfOk result (λ changes. changes.items ≡ changes_of (settings_of before.now) (map terms_of entries.now) schedules.now) }
 {
     let places = Places::new(alloc, before.entries.as_slice())?;
-    let mut changes = Vec::with_capacity(alloc, entries.len())?;
-    let mut rest = entries;
-    let mut later = schedules;
-    while !rest.is_empty() {
-        changes.push(change_of(before, &places, &rest[0], later[0]))?;
-        rest = &rest[1..];
-        later = &later[1..];
-    }
-    Ok(changes)
+    changes_by(alloc, before, &places, entries, schedules)
 }
 
 // Appends the place of a route of this name, unless one of these routes has it too.
@@ -194,21 +209,28 @@ fn note_gone(
     Ok(())
 }
 
-// The places of the routes whose names no route after has.
+// The places of the routes whose names no route after has, found by their names.
 #[tactic(auto, using(crate::proofs::Compared::gone_step))]
-fn gone(alloc: Global, before: &[Entry], after: &[Entry]) -> Result<Vec<usize>, AllocError>
-    ensures { IfOk result (λ gone. gone.items ≡ gone_from 0 (map terms_of after.now) (map terms_of before.now)) }
+fn gone_by(alloc: Global, before: &[Entry], places: &Places) -> Result<Vec<usize>, AllocError>
+    ensures { IfOk result (λ gone. gone.items ≡ gone_from 0 (map terms_of places.now.entries.now) (map terms_of before.now)) }
 {
-    let places = Places::new(alloc, after)?;
     let mut gone = Vec::with_capacity(alloc, before.len())?;
     let mut rest = before;
     let mut place = 0;
     while !rest.is_empty() {
-        note_gone(&places, &mut gone, place, rest[0].name.as_bytes())?;
+        note_gone(places, &mut gone, place, rest[0].name.as_bytes())?;
         rest = &rest[1..];
         place += 1;
     }
     Ok(gone)
+}
+
+// The places of the routes whose names no route after has.
+fn gone(alloc: Global, before: &[Entry], after: &[Entry]) -> Result<Vec<usize>, AllocError>
+    ensures { IfOk result (λ gone. gone.items ≡ gone_from 0 (map terms_of after.now) (map terms_of before.now)) }
+{
+    let places = Places::new(alloc, after)?;
+    gone_by(alloc, before, &places)
 }
 
 fn same_address(a: BindAddress, b: BindAddress) -> bool

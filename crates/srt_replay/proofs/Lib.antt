@@ -1,4 +1,5 @@
 pub mod Splits
+pub mod Letters
 pub mod Taking
 pub mod FirstLine
 pub mod Writing

@@ -252,22 +252,41 @@ fn read_closing<'a>(text: &[u8], routes: usize) -> Option<Said<'a>>
     })
 }
 
+/// Reads the event of a letter and of the fields behind it; None if they aren't one. A datagram is written to the front of
+/// the buffer.
+#[tactic(auto, unfolding(crate::specs::Events::event_in))]
+fn read_kind<'a>(
+    letter: &[u8],
+    text: &'a [u8],
+    routes: usize,
+    buffer: &mut [u8; 2048],
+) -> Option<Said<'a>>
+    requires { length text.now ≤ 4096 }
+    ensures value { option_map (event_said buffer.new) result ≡ event_in routes (letter.now ∷ fields_of text.now) }
+    ensures sound { IfSome result (IsSound routes) }
+{
+    match letter {
+        [b'A'] => read_arrival(text, buffer),
+        [b'T'] => read_tick(text, routes),
+        [b'U'] => read_turn(text, routes),
+        [b'S'] => read_send(text, routes),
+        [b'O'] => read_opening(text),
+        [b'C'] => read_closing(text, routes),
+        _ => None,
+    }
+}
+
 /// Reads the event of a line; None if it isn't one. A datagram is written to the front of the buffer.
-#[tactic(auto, unfolding(crate::specs::Events::event_in, crate::specs::Events::opening_in))]
+#[tactic(auto, using(crate::proofs::Letters::letter_alone))]
 fn read_fields<'a>(line: &'a [u8], routes: usize, buffer: &mut [u8; 2048]) -> Option<Said<'a>>
     requires { length line.now ≤ 4096 }
     ensures value { option_map (event_said buffer.new) result ≡ event_in routes (fields_of line.now) }
     ensures sound { IfSome result (IsSound routes) }
 {
     let letter = split_field(line);
-    match letter.field {
-        [b'A'] => read_arrival(letter.rest?, buffer),
-        [b'T'] => read_tick(letter.rest?, routes),
-        [b'U'] => read_turn(letter.rest?, routes),
-        [b'S'] => read_send(letter.rest?, routes),
-        [b'O'] => read_opening(letter.rest?),
-        [b'C'] => read_closing(letter.rest?, routes),
-        _ => None,
+    match letter.rest {
+        Some(rest) => read_kind(letter.field, rest, routes, buffer),
+        None => None,
     }
 }
 

@@ -144,6 +144,13 @@ fn entry_of(alloc: Global, opening: NewRoute<'_>) -> Result<Entry, OutOfMemory>
     }
 }
 
+/// Whether each number of a line is within its limits. Doesn't allocate.
+fn has_right_numbers(alloc: Global, opening: NewRoute<'_>) -> bool
+    ensures { result ≡ in_limits (terms_said opening.entry) }
+{
+    entry_with(String::new(alloc), opening).in_limits()
+}
+
 /// The first reason why the route of a line can't be opened, memory aside. Doesn't allocate.
 fn opening_fault<R: RouteStep, L: Doors>(
     alloc: Global,
@@ -155,8 +162,7 @@ fn opening_fault<R: RouteStep, L: Doors>(
     // An opening that has a fault changes nothing.
     ensures stands { IfSome result (λ _. Happened ⟦<Hub<R, L> as Gateway>⟧.stands hub.now hub.now (Opens (terms_said opening.entry) false)) }
 {
-    let nameless = entry_with(String::new(alloc), opening);
-    hub.opening_fault(opening.name.as_bytes(), nameless.in_limits())
+    hub.opening_fault(opening.name.as_bytes(), has_right_numbers(alloc, opening))
 }
 
 fn is_refused(opened: Result<usize, OpenFault>) -> bool

@@ -3,7 +3,8 @@
 ghost use Rattle.std.specs.Prelude.{◌≡◌};
 ghost use Rattle.srt_config.specs.Faults.{key_name, key_text, number_of};
 
-use thiserror::Error;
+use std::error::Error;
+use std::fmt;
 
 /// A key of the table or of a route in it.
 #[derive(Clone, Copy, Debug, PartialEq, Eq)]
@@ -94,8 +95,7 @@ impl Key {
 }
 
 /// The first thing that is wrong with a configuration. Its text is the line that the program prints.
-#[derive(Debug, Drop, Error, PartialEq, Eq)]
-#[error("config fault {} {}", self.number(), self.key())]
+#[derive(Debug, Drop)]
 pub enum ConfigFault {
     /// The text isn't TOML.
     Toml,
@@ -157,3 +157,11 @@ impl ConfigFault {
         }
     }
 }
+
+impl fmt::Display for ConfigFault {
+    fn fmt<W: fmt::Write>(&self, f: &mut fmt::Formatter<W>) -> fmt::Result {
+        write!(f, "config fault {} {}", self.number(), self.key())
+    }
+}
+
+impl Error for ConfigFault {}

@@ -2,7 +2,7 @@
 
 ghost use Rattle.std.specs.Prelude.{◌≡◌, length, map, string_bytes, true, None, Ok, IfOk};
 ghost use Rattle.std.specs.List.{list_all};
-ghost use Rattle.toml.specs.View.{table_view, items_view};
+ghost use Rattle.toml.specs.View.{view, table_view, items_view};
 ghost use Rattle.srt_seq.specs.Access.{access_of};
 ghost use Rattle.srt_seq.specs.Terms.{terms_of};
 ghost use Rattle.srt_seq.specs.Entries.{is_between};
@@ -11,7 +11,7 @@ ghost use Rattle.srt_config.specs.FirstFault.{seen, Gives};
 ghost use Rattle.srt_config.specs.Routes.{name_in, name_at, mode_in, mode_at, numbers_at, schedule_at, closes_later, terms_with, with_access};
 ghost use Rattle.srt_config.specs.Routes.{with_rules, route_at, no_routes, are_tables, count, routes_from, routes_in, routes_at};
 ghost use Rattle.srt_config.specs.RouteNumbers.{numbers_of};
-ghost use Rattle.srt_config.specs.inside.RouteParts.{route_seen, routes_seen};
+ghost use Rattle.srt_config.specs.inside.RouteParts.{route_seen, routes_seen, route_behind, routes_and};
 
 use super::access::access_at;
 use super::faults::{ConfigFault, Key};
@@ -178,6 +178,30 @@ pub(crate) struct ReadRoute {
     pub(crate) schedule: Schedule,
 }
 
+/// What a route's table says before its lists, keys and rules.
+#[derive(Clone, Copy)]
+struct RouteHead<'a> {
+    name: &'a str,
+    mode: Mode,
+    numbers: RouteNumbers,
+    schedule: Schedule,
+    callers: Callers,
+}
+
+/// Reads the lists, keys and rules of a route's table behind what was read before.
+fn route_behind(alloc: Global, head: RouteHead<'_>, table: &Table) -> Result<ReadRoute, ConfigFault>
+    ensures { Gives route_seen result
+        (route_behind head.entry.name.now head.entry.mode (numbers_of head.entry.numbers) head.entry.schedule head.entry.callers (table_view table.now)) }
+{
+    let access = access_at(alloc, table)?;
+    let rules = rules_at(head.numbers.sessions, head.callers, table)?;
+    let entry = entry_with(alloc, head.name, head.mode, head.numbers, access, rules)?;
+    Ok(ReadRoute {
+        entry,
+        schedule: head.schedule,
+    })
+}
+
 /// Reads a route's table, after the routes `before` it.
 #[tactic(auto, unfolding(crate::specs::Routes::route_at))]
 fn route_at(alloc: Global, before: &[Entry], table: &Table) -> Result<ReadRoute, ConfigFault>
@@ -189,10 +213,14 @@ fn route_at(alloc: Global, before: &[Entry], table: &Table) -> Result<ReadRoute,
     let numbers = numbers_at(table)?;
     let schedule = schedule_at(table)?;
     let callers = callers_at(table)?.unwrap_or(Callers::Draft);
-    let access = access_at(alloc, table)?;
-    let rules = rules_at(numbers.sessions, callers, table)?;
-    let entry = entry_with(alloc, name, mode, numbers, access, rules)?;
-    Ok(ReadRoute { entry, schedule })
+    let head = RouteHead {
+        name,
+        mode,
+        numbers,
+        schedule,
+        callers,
+    };
+    route_behind(alloc, head, table)
 }
 
 #[tactic(auto, using(crate::proofs::RouteItems::items_step))]
@@ -239,27 +267,38 @@ fn read_routes(alloc: Global, values: &[Value]) -> Result<ReadRoutes, ConfigFaul
     routes_from(alloc, values)
 }
 
+/// Reads a value, which is a table, as the next route behind these. After an error the routes may be half appended.
+fn add_route(alloc: Global, routes: &mut ReadRoutes, value: &Value) -> Result<(), ConfigFault>
+    ensures { Gives (λ u. routes_seen routes.new) result (routes_and (routes_seen routes.old) (view value.now)) }
+{
+    let Some(table) = value.as_table() else {
+        return Err(ConfigFault::WrongKind(Key::Route));
+    };
+    let route = route_at(alloc, routes.entries.as_slice(), table)?;
+    if routes.entries.push(route.entry).is_err() {
+        return Err(ConfigFault::OutOfMemory);
+    }
+    if routes.schedules.push(route.schedule).is_err() {
+        return Err(ConfigFault::OutOfMemory);
+    }
+    Ok(())
+}
+
 /// Reads these values, which are tables, as routes.
+#[tactic(auto, using(crate::proofs::RouteItems::routes_step))]
 fn routes_from(alloc: Global, values: &[Value]) -> Result<ReadRoutes, ConfigFault>
     ensures { Gives routes_seen result (routes_from no_routes (items_view values.now)) }
 {
-    let mut entries = Vec::new(alloc);
-    let mut schedules = Vec::new(alloc);
+    let mut routes = ReadRoutes {
+        entries: Vec::new(alloc),
+        schedules: Vec::new(alloc),
+    };
     let mut rest = values;
     while !rest.is_empty() {
-        let Some(table) = rest[0].as_table() else {
-            return Err(ConfigFault::WrongKind(Key::Route));
-        };
-        let route = route_at(alloc, entries.as_slice(), table)?;
-        if entries.push(route.entry).is_err() {
-            return Err(ConfigFault::OutOfMemory);
-        }
-        if schedules.push(route.schedule).is_err() {
-            return Err(ConfigFault::OutOfMemory);
-        }
+        add_route(alloc, &mut routes, &rest[0])?;
         rest = &rest[1..];
     }
-    Ok(ReadRoutes { entries, schedules })
+    Ok(routes)
 }
 
 #[tactic(auto, unfolding(crate::specs::Routes::routes_at))]

@@ -2,7 +2,7 @@ use Rattle.std.proofs.Common.{◌≡◌, map, ◌++◌, length}
 use Rattle.srt_seq.specs.Terms.{terms_of}
 use Rattle.srt_config.specs.Config.{settings_of}
 use Rattle.srt_config.specs.Changes.{changes_of}
-use Rattle.srt_config.proofs.changes.changes_of.Given as goal
+use Rattle.srt_config.proofs.changes.changes_by.Given as goal
 
 abbrev pub invariant-loop-rest : goal.invariant-loop-rest
 invariant-loop-rest l = record {
