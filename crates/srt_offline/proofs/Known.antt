@@ -1,5 +1,5 @@
 -- Bytes that are known, or not.
-use Rattle.std.proofs.Common.{ℕ, List, [], ◌++◌, ◌+◌, ◌≤◌, ◌≡◌, length, take, Option, None, Some, IfSome, ap, ◌∙◌, arith, min, subst, sym}
+use Rattle.std.proofs.Common.{ℕ, List, [], ◌++◌, ◌+◌, ◌≤◌, ◌≡◌, length, take, Option, None, Some, IfSome, ap, ◌∙◌, arith, min}
 use Rattle.std.specs.Prelude.{option_map}
 use Rattle.std.proofs.lemmas.List.{length-take, take_all}
 
