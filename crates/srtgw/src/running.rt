@@ -3,20 +3,18 @@
 ghost use Rattle.std.specs.Prelude.{◌≤◌};
 ghost use Rattle.std.specs.Vec.{vec_len};
 
-use crate::clocks::{ClockTicker, Since};
-use crate::command_line::VERSION;
+use crate::clocks::{ClockPoller, ClockTicker};
 use crate::faults::Fault;
-use crate::host::{Errors, Host, HostFile, time_now};
 use crate::serving::{bind, gates, print_report};
-use crate::status_page::StatusPage;
-use srt_config::Config;
+use srt_command_line::Manner;
 use srt_explain::Explained;
+use srt_config::Config;
+use srt_host::{HostWatcher, open_watcher, time_now};
 use srt_mailbox::Account;
-use srt_operate::signals_are_blocked;
+use srt_offline::OfflineFault;
 use srt_poller::{BindFault, MioSource, MioWire, Report, Ungated};
 use srt_serve::{Gates, RunFault, Watched, run_until};
-use srt_watch::{Start, Watcher};
-use std::io::{self, ErrorKind};
+use std::io;
 use std::net::{Ipv4Addr, Net};
 use std::rt::{Clock, Files};
 use std::sync::Wait;
@@ -25,15 +23,6 @@ use std::time::Instant;
 
 /// The most rounds of `run`: at one a microsecond they last nine years.
 const MAX_RUN_ROUNDS: u64 = 1 << 48;
-
-/// How a gateway runs.
-#[derive(Clone, Copy, Debug)]
-pub struct Manner {
-    /// How long it serves callers, in microseconds; `None` until it is told to stop.
-    pub lasts: Option<u64>,
-    /// Whether each line of the log begins with the time.
-    pub is_timed: bool,
-}
 
 /// Says on standard error why no socket was bound.
 fn explain_bind(rt: &impl Eprint, config: &Config, fault: BindFault) {
@@ -50,27 +39,6 @@ fn explain_bind(rt: &impl Eprint, config: &Config, fault: BindFault) {
     };
 }
 
-/// Binds the address of the status page, if the configuration has one. Says on standard error why it can't be bound.
-fn open_page(
-    rt: &(impl Eprint + AllocGlobal),
-    machine: &HostRuntime,
-    config: &Config,
-) -> Result<StatusPage, Fault> {
-    match StatusPage::bind(machine, rt.alloc(), config.status) {
-        Ok(page) => Ok(page),
-        Err(error) if error.kind() == ErrorKind::OutOfMemory => Err(Fault::Memory),
-        Err(error) => {
-            if let Some(address) = config.status {
-                let [a, b, c, d] = address.ip;
-                let ip = Ipv4Addr::new(a, b, c, d);
-                let port = address.port;
-                let _ = eprintln!(rt; "srtgw: status page at {ip}:{port}: {error}");
-            }
-            Err(Fault::Bind(BindFault::Socket(error.raw_os_error())))
-        }
-    }
-}
-
 /// Says on standard error why the routes weren't served.
 fn explain_run(rt: &impl Eprint, path: &str, fault: RunFault) {
     let why = match fault {
@@ -82,15 +50,6 @@ fn explain_run(rt: &impl Eprint, path: &str, fault: RunFault) {
     };
     let _ = eprintln!(rt; "srtgw: {path}: {why}");
 }
-
-/// The watcher of a run of this program.
-type HostWatcher<'a> = Watcher<
-    'a,
-    Host<'a, HostRuntime>,
-    Errors<'a, HostRuntime>,
-    StatusPage,
-    HostFile<'a, HostRuntime>,
->;
 
 /// Prints the account of each route, a line each, in the order of the routes' indexes.
 fn print_accounts(
@@ -114,61 +73,6 @@ fn print_accounts(
     Ok(())
 }
 
-/// A watcher of this run, which follows the configuration's file and has told what is unwise in it.
-fn open_watcher<'a>(
-    rt: &(impl Eprint + Files + AllocGlobal),
-    machine: &'a HostRuntime,
-    path: &'a str,
-    explained: &'a Explained,
-    manner: Manner,
-    start: Option<Instant>,
-) -> Result<HostWatcher<'a>, Fault> {
-    let config = &explained.config;
-    let beginning = Start {
-        ip: config.bind.ip,
-        port: config.bind.port,
-        workers: config.workers,
-        is_blocked: signals_are_blocked(rt),
-        lasts: manner.lasts,
-        version: VERSION,
-    };
-    let page = open_page(rt, machine, config)?;
-    let host = Host::new(machine, start, config.bind);
-    let Ok(mut watcher) = Watcher::open(
-        rt.alloc(),
-        host,
-        page,
-        Errors::new(machine),
-        manner.is_timed,
-        config.entries.as_slice(),
-        beginning,
-    ) else {
-        return Err(Fault::Memory);
-    };
-    tell_watcher(machine, path, explained, &mut watcher)?;
-    Ok(watcher)
-}
-
-/// Has the watcher follow the configuration's file, and tell what is unwise in it.
-fn tell_watcher<'a>(
-    machine: &'a HostRuntime,
-    path: &'a str,
-    explained: &'a Explained,
-    watcher: &mut HostWatcher<'a>,
-) -> Result<(), Fault> {
-    if let Some(file) = HostFile::at(machine, path) {
-        if watcher.follow(&explained.config, file).is_err() {
-            return Err(Fault::Memory);
-        }
-    }
-    for warning in explained.warnings.iter() {
-        if watcher.warn(explained.text_of(*warning)).is_err() {
-            return Err(Fault::Memory);
-        }
-    }
-    Ok(())
-}
-
 /// Ends the log, and prints the report and an account of each route.
 fn tell_end(
     rt: &impl Print,
@@ -180,7 +84,7 @@ fn tell_end(
     let printed = print_report(rt, report);
     match printed.and_then(|_| print_accounts(rt, &watcher, accounts)) {
         Ok(()) => Ok(()),
-        Err(_) => Err(Fault::Output),
+        Err(_) => Err(Fault::Offline(OfflineFault::Output)),
     }
 }
 
@@ -189,7 +93,7 @@ fn run_watched<R>(
     rt: &R,
     path: &str,
     config: &Config,
-    source: &mut MioSource<Since<'_, R>>,
+    source: &mut MioSource<ClockPoller<'_, R>>,
     wire: &mut MioWire,
     start: Option<Instant>,
     gates: Gates<Ungated>,
@@ -253,6 +157,18 @@ where
         }
     };
     let gates = gates(rt.alloc(), config.workers)?;
-    let watcher = open_watcher(rt, machine, path, explained, manner, start)?;
-    run_watched(rt, path, config, &mut source, &mut wire, start, gates, watcher)
+    let watcher = match open_watcher(machine, path, explained, manner, start) {
+        Ok(watcher) => watcher,
+        Err(fault) => return Err(Fault::of_watcher(fault)),
+    };
+    run_watched(
+        rt,
+        path,
+        config,
+        &mut source,
+        &mut wire,
+        start,
+        gates,
+        watcher,
+    )
 }

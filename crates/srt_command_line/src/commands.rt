@@ -1,56 +1,11 @@
-//! The command line.
+//! The program's commands with their arguments and help.
 
-use crate::running::Manner;
 use clap::builder::ValueParser;
-use clap::error::ErrorKind;
-use clap::{Arg, ArgAction, ArgMatches, Command, Error};
-use srt_operate::duration_in;
+use clap::{Arg, ArgAction, Command};
 use std::alloc::{AllocError, Global};
 
 /// The most rounds of `serve`.
 const MAX_SERVE_ROUNDS: u64 = 1_000_000_000;
-
-/// What the command line asks for. Files are named by their paths.
-#[derive(Clone, Copy)]
-pub enum Task<'a> {
-    /// Check a configuration.
-    Check {
-        /// The configuration's file.
-        config: &'a str,
-        /// Whether the outcome is explained on standard error.
-        explains: bool,
-    },
-    /// Run a tape's events, and print their results.
-    Replay {
-        /// The configuration's file.
-        config: &'a str,
-        /// The tape's file.
-        tape: &'a str,
-    },
-    /// Serve the routes of a configuration.
-    Serve {
-        /// The configuration's file.
-        config: &'a str,
-        /// The number of rounds: how often the socket is polled, at most 1,000,000,000.
-        rounds: u32,
-    },
-    /// Serve the routes of a configuration until the gateway is told to stop, with a log.
-    Run {
-        /// The configuration's file.
-        config: &'a str,
-        /// How it runs.
-        manner: Manner,
-    },
-}
-
-/// What the words of a command line are.
-#[derive(Clone, Copy)]
-pub enum Given<'a> {
-    /// A task.
-    Task(Task<'a>),
-    /// The time of `--for` is no duration.
-    WrongDuration,
-}
 
 /// The version, as CHANGELOG.md has it.
 pub const VERSION: &str = "0.5";
@@ -186,48 +141,4 @@ fn program<'a>(alloc: Global) -> Command<'a> {
 pub fn command<'a>(alloc: Global) -> Result<Command<'a>, AllocError> {
     let all = with_files(alloc, program(alloc))?;
     with_callers(alloc, all)
-}
-
-/// The error of a time of `--for` that is no duration. It allocates; the only error is that it is refused.
-pub fn wrong_duration(alloc: Global) -> Result<Error, AllocError> {
-    let mut command = command(alloc)?;
-    command.error(
-        ErrorKind::ValueValidation,
-        "the time of --for is a number and s, m, h or d, from 1s to 365d, such as 8h",
-    )
-}
-
-/// How a gateway runs by these words; None if the time of `--for` is no duration.
-fn manner_of(matches: &ArgMatches<'_>) -> Option<Manner> {
-    let is_timed = !matches.get_flag("no-time");
-    let lasts = match matches.get_str("for") {
-        Some(text) => Some(duration_in(text.as_bytes())?),
-        None => None,
-    };
-    Some(Manner { lasts, is_timed })
-}
-
-/// The task of a command line that was parsed; None if a word is missing, which `command` doesn't accept.
-pub fn given_in<'a>(matches: &ArgMatches<'a>) -> Option<Given<'a>> {
-    let (name, inner) = matches.subcommand()?;
-    let config = inner.get_str("CONFIG")?;
-    let task = match name {
-        "check" => Task::Check {
-            config,
-            explains: inner.get_flag("explain"),
-        },
-        "serve" => Task::Serve {
-            config,
-            rounds: inner.get_one("rounds")?,
-        },
-        "run" => match manner_of(inner) {
-            Some(manner) => Task::Run { config, manner },
-            None => return Some(Given::WrongDuration),
-        },
-        _ => Task::Replay {
-            config,
-            tape: inner.get_str("TAPE")?,
-        },
-    };
-    Some(Given::Task(task))
 }

@@ -1,8 +1,8 @@
 //! The machine as a watcher asks it, the configuration's file as it looks at it, and standard error as it writes to it.
 
-use crate::clocks::Since;
-use crate::files::{MAX_CONFIG, read_file};
+use crate::clock::Since;
 use srt_config::BindAddress;
+use srt_offline::{MAX_CONFIG, read_file};
 use srt_operate::{kernel_drops, resident_memory, stop_asked};
 use srt_watch::{ConfigFile, FileStamp, MAX_REASON, Machine};
 use std::fmt::InlineText;
