@@ -12,14 +12,13 @@ use crate::watched_routes::WatchedRoutes;
 use srt_gateway::{Changes, Config};
 use srt_log::{Change, ConfigEvent, LogEvent, RouteLook, STEPS, StopCause, change_at, event_of};
 use srt_operate::{StopStep, stop_step};
-use srt_poller::{Asked, Report};
 use srt_route::Route;
 use srt_seq::Entry;
 use srt_seq::limits::MAX_ROUTES;
-use srt_serve::{ChangeFault, Refusal, RouteChanges, Told, Watch};
 use srt_status::{
     CauseCounts, ChangeCounts, GatewayStatus, LimitCounts, PollerCounts, RefusalCounts,
 };
+use srt_supervision::{Asked, ChangeFault, Refusal, Report, RouteChanges, Told, Watch};
 use std::alloc::{AllocError, Global};
 use std::fmt::{Display, InlineText};
 use std::io::Write;
