@@ -5,7 +5,7 @@ use Rattle.srt_seq.specs.Terms.{Terms}
 use Rattle.srt_mailbox.specs.declared.accounts.Account.{Account}
 use Rattle.srt_mailbox.specs.Cells.{CellIdentity}
 use Rattle.srt_mailbox.specs.Ends.{Producer}
-use Rattle.srt_poller.specs.declared.report.Report.{Report}
+use Rattle.srt_supervision.specs.declared.report.Report.{Report}
 use Rattle.srt_poller.specs.History.{Sorting}
 use Rattle.srt_poller.specs.Openings.{News}
 use Rattle.srt_poller.specs.Pumped.{Before, After}

@@ -9,7 +9,7 @@ use crate::watched_routes::{OpeningRoute, WatchedRoutes};
 use srt_config::{Changes, Config};
 use srt_log::RouteNumbers;
 use srt_seq::Entry;
-use srt_serve::RouteChanges;
+use srt_supervision::RouteChanges;
 use srt_status::RouteStatus;
 use std::alloc::{AllocError, Global};
 use std::fmt::InlineText;

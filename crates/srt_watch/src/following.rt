@@ -11,7 +11,7 @@ use crate::watched_routes::WatchedRoutes;
 use srt_config::Config;
 use srt_log::ConfigEvent;
 use srt_seq::limits::MAX_ROUTES;
-use srt_serve::RouteChanges;
+use srt_supervision::RouteChanges;
 use srt_status::ChangeCounts;
 use std::alloc::{AllocError, Global};
 use std::io::Write;

@@ -10,14 +10,13 @@ mod changing;
 use crate::{Machine, Start, StatusServer, Watcher};
 use arrayvec::ArrayVec;
 use changing::Written;
-use srt_poller::{Asked, Report};
 use srt_route::{Reply, Route};
 use srt_seq::{Access, Entry, Item, Mode, NotAdmitted, Peer, Role, Rules};
-use srt_serve::{Refusal, Told, Watch};
 use srt_status::{
     CauseCounts, ChangeCounts, Flow, GatewayStatus, PollerCounts, PublisherCounts, RefusalCounts,
     RouteStatus, SessionStatus,
 };
+use srt_supervision::{Asked, Refusal, Report, Told, Watch};
 use std::alloc::Global;
 use std::process::Abort;
 use std::test::Fail;

@@ -45,7 +45,7 @@ impl AtomicBitSet {
     }
 
     /// Whether the route's bit is set.
-    pub fn is_set(&self, route: usize) -> bool {
+    pub(crate) fn is_set(&self, route: usize) -> bool {
         match self.words.get(route / 64) {
             Some(word) => word.load(Ordering::SeqCst) & bit_of(route) != 0,
             None => false,
@@ -69,7 +69,7 @@ impl AtomicBitSet {
     }
 
     /// Sets the route's bit, if no other thread writes to this set meanwhile. Makes no locked operation.
-    pub fn set_alone(&self, route: usize) {
+    pub(crate) fn set_alone(&self, route: usize) {
         if route >= self.routes {
             return;
         }
@@ -80,7 +80,7 @@ impl AtomicBitSet {
     }
 
     /// Clears the route's bit, if no other thread writes to this set meanwhile. Makes no locked operation.
-    pub fn clear_alone(&self, route: usize) {
+    pub(crate) fn clear_alone(&self, route: usize) {
         if let Some(word) = self.words.get(route / 64) {
             let bits = word.load(Ordering::Relaxed);
             word.store(bits & !bit_of(route), Ordering::Relaxed);
@@ -88,7 +88,7 @@ impl AtomicBitSet {
     }
 
     /// The number of bits that are set. Costs a load for each 64 routes.
-    pub fn count(&self) -> u64 {
+    pub(crate) fn count(&self) -> u64 {
         let mut count = 0u64;
         for word in &self.words {
             let bits = word.load(Ordering::Relaxed);
@@ -98,7 +98,7 @@ impl AtomicBitSet {
     }
 
     /// The number of routes.
-    pub fn len(&self) -> usize
+    pub(crate) fn len(&self) -> usize
         ensures { result ≡ self.now.routes }
     {
         self.routes
@@ -113,7 +113,7 @@ impl AtomicBitSet {
 
     /// Sets the bits of the first `routes` routes, and leaves the others as they are. Costs a locked operation for each 64 of
     /// them.
-    pub fn set_first(&self, routes: usize) {
+    pub(crate) fn set_first(&self, routes: usize) {
         let mut left = routes.min(self.routes);
         for word in &self.words {
             if left == 0 {
@@ -143,7 +143,7 @@ impl AtomicBitSet {
     }
 
     /// Whether any bit is set. Costs a load for each 64 routes.
-    pub fn any(&self) -> bool {
+    pub(crate) fn any(&self) -> bool {
         for word in &self.words {
             if word.load(Ordering::SeqCst) != 0 {
                 return true;
