@@ -3,8 +3,8 @@
 use crate::host::{Errors, Host, HostFile};
 use crate::status_page::StatusPage;
 use srt_command_line::{Manner, VERSION};
-use srt_explain::Explained;
 use srt_config::Config;
+use srt_explain::Explained;
 use srt_operate::signals_are_blocked;
 use srt_watch::{Start, Watcher};
 use std::io::ErrorKind;

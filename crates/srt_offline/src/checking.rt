@@ -8,8 +8,8 @@ ghost use Rattle.srt_offline.specs.Ends.{IsConfigFault, IsCheckFault};
 
 use crate::faults::OfflineFault;
 use crate::files::{MAX_CONFIG, read_file};
-use srt_explain::{Explained, explain};
 use srt_config::{Config, ConfigFault, read_config};
+use srt_explain::{Explained, explain};
 use std::alloc::Global;
 use std::rt::Files;
 use std::str;

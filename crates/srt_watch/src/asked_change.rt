@@ -9,8 +9,8 @@ use crate::watched_routes::{OpeningRoute, WatchedRoutes};
 use srt_config::{Changes, Config};
 use srt_log::RouteNumbers;
 use srt_seq::Entry;
-use srt_supervision::RouteChanges;
 use srt_status::RouteStatus;
+use srt_supervision::RouteChanges;
 use std::alloc::{AllocError, Global};
 use std::fmt::InlineText;
 

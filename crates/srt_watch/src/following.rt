@@ -11,8 +11,8 @@ use crate::watched_routes::WatchedRoutes;
 use srt_config::Config;
 use srt_log::ConfigEvent;
 use srt_seq::limits::MAX_ROUTES;
-use srt_supervision::RouteChanges;
 use srt_status::ChangeCounts;
+use srt_supervision::RouteChanges;
 use std::alloc::{AllocError, Global};
 use std::io::Write;
 

@@ -2,8 +2,8 @@
 
 use crate::config_file::MAX_REASON;
 use crate::indexes::differing;
-use srt_explain::explain;
 use srt_config::{Changes, Config, changes_between};
+use srt_explain::explain;
 use srt_log::DifferingKeys;
 use std::alloc::{AllocError, Global};
 use std::fmt::InlineText;
