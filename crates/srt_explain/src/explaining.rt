@@ -35,16 +35,7 @@ impl Explained {
     pub fn text_of(&self, warning: Warning) -> WarningText<'_>
         ensures { result.warning ≡ warning }
     {
-        let route = match warning {
-            Warning::ExampleSecret | Warning::ExposedStatus { .. } => 0,
-            Warning::SmallOutbox { route, .. }
-            | Warning::SmallWindow { route, .. }
-            | Warning::OneSession { route }
-            | Warning::OpenKey { route, .. }
-            | Warning::UnusedTakeover { route }
-            | Warning::UnusedAddressLimit { route, .. }
-            | Warning::OneUnreserved { route, .. } => route,
-        };
+        let route = warning.route().unwrap_or(0);
         let name = match self.config.entries.get(route.saturating_sub(1)) {
             Some(entry) => entry.name.as_str(),
             None => "",

@@ -11,13 +11,15 @@
 //!
 //! Files: `explaining.rt` joins the others; `finding.rt` looks for the route that has the fault; `hints.rt` and
 //! `resemblance.rt` say what may have been meant; `values.rt` has what each key allows; `places.rt` counts lines and
-//! columns; `texts.rt` has the words; `warnings.rt` what is unwise.
+//! columns; `texts.rt` has the words; `warnings.rt` what is unwise; `laws.rt` what the definitions have to do with
+//! `srt_route`.
 #![tactic(auto)]
 
 mod explaining;
 mod explanation;
 mod finding;
 mod hints;
+pub mod laws;
 mod places;
 mod resemblance;
 mod texts;

@@ -15,7 +15,7 @@ use srt_seq::limits::{
 use toml::{Table, Value};
 
 /// The kind of a key's value.
-#[derive(Clone, Copy, Debug, PartialEq, Eq)]
+#[derive(Clone, Copy)]
 pub(crate) enum ValueKind {
     /// A text.
     Text,
