@@ -84,6 +84,7 @@ where
         entries: &[Entry],
         start: Start,
     ) -> Result<Watcher<'a, M, W, P, F>, AllocError> {
+        let routes = WatchedRoutes::open(alloc, entries)?;
         Ok(Watcher {
             alloc,
             machine,
@@ -93,7 +94,7 @@ where
             losses: Losses::none(),
             page: Page::new(page, start.version),
             overview: Overview::new(),
-            routes: WatchedRoutes::open(alloc, entries)?,
+            routes,
             following: None,
         })
     }
@@ -237,18 +238,9 @@ where
 
     fn changed(&mut self, outcome: Result<usize, ChangeFault>) {
         let when = When::now(&mut self.machine);
-        let Some(following) = self.following.as_mut() else {
-            return;
-        };
-        let counts = &mut self.overview.changes;
-        match outcome {
-            Ok(_) => following.taken(&mut self.log, when, counts, &mut self.routes),
-            Err(ChangeFault::OutOfMemory(place)) => {
-                following.refused_memory(&mut self.log, when, counts, place);
-            }
-            Err(ChangeFault::NoIndexLeft(left)) => {
-                following.refused_indexes(&mut self.log, when, counts, left);
-            }
+        if let Some(following) = self.following.as_mut() {
+            let counts = &mut self.overview.changes;
+            following.changed(&mut self.log, when, counts, &mut self.routes, outcome);
         }
     }
 }
