@@ -15,6 +15,7 @@ use srt_serve::{ChangeFault, RouteChanges};
 use srt_status::ChangeCounts;
 use std::alloc::{AllocError, Global};
 use std::io::Write;
+use std::mem;
 
 /// The configuration that the gateway follows.
 #[derive(Drop)]
@@ -165,7 +166,7 @@ impl<'a, F: ConfigFile + Drop> Following<'a, F> {
             Ok(_) => self.note_taken(log, when, counts, routes),
             Err(fault) => {
                 self.tell_fault(log, when, counts, fault);
-                self.asked = None;
+                mem::drop(self.asked.take());
             }
         }
     }

@@ -23,6 +23,7 @@ use srt_status::PollerCounts;
 use std::alloc::{AllocError, Global};
 use std::fmt::Display;
 use std::io::Write;
+use std::mem;
 
 fn counts_of_poller(report: &Report) -> PollerCounts {
     PollerCounts {
@@ -102,7 +103,8 @@ where
     /// Follows the configuration's file from now on: `config` is the one that was read from it, and the watcher's routes
     /// are its. Allocates 8 bytes for each route; the only error is that memory is refused.
     pub fn follow(&mut self, config: &'a Config, file: F) -> Result<(), AllocError> {
-        self.following = Some(Following::new(self.alloc, config, file)?);
+        let following = Following::new(self.alloc, config, file)?;
+        mem::drop(self.following.replace(following));
         Ok(())
     }
 
