@@ -12,9 +12,10 @@ use srt_config::Config;
 use srt_log::ConfigEvent;
 use srt_seq::limits::MAX_ROUTES;
 use srt_status::ChangeCounts;
-use srt_supervision::RouteChanges;
+use srt_supervision::{ChangeFault, RouteChanges};
 use std::alloc::{AllocError, Global};
 use std::io::Write;
+use std::mem;
 
 /// The configuration that the gateway follows.
 #[derive(Drop)]
@@ -57,13 +58,6 @@ impl<'a, F: ConfigFile + Drop> Following<'a, F> {
         }
     }
 
-    // Puts the configuration in force whose change the run was asked for, and took. Takes no memory.
-    fn take(&mut self, routes: &mut WatchedRoutes) {
-        if let Some(asked) = self.asked.take() {
-            asked.put_in_force(self.alloc, &mut self.in_force, routes);
-        }
-    }
-
     // Takes all memory that a change needs here, and returns what the run is to be asked for; None if no route opens or
     // closes, and the configuration is in force already. After an error nothing has changed.
     fn ask(
@@ -72,12 +66,11 @@ impl<'a, F: ConfigFile + Drop> Following<'a, F> {
         wanted: Wanted,
     ) -> Result<Option<RouteChanges>, NoRoom> {
         let (asked, changes) = AskedChange::of(self.alloc, &self.in_force, routes, wanted)?;
-        let asks_nothing = asked.asks_nothing();
-        self.asked = Some(asked);
-        if asks_nothing {
-            self.take(routes);
+        if asked.asks_nothing() {
+            asked.put_in_force(self.alloc, &mut self.in_force, routes);
             return Ok(None);
         }
+        self.asked = Some(asked);
         Ok(Some(changes))
     }
 
@@ -105,19 +98,30 @@ impl<'a, F: ConfigFile + Drop> Following<'a, F> {
         }
     }
 
-    /// Puts the configuration in force whose change the run took, with its lines.
-    pub(crate) fn taken<W: Write + Drop>(
+    // Puts the configuration in force whose change the run was asked for, with its lines. Takes no memory.
+    fn take<W: Write + Drop>(
+        &mut self,
+        log: &mut LogWriter<W>,
+        when: When,
+        routes: &mut WatchedRoutes,
+    ) {
+        if let Some(asked) = self.asked.take() {
+            tell_taken(log, when, &asked, self.in_force.config());
+            asked.put_in_force(self.alloc, &mut self.in_force, routes);
+        }
+    }
+
+    // Puts the configuration in force whose change the run took, with its lines, and counts it. A line tells when few
+    // indexes are left.
+    fn note_taken<W: Write + Drop>(
         &mut self,
         log: &mut LogWriter<W>,
         when: When,
         counts: &mut ChangeCounts,
         routes: &mut WatchedRoutes,
     ) {
-        if let Some(asked) = self.asked.as_ref() {
-            tell_taken(log, when, asked, self.in_force.config());
-        }
         let before = routes.used();
-        self.take(routes);
+        self.take(log, when, routes);
         counts.taken = counts.taken.saturating_add(1);
         let used = routes.used();
         if reaches_mark(before, used) {
@@ -126,33 +130,44 @@ impl<'a, F: ConfigFile + Drop> Following<'a, F> {
         }
     }
 
-    /// Forgets the change that the run was asked for, and tells that memory was refused for the route at this place of
-    /// those that open.
-    pub(crate) fn refused_memory<W: Write + Drop>(
-        &mut self,
+    // Tells why the run didn't take the change that it was asked for.
+    fn tell_fault<W: Write + Drop>(
+        &self,
         log: &mut LogWriter<W>,
         when: When,
         counts: &mut ChangeCounts,
-        place: usize,
+        fault: ChangeFault,
     ) {
-        if let Some(asked) = self.asked.take() {
-            let route = asked.name_at(place).as_bytes();
-            refuse(log, when, counts, ConfigEvent::NoMemory { route });
-        }
+        let Some(asked) = self.asked.as_ref() else {
+            return;
+        };
+        let event = match fault {
+            ChangeFault::OutOfMemory(place) => ConfigEvent::NoMemory {
+                route: asked.name_at(place).as_bytes(),
+            },
+            ChangeFault::NoIndexLeft(left) => ConfigEvent::NoIndexes {
+                opens: asked.opens() as u64,
+                left: left as u64,
+            },
+        };
+        refuse(log, when, counts, event);
     }
 
-    /// Forgets the change that the run was asked for, and tells that so many indexes are left: fewer than routes open.
-    pub(crate) fn refused_indexes<W: Write + Drop>(
+    /// Puts the configuration in force whose change the run took, or forgets it, with the lines that tell so.
+    pub(crate) fn changed<W: Write + Drop>(
         &mut self,
         log: &mut LogWriter<W>,
         when: When,
         counts: &mut ChangeCounts,
-        left: usize,
+        routes: &mut WatchedRoutes,
+        outcome: Result<usize, ChangeFault>,
     ) {
-        if let Some(asked) = self.asked.take() {
-            let opens = asked.opens() as u64;
-            let left = left as u64;
-            refuse(log, when, counts, ConfigEvent::NoIndexes { opens, left });
+        match outcome {
+            Ok(_) => self.note_taken(log, when, counts, routes),
+            Err(fault) => {
+                self.tell_fault(log, when, counts, fault);
+                mem::drop(self.asked.take());
+            }
         }
     }
 }

@@ -22,6 +22,7 @@ use srt_supervision::{Asked, ChangeFault, Refusal, Report, RouteChanges, Told, W
 use std::alloc::{AllocError, Global};
 use std::fmt::Display;
 use std::io::Write;
+use std::mem;
 
 fn counts_of_poller(report: &Report) -> PollerCounts {
     PollerCounts {
@@ -83,6 +84,7 @@ where
         entries: &[Entry],
         start: Start,
     ) -> Result<Watcher<'a, M, W, P, F>, AllocError> {
+        let routes = WatchedRoutes::open(alloc, entries)?;
         Ok(Watcher {
             alloc,
             machine,
@@ -92,7 +94,7 @@ where
             losses: Losses::none(),
             page: Page::new(page, start.version),
             overview: Overview::new(),
-            routes: WatchedRoutes::open(alloc, entries)?,
+            routes,
             following: None,
         })
     }
@@ -100,7 +102,8 @@ where
     /// Follows the configuration's file from now on: `config` is the one that was read from it, and the watcher's routes
     /// are its. Allocates 8 bytes for each route; the only error is that memory is refused.
     pub fn follow(&mut self, config: &'a Config, file: F) -> Result<(), AllocError> {
-        self.following = Some(Following::new(self.alloc, config, file)?);
+        let following = Following::new(self.alloc, config, file)?;
+        mem::drop(self.following.replace(following));
         Ok(())
     }
 
@@ -236,18 +239,9 @@ where
 
     fn changed(&mut self, outcome: Result<usize, ChangeFault>) {
         let when = When::now(&mut self.machine);
-        let Some(following) = self.following.as_mut() else {
-            return;
-        };
-        let counts = &mut self.overview.changes;
-        match outcome {
-            Ok(_) => following.taken(&mut self.log, when, counts, &mut self.routes),
-            Err(ChangeFault::OutOfMemory(place)) => {
-                following.refused_memory(&mut self.log, when, counts, place);
-            }
-            Err(ChangeFault::NoIndexLeft(left)) => {
-                following.refused_indexes(&mut self.log, when, counts, left);
-            }
+        if let Some(following) = self.following.as_mut() {
+            let counts = &mut self.overview.changes;
+            following.changed(&mut self.log, when, counts, &mut self.routes, outcome);
         }
     }
 }
