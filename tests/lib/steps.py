@@ -17,6 +17,13 @@ OF_TEST = r"(\d+) passed, (\d+) failed"
 # The line of a subject that is wrong, beside those that parts.SAYS_FAILED knows.
 IS_WRONG = re.compile(r"^[\w ]+ (?:of )?[\w.]+: wrong\b")
 PRINTING = threading.Lock()
+# The processes of the steps that run now, and whether no other one may begin.
+RUNNING: set[subprocess.Popen[str]] = set()
+ENDING = threading.Event()
+
+
+class Stopped(Exception):
+    """The gate was told to end."""
 
 
 class Step(NamedTuple):
@@ -40,6 +47,13 @@ class Ended(NamedTuple):
     processor_minutes: float
 
 
+def end_all() -> None:
+    """Ends the processes of all steps, and lets no other one begin."""
+    ENDING.set()
+    for process in list(RUNNING):
+        process.terminate()
+
+
 def say(text: str) -> None:
     """Prints a text in one piece, also if others print meanwhile."""
     with PRINTING:
@@ -54,15 +68,19 @@ def run(step: Step, on_line: Callable[[str], None] | None = None) -> Ended:
     """Runs a step. With `on_line`, it calls that for each line and prints them as they come, and else all of them at the end."""
     began, lines = time.monotonic(), list[str]()
     words = ["nice", "-n", str(step.gives_way), *step.words]
+    if ENDING.is_set():
+        raise Stopped
     process = subprocess.Popen(
         words, cwd=step.folder, stdin=subprocess.DEVNULL, stdout=subprocess.PIPE, stderr=subprocess.STDOUT, text=True, errors="replace"
     )
+    RUNNING.add(process)
     assert process.stdout
     for line in process.stdout:
         lines.append(line.rstrip("\n"))
         if on_line:
             say(lines[-1])
             on_line(lines[-1])
+    RUNNING.discard(process)
     _, status, used = os.wait4(process.pid, 0)
     process.returncode = os.waitstatus_to_exitcode(status)
     minutes, processor = (time.monotonic() - began) / 60, (used.ru_utime + used.ru_stime) / 60
