@@ -80,7 +80,7 @@ class Gate:
     def on_line(self, line: str) -> None:
         """Takes a program as soon as a line of `rt ci` says that it is proved and built."""
         found = BUILT.match(line)
-        if found and found[1] in self.programs and not self.proofs_ended.is_set():
+        if found and found[1] in self.programs and os.path.isfile(f"{self.room.bare}/crates/{found[1]}/out/{found[1]}"):
             snapshot.take_program(self.room, found[1])
             self.programs.discard(found[1])
             if not self.programs:
@@ -201,6 +201,9 @@ class Gate:
 
     def tell(self, of_crates: dict[str, float]) -> None:
         """Prints what the parts and the crates took."""
+        skipped = [f"{it.step.name}: {case}" for it in self.ended for case in it.skipped]
+        if skipped:
+            print("\nSkipped, and not counted:\n" + "\n".join(f"  {it}" for it in skipped))
         print("\nMinutes of each part, on the clock and of processors:")
         for it in self.ended:
             print(f"  {it.step.name:<24} {it.minutes:6.1f} {it.processor_minutes:7.1f}")
@@ -219,7 +222,7 @@ def merged(first: Ended, again: Ended, is_by_name: bool) -> Ended:
         failed = min(count.failed, first.count.failed)
         count = Count(first.count.passed + first.count.failed - failed, failed)
     return again._replace(
-        step=first.step, count=count, minutes=first.minutes + again.minutes, processor_minutes=first.processor_minutes + again.processor_minutes
+        step=first.step, count=count, skipped=first.skipped, minutes=first.minutes + again.minutes, processor_minutes=first.processor_minutes + again.processor_minutes
     )
 
 

@@ -17,7 +17,7 @@ from tree import TOP, files_of, sum_of
 LEFT_OUT = shutil.ignore_patterns(".git", "out", "target", "__pycache__")
 PREFIX = "srtgw-gate-"
 # What the gate needs of a disk, in bytes: the libraries and the prover's own folders.
-WANTED = 12_000_000_000
+WANTED = 6_000_000_000
 
 
 class Snapshot(NamedTuple):

@@ -14,8 +14,10 @@ from tree import TOP
 # The proofs give way to what plays against the clock, and what needs no order gives way to the proofs, on which all else waits.
 PLAYS_AT, PROOFS_AT, LAST_AT = 0, 15, 19
 OF_TEST = r"(\d+) passed, (\d+) failed"
-# The line of a subject that is wrong, beside those that parts.SAYS_FAILED knows.
+# The line of a subject that is wrong, beside those that parts.SAYS_FAILED knows, and the line behind which bin/test tells all failures.
 IS_WRONG = re.compile(r"^[\w ]+ (?:of )?[\w.]+: wrong\b")
+FAILURES = "What failed:"
+SKIPPED = re.compile(r"case ([^:]+: skipped, .*)")
 PRINTING = threading.Lock()
 # The processes of the steps that run now, and whether no other one may begin.
 RUNNING: set[subprocess.Popen[str]] = set()
@@ -38,11 +40,13 @@ class Step(NamedTuple):
 
 
 class Ended(NamedTuple):
-    """What became of a step: its counts, the lines that tell of failures, and its minutes, on the clock and of processors."""
+    """What became of a step: its counts, the lines that tell of failures, the cases that were skipped, and its minutes, on the clock
+    and of processors."""
 
     step: Step
     count: Count
     failures: list[str]
+    skipped: list[str]
     minutes: float
     processor_minutes: float
 
@@ -60,8 +64,11 @@ def say(text: str) -> None:
         print(text, flush=True)
 
 
-def is_failure(line: str) -> bool:
-    return bool(SAYS_FAILED.search(line) or IS_WRONG.search(line))
+def failures_in(lines: list[str]) -> list[str]:
+    """The lines that tell of failures, each once."""
+    if FAILURES in lines:
+        return lines[lines.index(FAILURES) + 1 : -1]
+    return list(dict.fromkeys(it for it in lines if SAYS_FAILED.search(it) or IS_WRONG.search(it)))
 
 
 def run(step: Step, on_line: Callable[[str], None] | None = None) -> Ended:
@@ -86,7 +93,8 @@ def run(step: Step, on_line: Callable[[str], None] | None = None) -> Ended:
     minutes, processor = (time.monotonic() - began) / 60, (used.ru_utime + used.ru_stime) / 60
     if not on_line:
         say("\n".join([f"\n== {step.name}, {minutes:.1f} minutes", *lines]))
-    return Ended(step, *counted(step, lines, process.returncode), minutes, processor)
+    skipped = [found[1] for it in lines if (found := SKIPPED.match(it))]
+    return Ended(step, *counted(step, lines, process.returncode), skipped, minutes, processor)
 
 
 def counted(step: Step, lines: list[str], status: int) -> tuple[Count, list[str]]:
@@ -95,7 +103,7 @@ def counted(step: Step, lines: list[str], status: int) -> tuple[Count, list[str]
     found = re.fullmatch(step.last_line, last)
     passed, failed = map(int, found.groups()) if found else (0, 1) if step.last_line else (int(status == 0), 0)
     failed = failed or int(status != 0)
-    told = list(dict.fromkeys(it for it in lines if is_failure(it))) or [f"{step.name} ended with {status}: {last}"]
+    told = failures_in(lines) or [f"{step.name} ended with {status}: {last}"]
     return Count(passed, failed), told if failed else []
 
 
