@@ -25,7 +25,7 @@ from verdicts import Checksums, Verdict
 
 # What plays against the program, in two lanes: most of the time in the last of each, the callers' and the operator's cases, is waiting.
 PLAYS = (("explain", "cases", "examples", "callers"), ("model", "hostile", "operate"))
-# Of these a failing case can be played alone, since they take names of cases.
+# These play against the clock. A case of theirs that fails can be played alone, since they take names of cases.
 BY_CASE = ("callers", "operate")
 OF_CASES = r"\w+: (\d+) passed, (\d+) failed, \d+ skipped"
 # Time in minutes. The gate has three hours, also on two slow processors: no edit begins after the second of these, counted from the
@@ -35,6 +35,8 @@ BEGIN_WITHIN = 150
 # With fewer processors than this the chain of the proofs leaves none idle.
 MANY = 4
 BUILT = re.compile(r"rt: (\w+) (?:proved$|is kept: )")
+# What `rt ci` says at its end of tests that are proved and failed when it ran them.
+TESTS_FAILED = re.compile(r"rt: FAILED:((?: \w+ \(tests\))+)$")
 
 
 def processors() -> int:
@@ -68,6 +70,7 @@ class Gate:
         self.programs = {it.name for it in crates().values() if building.is_program(it)}
         self.ended: list[Ended] = []
         self.program_is_there, self.proofs_ended, self.is_proved = threading.Event(), threading.Event(), False
+        self.failed_tests: list[str] = []
 
     # Steps.
 
@@ -88,7 +91,8 @@ class Gate:
 
     def part(self, name: str) -> Step:
         """A part of bin/test, played in the copy."""
-        return Step(name, [f"{self.room.whole}/bin/test", "--only", name], folder=self.room.whole)
+        gives_way = steps.CLOCK_AT if name in BY_CASE else steps.PLAYS_AT
+        return Step(name, [f"{self.room.whole}/bin/test", "--only", name], folder=self.room.whole, gives_way=gives_way)
 
     def look_at_files(self) -> None:
         """What reads files alone, in the tree itself, whose files git knows."""
@@ -115,7 +119,8 @@ class Gate:
         edits of must-fail/."""
         words = ["rt", "ci", *(["--anew"] if self.anew else [])]
         ended = self.do(Step("proofs", words, folder=self.room.bare, gives_way=steps.PROOFS_AT), is_live=True)
-        self.is_proved = not ended.count.failed
+        self.failed_tests = tests_that_failed(ended)
+        self.is_proved = ended.count.failed == len(self.failed_tests)
         self.proofs_ended.set()
         if self.programs:
             steps.say(f"Nothing is played, since a program isn't there: {', '.join(sorted(self.programs))}")
@@ -128,17 +133,16 @@ class Gate:
             if not self.programs:
                 self.do(self.part(name))
 
-    def run_tests(self, crate: Crate) -> None:
-        """Runs a crate's tests, without a proof."""
-        folder = f"{self.room.whole}/crates/{crate.name}"
-        self.do(Step(f"tests of {crate.name}", ["rt", "try", "--test"], "", folder, steps.LAST_AT))
+    def tests_of(self, crate: str) -> Step:
+        """The run of a crate's tests, without a proof."""
+        return Step(f"tests of {crate}", ["rt", "try", "--test"], "", f"{self.room.whole}/crates/{crate}", steps.LAST_AT)
 
     def do_the_rest(self) -> None:
         """Runs the tests that aren't proved, and refuses memory. With few processors both wait for the proofs."""
         if processors() < MANY:
             self.proofs_ended.wait()
         with ThreadPoolExecutor(max(1, processors() // 2)) as pool:
-            list(pool.map(self.run_tests, reversed(self.only_run)))
+            list(pool.map(self.do, [self.tests_of(it.name) for it in reversed(self.only_run)]))
         words = [] if self.anew else ["--gate", self.commit]
         step = Step("refusals", [f"{self.room.whole}/tests/refusals/run", *words], r"refusals: (\d+) passed, (\d+) failed", self.room.whole)
         self.do(step._replace(gives_way=steps.LAST_AT))
@@ -163,6 +167,17 @@ class Gate:
                 step = step._replace(words=[f"{self.room.whole}/tests/{step.name}/run", *names], last_line=OF_CASES)
             again = steps.run(step)
             self.ended[self.ended.index(first)] = merged(first, again, bool(names))
+        if self.is_proved and self.failed_tests:
+            self.run_failed_tests()
+
+    def run_failed_tests(self) -> None:
+        """Runs the tests alone that are proved and failed when `rt ci` ran them beside other work. Only that counts."""
+        steps.say(f"\nTests that failed beside other work, once more alone: {', '.join(self.failed_tests)}")
+        again = [steps.run(self.tests_of(it)) for it in self.failed_tests]
+        first = next(it for it in self.ended if it.step.name == "proofs")
+        amended = first._replace(count=first.count._replace(failed=0), failures=[])
+        self.ended[self.ended.index(first)] = amended
+        self.ended += again
 
     # The whole.
 
@@ -213,6 +228,12 @@ class Gate:
             print(f"  {crate:<24} {spent:6.1f}")
         print(f"  {'all':<24} {sum(of_crates.values()):6.1f}")
         print(f"The whole took {self.minutes():.1f} minutes", flush=True)
+
+
+def tests_that_failed(proofs: Ended) -> list[str]:
+    """The crates whose tests are proved and failed when they were run, if `rt ci` says that nothing else failed."""
+    found = [TESTS_FAILED.match(it) for it in proofs.failures if it.startswith("rt: FAILED:")]
+    return re.findall(r"(\w+) \(tests\)", found[0][1]) if found and found[0] else []
 
 
 def merged(first: Ended, again: Ended, is_by_name: bool) -> Ended:

@@ -11,8 +11,8 @@ from typing import Callable, NamedTuple
 from parts import SAYS_FAILED, Count
 from tree import TOP
 
-# The proofs give way to what plays against the clock, and what needs no order gives way to the proofs, on which all else waits.
-PLAYS_AT, PROOFS_AT, LAST_AT = 0, 15, 19
+# All gives way to what plays against the clock, the proofs to all that plays, and what nothing waits for to the proofs.
+CLOCK_AT, PLAYS_AT, PROOFS_AT, LAST_AT = 0, 5, 15, 19
 OF_TEST = r"(\d+) passed, (\d+) failed"
 # The line of a subject that is wrong, beside those that parts.SAYS_FAILED knows, and the line behind which bin/test tells all failures.
 IS_WRONG = re.compile(r"^[\w ]+ (?:of )?[\w.]+: wrong\b")
@@ -36,7 +36,7 @@ class Step(NamedTuple):
     words: list[str]
     last_line: str = OF_TEST
     folder: str = TOP
-    gives_way: int = PLAYS_AT
+    gives_way: int = CLOCK_AT
 
 
 class Ended(NamedTuple):
