@@ -194,6 +194,8 @@ class Gate:
                 self.prove()
                 if self.is_proved:
                     self.try_edits()
+                else:
+                    steps.say("The edits of tests/edits aren't tried, since not all is proved")
             finally:
                 self.proofs_ended.set()
                 self.program_is_there.set()
@@ -240,10 +242,18 @@ def merged(first: Ended, again: Ended, is_by_name: bool) -> Ended:
     """What a step came to that failed beside others and was done again alone: as a whole, or only the cases that had failed."""
     count = again.count
     if is_by_name:
-        failed = min(count.failed, first.count.failed)
-        count = Count(first.count.passed + first.count.failed - failed, failed)
-    return again._replace(
-        step=first.step, count=count, skipped=first.skipped, minutes=first.minutes + again.minutes, processor_minutes=first.processor_minutes + again.processor_minutes
+        had_failed = first.count.failed
+        # A case that wasn't played again, as where the runner broke off, stays failed.
+        are_all = count.passed + count.failed >= had_failed
+        failed = min(count.failed, had_failed) if are_all else had_failed
+        count = Count(first.count.passed + had_failed - failed, failed)
+    return Ended(
+        first.step,
+        count,
+        again.failures,
+        first.skipped,
+        first.minutes + again.minutes,
+        first.processor_minutes + again.processor_minutes,
     )
 
 
