@@ -127,14 +127,12 @@ def rewrite(path: str, new: list[Verdict], is_ours: bool) -> None:
 def learn(new: Iterable[Verdict]) -> None:
     """Keeps what was shown just now, in the repository's file and in the machine's."""
     verdicts = list(new)
-    if not verdicts:
-        return
-    rewrite(KEPT, verdicts, is_ours=True)
-    try:
-        os.makedirs(os.path.dirname(of_machine()), exist_ok=True)
-        rewrite(of_machine(), verdicts, is_ours=False)
-    except OSError as why:
-        print(f"note: {of_machine()} can't be written ({why.strerror}), so the next clone on this machine doesn't know these verdicts", flush=True)
+    for path, is_ours in ((KEPT, True), (of_machine(), False)) if verdicts else ():
+        try:
+            os.makedirs(os.path.dirname(path), exist_ok=True)
+            rewrite(path, verdicts, is_ours)
+        except OSError as why:
+            print(f"note: {path} can't be written ({why.strerror}), so what was learned is tried again", flush=True)
 
 
 def needs_controls(crate: Crate) -> bool:
