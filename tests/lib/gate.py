@@ -64,7 +64,7 @@ class Gate:
         self.content = snapshot.content(self.room.whole)
         if self.content != content:
             shutil.rmtree(self.room.folder)
-            raise TreeChanged("a file changed while the tree was copied: run it again")
+            raise TreeChanged("a file changed meanwhile, so run it again")
         self.tested = [it for it in crates().values() if cutting.has_tests(it.folder)]
         self.only_run: list[Crate] = []
         self.programs = {it.name for it in crates().values() if building.is_program(it)}
@@ -261,8 +261,8 @@ def whole(anew: bool = False) -> Count:
     """Runs the gate, or, with `anew`, everything for a release."""
     try:
         gate = Gate(anew)
-    except TreeChanged as why:
-        print(f"bin/test: {why}", file=sys.stderr)
+    except (TreeChanged, OSError, shutil.Error) as why:
+        print(f"bin/test: the tree can't be copied: {why}", file=sys.stderr)
         return Count(0, 1)
     meter = Meter()
     meter.start()
