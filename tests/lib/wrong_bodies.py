@@ -72,7 +72,8 @@ def try_plans(plans: list[Plan], is_built: Callable[[Crate], bool], until: float
     count = Count()
     for it in try_in_time(plans, until, lanes):
         result = it.result
-        trying.tell(result)
+        if result.outcomes or not it.left_out:
+            trying.tell(result)
         tell_left_out(it)
         for wrong in result.wrong():
             note_failed(f"edits of {result.crate}: {wrong}")
