@@ -17,7 +17,7 @@ OF_TEST = r"(\d+) passed, (\d+) failed"
 # The line of a subject that is wrong, beside those that parts.SAYS_FAILED knows, and the line behind which bin/test tells all failures.
 IS_WRONG = re.compile(r"^[\w ]+ (?:of )?[\w.]+: wrong\b")
 FAILURES = "What failed:"
-SKIPPED = re.compile(r"case ([^:]+: skipped, .*)")
+SKIPPED = re.compile(r"case (.+: skipped, .*)")
 PRINTING = threading.Lock()
 # The processes of the steps that run now, and whether no other one may begin.
 RUNNING: set[subprocess.Popen[str]] = set()
@@ -108,6 +108,6 @@ def counted(step: Step, lines: list[str], status: int) -> tuple[Count, list[str]
 
 
 def named_cases(ended: Ended) -> list[str]:
-    """The names of the cases that failed; none if the step has no cases, or failed otherwise."""
+    """The names of the cases that failed, each as far as to a colon in it; none if the step has no cases, or failed otherwise."""
     found = [re.match(r"case ([^:]+): ", it) for it in ended.failures]
     return [it[1] for it in found if it] if all(found) else []
