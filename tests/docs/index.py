@@ -36,6 +36,10 @@ class Item:
     owner: str = ""
     clauses: Tuple[str, ...] = ()
 
+    def is_law(self) -> bool:
+        """Whether it is a function of a crate's laws.rt."""
+        return self.kind == "function" and self.file == f"crates/{self.crate}/src/laws.rt"
+
 
 @dataclass
 class Index:

@@ -176,7 +176,7 @@ class Resolver:
         return missing + [it for it in WORD.findall(rest) if not self.has_word(it)]
 
 
-# ---- the tables of MODEL and README ----
+# ---- the tables of docs/MODEL.md and of the crates' MODEL.md ----
 
 
 def names_of_file(index: Index, path: str) -> Set[str]:
@@ -198,16 +198,19 @@ def wrong_definitions(resolver: Resolver, piece: Piece, crate: str) -> List[str]
     return wrong
 
 
-def named_files(resolver: Resolver, document: Document) -> Set[str]:
-    """The files of definitions that rows name."""
-    crates = sections(document, set(resolver.index.crates))
-    rows = [(crates[at], it) for at, it in enumerate(document.pieces) if is_table(it, "definition", "file")]
-    return {f"crates/{crate}/{file}" for crate, row in rows for file in ticked(row.cells[-1])}
+def named_files(resolver: Resolver, documents: List[Document]) -> Dict[str, str]:
+    """The files of definitions that rows name, each with the path of the document."""
+    found: Dict[str, str] = {}
+    for document in documents:
+        crates = sections(document, set(resolver.index.crates))
+        rows = [(crates[at], it) for at, it in enumerate(document.pieces) if is_table(it, "definition", "file")]
+        found.update({f"crates/{crate}/{file}": document.path for crate, row in rows for file in ticked(row.cells[-1])})
+    return found
 
 
-def unreached(resolver: Resolver, document: Document) -> Tuple[int, List[str]]:
+def unreached(resolver: Resolver, documents: List[Document]) -> Tuple[int, List[str]]:
     """The files of definitions that rows name, and those that they use, directly or by others, and that no row names."""
-    index, named = resolver.index, named_files(resolver, document)
+    index, named = resolver.index, set(named_files(resolver, documents))
     found, todo = set(named), list(named)
     while todo:
         more = index.uses.get(todo.pop(), set()) - found
@@ -296,16 +299,25 @@ def is_table(piece: Piece, first: str, last: str) -> bool:
     return piece.is_row() and piece.head[0] == first and piece.head[-1] == last
 
 
+def wrong_statement(resolver: Resolver, piece: Piece) -> List[str]:
+    """What is wrong with a row of docs/MODEL.md: crate, statement, calls with their clauses, definitions with their files."""
+    named = ticked(piece.cells[0])
+    if not named or named[0] not in resolver.index.crates:
+        return [f"no crate {piece.cells[0]}"]
+    cells = ticked(piece.cells[-1])
+    files = [it for it in cells if it.endswith(".antt")]
+    row = Piece(piece.line, [" ".join(f"`{it}`" for it in cells if it not in files), "", " ".join(f"`{it}`" for it in files)], piece.section)
+    return Calls(resolver, named[0]).read(piece.cells[2]) + wrong_definitions(resolver, row, named[0])
+
+
 def wrong_row(resolver: Resolver, piece: Piece, crate: str) -> Optional[List[str]]:
-    """What is wrong with a row of definitions or of promises; None if the piece is neither."""
+    """What is wrong with a row of definitions, of promises or of statements; None if the piece is neither."""
     if crate and is_table(piece, "definition", "file"):
         return wrong_definitions(resolver, piece, crate)
     if crate and is_table(piece, "promise", "carried by"):
         return Calls(resolver, crate).read(piece.cells[1])
-    if is_table(piece, "crate", "carried by"):
-        named = ticked(piece.cells[0])
-        is_crate = bool(named) and named[0] in resolver.index.crates
-        return Calls(resolver, named[0]).read(piece.cells[2]) if is_crate else [f"no crate {piece.cells[0]}"]
+    if is_table(piece, "crate", "defined in"):
+        return wrong_statement(resolver, piece)
     return None
 
 

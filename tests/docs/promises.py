@@ -1,4 +1,4 @@
-"""Which definitions one has to read who checks what is promised: those that public contracts, laws and MODEL cite stand in specs/,
+"""Which definitions one has to read who checks what is promised: those that public contracts, laws and a MODEL.md cite stand in specs/,
 and those that only proofs and internal functions need in specs/inside/."""
 import os
 import re
@@ -85,10 +85,10 @@ def cited_by(index: Index, path: str) -> Set[Tuple[str, str]]:
     return {imports[it] for it in reader.names if it in imports}
 
 
-def wrong_places(index: Index, named: Set[str]) -> Tuple[int, List[str]]:
+def wrong_places(index: Index, named: Dict[str, str]) -> Tuple[int, List[str]]:
     """How many files stand in specs/inside/, and definitions that stand in the wrong place. `named` has the files of definitions
-    that MODEL names."""
-    cited: Dict[str, str] = {it: "docs/MODEL.md" for it in named}
+    that a MODEL.md names, each with the path of that document."""
+    cited: Dict[str, str] = dict(named)
     wrong: List[str] = []
     for path in sorted(index.files):
         if re.match(r"crates/\w+/src/.*\.rt$", path) and not is_test(path):
@@ -101,5 +101,5 @@ def wrong_places(index: Index, named: Set[str]) -> Tuple[int, List[str]]:
         if INSIDE not in path:
             wrong += [f"{path} uses {it}" for it in sorted(index.uses.get(path, set())) if INSIDE in it]
             if path not in cited:
-                wrong.append(f"{path} is cited by no public contract, law or row of MODEL: it belongs in specs/inside/")
+                wrong.append(f"{path} is cited by no public contract, law or row of a MODEL.md: it belongs in specs/inside/")
     return sum(INSIDE in it for it in specs), wrong

@@ -1,17 +1,20 @@
 """The subjects that are checked, each with a function that says what was looked at and what is wrong."""
 import os
+import re
 from functools import partial
 from typing import Callable, Dict, List, Set, Tuple
 
 import commands
 import facts
+import links
 import names
 import promises
 import rules
+import sizes
 from index import Index
 from texts import Document, parsed, ticked
 
-LOOSE = {"PROOFS.md", "CHANGELOG.md", "PERFORMANCE.md"}
+LOOSE = {"PROOFS.md", "proving-traps.md", "CHANGELOG.md", "PERFORMANCE.md"}
 Answer = Tuple[str, List[str]]
 
 
@@ -28,8 +31,8 @@ def newest(path: str, text: str) -> str:
 
 
 def subject_of(document: Document) -> str:
-    """README for README.md, examples_README for examples/README.md."""
-    parts = [it for it in document.path[: -len(".md")].split("/") if it != "docs"]
+    """README for README.md, examples_README for examples/README.md, srt_pub_MODEL for crates/srt_pub/MODEL.md."""
+    parts = [it for it in document.path[: -len(".md")].split("/") if it not in ("docs", "crates")]
     return "_".join(parts).replace("-", "_")
 
 
@@ -40,19 +43,28 @@ def checked_names(resolver: names.Resolver, document: Document) -> Answer:
     return f"{count} names", wrong
 
 
+def models(documents: List[Document]) -> List[Document]:
+    """docs/MODEL.md and the MODEL.md of each crate."""
+    return [it for it in documents if it.name() == "MODEL.md"]
+
+
 def checked_definitions(resolver: names.Resolver, documents: List[Document]) -> Answer:
-    """MODEL has a row for each file of definitions that those of its rows use."""
-    for document in documents:
-        if document.name() == "MODEL.md":
-            count, wrong = names.unreached(resolver, document)
-            return f"{count} files of definitions", wrong
-    return "", ["there is no docs/MODEL.md"]
+    """The MODEL.md of a crate has a row for each file of definitions that the rows of all of them use."""
+    return counted(names.unreached(resolver, models(documents)), "files of definitions")
 
 
 def checked_places(resolver: names.Resolver, documents: List[Document]) -> Answer:
-    """What is promised stands in specs/, and what only proofs need in specs/inside/."""
-    models = [it for it in documents if it.name() == "MODEL.md"]
-    return counted(promises.wrong_places(resolver.index, names.named_files(resolver, models[0])), "files that only proofs need")
+    """What is promised is defined in specs/, and what only proofs need in specs/inside/."""
+    named = names.named_files(resolver, models(documents))
+    return counted(promises.wrong_places(resolver.index, named), "files that only proofs need")
+
+
+def checked_laws(index: Index, documents: List[Document]) -> Answer:
+    """Each law of a crate has a row of promises in the crate's MODEL.md."""
+    texts = {it.path: it.text for it in models(documents)}
+    laws = sorted((it.crate, it.name) for items in index.items.values() for it in items if it.is_law())
+    missing = [(crate, name) for crate, name in laws if not re.search(rf"`laws::{name}`", texts.get(f"crates/{crate}/MODEL.md", ""))]
+    return f"{len(laws)} laws", [f"crates/{crate}/MODEL.md: no row of laws::{name}" for crate, name in missing]
 
 
 def checked_commands(resolver: names.Resolver, documents: List[Document]) -> Answer:
@@ -73,21 +85,18 @@ def checked_words(resolver: names.Resolver) -> Answer:
 
 
 def checked_crates(index: Index) -> Answer:
-    """README and ARCHITECTURE have a row and MODEL a section of each crate, and ARCHITECTURE's crates stand on those that
-    crates.txt says."""
-    wrong: List[str] = []
-    for path in ("README.md", "docs/ARCHITECTURE.md", "docs/MODEL.md"):
-        document = parsed(path, index.text(path))
-        rows = [it for it in document.pieces if it.is_row() and it.head[0] == "crate"]
-        named = {name for it in rows for name in ticked(it.cells[0])}
-        if path.endswith("MODEL.md"):
-            heads = (it for it in document.pieces if it.cells[0].startswith("#"))
-            named = {name for it in heads for name in ticked(it.cells[0])} | {"srtgw"}
-        wrong += [f"{path}: no row or section of {it}" for it in sorted(set(index.crates) - named) if named]
-        for row in rows:
-            below = set(ticked(row.cells[row.head.index("stands on")])) if "stands on" in row.head else set()
-            uses = {use for it in ticked(row.cells[0]) for use in index.crates.get(it, [])}
-            wrong += [f"{path}:{row.line}: {row.cells[0]} doesn't use {it}" for it in sorted(below - uses)]
+    """ARCHITECTURE has a row of each crate, whose other crates it uses by crates.txt, and each crate has a MODEL.md that names it."""
+    path = "docs/ARCHITECTURE.md"
+    rows = [it for it in parsed(path, index.text(path)).pieces if it.is_row() and it.head[0] == "crate"]
+    named = {name for it in rows for name in ticked(it.cells[0])}
+    wrong = [f"{path}: no row of {it}" for it in sorted(set(index.crates) - named)]
+    for row in rows:
+        below = set(ticked(row.cells[row.head.index("uses")])) if "uses" in row.head else set()
+        uses = {use for it in ticked(row.cells[0]) for use in index.crates.get(it, [])}
+        wrong += [f"{path}:{row.line}: {row.cells[0]} doesn't use {it}" for it in sorted(below - uses)]
+    for crate in sorted(index.crates):
+        head = index.text(f"crates/{crate}/MODEL.md").partition("\n")[0]
+        wrong += [] if crate in ticked(head) else [f"crates/{crate}/MODEL.md: its heading doesn't name {crate}"]
     return f"{len(index.crates)} crates", wrong
 
 
@@ -107,6 +116,8 @@ def of_tree(index: Index, outside: Dict[str, str]) -> Dict[str, Callable[[], Ans
     found: Dict[str, Callable[[], Answer]] = {subject_of(it): partial(checked_names, resolver, it) for it in documents}
     found["definitions"] = partial(checked_definitions, resolver, documents)
     found["places"] = partial(checked_places, resolver, documents)
+    found["laws"] = partial(checked_laws, index, documents)
+    found["links"] = lambda: counted(links.wrong_links(index), "links")
     found["commands"] = partial(checked_commands, resolver, documents)
     found["words"] = partial(checked_words, resolver)
     found["crates"] = partial(checked_crates, index)
@@ -116,5 +127,6 @@ def of_tree(index: Index, outside: Dict[str, str]) -> Dict[str, Callable[[], Ans
     found["versions"] = lambda: ("the newest is the program's", rules.wrong_versions(index))
     found["sections"] = lambda: counted(rules.wrong_sections(index), "sections")
     found["lines"] = lambda: counted(rules.wrong_lines(index), "crates without a line over 160 characters")
+    found["sizes"] = lambda: counted(sizes.wrong_sizes(index), "documents with a greatest size")
     found["counts"] = lambda: (rules.counts(index), rules.wrong_counts(index))
     return found

@@ -80,7 +80,7 @@ def toolchain() -> Any:
     """The module of `rt` that has the words of a check."""
     rt = shutil.which("rt")
     if not rt:
-        sys.exit("the Rattle toolchain (rt) is not on PATH: see README.md, First commands")
+        sys.exit("the Rattle toolchain (rt) is not on PATH: see docs/INSTALL.md")
     folder = os.path.dirname(os.path.realpath(rt))
     if folder not in sys.path:
         sys.path.insert(0, folder)
