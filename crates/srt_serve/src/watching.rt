@@ -52,16 +52,21 @@ impl<C: Host> Changer<'_, C> {
         Ok(seats)
     }
 
-    // Makes a change: first all memory is taken, then the routes get their places, and then the polling thread is told.
-    fn make(&mut self, changes: RouteChanges) -> Result<usize, ChangeFault> {
-        let seats = self.open_all(&changes.opens)?;
-        let first = self.routes;
+    // Puts the routes of a change into their places.
+    fn host_all(&mut self, seats: Vec<Seat<Named>>) {
         for seat in seats {
             if let Some(place) = self.places.get(self.routes) {
                 place.host(seat);
             }
             self.routes = self.routes.wrapping_add(1);
         }
+    }
+
+    // Makes a change: first all memory is taken, then the routes get their places, and then the polling thread is told.
+    fn make(&mut self, changes: RouteChanges) -> Result<usize, ChangeFault> {
+        let seats = self.open_all(&changes.opens)?;
+        let first = self.routes;
+        self.host_all(seats);
         for route in &changes.closes {
             if *route < first {
                 self.news.close(*route);
@@ -69,6 +74,20 @@ impl<C: Host> Changer<'_, C> {
         }
         self.news.tell();
         Ok(first)
+    }
+
+    // Makes the change that the watcher asks for, if there is one.
+    fn change<T: Watch>(&mut self, watch: &mut T) {
+        if let Some(changes) = watch.change() {
+            let outcome = self.make(changes);
+            watch.changed(outcome);
+        }
+    }
+
+    // The places that are taken.
+    fn taken(&self) -> &[C] {
+        let taken = self.routes.min(self.places.len());
+        &self.places[..taken]
     }
 }
 
@@ -136,14 +155,17 @@ fn tell_refusals<R: Wait, T: Watch>(rt: &R, post: &Post, watch: &mut T) {
     }
 }
 
-// What the poller told of its counts: the last ones, and how often it told any.
+// What is known between two rests of the watcher.
 #[derive(Clone, Copy)]
-struct Counted {
+struct Known {
+    // the counts that the poller told last, and how often it told any
     counts: Report,
     reports: u64,
+    // how many looks in a row found all quiet
+    quiet: u32,
 }
 
-impl Counted {
+impl Known {
     // Takes the counts that were left since, if there are any.
     fn take(&mut self, post: &Post) {
         if let Some(counts) = post.report.take() {
@@ -151,6 +173,43 @@ impl Counted {
             self.reports = self.reports.saturating_add(1);
         }
     }
+
+    // What the watcher is told before its next rest.
+    fn told(&self, post: &Post) -> Told {
+        Told {
+            is_quiet: self.quiet >= QUIET_LOOKS,
+            faults: post.faults(),
+            missed: post.missed(),
+            counts: self.counts,
+            reports: self.reports,
+        }
+    }
+}
+
+// Lets the watcher rest once, and does what it asks.
+fn watch_once<R: Wait, C: Serve + Host, T: Watch>(
+    rt: &R,
+    changer: &mut Changer<'_, C>,
+    wakeups: &Wakeups,
+    post: &Post,
+    watch: &mut T,
+    known: &mut Known,
+) {
+    known.take(post);
+    let asked = watch.next(known.told(post));
+    post.ask(asked);
+    tell_refusals(rt, post, watch);
+    let looks = watch.looks();
+    let closes = !matches!(asked, Asked::GoOn);
+    if !closes {
+        changer.change(watch);
+    }
+    let is_quiet = (looks || closes) && look_at_all(rt, changer.taken(), watch, looks);
+    known.quiet = if is_quiet && closes && !wakeups.any_outbox_ready() {
+        known.quiet.saturating_add(1)
+    } else {
+        0
+    };
 }
 
 /// Watches until the run is over. After each rest of the watcher the poller is asked what it said, the refusals are told
@@ -163,40 +222,16 @@ pub fn watch_routes<R: Wait, C: Serve + Host, T: Watch>(
     watch: &mut T,
 ) {
     wakeups.arrive();
-    let mut counted = Counted {
+    let mut known = Known {
         counts: Report::NOTHING,
         reports: 0,
+        quiet: 0,
     };
-    let mut quiet = 0u32;
     for _ in rt.forever() {
         if wakeups.is_done() {
             return;
         }
-        counted.take(post);
-        let asked = watch.next(Told {
-            is_quiet: quiet >= QUIET_LOOKS,
-            faults: post.faults(),
-            missed: post.missed(),
-            counts: counted.counts,
-            reports: counted.reports,
-        });
-        post.ask(asked);
-        tell_refusals(rt, post, watch);
-        let looks = watch.looks();
-        let closes = !matches!(asked, Asked::GoOn);
-        if !closes {
-            if let Some(changes) = watch.change() {
-                let outcome = changer.make(changes);
-                watch.changed(outcome);
-            }
-        }
-        let taken = changer.routes.min(changer.places.len());
-        let is_quiet = (looks || closes) && look_at_all(rt, &changer.places[..taken], watch, looks);
-        quiet = if is_quiet && closes && !wakeups.any_outbox_ready() {
-            quiet.saturating_add(1)
-        } else {
-            0
-        };
+        watch_once(rt, &mut changer, wakeups, post, watch, &mut known);
         thread::yield_now();
     }
 }
