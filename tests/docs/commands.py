@@ -51,12 +51,12 @@ class Command:
 
 
 def program_of(index: Index) -> Dict[str, Command]:
-    """The subcommands that crates/srtgw/src says, by the calls that build its command line."""
-    text = "\n".join(index.text(it) for it in sorted(index.files) if it.startswith("crates/srtgw/src/") and it.endswith(".rt"))
+    """The subcommands that crates/srt_command_line/src says, by the calls that build its command line."""
+    text = "\n".join(index.text(it) for it in sorted(index.files) if it.startswith("crates/srt_command_line/src/") and it.endswith(".rt"))
     constants = {name: int(value.replace("_", "")) for name, value in re.findall(r"const (\w+): u\d+ = ([\d_]+);", text)}
     bodies = dict(re.findall(r"\nfn (\w+)<'a>\([^)]*\) -> Arg<'a> \{(.*?)\n\}", text, re.DOTALL))
     found: Dict[str, Command] = {}
-    for name, rest in re.findall(r'= Command::new\(alloc, "(\w+)"\)(.*?);\n', text, re.DOTALL):
+    for name, rest in re.findall(r'-> Result<Command<[^{]* \{\s*Command::new\(alloc, "(\w+)"\)(.*?)\n\}', text, re.DOTALL):
         command = found.setdefault(name, Command())
         for argument in re.findall(r"\.arg\((\w+)\(alloc\)\)", rest):
             body = bodies.get(argument, "")
@@ -253,7 +253,7 @@ class Checker:
 
 def keys_of(index: Index) -> Tuple[Set[str], Set[str]]:
     """The keys of a configuration's table and of a route's, as the code has them."""
-    folder = "crates/srt_gateway/src/config/"
+    folder = "crates/srt_config/src/config/"
     texts = dict(re.findall(r'Key::(\w+) => "(\w+)"', index.text(f"{folder}faults.rt")))
     both = []
     for path, name in (("reading.rt", "TOP_KEYS"), ("routes.rt", "ROUTE_KEYS")):

@@ -44,7 +44,7 @@ def wrong_literals(index: Index) -> List[str]:
 
 def wrong_versions(index: Index) -> List[str]:
     """The newest version of the changes is that of the program, and no text denies that there is one."""
-    code = "\n".join(index.text(it) for it in sorted(index.files) if it.startswith("crates/srtgw/src/"))
+    code = "\n".join(index.text(it) for it in sorted(index.files) if it.startswith("crates/srt_command_line/src/"))
     version = (re.findall(r'const VERSION: &str = "([^"]+)"', code) or ["no version"])[0]
     heads = re.findall(r"^## (?:\[)?v?(\d[\w.]*)", index.text("CHANGELOG.md"), re.MULTILINE)
     wrong = []

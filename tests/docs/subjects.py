@@ -77,7 +77,7 @@ def checked_commands(resolver: names.Resolver, documents: List[Document]) -> Ans
         more, bad = checker.document(document)
         count, wrong = count + more, wrong + [f"{document.path}:{it}" for it in bad]
     resolver.used |= checker.used
-    return f"{count} commands", wrong if checker.commands else ["crates/srtgw/src has no commands"]
+    return f"{count} commands", wrong if checker.commands else ["crates/srt_command_line/src has no commands"]
 
 
 def checked_words(resolver: names.Resolver) -> Answer:

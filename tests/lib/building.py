@@ -10,14 +10,19 @@ import subprocess
 import tempfile
 import time
 from concurrent.futures import FIRST_COMPLETED, Future, ThreadPoolExecutor, wait
-from typing import Callable, Iterable, TextIO
+from typing import Callable, Iterable, NamedTuple, TextIO
 
-from tree import TOP, Crate, below, make_room
+from durations import KEPT, NOTHING, Durations
+from planning import Plan, by_one_job
+from tree import TOP, Crate, below, crates, make_room
 
-# What a check by one job may take of memory, in bytes, and the most jobs that one gains from.
+# What a check by one job may take of memory, in bytes.
 MEMORY = 2_000_000_000
-MOST_JOBS = 4
+# The programs: the whole one, and the one without what needs the network, which uses fewer crates.
 PROGRAM = "srtgw"
+OFFLINE = "srtgw_offline"
+# A file below a crate's out/ which says that one job proved the crate from nothing.
+ONE_JOB = "proved_by_one_job"
 
 
 class NotBuilt(Exception):
@@ -68,20 +73,51 @@ def take_back(crate: Crate, room: str) -> None:
             shutil.move(made, to)
 
 
-def build(crate: Crate, jobs: int) -> str:
-    """Builds one crate in a room of its own, and returns what the toolchain said."""
-    under = below([crate.name])
+class Built(NamedTuple):
+    """A crate that was built: what the toolchain said, the processor seconds that it took, and over what it proved the crate; nothing
+    if it took what was built before."""
+
+    said: str
+    seconds: float
+    over: str | None
+
+
+def call(words: list[str], folder: str) -> tuple[int, str, float]:
+    """Runs a command, and returns its status, what it said, and the processor seconds of it and of all that it started."""
+    with tempfile.TemporaryFile() as said:
+        started = subprocess.Popen(words, cwd=folder, stdin=subprocess.DEVNULL, stdout=said, stderr=subprocess.STDOUT)
+        _, status, used = os.wait4(started.pid, 0)
+        started.returncode = os.waitstatus_to_exitcode(status)
+        said.seek(0)
+        return started.returncode, said.read().decode(errors="replace"), used.ru_utime + used.ru_stime
+
+
+def build(crate: Crate, jobs: int) -> Built:
+    """Builds one crate in a room of its own."""
     with tempfile.TemporaryDirectory(prefix="srtgw-build-", dir=rooms()) as room:
         make_room(room, [crate.name])
-        lend_libraries(crate, under, room)
+        lend_libraries(crate, below([crate.name]), room)
         words = ["rt", "run", "--jobs", str(jobs), "--", "--help"] if is_program(crate) else ["rt", "lib", "--jobs", str(jobs)]
         here = f"{room}/crates/{crate.name}"
-        ran = subprocess.run(words, cwd=here, stdin=subprocess.DEVNULL, stdout=subprocess.PIPE, stderr=subprocess.STDOUT, text=True, errors="replace")
-        made = f"{here}/out/{crate.name if is_program(crate) else 'rlib'}"
-        if ran.returncode or not os.path.exists(made):
-            raise NotBuilt(f"{crate.name} could not be built; the end of the log:\n{ran.stdout[-2000:]}", ran.stdout)
+        had = os.path.isdir(f"{here}/out/incremental")
+        status, said, seconds = call(words, here)
+        if status or not os.path.exists(f"{here}/out/{crate.name if is_program(crate) else 'rlib'}"):
+            raise NotBuilt(f"{crate.name} could not be built; the end of the log:\n{said[-2000:]}", said)
         take_back(crate, room)
-    return ran.stdout
+    # Where another checkout of this machine has it, the toolchain begins with what a check kept there, or takes the library.
+    over = None if "logic=proved" not in said else KEPT if had or "begins with what a check kept" in said else NOTHING
+    if over:
+        note_profile(crate, over == NOTHING and jobs == 1)
+    return Built(said, seconds, over)
+
+
+def note_profile(crate: Crate, is_one: bool) -> None:
+    """Notes whether one process wrote all that is kept of a crate, so that the times of its files say what each module took."""
+    note = f"{crate.folder}/out/{ONE_JOB}"
+    if is_one:
+        open(note, "w").close()
+    elif os.path.exists(note):
+        os.remove(note)
 
 
 def rooms() -> str | None:
@@ -100,60 +136,98 @@ def clear_rooms() -> None:
         shutil.rmtree(f"{folder}/{it}", ignore_errors=True)
 
 
-def jobs_for(idle: int, ready: int) -> int:
-    """How many jobs a crate gets that is one of `ready` with `idle` processors for all."""
-    room = max(1, free_memory() // MEMORY)
-    return max(1, min(MOST_JOBS, idle // max(1, ready), room))
+def jobs_of_memory() -> int:
+    """The most jobs that the free memory has room for."""
+    return max(1, free_memory() // MEMORY)
 
 
-def chains(wanted: list[Crate]) -> dict[str, int]:
-    """For each of these crates how many stand in the longest chain of them from it upwards: those of long chains go first."""
-    found: dict[str, int] = {}
-
-    def chain(crate: Crate) -> int:
-        if crate.name not in found:
-            found[crate.name] = 1 + max((chain(it) for it in wanted if crate.name in it.uses), default=0)
-        return found[crate.name]
-
-    for crate in wanted:
-        chain(crate)
-    return found
-
-
-def build_all(wanted: list[Crate], log: TextIO, tell: Callable[[str], None]) -> None:
-    """Builds these crates, each after those that it uses, as many at a time as there are processors."""
-    clear_rooms()
-    lanes = len(os.sched_getaffinity(0))
-    names = {it.name for it in wanted}
-    chain = chains(wanted)
-    left = sorted(wanted, key=lambda it: -chain[it.name])
-    done: set[str] = set()
-    running: dict[Future[str], tuple[Crate, int, float]] = {}
-    began = time.monotonic()
-    with ThreadPoolExecutor(lanes) as pool:
-        while left or running:
-            ready = [it for it in left if all(name in done for name in it.uses if name in names)]
-            for at, crate in enumerate(ready):
-                idle = lanes - sum(jobs for _, jobs, _ in running.values())
-                if idle < 1:
-                    break
-                jobs = jobs_for(idle, len(ready) - at)
-                left.remove(crate)
-                running[pool.submit(build, crate, jobs)] = crate, jobs, time.monotonic()
-            under_way = ", ".join(it.name for it, _, _ in running.values())
-            tell(f"{len(done)} of {len(wanted)} crates built, {clock(began)} so far; under way: {under_way}")
-            for it in wait(running, return_when=FIRST_COMPLETED).done:
-                crate, _, start = running.pop(it)
-                why = it.exception()
-                said = why.said if isinstance(why, NotBuilt) else it.result()
-                log.write(f"== {crate.name}, {time.monotonic() - start:.0f} s\n{said}")
-                log.flush()
-                if why:
-                    raise why
-                done.add(crate.name)
+def minutes(seconds: float) -> str:
+    """A time that is left, as a person says it."""
+    whole = round(seconds / 60)
+    return "less than a minute" if seconds < 45 else "about a minute" if whole < 2 else f"about {whole} minutes"
 
 
 def clock(began: float) -> str:
     """The time since then, in minutes and seconds."""
     seconds = int(time.monotonic() - began)
     return f"{seconds // 60}:{seconds % 60:02}"
+
+
+def plan_of(wanted: list[Crate], durations: Durations) -> Plan:
+    return Plan(wanted, {it.name: durations.of(it) for it in wanted}, len(os.sched_getaffinity(0)))
+
+
+def announced(names: list[str]) -> str:
+    """What will be built for these crates, how long that takes and by which figures, and, if the whole program isn't among it, what
+    the commands will take that need it."""
+    durations, wanted = Durations(), below(names)
+    source = "as before on this machine" if durations.are_of_this_machine(wanted) else f"by figures of {durations.source}"
+    text = f"proving and building {', '.join(names)} ({len(wanted)} crates), {minutes(plan_of(wanted, durations).left({}, ()))} ({source})"
+    if names == [OFFLINE] and PROGRAM in crates():
+        rest = [it for it in below([PROGRAM]) if it not in wanted]
+        text += f"; `run` and `serve` prove and build {len(rest)} crates more when they are first called, {minutes(plan_of(rest, durations).left({}, ()))}"
+    return text
+
+
+class Progress:
+    """What is built and what is under way, and what is left by what crates took before and how fast this build went so far."""
+
+    def __init__(self, plan: Plan) -> None:
+        self.plan = plan
+        self.done: set[str] = set()
+        self.running: dict[str, tuple[int, float]] = {}
+        self.began = time.monotonic()
+        self.whole = plan.left({}, ())
+
+    def by_plan(self, pace: float) -> float:
+        """The seconds that are left by the plan, if this build takes `pace` seconds for one of the plan's."""
+        now = time.monotonic()
+        return self.plan.left({name: (jobs, (now - start) / pace) for name, (jobs, start) in self.running.items()}, self.done)
+
+    def left(self) -> float:
+        """How many seconds are left: the machine may be slower than that of the plan's figures, or have other work."""
+        so_far, pace = time.monotonic() - self.began, 1.0
+        # What is under way is as far as the pace says, and the pace is what is done in the time so far: a few rounds find both.
+        for _ in range(6 if so_far > 30 else 0):
+            passed = self.whole - self.by_plan(pace)
+            pace = min(20.0, max(0.2, so_far / passed)) if passed > 0 else pace
+        return pace * self.by_plan(pace)
+
+    def text(self) -> str:
+        so_far = f"{len(self.done)} of {len(self.plan.crates)} crates built, {clock(self.began)} so far"
+        return f"{so_far}, {minutes(self.left())} left; under way: {', '.join(self.running)}"
+
+
+def build_all(wanted: list[Crate], log: TextIO, tell: Callable[[str], None]) -> float:
+    """Builds these crates, each after those that it uses, as many at a time as there are processors. It tells how far it is as crates
+    end, and each minute. Returns the processor seconds of all."""
+    clear_rooms()
+    durations = Durations()
+    plan = plan_of(wanted, durations)
+    progress = Progress(plan)
+    running: dict[Future[Built], tuple[Crate, float]] = {}
+    spent = 0.0
+    with ThreadPoolExecutor(plan.lanes) as pool:
+        while len(progress.done) < len(wanted):
+            while begins := plan.next({name: jobs for name, (jobs, _) in progress.running.items()}, progress.done, jobs_of_memory()):
+                crate, jobs = begins
+                now = time.monotonic()
+                progress.running[crate.name] = jobs, now
+                running[pool.submit(build, crate, jobs)] = crate, now
+            tell(progress.text())
+            for it in wait(running, timeout=60, return_when=FIRST_COMPLETED).done:
+                crate, start = running.pop(it)
+                jobs, _ = progress.running.pop(crate.name)
+                why = it.exception()
+                if isinstance(why, NotBuilt):
+                    log.write(f"== {crate.name}, not built\n{why.said}")
+                if why:
+                    raise why
+                built = it.result()
+                spent += built.seconds
+                log.write(f"== {crate.name}, {time.monotonic() - start:.0f} s with --jobs {jobs}, {built.seconds:.0f} s of processors\n{built.said}")
+                log.flush()
+                if built.over:
+                    durations.keep(crate, built.over, by_one_job(built.seconds, jobs) if built.over == NOTHING else built.seconds)
+                progress.done.add(crate.name)
+    return spent

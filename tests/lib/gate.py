@@ -1,148 +1,286 @@
-"""The gate and the steps below it: proofs, tests and wrong bodies of crates."""
+"""The gate. It judges a copy of the tree, and runs its steps beside one another: the proofs, what plays against the program as soon as
+that is there, the tests that are only run, the refusals of memory; and, once all is proved, the edits."""
 from __future__ import annotations
 
-import math
 import os
 import re
-import subprocess
+import shutil
+import sys
+import threading
 import time
 from concurrent.futures import ThreadPoolExecutor
-from typing import Iterator
 
-import trying
+import building
+import cutting
+import minutes
+import releases
+import snapshot
+import steps
 import verdicts
 from machine import Meter
-from parts import OF_FILES, PARTS, QUICK, Count, all_of, counted, note_failed
-from tree import PROGRAM, TOP, Crate, above, crates, files_of, read
-from trying import Plan, Result
+from parts import OF_FILES, Count, all_of, note_failed
+from steps import Ended, Step
+from tree import TOP, Crate, crates
+from verdicts import Checksums, Verdict
 
-TEST = re.compile(r"(?m)^\s*#\[test\]")
-# The gate has three hours. An edit that can't begin within this time of its beginning, in seconds, is left out, and said to be.
-EDITS_WITHIN = 120 * 60
-# The parts that run beside the edits, since no clock decides them.
-BESIDE_EDITS = ("refusals",)
-
-
-def section(title: str) -> None:
-    print(f"\n== {title}", flush=True)
-
-
-def in_crate(crate: Crate, *words: str) -> bool:
-    """Runs a command of the toolchain in the crate's folder, and returns whether it went well."""
-    return subprocess.run(["rt", *words], cwd=crate.folder, stdin=subprocess.DEVNULL).returncode == 0
-
-
-def has_tests(crate: Crate) -> bool:
-    return any(TEST.search(read(it)) for it in files_of(crate.folder, ["src"]) if it.endswith(".rt"))
+# What plays against the program, in two lanes: most of the time in the last of each, the callers' and the operator's cases, is waiting.
+PLAYS = (("explain", "cases", "examples", "callers"), ("model", "hostile", "operate"))
+# These play against the clock. A case of theirs that fails can be played alone, since they take names of cases.
+BY_CASE = ("callers", "operate")
+OF_CASES = r"\w+: (\d+) passed, (\d+) failed, \d+ skipped"
+# Time in minutes. The gate has three hours, also on two slow processors: no edit begins after the second of these, counted from the
+# gate's beginning, nor after the first, counted from that of the edits. What is left out is said to be.
+EDITS_WITHIN, EDITS_WITHIN_FEW = 40, 75
+BEGIN_WITHIN = 150
+# With fewer processors than this the chain of the proofs leaves none idle.
+MANY = 4
+BUILT = re.compile(r"rt: (\w+) (?:proved$|is kept: )")
+# What `rt ci` says at its end of tests that are proved and failed when it ran them.
+TESTS_FAILED = re.compile(r"rt: FAILED:((?: \w+ \(tests\))+)$")
 
 
-def verdict() -> Count:
-    """Runs `rt ci`, which proves all crates and their tests from nothing, runs them, and tries the edits of must-fail/."""
-    return counted(["rt", "ci"], r"(\d+) passed, (\d+) failed")
+def processors() -> int:
+    return len(os.sched_getaffinity(0))
 
 
-def tried(plans: list[Plan], until: float) -> Iterator[tuple[Result, int]]:
-    """Tries these plans, each batch if it can begin before this moment. Gives each crate's result, and how many of its edits were
-    left out."""
-
-    def result_of(part: Plan) -> Result | None:
-        return None if time.monotonic() > until else next(trying.try_all([part], lanes=1))
-
-    with ThreadPoolExecutor(trying.free_lanes()) as pool:
-        # The runs of the upper crates take longest, so they begin first.
-        begun = {
-            plan.crate: [(it, pool.submit(result_of, plan._replace(batches=[it]))) for it in plan.batches] for plan in reversed(plans)
-        }
-        for plan in plans:
-            ended = [(batch, ran.result()) for batch, ran in begun[plan.crate]]
-            results = [it for _, it in ended if it]
-            left_out = sum(bool(it.edit) for batch, result in ended if not result for it in [*batch.copies, *batch.placed])
-            yield Result(plan, [it for result in results for it in result.outcomes], [it for result in results for it in result.unclear]), left_out
+def edits_within(gone: float) -> float:
+    """The minutes for edits if so many of the gate are gone."""
+    return max(0.0, min(EDITS_WITHIN if processors() >= MANY else EDITS_WITHIN_FEW, BEGIN_WITHIN - gone))
 
 
-def wrong_bodies(plans: list[Plan], until: float = math.inf) -> Count:
-    """Tries these plans of edits, each batch if it can begin before this moment. What isn't tried isn't counted."""
-    count = Count()
-    for it, left_out in tried(plans, until):
-        trying.tell(it)
-        if left_out and not it.plan.known:
-            print(f"edits of {it.crate}: {left_out} not tried, since the time for edits was over: tests/edits/run {it.crate}", flush=True)
-        for wrong in it.wrong():
-            note_failed(f"edits of {it.crate}: {wrong}")
-        count = count.and_also(Count(len(it.edits(trying.REFUSED)), len(it.wrong())))
-    return count
+class TreeChanged(Exception):
+    """A file changed while the tree was copied."""
 
 
-def plan_of_all(crate: Crate) -> Plan:
-    """All edits of a crate in tests/edits, with unchanged copies where these weren't proved as they stand."""
-    return trying.plan_of(crate, trying.edits_of(crate.name, outside_only=True), verdicts.needs_controls(crate))
+class Gate:
+    """One run of the gate. `anew` says that it takes nothing as known."""
+
+    def __init__(self, anew: bool) -> None:
+        self.anew, self.began, self.commit = anew, time.monotonic(), verdicts.commit()
+        content = snapshot.content()
+        self.checksums: dict[str, Checksums] = {it.name: verdicts.checksums_of(it) for it in crates().values()}
+        self.known = verdicts.known()
+        self.room = snapshot.take()
+        self.content = snapshot.content(self.room.whole)
+        if self.content != content:
+            shutil.rmtree(self.room.folder)
+            raise TreeChanged("a file changed meanwhile, so run it again")
+        self.tested = [it for it in crates().values() if cutting.has_tests(it.folder)]
+        self.only_run: list[Crate] = []
+        self.programs = {it.name for it in crates().values() if building.is_program(it)}
+        self.ended: list[Ended] = []
+        self.program_is_there, self.proofs_ended, self.is_proved = threading.Event(), threading.Event(), False
+        self.failed_tests: list[str] = []
+
+    # Steps.
+
+    def do(self, step: Step, is_live: bool = False) -> Ended:
+        """Runs a step of the gate."""
+        ended = steps.run(step, self.on_line if is_live else None)
+        self.ended.append(ended)
+        return ended
+
+    def on_line(self, line: str) -> None:
+        """Takes a program as soon as a line of `rt ci` says that it is proved and built."""
+        found = BUILT.match(line)
+        if found and found[1] in self.programs and os.path.isfile(f"{self.room.bare}/crates/{found[1]}/out/{found[1]}"):
+            snapshot.take_program(self.room, found[1])
+            self.programs.discard(found[1])
+            if not self.programs:
+                self.program_is_there.set()
+
+    def part(self, name: str) -> Step:
+        """A part of bin/test, played in the copy."""
+        gives_way = steps.CLOCK_AT if name in BY_CASE else steps.PLAYS_AT
+        return Step(name, [f"{self.room.whole}/bin/test", "--only", name], folder=self.room.whole, gives_way=gives_way)
+
+    def look_at_files(self) -> None:
+        """What reads files alone, in the tree itself, whose files git knows."""
+        with ThreadPoolExecutor(processors()) as pool:
+            list(pool.map(self.do, [Step(it, [f"{TOP}/bin/test", "--only", it]) for it in OF_FILES]))
+
+    def leave_out_tests(self) -> None:
+        """Cuts the tests that were proved before at this content off the copy for `rt ci`, and says which are proved in this run."""
+        for crate in self.tested:
+            if not self.anew and Verdict(crate.name, verdicts.TESTS, self.checksums[crate.name].tests) in self.known:
+                why = cutting.cut_or_leave(f"{self.room.bare}/crates/{crate.name}")
+                if why:
+                    steps.say(f"tests of {crate.name}: proved in this run, since {why}")
+                else:
+                    self.only_run.append(crate)
+        proved = [it.name for it in self.tested if it not in self.only_run]
+        steps.say(f"Tests that are proved in this run: {', '.join(proved) or 'none'}")
+        if self.only_run:
+            names = ", ".join(it.name for it in self.only_run)
+            steps.say(f"Tests that are run and not proved, since they were proved before at this content: {names}")
+
+    def prove(self) -> None:
+        """Runs `rt ci`: it proves all crates from nothing, and the tests that are left there, runs these and the programs, and tries the
+        edits of must-fail/."""
+        words = ["rt", "ci", *(["--anew"] if self.anew else [])]
+        ended = self.do(Step("proofs", words, folder=self.room.bare, gives_way=steps.PROOFS_AT), is_live=True)
+        self.failed_tests = tests_that_failed(ended)
+        self.is_proved = ended.count.failed == len(self.failed_tests)
+        self.proofs_ended.set()
+        if self.programs:
+            steps.say(f"Nothing is played, since a program isn't there: {', '.join(sorted(self.programs))}")
+        self.program_is_there.set()
+
+    def play(self, names: tuple[str, ...]) -> None:
+        """Plays these parts, one after the other, once the program is there."""
+        self.program_is_there.wait()
+        for name in names:
+            if not self.programs:
+                self.do(self.part(name))
+
+    def tests_of(self, crate: str) -> Step:
+        """The run of a crate's tests, without a proof."""
+        return Step(f"tests of {crate}", ["rt", "try", "--test"], "", f"{self.room.whole}/crates/{crate}", steps.LAST_AT)
+
+    def do_the_rest(self) -> None:
+        """Runs the tests that aren't proved, and refuses memory. With few processors both wait for the proofs."""
+        if processors() < MANY:
+            self.proofs_ended.wait()
+        with ThreadPoolExecutor(max(1, processors() // 2)) as pool:
+            list(pool.map(self.do, [self.tests_of(it.name) for it in reversed(self.only_run)]))
+        words = [] if self.anew else ["--gate", self.commit]
+        step = Step("refusals", [f"{self.room.whole}/tests/refusals/run", *words], r"refusals: (\d+) passed, (\d+) failed", self.room.whole)
+        self.do(step._replace(gives_way=steps.LAST_AT))
+
+    def try_edits(self) -> None:
+        """Tries the edits of tests/edits over the libraries that `rt ci` built."""
+        snapshot.take_libraries(self.room)
+        within = [] if self.anew else ["--minutes", f"{edits_within(self.minutes()):.1f}"]
+        words = [f"{self.room.whole}/tests/edits/run", "--gate", self.commit, *within, *(["--controls"] if self.anew else [])]
+        step = Step("wrong bodies", words, r"wrong bodies: (\d+) refused, (\d+) wrong", self.room.whole, steps.PROOFS_AT)
+        steps.say(f"\n== wrong bodies, {self.minutes():.0f} minutes after the beginning")
+        self.do(step, is_live=True)
+
+    def do_again_alone(self) -> None:
+        """Does once more, with nothing beside it, what failed and may have failed for what ran beside it. Only that counts."""
+        beside = [it for lane in PLAYS for it in lane] + [f"tests of {it.name}" for it in self.only_run]
+        for first in [it for it in self.ended if it.count.failed and it.step.name in beside]:
+            names = steps.named_cases(first) if first.step.name in BY_CASE else []
+            steps.say(f"\n{first.step.name}: {first.count.failed} failed beside other work; once more alone: {', '.join(names) or 'all of it'}")
+            step = first.step
+            if names:
+                step = step._replace(words=[f"{self.room.whole}/tests/{step.name}/run", *names], last_line=OF_CASES)
+            again = steps.run(step)
+            self.ended[self.ended.index(first)] = merged(first, again, bool(names))
+        if self.is_proved and self.failed_tests:
+            self.run_failed_tests()
+
+    def run_failed_tests(self) -> None:
+        """Runs the tests alone that are proved and failed when `rt ci` ran them beside other work. Only that counts."""
+        steps.say(f"\nTests that failed beside other work, once more alone: {', '.join(self.failed_tests)}")
+        again = [steps.run(self.tests_of(it)) for it in self.failed_tests]
+        first = next(it for it in self.ended if it.step.name == "proofs")
+        amended = first._replace(count=first.count._replace(failed=0), failures=[])
+        self.ended[self.ended.index(first)] = amended
+        self.ended += again
+
+    # The whole.
+
+    def minutes(self) -> float:
+        return (time.monotonic() - self.began) / 60
+
+    def do_all(self) -> None:
+        """Does all steps."""
+        self.look_at_files()
+        self.leave_out_tests()
+        with ThreadPoolExecutor(len(PLAYS) + 1) as pool:
+            beside = [*(pool.submit(self.play, it) for it in PLAYS), pool.submit(self.do_the_rest)]
+            try:
+                self.prove()
+                if self.is_proved:
+                    self.try_edits()
+                else:
+                    steps.say("The edits of tests/edits aren't tried, since not all is proved")
+            finally:
+                self.proofs_ended.set()
+                self.program_is_there.set()
+            for it in beside:
+                it.result()
+        self.do_again_alone()
+
+    def learn(self) -> None:
+        """Keeps the verdicts that this run learned: those of the proved tests, and those that its steps wrote in the copy."""
+        proved = [it.name for it in self.tested if it not in self.only_run] if self.is_proved else []
+        learned = [Verdict(it, verdicts.TESTS, self.checksums[it].tests) for it in proved]
+        written = verdicts.kept_in(f"{self.room.whole}/tests/verdicts")
+        verdicts.learn([*learned, *(it for it in written if it not in self.known)])
+
+    def leave_program(self) -> None:
+        """Leaves the program in the tree, if that is still the same."""
+        built = f"{self.room.whole}/crates/{building.PROGRAM}/out/{building.PROGRAM}"
+        if os.path.isfile(built) and snapshot.content() == self.content:
+            snapshot.put_program(built, f"{TOP}/crates/{building.PROGRAM}/out", building.PROGRAM)
+
+    def tell(self, of_crates: dict[str, float]) -> None:
+        """Prints what the parts and the crates took."""
+        skipped = [f"{it.step.name}: {case}" for it in self.ended for case in it.skipped]
+        if skipped:
+            print("\nSkipped, and not counted:\n" + "\n".join(f"  {it}" for it in skipped))
+        print("\nMinutes of each part, on the clock and of processors:")
+        for it in self.ended:
+            print(f"  {it.step.name:<24} {it.minutes:6.1f} {it.processor_minutes:7.1f}")
+        print(f"  {'all':<24} {self.minutes():6.1f} {sum(it.processor_minutes for it in self.ended):7.1f}")
+        print("\nProcessor minutes of the prover for each crate:")
+        for crate, spent in sorted(of_crates.items()):
+            print(f"  {crate:<24} {spent:6.1f}")
+        print(f"  {'all':<24} {sum(of_crates.values()):6.1f}")
+        print(f"The whole took {self.minutes():.1f} minutes", flush=True)
 
 
-def changed() -> list[Crate]:
-    """The crates with a source that is newer than the built program."""
-    built = os.path.getmtime(PROGRAM) if os.path.isfile(PROGRAM) else 0.0
-    return [it for it in crates().values() if any(os.path.getmtime(path) > built for path in files_of(it.folder))]
+def tests_that_failed(proofs: Ended) -> list[str]:
+    """The crates whose tests are proved and failed when they were run, if `rt ci` says that nothing else failed."""
+    found = [TESTS_FAILED.match(it) for it in proofs.failures if it.startswith("rt: FAILED:")]
+    return re.findall(r"(\w+) \(tests\)", found[0][1]) if found and found[0] else []
 
 
-def try_tests(crate: Crate) -> Count:
-    """Runs the crate's tests before any proof."""
-    words = ["rt", "try", "--test"]
-    it = subprocess.run(words, cwd=crate.folder, stdin=subprocess.DEVNULL, stdout=subprocess.PIPE, stderr=subprocess.STDOUT, text=True, errors="replace")
-    print(f"tests of {crate.name}: " + ("ok" if it.returncode == 0 else f"wrong:\n{it.stdout[-2000:]}"), flush=True)
-    return Count(int(it.returncode == 0), int(it.returncode != 0))
+def merged(first: Ended, again: Ended, is_by_name: bool) -> Ended:
+    """What a step came to that failed beside others and was done again alone: as a whole, or only the cases that had failed."""
+    count = again.count
+    if is_by_name:
+        had_failed = first.count.failed
+        # A case that wasn't played again, as where the runner broke off, stays failed.
+        are_all = count.passed + count.failed >= had_failed
+        failed = min(count.failed, had_failed) if are_all else had_failed
+        count = Count(first.count.passed + had_failed - failed, failed)
+    return Ended(
+        first.step,
+        count,
+        again.failures,
+        first.skipped,
+        first.minutes + again.minutes,
+        first.processor_minutes + again.processor_minutes,
+    )
 
 
-def quick(names: list[str]) -> Count:
-    """The tests of these crates, or of those that changed, before any proof, and what plays for a short while."""
-    wanted = [crates()[it] for it in names] if names else changed()
-    if any(crate in changed() for crate in wanted):
-        print(f"note: some sources are newer than {os.path.relpath(PROGRAM, TOP)}, which the cases play against; bin/build builds it anew", flush=True)
-    with ThreadPoolExecutor(len(os.sched_getaffinity(0))) as pool:
-        tests = list(pool.map(try_tests, filter(has_tests, wanted)))
-    return all_of([*tests, *(PARTS[it]() for it in QUICK)])
-
-
-def of_crates(names: list[str]) -> Count:
-    """Proof, tests and edits of these crates and of those that use them, over what earlier checks kept."""
-    wanted = above(names)
-    built = subprocess.run([f"{TOP}/bin/build", *(it.name for it in wanted)]).returncode == 0
-    if not built:
+def whole(anew: bool = False) -> Count:
+    """Runs the gate, or, with `anew`, everything for a release."""
+    try:
+        gate = Gate(anew)
+    except (TreeChanged, OSError, shutil.Error) as why:
+        print(f"bin/test: the tree can't be copied: {why}", file=sys.stderr)
         return Count(0, 1)
-    count = Count(len(wanted))
-    for crate in filter(has_tests, wanted):
-        section(f"tests of {crate.name}")
-        good = in_crate(crate, "test")
-        count = count.and_also(Count(int(good), int(not good)))
-    section("edits one by one")
-    good = subprocess.run(["rt", "must-fail", *(it.name for it in wanted)], cwd=TOP).returncode == 0
-    section("edits beside one another")
-    return all_of([count, Count(int(good), int(not good)), wrong_bodies([plan_of_all(it) for it in wanted])])
-
-
-def print_minutes(minutes: dict[str, float], began: float) -> None:
-    print("\nProcessor minutes of the toolchain for each crate:")
-    for crate, spent in sorted(minutes.items()):
-        print(f"  {crate:<14} {spent:6.1f}")
-    print(f"  {'all':<14} {sum(minutes.values()):6.1f}")
-    print(f"The whole took {(time.monotonic() - began) / 60:.1f} minutes")
-
-
-def whole() -> Count:
-    """The gate. What needs no proof runs before the wrong bodies, so that a plain mistake is seen early. Of these it tries all of
-    each crate for which the verdicts may be others than those that were kept, and a sample of the others, as far as time allows."""
-    began, meter = time.monotonic(), Meter()
+    meter = Meter()
     meter.start()
-    count = all_of([PARTS[it]() for it in OF_FILES])
-    section("proofs")
-    count = count.and_also(verdict())
-    if not count.failed:
-        for name in (it for it in PARTS if it not in OF_FILES and it not in BESIDE_EDITS):
-            section(name)
-            count = count.and_also(PARTS[name]())
-        section(f"wrong bodies, beside one another; {', '.join(BESIDE_EDITS)}")
-        with ThreadPoolExecutor(1) as pool:
-            beside = pool.submit(lambda: all_of([PARTS[it]() for it in BESIDE_EDITS]))
-            count = count.and_also(wrong_bodies(verdicts.plans_of_gate(crates().values()), began + EDITS_WITHIN))
-            count = count.and_also(beside.result())
-    print_minutes(meter.stop(), began)
+    try:
+        gate.do_all()
+        of_crates = meter.stop()
+        gate.leave_program()
+        gate.learn()
+        content = releases.checksum(gate.room.whole)
+    finally:
+        shutil.rmtree(gate.room.folder, ignore_errors=True)
+    minutes.keep(of_crates)
+    gate.tell(of_crates)
+    count = all_of([*(it.count for it in gate.ended), Count(0, len(gate.programs))])
+    for it in gate.ended:
+        for line in it.failures:
+            note_failed(line)
+    if anew and not count.failed:
+        releases.write_page(content, gate.commit, count, gate.ended, gate.minutes())
+        print(f"{os.path.relpath(releases.PAGE, TOP)} says so")
     return count

@@ -84,9 +84,18 @@ class Prover(NamedTuple):
     seconds: float
 
 
-def provers() -> list[Prover]:
-    """The processes of the toolchain that are at work on a crate."""
-    found = []
+class Process(NamedTuple):
+    """A process: its parent's number, its words, when it began, and the processor time that it took, in seconds."""
+
+    parent: str
+    words: list[str]
+    began: str
+    seconds: float
+
+
+def processes() -> dict[str, Process]:
+    """The machine's processes by their numbers."""
+    found = {}
     for pid in filter(str.isdigit, os.listdir("/proc")):
         try:
             with open(f"/proc/{pid}/cmdline", "rb") as file:
@@ -95,10 +104,24 @@ def provers() -> list[Prover]:
                 numbers = file.read().rpartition(") ")[2].split()
         except OSError:
             continue
-        if "--crate-name" in words[:-1]:
-            crate = words[words.index("--crate-name") + 1]
-            found.append(Prover(crate, pid, numbers[19], (int(numbers[11]) + int(numbers[12])) / TICKS))
+        found[pid] = Process(numbers[1], words, numbers[19], (int(numbers[11]) + int(numbers[12])) / TICKS)
     return found
+
+
+def is_below(pid: str, above: str, every: dict[str, Process]) -> bool:
+    """Whether a process was started by another one, or by one that this started."""
+    while pid in every and pid != above:
+        pid = every[pid].parent
+    return pid == above
+
+
+def provers() -> list[Prover]:
+    """The processes of the toolchain that this process started and that are at work on a crate."""
+    every, own = processes(), str(os.getpid())
+    at_work = {pid: it for pid, it in every.items() if "--crate-name" in it.words[:-1]}
+    return [
+        Prover(it.words[it.words.index("--crate-name") + 1], pid, it.began, it.seconds) for pid, it in at_work.items() if is_below(pid, own, every)
+    ]
 
 
 class Meter(threading.Thread):
@@ -125,3 +148,11 @@ class Meter(threading.Thread):
         self.ends.set()
         self.join()
         return self.minutes()
+
+
+def description() -> str:
+    """The machine in a few words: processors, their kind, and memory."""
+    with open("/proc/cpuinfo") as file:
+        kinds = [line.split(":", 1)[1].strip() for line in file if line.startswith("model name")]
+    memory = os.sysconf("SC_PAGE_SIZE") * os.sysconf("SC_PHYS_PAGES") / 2**30
+    return f"{len(os.sched_getaffinity(0))} processors ({kinds[0] if kinds else os.uname().machine}), {memory:.0f} GB of memory"

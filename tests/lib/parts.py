@@ -62,7 +62,7 @@ def subjects(name: str, *words: str) -> Count:
 
 
 # A line of `rt ci` or of a case that says of something that it failed.
-SAYS_FAILED = re.compile(r"FAILED|not as it should be|: error|^case [^:]+: (?!ok\b|skipped|.*; again, )")
+SAYS_FAILED = re.compile(r"FAILED|not as it should be|: error|^case (?!.*(?:: ok$|: ok \(|: skipped, |; again, ))")
 
 
 def counted(words: list[str], last_line: str) -> Count:

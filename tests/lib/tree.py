@@ -82,12 +82,12 @@ def files_of(folder: str, parts: Iterable[str] = SOURCES) -> list[str]:
     return sorted(found)
 
 
-def sum_of(paths: Iterable[str], more: str = "") -> str:
-    """One checksum of these files of the repository, with their places, and of a text."""
+def sum_of(paths: Iterable[str], more: str = "", top: str = TOP) -> str:
+    """One checksum of these files of the repository, or of a copy of it, with their places, and of a text."""
     total = hashlib.sha256(more.encode())
     for path in paths:
         with open(path, "rb") as file:
-            total.update(f"{os.path.relpath(path, TOP)}\0".encode() + file.read() + b"\0")
+            total.update(f"{os.path.relpath(path, top)}\0".encode() + file.read() + b"\0")
     return total.hexdigest()
 
 

@@ -1,9 +1,13 @@
-"""What is known of the edits: at which content each crate's were all refused, and which of them the gate therefore tries again.
+"""What is known of crates at the content that they have: that their tests were proved, that the unchanged copies of functions were
+proved, and that each of their edits was refused. Which edits and which refusals of memory the gate tries again follows from it.
 
-Whether an edit is refused depends on content alone. A wrong body is one by the contracts that it breaks, so of the crates below
-count what these say, `src` and `specs`, and not how it is proved. The toolchain isn't counted."""
+Each is a fact about content. A wrong body is one by the contracts that it breaks, and a test calls what contracts describe; so of the
+crates below count what these say, `src` and `specs`, and not how it is proved. The toolchain isn't counted.
+
+A verdict is a line of `tests/verdicts`, which git keeps, and of a file of this machine, where it counts in every clone."""
 from __future__ import annotations
 
+import fcntl
 import hashlib
 import os
 import subprocess
@@ -13,22 +17,35 @@ import copying
 import placing
 import trying
 from trying import Batch, Plan
-from tree import TOP, Crate, below, crates, files_of, read, sum_of, write
+from tree import TOP, Crate, below, crates, files_of, read, sum_of
 
-KEPT = f"{TOP}/tests/edits/checksums"
+KEPT = f"{TOP}/tests/verdicts"
 HEAD = """\
-# For each crate two checksums: of what its unchanged copies rest on, at which all were proved, and of what the verdicts over its
-# edits in tests/edits rest on, at which each was refused. `tests/edits/run CRATE --keep` writes them (README.md).
+# What was shown of a crate at which content, by a checksum of all that it rests on: that its tests were proved, that its unchanged
+# copies were proved (controls), that each of its edits was refused (edits), and each allocation of the run (refusals). The tests
+# write these lines (tests/edits/README.md). Lines of both sides of a merge stay; one of another content says nothing, and does no harm.
 """
+TESTS, CONTROLS, EDITS, REFUSALS = "tests", "controls", "edits", "refusals"
+# The most lines that the machine's file keeps, the newest ones.
+MOST_LINES = 4000
 # How many edits of the crates with nothing new the gate tries again.
 SAMPLE = 60
 
 
+class Verdict(NamedTuple):
+    """A line of a file of verdicts: what kind of thing was shown of a crate, and the checksum of what it rests on."""
+
+    crate: str
+    kind: str
+    checksum: str
+
+
 class Checksums(NamedTuple):
-    """The checksums of what a crate's unchanged copies rest on, and the verdicts over its edits."""
+    """The checksums of what a crate's unchanged copies rest on, the verdicts over its edits, and the proofs of its tests."""
 
     controls: str
     edits: str
+    tests: str
 
 
 def is_test(path: str) -> bool:
@@ -45,32 +62,93 @@ def checksums_of(crate: Crate) -> Checksums:
     """The checksums of a crate as it stands."""
     copies, _ = copying.copies_of(crate.folder, trying.edits_of(crate.name))
     functions = sorted({f"{it.of.path} {it.of.owner} {it.of.name}" for it in copies})
-    own, edits = files_of(crate.folder), trying.edits_of(crate.name, outside_only=True)
+    own, edits, said = files_of(crate.folder), trying.edits_of(crate.name, outside_only=True), said_below(crate)
     judging = [it.__file__ for it in (copying, placing, trying)]
-    return Checksums(sum_of([*own, copying.__file__], "\n".join(functions)), sum_of([*own, *edits, *said_below(crate), *judging], crate.line))
+    return Checksums(
+        sum_of([*own, copying.__file__], "\n".join(functions)),
+        sum_of([*own, *edits, *said, *judging], crate.line),
+        sum_of([*own, *said], crate.line),
+    )
 
 
-def kept() -> dict[str, Checksums]:
-    """For each crate the checksums at which its copies were proved and its edits refused last."""
-    rows = [line.split() for line in read(KEPT).splitlines() if line and not line.startswith("#")] if os.path.isfile(KEPT) else []
-    return {crate: Checksums(*sums) for crate, *sums in rows}
+def of_machine() -> str:
+    """The file with what was learned on this machine, in whatever clone."""
+    folder = os.environ.get("XDG_CACHE_HOME") or os.path.expanduser("~/.cache")
+    return f"{folder}/srtgw/verdicts"
 
 
-def keep(crate: str, new: Checksums) -> None:
-    """Writes down that a crate's copies were proved and its edits refused at this content."""
-    rows = sorted({**kept(), crate: new}.items())
-    write(KEPT, HEAD + "".join(f"{name} {it.controls} {it.edits}\n" for name, it in rows))
+def verdicts_in(text: str) -> list[Verdict]:
+    """The verdicts of a file's text, each once, in order."""
+    rows = [line.split() for line in text.splitlines() if not line.startswith("#")]
+    return list(dict.fromkeys(Verdict(*row) for row in rows if len(row) == 3))
+
+
+def kept_in(path: str) -> list[Verdict]:
+    """The verdicts that a file keeps; none if it can't be read."""
+    try:
+        return verdicts_in(read(path))
+    except (OSError, UnicodeDecodeError):
+        return []
+
+
+def known() -> set[Verdict]:
+    """All verdicts that the repository and this machine keep."""
+    return {*kept_in(KEPT), *kept_in(of_machine())}
+
+
+def is_known(crate: str, kind: str, checksum: str) -> bool:
+    return Verdict(crate, kind, checksum) in known()
+
+
+def text_of(verdicts: Iterable[Verdict], head: str = "") -> str:
+    return head + "".join(f"{' '.join(it)}\n" for it in verdicts)
+
+
+def rewrite(path: str, new: list[Verdict], is_ours: bool) -> None:
+    """Adds verdicts to a file. The repository's own (`is_ours`) keeps one for each crate and kind of those that are written, and none
+    of a crate that is gone; the machine's keeps those of other contents too, since its clones have others."""
+    with open(path, "a+", encoding="utf-8") as file:
+        fcntl.flock(file, fcntl.LOCK_EX)
+        file.seek(0)
+        before = file.read()
+        old = verdicts_in(before)
+        if is_ours:
+            written = {(it.crate, it.kind) for it in new}
+            stay = [it for it in old if (it.crate, it.kind) not in written and (it.crate in crates() or it.kind == REFUSALS)]
+            after = text_of(sorted({*stay, *new}), HEAD)
+        else:
+            after = text_of([*(it for it in old if it not in new), *new][-MOST_LINES:])
+        if after != before:
+            file.seek(0)
+            file.truncate()
+            file.write(after)
+
+
+def learn(new: Iterable[Verdict]) -> None:
+    """Keeps what was shown just now, in the repository's file and in the machine's."""
+    verdicts = list(new)
+    for path, is_ours in ((KEPT, True), (of_machine(), False)) if verdicts else ():
+        try:
+            os.makedirs(os.path.dirname(path), exist_ok=True)
+            rewrite(path, verdicts, is_ours)
+        except OSError as why:
+            print(f"note: {path} can't be written ({why.strerror}), so what was learned is tried again", flush=True)
 
 
 def needs_controls(crate: Crate) -> bool:
     """Whether a crate's unchanged copies weren't proved yet as they stand."""
-    known = kept().get(crate.name)
-    return known is None or known.controls != checksums_of(crate).controls
+    return not is_known(crate.name, CONTROLS, checksums_of(crate).controls)
 
 
 def are_known(crate: Crate) -> bool:
     """Whether a crate's copies were proved, and its edits refused, at the content as it stands."""
-    return kept().get(crate.name) == checksums_of(crate)
+    now = checksums_of(crate)
+    return {Verdict(crate.name, CONTROLS, now.controls), Verdict(crate.name, EDITS, now.edits)} <= known()
+
+
+def tests_are_known(crate: Crate) -> bool:
+    """Whether a crate's tests were proved at the content as it stands."""
+    return is_known(crate.name, TESTS, checksums_of(crate).tests)
 
 
 def why_not_all(result: trying.Result) -> str:
@@ -111,14 +189,14 @@ def sample_of(plans: list[Plan], seed: str) -> list[Plan]:
     return [plan._replace(batches=[batch for crate, batch in chosen if crate == plan.crate]) for plan in plans]
 
 
-def plans_of_gate(wanted: Iterable[Crate]) -> list[Plan]:
+def plans_of_gate(wanted: Iterable[Crate], seed: str) -> list[Plan]:
     """What the gate tries of the edits of tests/edits: all of each crate with something new, and a sample of those of the others."""
     found: dict[str, Plan] = {}
-    known: list[Plan] = []
+    refused: list[Plan] = []
     for crate in wanted:
-        edits, is_known = trying.edits_of(crate.name, outside_only=True), are_known(crate)
-        plan = trying.plan_of(crate, edits, with_controls=not is_known and needs_controls(crate))
-        found[crate.name] = plan._replace(known=len(edits) if is_known else 0)
-        known += [found[crate.name]] if is_known else []
-    found.update({it.crate: it for it in sample_of(known, commit())})
+        edits, is_refused = trying.edits_of(crate.name, outside_only=True), are_known(crate)
+        plan = trying.plan_of(crate, edits, with_controls=not is_refused and needs_controls(crate))
+        found[crate.name] = plan._replace(known=len(edits) if is_refused else 0)
+        refused += [found[crate.name]] if is_refused else []
+    found.update({it.crate: it for it in sample_of(refused, seed)})
     return list(found.values())

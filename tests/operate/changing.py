@@ -6,6 +6,7 @@ import re
 import resource
 import threading
 import time
+from typing import NamedTuple
 
 import packets
 from caller import Caller, Publisher, Subscriber, endless, indexes, start_all, stream
@@ -235,6 +236,76 @@ def order_changed():
         expect(names == ["guest", "news", "studio"], f"the page shows {names}")
         air.end()
         expect_polite(run.stop(), ["studio", "news", "guest"])
+
+
+# Who may call a route that a change opens.
+
+HERE, THERE = "127.0.0.1", "127.0.0.9"
+KEY, OTHER_KEY = "b1f0-a~key.of_the_studio", "c2e1-another~key"
+
+
+class Call(NamedTuple):
+    """What a caller asks for, from which address, and whether it may call."""
+
+    text: str
+    source: str
+    may_call: bool
+
+
+def expect_latency(run, call, latency_ms):
+    """Expects that a caller is accepted by a route of this latency: one that closes may still have the name for a while."""
+    until = time.monotonic() + CLOSED
+    while True:
+        one = called(Caller(run.address, call.text, source=call.source))
+        found = one.delays()[0]
+        one.close()
+        if found == latency_ms:
+            return
+        expect(time.monotonic() < until, f"{call.text} from {call.source}: the latency is {found}, and not {latency_ms}")
+        time.sleep(0.05)
+
+
+def expect_admitted(run, calls, latency_ms):
+    """Expects that those of these callers that may call are accepted by routes of this latency, and that all others get 1002."""
+    for call in (it for it in calls if it.may_call):
+        expect_latency(run, call, latency_ms)
+    for call in (it for it in calls if not it.may_call):
+        expect_refusal(1002, Caller(run.address, call.text, source=call.source), f"{call.text} from {call.source}")
+
+
+def listed(name, publish_from, request_from):
+    """Calls from the two addresses in both roles; those from an address of a role's list may call."""
+    roles = (("publish", publish_from), ("request", request_from))
+    return [Call(f"#!::r={name},m={role}", source, source in allowed) for role, allowed in roles for source in (HERE, THERE)]
+
+
+def keyed(name, publish_key, request_key):
+    """Calls with each key and with none in both roles; those with a role's key may call, and all if it has none."""
+    roles = (("publish", publish_key), ("request", request_key))
+    brings = {KEY: f",k={KEY}", OTHER_KEY: f",k={OTHER_KEY}", "": ""}
+    return [Call(f"#!::r={name},m={role}{text}", HERE, not wanted or key == wanted) for role, wanted in roles for key, text in brings.items()]
+
+
+@case("routes that a change opens have the lists and keys of the file")
+def access_of_opened_routes():
+    """First another latency opens routes again whose lists and keys are the same, beside new routes; then all of these get others."""
+    both, names = [HERE, THERE], ["lists", "keys", "new.lists", "new.keys"]
+
+    def tables(latency_ms, *access):
+        return [live(name, latency_ms=latency_ms, **SMALL, **it) for name, it in zip(names, access)]
+
+    same = dict(publish_from=[HERE], request_from=[THERE]), dict(publish_key=KEY, request_key=OTHER_KEY)
+    with Run(tables(120, *same), "--no-time") as run:
+        run.is_up()
+        calls = [*listed("lists", [HERE], [THERE]), *keyed("keys", KEY, OTHER_KEY)]
+        expect_admitted(run, calls, 120)
+        changed(run, tables(200, *same, dict(publish_from=[THERE]), dict(request_key=KEY)), (0, 2, 0, 2))
+        expect_admitted(run, [*calls, *listed("new.lists", [THERE], both), *keyed("new.keys", "", KEY)], 200)
+        others = dict(publish_from=[THERE], request_from=[HERE]), dict(publish_key=OTHER_KEY, request_key=KEY)
+        changed(run, tables(300, *others, {}, {}), (0, 0, 0, 4))
+        calls = [*listed("lists", [THERE], [HERE]), *keyed("keys", OTHER_KEY, KEY), *listed("new.lists", both, both), *keyed("new.keys", "", "")]
+        expect_admitted(run, calls, 300)
+        expect_polite(run.stop(), [*names[:2], *names, *names])
 
 
 # What isn't taken.

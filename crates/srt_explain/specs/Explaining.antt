@@ -2,8 +2,8 @@
 use Rattle.std.specs.Prelude.{◌≡◌, map, Option, Some, Result, Ok, Err}
 use Rattle.toml.specs.Data.{Members}
 use Rattle.srt_seq.specs.Terms.{terms_of}
-use Rattle.srt_gateway.specs.declared.config.Config.{Config}
-use Rattle.srt_gateway.specs.declared.config.faults.ConfigFault.{ConfigFault}
+use Rattle.srt_config.specs.declared.config.Config.{Config}
+use Rattle.srt_config.specs.declared.config.faults.ConfigFault.{ConfigFault}
 use Rattle.srt_explain.specs.declared.explaining.Explained.{Explained}
 use Rattle.srt_explain.specs.declared.explanation.Explanation.{Explanation}
 use Rattle.srt_explain.specs.Warnings.{warnings_of}

@@ -1,5 +1,5 @@
 -- What is unwise in a right configuration (our choice).
-use Rattle.std.specs.Prelude.{ℕ, suc, ◌+◌, ◌*◌, ◌/◌, ◌==◌, nat_lt, nat_le, Bool, true, false, not, codes, List, [], ◌∷◌, ◌++◌, slice_index, Option}
+use Rattle.std.specs.Prelude.{◌≡◌, ℕ, suc, ◌+◌, ◌*◌, ◌/◌, ◌==◌, nat_lt, nat_le, Bool, true, false, not, codes, List, [], ◌∷◌, ◌++◌, slice_index, Option}
 use Rattle.std.specs.Prelude.{None, Some, is_some, ◌&&◌, if◌then◌else◌}
 use Rattle.std.specs.Str.{bytes_eq}
 use Rattle.toml.specs.Data.{Data, Members, get_member, as_str}
@@ -8,11 +8,11 @@ use Rattle.srt_seq.specs.Access.{RoleTerms, AccessTerms}
 use Rattle.srt_seq.specs.Terms.{Terms}
 use Rattle.srt_seq.specs.declared.shared.Mode.{Mode}
 use Rattle.srt_seq.specs.declared.shared.Mode.TheVariants as mode
-use Rattle.srt_gateway.specs.declared.config.address.BindAddress.{BindAddress}
+use Rattle.srt_config.specs.declared.config.address.BindAddress.{BindAddress}
 use Rattle.srt_explain.specs.declared.warnings.Warning.{Warning}
 use Rattle.srt_explain.specs.declared.warnings.Warning.TheVariants.{ExampleSecret, ExposedStatus, SmallOutbox, SmallWindow, OneSession, OpenKey}
 use Rattle.srt_explain.specs.declared.warnings.Warning.TheVariants.{UnusedTakeover, UnusedAddressLimit, OneUnreserved}
-use Rattle.srt_gateway.specs.Keys.{given_or_0}
+use Rattle.srt_config.specs.Keys.{given_or_0}
 
 -- the most replies of one event of a route
 abbrev pub replies_of : Terms → ℕ
@@ -40,6 +40,10 @@ given false warning = []
 
 abbrev pub is_small_outbox : Terms → Bool
 is_small_outbox t = nat_lt t.outbox (replies_of t)
+
+-- a route is warned of its outbox just if that can't hold the replies of one event: 66 for each session and 4 more
+abbrev pub WarnsOfSmallOutboxes : Type 0
+WarnsOfSmallOutboxes = (t : Terms) → is_small_outbox t ≡ nat_lt t.outbox (4 + 66 * t.sessions)
 
 abbrev pub has_one_session : Terms → Bool
 has_one_session t = t.sessions == 1

@@ -3,8 +3,8 @@
 ghost use Rattle.std.specs.Prelude.{◌≡◌, IfOk, IsUtf8, Err, Some};
 ghost use Rattle.toml.specs.Parse.{parse_document};
 ghost use Rattle.toml.specs.View.{table_view};
-ghost use Rattle.srt_gateway.specs.FirstFault.{Gives};
-ghost use Rattle.srt_gateway.specs.Config.{settings_at, settings_of, config_in};
+ghost use Rattle.srt_config.specs.FirstFault.{Gives};
+ghost use Rattle.srt_config.specs.Config.{settings_at, settings_of, config_in};
 ghost use Rattle.srt_explain.specs.Explaining.{plain, HasWarnings};
 
 use crate::explanation::{Explanation, Hint, RouteAt, bare};
@@ -15,7 +15,7 @@ use crate::hints::{
 };
 use crate::values::{is_key_of_role, routes_of, text_at, value_at};
 use crate::warnings::{Warning, WarningText, warnings_of};
-use srt_gateway::{Config, ConfigFault, Key, TOP_KEYS, read_table};
+use srt_config::{Config, ConfigFault, Key, TOP_KEYS, read_table};
 use std::alloc::Global;
 use std::fmt::InlineText;
 use std::str;
@@ -24,7 +24,7 @@ use toml::Table;
 /// A right configuration, and what is unwise in it.
 #[derive(Drop)]
 pub struct Explained {
-    /// The configuration, as `srt_gateway::read_config` reads it.
+    /// The configuration, as `srt_config::read_config` reads it.
     pub config: Config,
     /// What is unwise: first what stands above the routes, then route after route.
     pub warnings: Vec<Warning>,
@@ -35,16 +35,7 @@ impl Explained {
     pub fn text_of(&self, warning: Warning) -> WarningText<'_>
         ensures { result.warning ≡ warning }
     {
-        let route = match warning {
-            Warning::ExampleSecret | Warning::ExposedStatus { .. } => 0,
-            Warning::SmallOutbox { route, .. }
-            | Warning::SmallWindow { route, .. }
-            | Warning::OneSession { route }
-            | Warning::OpenKey { route, .. }
-            | Warning::UnusedTakeover { route }
-            | Warning::UnusedAddressLimit { route, .. }
-            | Warning::OneUnreserved { route, .. } => route,
-        };
+        let route = warning.route().unwrap_or(0);
         let name = match self.config.entries.get(route.saturating_sub(1)) {
             Some(entry) => entry.name.as_str(),
             None => "",
@@ -219,7 +210,7 @@ fn explain_text(alloc: Global, text: &str) -> Result<Explained, Explanation>
 }
 
 /// Reads a configuration from the bytes of its file, and explains the result: what is unwise, if it is right, or
-/// else its first fault. Without the explanation that is what `srt_gateway::read_config` gives for the text, and its
+/// else its first fault. Without the explanation that is what `srt_config::read_config` gives for the text, and its
 /// fault `Toml` for bytes that aren't UTF-8. Allocates as that call does, and the list of warnings; if memory is
 /// refused, the result can be the fault `OutOfMemory` instead of any other.
 pub fn explain(alloc: Global, bytes: &[u8]) -> Result<Explained, Explanation>

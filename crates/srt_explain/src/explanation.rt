@@ -3,7 +3,7 @@
 ghost use Rattle.std.specs.Prelude.{◌≡◌};
 
 use crate::places::TextPlace;
-use srt_gateway::{ConfigFault, Key};
+use srt_config::{ConfigFault, Key};
 use std::fmt::InlineText;
 
 /// A route of a configuration.
@@ -86,7 +86,7 @@ pub enum Hint {
 /// A fault of a configuration, with what a person needs to mend it. Its text, without a line's end, is one line.
 #[derive(Drop)]
 pub struct Explanation {
-    /// The fault: the first one, as `srt_gateway::read_config` gives it.
+    /// The fault: the first one, as `srt_config::read_config` gives it.
     pub fault: ConfigFault,
     /// The route that has it; None if it isn't a route's.
     pub route: Option<RouteAt>,

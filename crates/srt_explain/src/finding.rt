@@ -2,7 +2,7 @@
 
 use crate::explanation::RouteAt;
 use crate::values::{has_no_network, is_of_another_kind, is_out_of_range, text_at, value_at};
-use srt_gateway::{ConfigFault, Key, ROUTE_KEYS};
+use srt_config::{ConfigFault, Key, ROUTE_KEYS};
 use srt_seq::is_name;
 use std::fmt::InlineText;
 use toml::{Table, Value};

@@ -7,7 +7,7 @@ use crate::values::{
     ValueKind, choice_of, first_no_network, first_no_text, kind_of, members_at, opening_of,
     routes_of, sessions_of, text_at, value_at,
 };
-use srt_gateway::{Key, ROUTE_KEYS, TOP_KEYS, read_network};
+use srt_config::{Key, ROUTE_KEYS, TOP_KEYS, read_network};
 use srt_seq::limits::{MAX_NAME, MAX_RESERVED};
 use toml::{Table, Value};
 

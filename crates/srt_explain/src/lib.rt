@@ -1,7 +1,7 @@
 //! Explanations of a configuration, for people: what is wrong and where, or what is right and unwise.
 //!
 //! It opens no file and prints nothing: the bytes of the configuration are an argument, and texts are those of values
-//! (`Display`). What is right, and which fault counts, is decided by `srt_gateway`; here it gets its place, its value,
+//! (`Display`). What is right, and which fault counts, is decided by `srt_config`; here it gets its place, its value,
 //! what is allowed instead, and a hint.
 //!
 //! Types: `Explained`, a right configuration and its `Warning`s; `Explanation`, a fault with its place (`RouteAt`,
@@ -11,13 +11,15 @@
 //!
 //! Files: `explaining.rt` joins the others; `finding.rt` looks for the route that has the fault; `hints.rt` and
 //! `resemblance.rt` say what may have been meant; `values.rt` has what each key allows; `places.rt` counts lines and
-//! columns; `texts.rt` has the words; `warnings.rt` what is unwise.
+//! columns; `texts.rt` has the words; `warnings.rt` what is unwise; `laws.rt` what the definitions have to do with
+//! `srt_route`.
 #![tactic(auto)]
 
 mod explaining;
 mod explanation;
 mod finding;
 mod hints;
+pub mod laws;
 mod places;
 mod resemblance;
 mod texts;

@@ -1,7 +1,7 @@
 //! Places in a text.
 
 /// A place in a text.
-#[derive(Clone, Copy, Debug, PartialEq, Eq)]
+#[derive(Clone, Copy)]
 pub struct TextPlace {
     /// Its line, counted from 1.
     pub line: usize,

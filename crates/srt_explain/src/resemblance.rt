@@ -1,6 +1,6 @@
 //! Which key may have been meant.
 
-use srt_gateway::Key;
+use srt_config::Key;
 
 /// The number of first bytes in which two texts agree, whether letters are large or small.
 fn agreeing_front(one: &[u8], other: &[u8]) -> usize {

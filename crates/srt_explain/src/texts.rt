@@ -3,7 +3,7 @@
 use crate::explanation::{Explanation, Hint, RouteAt};
 use crate::values::{ValueKind, choice_of, kind_of};
 use crate::warnings::{Warning, WarningText};
-use srt_gateway::{
+use srt_config::{
     BindAddress, ConfigFault, Key, MAX_KEY, MAX_NETWORKS, MAX_ROUND, ROUTE_KEYS, TOP_KEYS,
 };
 use srt_seq::Role;
@@ -490,61 +490,48 @@ fn write_one_unreserved<W: fmt::Write>(
     f.write_str("raise sessions, if more than one is to receive")
 }
 
+/// A warning without the route that it speaks of.
+fn write_warning<W: fmt::Write>(f: &mut fmt::Formatter<W>, warning: Warning) -> fmt::Result {
+    match warning {
+        Warning::ExampleSecret => {
+            f.write_str("secret: it is that of examples/gateway.toml, which everybody can ")?;
+            f.write_str("read; put the output of openssl rand -hex 32 in its place")
+        }
+        Warning::ExposedStatus { address } => write_exposed_status(f, address),
+        Warning::SmallOutbox {
+            outbox,
+            replies,
+            ..
+        } => write_small_outbox(f, outbox, replies),
+        Warning::SmallWindow {
+            buffer,
+            packets,
+            millis,
+            ..
+        } => write_small_window(f, buffer, packets, millis),
+        Warning::OneSession { .. } => write_one_session(f),
+        Warning::OpenKey { role, .. } => write_open_key(f, role),
+        Warning::UnusedTakeover { .. } => write_unused_takeover(f),
+        Warning::UnusedAddressLimit {
+            limit,
+            sessions,
+            ..
+        } => write_unused_limit(f, limit, sessions),
+        Warning::OneUnreserved {
+            reserved,
+            sessions,
+            ..
+        } => write_one_unreserved(f, reserved, sessions),
+    }
+}
+
 impl fmt::Display for WarningText<'_> {
     fn fmt<W: fmt::Write>(&self, f: &mut fmt::Formatter<W>) -> fmt::Result {
-        let name = self.name;
         f.write_str("warning: ")?;
-        match self.warning {
-            Warning::ExampleSecret => {
-                f.write_str("secret: it is that of examples/gateway.toml, which everybody can ")?;
-                f.write_str("read; put the output of openssl rand -hex 32 in its place")
-            }
-            Warning::ExposedStatus { address } => write_exposed_status(f, address),
-            Warning::SmallOutbox {
-                route,
-                outbox,
-                replies,
-            } => {
-                write!(f, "route {route} ({name}): ")?;
-                write_small_outbox(f, outbox, replies)
-            }
-            Warning::SmallWindow {
-                route,
-                buffer,
-                packets,
-                millis,
-            } => {
-                write!(f, "route {route} ({name}): ")?;
-                write_small_window(f, buffer, packets, millis)
-            }
-            Warning::OneSession { route } => {
-                write!(f, "route {route} ({name}): ")?;
-                write_one_session(f)
-            }
-            Warning::OpenKey { route, role } => {
-                write!(f, "route {route} ({name}): ")?;
-                write_open_key(f, role)
-            }
-            Warning::UnusedTakeover { route } => {
-                write!(f, "route {route} ({name}): ")?;
-                write_unused_takeover(f)
-            }
-            Warning::UnusedAddressLimit {
-                route,
-                limit,
-                sessions,
-            } => {
-                write!(f, "route {route} ({name}): ")?;
-                write_unused_limit(f, limit, sessions)
-            }
-            Warning::OneUnreserved {
-                route,
-                reserved,
-                sessions,
-            } => {
-                write!(f, "route {route} ({name}): ")?;
-                write_one_unreserved(f, reserved, sessions)
-            }
+        if let Some(route) = self.warning.route() {
+            let name = self.name;
+            write!(f, "route {route} ({name}): ")?;
         }
+        write_warning(f, self.warning)
     }
 }

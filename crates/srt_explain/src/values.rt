@@ -3,11 +3,11 @@
 ghost use Rattle.std.specs.Prelude.{◌≡◌, option_map};
 ghost use Rattle.toml.specs.Data.{get_member};
 ghost use Rattle.toml.specs.View.{table_view};
-ghost use Rattle.srt_gateway.specs.Faults.{key_name};
-ghost use Rattle.srt_gateway.specs.Keys.{value_seen};
+ghost use Rattle.srt_config.specs.Faults.{key_name};
+ghost use Rattle.srt_config.specs.Keys.{value_seen};
 ghost use Rattle.srt_explain.specs.Warnings.{text_in};
 
-use srt_gateway::{Key, MAX_NETWORKS, MAX_ROUND, MAX_WORKERS, is_key_text, read_network};
+use srt_config::{Key, MAX_NETWORKS, MAX_ROUND, MAX_WORKERS, is_key_text, read_network};
 use srt_seq::limits::{
     MAX_LATENCY_MS, MAX_QUEUE, MAX_RESEND_PERCENT, MAX_RESERVED, MAX_SESSIONS, MAX_TAKEOVER_MS,
     MAX_WINDOW, MIN_LATENCY_MS, MIN_QUEUE, MIN_RESEND_PERCENT, MIN_TAKEOVER_MS, MIN_WINDOW,
@@ -15,7 +15,7 @@ use srt_seq::limits::{
 use toml::{Table, Value};
 
 /// The kind of a key's value.
-#[derive(Clone, Copy, Debug, PartialEq, Eq)]
+#[derive(Clone, Copy)]
 pub(crate) enum ValueKind {
     /// A text.
     Text,

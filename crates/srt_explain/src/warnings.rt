@@ -11,13 +11,13 @@ ghost use Rattle.srt_explain.specs.Warnings.{limit_warning, has_one_unreserved, 
 ghost use Rattle.srt_explain.specs.Warnings.{warnings_of};
 
 use crate::values::text_at;
-use srt_gateway::{BindAddress, Config, Key};
+use srt_config::{BindAddress, Config, Key};
 use srt_seq::{Access, Entry, Mode, Role, RoleAccess};
 use std::alloc::{AllocError, Global};
 use toml::Table;
 
 /// What is unwise in a right configuration. Routes are numbered from 1.
-#[derive(Clone, Copy, Debug, PartialEq, Eq)]
+#[derive(Clone, Copy)]
 pub enum Warning {
     /// The secret is the one of examples/gateway.toml.
     ExampleSecret,
@@ -82,6 +82,22 @@ pub enum Warning {
         /// The route's sessions.
         sessions: u32,
     },
+}
+
+impl Warning {
+    /// The number of the route that it speaks of.
+    pub(crate) fn route(self) -> Option<usize> {
+        match self {
+            Warning::ExampleSecret | Warning::ExposedStatus { .. } => None,
+            Warning::SmallOutbox { route, .. }
+            | Warning::SmallWindow { route, .. }
+            | Warning::OneSession { route }
+            | Warning::OpenKey { route, .. }
+            | Warning::UnusedTakeover { route }
+            | Warning::UnusedAddressLimit { route, .. }
+            | Warning::OneUnreserved { route, .. } => Some(route),
+        }
+    }
 }
 
 /// A warning, and the name of the route that it speaks of. Its text, without a line's end, is one line.

@@ -11,7 +11,7 @@ use crate::looks::{RouteLook, SLOTS, SessionLook, Troubles};
 pub const STEPS: usize = 120;
 
 /// Something that changed between two looks at a route.
-#[derive(Clone, Copy, Debug, PartialEq, Eq)]
+#[derive(Clone, Copy, PartialEq, Eq)]
 pub enum Change {
     /// The session that was open in this slot has ended, and another one stands there now: only the earlier look knows
     /// it.

@@ -1,7 +1,7 @@
 //! What a line of the log says of a configuration that was changed while the gateway runs.
 
 /// How many routes a changed configuration has of each kind.
-#[derive(Clone, Copy, Debug, PartialEq, Eq)]
+#[derive(Clone, Copy)]
 pub struct RouteNumbers {
     /// Those that stay as they are.
     pub staying: u64,
@@ -14,7 +14,7 @@ pub struct RouteNumbers {
 }
 
 /// Why a route closes while the gateway runs.
-#[derive(Clone, Copy, Debug, PartialEq, Eq)]
+#[derive(Clone, Copy)]
 pub enum CloseCause {
     /// The configuration doesn't have its name any more.
     Removed,
@@ -23,7 +23,7 @@ pub enum CloseCause {
 }
 
 /// The keys that can't change while the gateway runs: for each, whether it has another value.
-#[derive(Clone, Copy, Debug, PartialEq, Eq)]
+#[derive(Clone, Copy)]
 pub struct DifferingKeys {
     /// `bind`.
     pub bind: bool,

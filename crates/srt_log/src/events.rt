@@ -17,7 +17,7 @@ pub struct Caller<'a> {
 }
 
 /// What a session took and gave.
-#[derive(Clone, Copy, Debug, PartialEq, Eq)]
+#[derive(Clone, Copy)]
 pub struct SessionCounts {
     /// Data packets, each counted once.
     pub packets: u64,
@@ -30,7 +30,7 @@ pub struct SessionCounts {
 }
 
 /// Something wrong with a session's stream, of which its caller learns nothing.
-#[derive(Clone, Copy, Debug, PartialEq, Eq)]
+#[derive(Clone, Copy, PartialEq, Eq)]
 pub enum Trouble {
     /// Data packets arrived from a caller that didn't ask to publish. They are ignored.
     Misdirected,
@@ -41,7 +41,7 @@ pub enum Trouble {
 }
 
 /// Why a session ended.
-#[derive(Clone, Copy, Debug, PartialEq, Eq)]
+#[derive(Clone, Copy)]
 pub enum EndReason {
     /// Its peer sent a SHUTDOWN.
     Shutdown,
@@ -62,7 +62,7 @@ pub enum EndReason {
 }
 
 /// Why the gateway was asked to stop.
-#[derive(Clone, Copy, Debug, PartialEq, Eq)]
+#[derive(Clone, Copy)]
 pub enum StopCause {
     /// A signal: SIGINT or SIGTERM.
     Signal,

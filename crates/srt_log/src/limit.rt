@@ -9,7 +9,7 @@ const MAX_LINES: u64 = 50;
 const SECOND: u64 = 1_000_000;
 
 /// What a limit says of one line.
-#[derive(Clone, Copy, Debug, PartialEq, Eq)]
+#[derive(Clone, Copy)]
 pub struct LineAllowance {
     /// Whether the line may be written.
     pub written: bool,

@@ -7,7 +7,7 @@ use srt_seq::{Peer, Role};
 pub const SLOTS: usize = 17;
 
 /// How a session ended.
-#[derive(Clone, Copy, Debug, PartialEq, Eq)]
+#[derive(Clone, Copy)]
 pub struct SessionEnd {
     /// Why.
     pub reason: EndReason,
@@ -16,7 +16,7 @@ pub struct SessionEnd {
 }
 
 /// How often something was wrong with a session's stream since its opening. None of these goes back.
-#[derive(Clone, Copy, Debug, Default, PartialEq, Eq)]
+#[derive(Clone, Copy, Default)]
 pub struct Troubles {
     /// Data packets from a caller that didn't ask to publish.
     pub misdirected: u64,
@@ -27,7 +27,7 @@ pub struct Troubles {
 }
 
 /// A session, as it stood at a moment.
-#[derive(Clone, Copy, Debug, PartialEq, Eq)]
+#[derive(Clone, Copy)]
 pub struct SessionLook {
     /// Its socket ID here.
     pub id: u32,

@@ -30,7 +30,8 @@ module _ {T S : Type 0} (of : T → ℕ) (id : S → ℕ) (ts : List T) (seats :
       ap of there ∙ sym (get_or-map of ts i t 0 within) ∙ ap (λ (ns : List ℕ). get_or ns i 0) shown
       ∙ get_or-take (length ts) (map id seats) i 0 within
 
-  count_within : length ts ≤ length seats
+  -- no more tokens than places
+  pub count_within : length ts ≤ length seats
   count_within =
       let many = ap length shown in
       let same = length-map ts of in

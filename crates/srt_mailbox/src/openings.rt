@@ -1,11 +1,12 @@
 //! Opens a route with its two queues.
 
-ghost use Rattle.std.specs.Prelude.{◌≡◌, [], None, Some, Err, IfOk, IfErr};
+ghost use Rattle.std.specs.Prelude.{◌≡◌, ◌<◌, ◌≤◌, [], None, Some, Err, IfOk, IfErr};
 ghost use Rattle.srt_seq.specs.declared.shared.OpenFault.{OpenFault as TheFault};
 ghost use Rattle.srt_seq.specs.Terms.{Terms, terms_of};
 ghost use Rattle.srt_route.specs.Opening.{fault_of};
 ghost use Rattle.srt_route.specs.Stands.{stands, waiting};
-ghost use Rattle.srt_mailbox.specs.Ends.{producer, drained};
+ghost use Rattle.srt_mailbox.specs.Cells.{identity_of};
+ghost use Rattle.srt_mailbox.specs.Ends.{producer, pipe, drained, AreNew};
 ghost use Rattle.srt_mailbox.specs.Identities.{identity_in};
 
 use crate::cells::{Boxed, CellTag, RouteCell};
@@ -16,6 +17,59 @@ use srt_route::Route;
 use srt_seq::{Entry, OpenFault};
 use std::alloc::{AllocError, Global};
 use std::snapshot::Snapshot;
+
+// Opens both queues: the ends of the poller and of the clock, and the route's own.
+fn open_queues(
+    alloc: Global,
+    entry: &Entry,
+) -> Result<(Ingress, ClockEnd, Drain, RouteEnds), AllocError>
+    requires inbox { 0 < entry.now.inbox }
+    requires outbox { (0 < entry.now.outbox) × (entry.now.outbox ≤ 4096) }
+    ensures inbox { IfOk result (λ r. AreNew entry.now.inbox r.0 r.1 r.3.receiver) }
+    ensures sender { IfOk result (λ r. r.3.sender ≡ pipe r.3.sender.queue entry.now.outbox []) }
+    ensures drain { IfOk result (λ r. r.2 ≡ drained r.3.sender.queue entry.now.outbox [] r.2.hand) }
+{
+    let (ingress, clock, receiver) = open_inbox(alloc, entry.inbox as usize)?;
+    let (sender, drain, boxes) = open_outbox(alloc, entry.outbox as usize)?;
+    let ends = RouteEnds {
+        receiver,
+        sender,
+        boxes,
+    };
+    Ok((ingress, clock, drain, ends))
+}
+
+// Which route stands between the queues of these ends.
+fn tag_of(ends: &RouteEnds, entry: &Entry, index: usize) -> Result<CellTag, AllocError>
+    ensures { IfOk result (λ tag. tag ≡ identity_of (terms_of entry.now) index ends.now.receiver.queue ends.now.sender.queue) }
+{
+    Ok(CellTag {
+        inbox: ends.receiver.share()?,
+        outbox: ends.sender.share()?,
+        entry: Snapshot::of(entry),
+        index: Snapshot::of(&index),
+    })
+}
+
+// Makes the cell of a route that was opened, with its own ends of both queues.
+fn cell_of(
+    alloc: Global,
+    ends: RouteEnds,
+    route: Route,
+    entry: &Entry,
+    index: usize,
+) -> Result<RouteCell, AllocError>
+    requires stands { stands route (terms_of entry.now) index [] }
+    requires none_waits { waiting route ≡ [] }
+    requires empty { (ends.receiver.taken ≡ []) × (ends.sender.put ≡ []) }
+    ensures { IfOk result (λ cell. identity_in cell ≡ identity_of (terms_of entry.now) index ends.receiver.queue ends.sender.queue) }
+{
+    let tag = tag_of(&ends, entry, index)?;
+    let boxed = Boxed {
+        running: Box::new(alloc, Running::new(ends, route, entry, index))?,
+    };
+    Ok(RouteCell::new(index, boxed, &tag))
+}
 
 // Makes the queues and the cell of a route that was opened, and returns the four ends.
 fn joined(
@@ -32,23 +86,9 @@ fn joined(
     ensures clock { IfOk result (λ r. r.1 ≡ producer (identity_in r.2).inbox entry.now.inbox []) }
     ensures drain { IfOk result (λ r. r.3 ≡ drained (identity_in r.2).outbox entry.now.outbox [] r.3.hand) }
 {
-    let (ingress, clock, receiver) = open_inbox(alloc, entry.inbox as usize)?;
-    let (sender, drain, boxes) = open_outbox(alloc, entry.outbox as usize)?;
-    let label = CellTag {
-        inbox: receiver.share()?,
-        outbox: sender.share()?,
-        entry: Snapshot::of(entry),
-        index: Snapshot::of(&index),
-    };
-    let ends = RouteEnds {
-        receiver,
-        sender,
-        boxes,
-    };
-    let boxed = Boxed {
-        running: Box::new(alloc, Running::new(ends, route, entry, index))?,
-    };
-    Ok((ingress, clock, RouteCell::new(index, boxed, &label), drain))
+    let (ingress, clock, drain, ends) = open_queues(alloc, entry)?;
+    let cell = cell_of(alloc, ends, route, entry, index)?;
+    Ok((ingress, clock, cell, drain))
 }
 
 /// Opens a route that has applied no item yet, with empty queues. Returns its four ends: the poller's and the clock's

@@ -1,6 +1,7 @@
 //! Reads the places of routes in their order, as each owner of ends does: the poller, and the clock's thread.
 
-ghost use Rattle.std.specs.Prelude.{◌≡◌, ◌≤◌, ◌<◌, ℕ, List, [], ◌∷◌, ◌++◌, length, map, take, IfSome, IfNone, IfOk, vec_len, vec_capacity, slice_get, Some};
+ghost use Rattle.std.specs.Prelude.{◌≡◌, ◌≤◌, ◌<◌, ℕ, List, [], ◌∷◌, ◌++◌, length, map, take, get_or, slice_get, Some};
+ghost use Rattle.std.specs.Prelude.{IfSome, IfNone, IfOk, vec_len, vec_capacity};
 ghost use Rattle.srt_mailbox.specs.Cells.{CellIdentity};
 ghost use Rattle.srt_mailbox.specs.Identities.{identity_in};
 ghost use Rattle.srt_mailbox.specs.Seats.{IsNewPoller, IsNewClock};
@@ -18,6 +19,16 @@ pub struct SeatReader<'a, X: Companion + Drop> {
     tokens: Vec<OnceToken<'a, Seat<X>>>,
     ghost shown: { map (λ t. t.of) tokens.items ≡ take (length tokens.items) (map (λ p. p.seat.id) places.now) },
     ghost room: { length places.now ≤ vec_capacity tokens },
+}
+
+// The item at this index. Where an item's size depends on a type parameter, the offset's bound is proved here once, over
+// no other type.
+#[inline(always)]
+fn item_at<T>(items: &[T], index: usize) -> &T
+    requires { index < length items.now }
+    ensures { result.now ≡ get_or items.now index result.now }
+{
+    &items[index]
 }
 
 impl<'a, X: Companion + Drop> SeatReader<'a, X> {
@@ -100,7 +111,7 @@ impl<'a, X: Companion + Drop> SeatReader<'a, X> {
         requires { index < length (came self.now) }
         ensures { slice_get (came self.now) index ≡ Some (identity_in result.now.cell) }
     {
-        self.places[index].seat.value(&self.tokens[index])
+        item_at(self.places, index).seat.value(&self.tokens[index])
     }
 
     /// That two readers of the same places, which have both come to this index, came to the same route there. Does

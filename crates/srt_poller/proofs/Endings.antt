@@ -5,7 +5,7 @@ use Rattle.srt_seq.specs.declared.shared.Schedule.{Schedule}
 use Rattle.srt_lobby.specs.Names.{RouteName}
 use Rattle.srt_poller.specs.declared.ends.Ends.{Ends}
 use Rattle.srt_poller.specs.declared.poller.Poller.{Poller}
-use Rattle.srt_poller.specs.declared.report.Report.{Report}
+use Rattle.srt_supervision.specs.declared.report.Report.{Report}
 use Rattle.srt_poller.specs.Devices.{Heard, Carried}
 use Rattle.srt_poller.specs.History.{Sorting, State, Phase, Kept, IsOver, kept_after, at_first}
 use Rattle.srt_poller.specs.Reports.{nothing, counted, with_kept, total}

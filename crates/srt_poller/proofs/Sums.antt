@@ -3,7 +3,7 @@ use Rattle.std.proofs.Common.{◌≡◌, ℕ, suc, ◌+◌, ◌*◌, ◌^◌, �
 use Rattle.std.proofs.Common.{refl, sym, ap, subst, ◌∙◌, arith, add_assoc, add-zero, zero-add, mul-le-mul}
 use Rattle.std.proofs.lemmas.Bool.Decides.{nat_tests}
 use Rattle.srt_poller.specs.declared.devices.Sent.TheVariants.{Taken, Later, Failed}
-use Rattle.srt_poller.specs.declared.report.Report.{Report}
+use Rattle.srt_supervision.specs.declared.report.Report.{Report}
 use Rattle.srt_poller.specs.History.{Event, Begins, Waits, WaitFails, ReadsNothing, ReadFails, Answers, Accepts, Overflows, Refuses, Drops}
 use Rattle.srt_poller.specs.History.{Sends, Resends, Kept}
 use Rattle.srt_poller.specs.Reports.{one_more, one_more_if, one_if, is_not_allowed, nothing, counted_by, counted, with_kept, plus, part, total}

@@ -5,7 +5,7 @@ use Rattle.srt_lobby.specs.declared.classes.Cause.{Cause}
 use Rattle.srt_lobby.specs.declared.classes.Cause.TheVariants as causes
 use Rattle.srt_poller.specs.declared.devices.Sent.{Sent}
 use Rattle.srt_poller.specs.declared.devices.Sent.TheVariants.{Taken, Later, Failed}
-use Rattle.srt_poller.specs.declared.report.Report.{Report}
+use Rattle.srt_supervision.specs.declared.report.Report.{Report}
 use Rattle.srt_poller.specs.History.{Event, Begins, Waits, WaitFails, ReadsNothing, ReadFails, Answers, Accepts, Overflows, Refuses, Drops}
 use Rattle.srt_poller.specs.History.{Sends, Resends, Kept}
 

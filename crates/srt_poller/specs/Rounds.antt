@@ -4,7 +4,7 @@ use Rattle.srt_seq.specs.declared.shared.Schedule.{Schedule}
 use Rattle.srt_seq.specs.Items.{Datagram, Item, told}
 use Rattle.srt_route.specs.Written.{written}
 use Rattle.srt_poller.specs.declared.ends.Ends.{Ends}
-use Rattle.srt_poller.specs.declared.report.Report.{Report}
+use Rattle.srt_supervision.specs.declared.report.Report.{Report}
 use Rattle.srt_poller.specs.Devices.{Heard, Carried, joined}
 use Rattle.srt_poller.specs.History.{Sorting, Event, State, Follow, state_after, given, calls, handed, datagrams, attempts, accepted}
 use Rattle.srt_poller.specs.History.{drained, closes_all_in, waits_in, ready_in, reads_in}

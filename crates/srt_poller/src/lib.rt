@@ -5,8 +5,8 @@
 //!
 //! Types: a `Source` gives datagrams and a `Wire` takes them; `Ends` are the poller's ends of one route's queues; a
 //! `Report` has the counts; `Signals` are what is asked of a poller before a round (`Asked`), and hints that save looks
-//! at empty outboxes. Devices in memory are `SourceScript`, `WireScript` and `ClockScript`; `MioSource` and `MioWire`
-//! share one UDP socket.
+//! at empty outboxes. `Report` and `Asked` are `srt_supervision`'s. Devices in memory are `SourceScript`, `WireScript`
+//! and `ClockScript`; `MioSource` and `MioWire` share one UDP socket.
 //!
 //! Calls: open the routes (`srt_mailbox::open_route`), hide those that open later (`srt_lobby::Names::hide`), bind or
 //! make the devices, then `pump` once for n rounds; or `pump_under`, until it is asked to end. Routes are shown and
@@ -47,13 +47,13 @@ pub use devices::{Clock, Polled, Read, Sent, Source, Wire};
 pub use ends::Ends;
 pub use openings::{Newcomer, Openings, Unchanged};
 pub use pumping::{Pumping, pump, pump_under};
-pub use report::Report;
 pub use scripts::{
     ClockScript, ScriptDatagram, SentDatagram, SourceScript, SourceStep, WireScript,
 };
-pub use signals::{Asked, Signals, Unsignalled};
+pub use signals::{Signals, Unsignalled};
 pub use sockets::{BindFault, MioSource, MioWire};
 pub use srt_mailbox::{Gate, Ungated};
+pub use srt_supervision::{Asked, Report};
 
 #[cfg(test)]
 mod tests;

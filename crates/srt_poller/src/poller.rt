@@ -9,11 +9,15 @@ use crate::buffers::Buffers;
 use crate::context::{Classifier, RoundContext};
 use crate::devices::{Polled, Read, Sent, Source, Wire};
 use crate::ends::{Ends, Offered};
-use crate::report::Report;
+use crate::report::{
+    count_accepted, count_answer, count_dropped, count_fault, count_full, count_refused,
+    count_reply,
+};
 use crate::schedule::Latest;
 use crate::signals::Signals;
 use srt_lobby::{Class, classify};
 use srt_seq::Peer;
+use srt_supervision::Report;
 use std::alloc::Global;
 use std::sync::Wait;
 
@@ -131,7 +135,7 @@ impl Poller {
         };
         let sent = wire.send(kept.peer, &self.reply_bytes[..kept.len]);
         tell_failure(signals, sent);
-        self.report.count_reply(sent);
+        count_reply(&mut self.report, sent);
         match sent {
             Sent::Later => {}
             Sent::Taken | Sent::Failed => self.kept = None,
@@ -150,7 +154,7 @@ impl Poller {
             Polled::Ready => true,
             Polled::Failed => {
                 signals.failed();
-                self.report.count_fault();
+                count_fault(&mut self.report);
                 false
             }
         }
@@ -175,11 +179,11 @@ impl Poller {
         let Incoming { peer, moment, .. } = incoming;
         match ends[route].offer(context, &mut self.buffers, peer, bytes, moment) {
             Offered::Accepted => {
-                self.report.count_accepted();
+                count_accepted(&mut self.report);
                 context.signals.polled(route);
             }
-            Offered::Full(_) => self.report.count_full(),
-            Offered::Refused => self.report.count_refused(),
+            Offered::Full(_) => count_full(&mut self.report),
+            Offered::Refused => count_refused(&mut self.report),
         }
     }
 
@@ -206,9 +210,9 @@ impl Poller {
                     .signals
                     .answered(names, incoming.peer, bytes, &answer);
                 tell_failure(context.signals, sent);
-                self.report.count_answer(sent);
+                count_answer(&mut self.report, sent);
             }
-            Class::Dropped(cause) => self.report.count_dropped(cause),
+            Class::Dropped(cause) => count_dropped(&mut self.report, cause),
             Class::Route(route) => self.offer(context, ends, route, incoming),
         }
     }
@@ -246,7 +250,7 @@ impl Poller {
                 }
                 Read::Failed => {
                     context.signals.failed();
-                    self.report.count_fault();
+                    count_fault(&mut self.report);
                     context.signals.read_ended(came);
                     return;
                 }
@@ -282,7 +286,7 @@ impl Poller {
         let sent = wire.send(peer, reply.packet.bytes());
         tell_handshake(context.signals, route, peer, reply.packet.bytes());
         tell_failure(context.signals, sent);
-        self.report.count_reply(sent);
+        count_reply(&mut self.report, sent);
         match sent {
             Sent::Taken | Sent::Failed => Drained::Gone,
             Sent::Later => {

@@ -12,12 +12,12 @@ use crate::context::{Classifier, RoundContext};
 use crate::devices::{Source, Wire};
 use crate::ends::Ends;
 use crate::poller::Poller;
-use crate::report::Report;
 use crate::schedule::{Latest, RouteSchedules};
-use crate::signals::{Asked, Signals, Unsignalled};
+use crate::signals::{Signals, Unsignalled};
 use srt_cookie::Secret;
 use srt_lobby::Names;
 use srt_seq::Schedule;
+use srt_supervision::{Asked, Report};
 use std::alloc::Global;
 use std::sync::Wait;
 

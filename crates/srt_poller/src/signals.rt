@@ -1,28 +1,17 @@
-//! Hints between a poller and the threads that serve the routes, and what a poller is asked before a round.
+//! Hints between a poller and the threads that serve the routes, and the asking of a poller before a round.
 
 ghost use Rattle.std.specs.Prelude.{◌≡◌};
 
-use crate::report::Report;
 use srt_lobby::Names;
 use srt_seq::Peer;
-
-/// What a poller is asked before a round.
-#[derive(Clone, Copy, Debug, PartialEq, Eq)]
-pub enum Asked {
-    /// To make the round.
-    GoOn,
-    /// To make the round, and to close all routes in it: nothing opens, and Close is offered to each shown route.
-    CloseAll,
-    /// To end now, without the round.
-    End,
-}
+use srt_supervision::{Asked, Report};
 
 /// What is asked of a poller, and hints in both directions. No contract but those of the rounds that are made depends on
 /// what is asked, and none on a hint: a wrong one makes replies leave up to 64 rounds later, and loses nothing. Calls
 /// come from the poller's thread.
 pub trait Signals {
     ghost use Rattle.std.specs.Prelude.{◌≡◌};
-    ghost use Rattle.srt_poller.specs.declared.signals.Asked.TheVariants.{GoOn, CloseAll, End};
+    ghost use Rattle.srt_supervision.specs.declared.asked.Asked.TheVariants.{GoOn, CloseAll, End};
 
     /// What is known once `asked` has returned `GoOn`. It may be nothing.
     ghost goes: { Self → Type 0 };

@@ -1,11 +1,11 @@
 -- What is known of the clocks, and of the rounds that were made, at the end of a run.
-use Rattle.std.proofs.Common.{◌≡◌, ◌⊎◌, ◌≤◌, ℕ, Option, List, ◌++◌, sym, ap, subst, ◌∙◌, true, false, inl, inr}
+use Rattle.std.proofs.Common.{◌≡◌, ◌⊎◌, ◌≤◌, ℕ, Bool, Option, List, ◌++◌, refl, sym, ap, subst, ◌∙◌, true, false, inl, inr}
 use Rattle.srt_seq.specs.declared.shared.Schedule.{Schedule}
 use Rattle.srt_seq.specs.Terms.{Terms}
 use Rattle.srt_mailbox.specs.declared.accounts.Account.{Account}
 use Rattle.srt_mailbox.specs.Cells.{CellIdentity}
 use Rattle.srt_mailbox.specs.Ends.{Producer}
-use Rattle.srt_poller.specs.declared.report.Report.{Report}
+use Rattle.srt_supervision.specs.declared.report.Report.{Report}
 use Rattle.srt_poller.specs.History.{Sorting}
 use Rattle.srt_poller.specs.Openings.{News}
 use Rattle.srt_poller.specs.Pumped.{Before, After}
@@ -26,35 +26,17 @@ all_ticked routes routes' routes'' clocks clocks' clocks'' more told told' ticke
     subst (λ (cs : List Producer). HaveTicks (moments_of ticked.0) cs clocks') all (have_ticks ticked.0 clocks clocks' ticked.3) in
     rw (came, taken) (have_further (moments_of ticked.0) (new_clocks routes') clocks' more were)
 
--- what makes it known may be said in other words
-pub ran_for : {closes closes' : Type 0} (class : Sorting) (schedules : List Schedule) (entries : List Terms) (rounds : ℕ) (old new : Told)
-    (report : Report) (accounts : List Account)
-    →
-    (closes → closes') → RanUnder closes class schedules entries rounds old new report accounts
-    → RanUnder closes' class schedules entries rounds old new report accounts
-ran_for class schedules entries rounds old new report accounts known ran = (
-  ran.0,
-  ran.1,
-  ran.2,
-  elim ran.3 [
-    | inl none ↦ inl none
-    | inr some ↦ inr (known some)
-  ],
-)
+-- two tests of which each holds if the other one does
+pub same_test : (a b : Bool) → (a ≡ true → b ≡ true) → (b ≡ true → a ≡ true) → a ≡ b
+same_test true b there back = sym (there refl)
+same_test false true there back = back refl
+same_test false false there back = refl
 
--- so does what is known of the rounds that were made
-pub rounds_for : {closes closes' : Type 0} (class : Sorting) (schedules : List Schedule) (rounds made : ℕ) (told told' : News) (before : Before)
-    (after : After)
-    →
-    (closes → closes') → Polled closes class schedules rounds made told told' before after → (made ≤ rounds) × ((made ≡ rounds) ⊎ closes')
+-- what is known of the rounds that were made
+pub rounds_for : {closes : Type 0} (class : Sorting) (schedules : List Schedule) (rounds made : ℕ) (told told' : News) (before : Before) (after : After)
+    → Polled closes class schedules rounds made told told' before after → (made ≤ rounds) × ((made ≡ rounds) ⊎ closes)
 unfolding Polled
-rounds_for class schedules rounds made told told' before after known polled = (
-  polled.1,
-  elim polled.2 [
-    | inl all ↦ inl all
-    | inr some ↦ inr (known some)
-  ],
-)
+rounds_for class schedules rounds made told told' before after polled = (polled.1, polled.2)
 
 never : {A : Type 0} → false ≡ true → A
 never h = absurd (let bad : false ≡ true = h in cc)

@@ -11,7 +11,7 @@ use Rattle.srt_mailbox.specs.declared.accounts.Account.{Account}
 use Rattle.srt_mailbox.specs.Cells.{CellIdentity}
 use Rattle.srt_mailbox.specs.Ends.{Producer, Pipe, pipe, Drained, drained}
 use Rattle.srt_poller.specs.declared.ends.Ends.{Ends}
-use Rattle.srt_poller.specs.declared.report.Report.{Report}
+use Rattle.srt_supervision.specs.declared.report.Report.{Report}
 use Rattle.srt_poller.specs.Beginnings.{all_shown}
 use Rattle.srt_poller.specs.Devices.{Heard, Carried, joined}
 use Rattle.srt_poller.specs.History.{Sorting}

@@ -21,7 +21,7 @@ use Rattle.srt_mailbox.specs.Ends.{Producer}
 use Rattle.srt_mailbox.specs.Inbox.{applied}
 use Rattle.srt_mailbox.specs.Settled.{Settles}
 use Rattle.srt_poller.specs.declared.ends.Ends.{Ends}
-use Rattle.srt_poller.specs.declared.report.Report.{Report}
+use Rattle.srt_supervision.specs.declared.report.Report.{Report}
 use Rattle.srt_poller.specs.Beginnings.{all_shown}
 use Rattle.srt_poller.specs.Devices.{Heard, Carried, joined}
 use Rattle.srt_poller.specs.History.{Sorting, Event, handed, of_route, kept_of, kept_after, accepted, drained}

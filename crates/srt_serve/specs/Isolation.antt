@@ -8,7 +8,7 @@ use Rattle.srt_lobby.specs.Names.{RouteName}
 use Rattle.srt_mailbox.specs.declared.accounts.Account.{Account}
 use Rattle.srt_mailbox.specs.declared.inbox_rule.InboxEntry.{InboxEntry}
 use Rattle.srt_mailbox.specs.Inbox.{ticked_of, applied}
-use Rattle.srt_poller.specs.declared.report.Report.{Report}
+use Rattle.srt_supervision.specs.declared.report.Report.{Report}
 use Rattle.srt_poller.specs.History.{Sorting, Event, kept_after, kept_of, handed, of_route, accepted}
 use Rattle.srt_serve.specs.Ran.{RouteRan, Told, RanFrom}
 

@@ -11,7 +11,7 @@ use Rattle.srt_lobby.specs.Lobby.{class_of}
 use Rattle.srt_lobby.specs.Opening.{fault_of}
 use Rattle.srt_mailbox.specs.declared.accounts.Account.{Account}
 use Rattle.srt_mailbox.specs.Inbox.{ticked_of}
-use Rattle.srt_poller.specs.declared.report.Report.{Report}
+use Rattle.srt_supervision.specs.declared.report.Report.{Report}
 use Rattle.srt_poller.specs.Devices.{Arrival}
 use Rattle.srt_poller.specs.Schedules.{CloseOffer, begun}
 use Rattle.srt_poller.specs.History.{Sorting, Event, Begins, Accepts, Overflows, Refuses, State, at_first, state_by, Follow, calls, at_route, accepted}

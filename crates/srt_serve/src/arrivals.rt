@@ -8,12 +8,12 @@ ghost use Rattle.srt_mailbox.specs.Places.{came, locks_of};
 ghost use Rattle.srt_serve.specs.inside.Arrived.{AreIndexed, told_of};
 ghost use Rattle.srt_serve.specs.Opened.{new_clocks};
 
-use crate::bit_set::AtomicBitSet;
 use crate::ticking::TickEnds;
 use srt_lobby::NewName;
 use srt_mailbox::{ClockEnd, Companion, Place, PollerEnds, Seat, SeatReader, open_seat};
 use srt_poller::{Ends, Newcomer, Openings};
 use srt_seq::Entry;
+use srt_wakeups::AtomicBitSet;
 use std::alloc::{AllocError, Global};
 use std::sync::atomic::{AtomicBool, Ordering};
 

@@ -4,15 +4,16 @@
 
 ghost use Rattle.std.specs.Prelude.{◌≡◌};
 
-use crate::pacing::{FEW_ROUTES, MANY_DATAGRAMS, POLLER_TURNS};
 use crate::post::Post;
 use crate::refusals::{lobby_refusal, refusal_in, route_refusal};
-use crate::wakeups::Wakeups;
 use crate::working::{is_left, serve_route};
 use srt_lobby::Names;
 use srt_mailbox::{Gate, Serve};
-use srt_poller::{Asked, Report, Signals};
+use srt_poller::Signals;
 use srt_seq::Peer;
+use srt_supervision::{Asked, Report};
+use srt_wakeups::Wakeups;
+use srt_wakeups::pacing::{FEW_ROUTES, MANY_DATAGRAMS, POLLER_TURNS};
 use std::cell::Cell;
 use std::sync::Wait;
 

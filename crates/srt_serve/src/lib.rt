@@ -1,7 +1,7 @@
 //! The running gateway: it starts the threads, stops them, and settles the routes.
 //!
 //! One thread polls, one ticks, and workers serve the routes; the polling thread serves some of them too. One more
-//! watches, in a run that is watched. The crate reads no configuration (`srt_gateway` does), binds no socket and reads
+//! watches, in a run that is watched. The crate reads no configuration (`srt_config` does), binds no socket and reads
 //! no clock (the program hands in a source, a wire and a ticker), and takes no signals.
 //!
 //! Types: `Gates` has a gate for each thread that serves routes; a `Ticker` gives the moments at which routes are ticked;
@@ -15,21 +15,17 @@
 //! Files, in the order of a run: `running.rt` has the whole of it, and hides routes that open later; `opening.rt` opens
 //! all routes, in places of their own, to which their owners come by `arrivals.rt`; `serving.rt` starts and joins the
 //! threads, which are `ticking.rt`, `working.rt`, `watching.rt` and `srt_poller::pump_under`, with what the polling thread
-//! does for routes in `helping.rt`; `settling.rt` settles the routes. How threads wake each other is `wakeups.rt`, with
-//! `bit_set.rt` and `notifier.rt`; how long they sleep, and how much work makes them share it, is `pacing.rt`. What the
-//! polling thread and the watching one tell each other is `post.rt`, with `refusals.rt`; `naming.rt` names the threads.
+//! does for routes in `helping.rt`; `settling.rt` settles the routes. What the polling thread and the watching one tell
+//! each other is `post.rt`, with `refusals.rt`. How threads wake each other, how long they sleep and what they are called
+//! is in `srt_wakeups`; what a watcher is told and answers, in `srt_supervision`.
 //! `specs/Ran.antt` says what a run did, and `laws.rt` what follows of two runs: no opening or closing of one route
 //! changes what is sorted to another one, or sent for it.
 #![tactic(auto)]
 
 mod arrivals;
-mod bit_set;
 mod helping;
 pub mod laws;
-mod naming;
-mod notifier;
 mod opening;
-mod pacing;
 mod post;
 mod refusals;
 mod running;
@@ -37,14 +33,12 @@ mod serving;
 mod settling;
 mod shared_report;
 mod ticking;
-mod wakeups;
 mod watching;
 mod working;
 
-pub use refusals::Refusal;
 pub use running::{Gates, Ran, RunFault, Watched, run, run_until};
+pub use srt_supervision::{ChangeFault, Refusal, RouteChanges, Told, Watch};
 pub use ticking::Ticker;
-pub use watching::{ChangeFault, RouteChanges, Told, Watch};
 
 #[cfg(test)]
 mod tests;

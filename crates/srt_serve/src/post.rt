@@ -2,10 +2,9 @@
 //! refusals and, when the watcher wants them, the counts that the polling thread tells. Nothing here is touched for a
 //! packet of an open session.
 
-use crate::refusals::Refusal;
 use crate::shared_report::SharedReport;
 use crossbeam_queue::ArrayQueue;
-use srt_poller::Asked;
+use srt_supervision::{Asked, Refusal};
 use std::alloc::{AllocError, Global};
 use std::sync::Wait;
 use std::sync::atomic::{AtomicBool, AtomicU64, Ordering};

@@ -14,23 +14,8 @@ use srt_hs::{HsRef, stream_id};
 use srt_lobby::{Names, refusal_cause};
 use srt_packet::{Kind, PacketRef, decode};
 use srt_seq::limits::MAX_NAME;
-use srt_seq::{NotAdmitted, Peer, read_word};
-
-/// A conclusion that was refused.
-#[derive(Drop)]
-pub struct Refusal {
-    /// The index of the route that refused it; `None` if the lobby did.
-    pub route: Option<usize>,
-    /// The caller.
-    pub peer: Peer,
-    /// Why it was refused: the handshake type of the answer, 1000 or more (section 4.3, table 7).
-    pub code: u32,
-    /// If the lobby refused it, the name that its Stream ID asked for, cut to 64 bytes. Empty if the Stream ID asks for
-    /// none, and if a route refused it. Any bytes of UTF-8 may stand here.
-    pub name: ArrayVec<u8, MAX_NAME>,
-    /// If the lobby refused it with 1002, what stood against the caller.
-    pub cause: Option<NotAdmitted>,
-}
+use srt_seq::{Peer, read_word};
+use srt_supervision::Refusal;
 
 /// The code of a refusal, from a handshake type: one from 1000 on. The draft's other types are 0, 1 and such as are
 /// negative, read as numbers with a sign (section 3.2.1).

@@ -1,6 +1,6 @@
 //! A run of the gateway, from the opening of its routes to their accounts.
 
-ghost use Rattle.std.specs.Prelude.{◌≡◌, ◌↔◌, ◌⊎◌, ◌≤◌, ◌^◌, true, false, None, Err, List, [], ◌++◌, IfOk, IsSome, map, length};
+ghost use Rattle.std.specs.Prelude.{◌≡◌, ◌↔◌, ◌⊎◌, ◌≤◌, ◌^◌, true, false, None, Err, List, [], ◌++◌, IfOk, OnOk, IsSome, map, length, take};
 ghost use Rattle.std.specs.Vec.{vec_len, vec_capacity};
 ghost use Rattle.srt_seq.specs.Terms.{terms_of};
 ghost use Rattle.srt_cookie.specs.Cookie.{secret_bytes};
@@ -8,27 +8,34 @@ ghost use Rattle.srt_lobby.specs.Lobby.{class_of};
 ghost use Rattle.srt_lobby.specs.Names.{names_of};
 ghost use Rattle.srt_lobby.specs.Opening.{fault_of};
 ghost use Rattle.srt_lobby.specs.Changing.{AreHidden};
+ghost use Rattle.srt_mailbox.specs.Cells.{CellIdentity};
+ghost use Rattle.srt_mailbox.specs.Ends.{Producer};
+ghost use Rattle.srt_mailbox.specs.Identities.{identity_in};
+ghost use Rattle.srt_mailbox.specs.Places.{came, locks_of};
 ghost use Rattle.srt_poller.specs.Devices.{heard, carried};
 ghost use Rattle.srt_poller.specs.Openings.{NewRoute, names_in, ends_in, news, news_more};
 ghost use Rattle.srt_serve.specs.NamesAtStart.{later_hidden, first_names};
+ghost use Rattle.srt_serve.specs.inside.Polled.{AreReady};
+ghost use Rattle.srt_serve.specs.Opened.{AreOpened, terms_in, new_clocks};
 ghost use Rattle.srt_serve.specs.Ran.{told_by, RanChanging, RanUnder, Ran as TheRan};
 
-use crate::arrivals::{Named, News, PollerArrivals, open_places};
+use crate::arrivals::{ClockArrivals, Named, News, PollerArrivals, open_places};
 use crate::opening::{Opened, open_routes};
 use crate::post::Post;
 use crate::serving::{OtherThreads, PollerState, RunContext, serve_routes};
-use crate::settling::{began_with, came_to_all, settle_routes};
+use crate::settling::{Busy, began_with, came_to_all, settle_routes};
 use crate::ticking::{Clocks, Ticker, take_new};
-use crate::wakeups::Wakeups;
-use crate::watching::{Nobody, Watch, watch_last};
+use crate::watching::watch_last;
 use srt_cookie::Secret;
 use srt_lobby::Names;
-use srt_mailbox::{Account, Gate, Place};
-use srt_poller::{Ends, Openings, Plans, Report, Source, Wire};
+use srt_mailbox::{Account, ClockEnd, Gate, Place, Seat, SeatReader};
+use srt_poller::{Ends, Openings, Plans, Source, Wire};
 use srt_seq::limits::MAX_ROUTES;
 use srt_seq::{Entry, Schedule};
+use srt_supervision::{Nobody, Report, Watch};
+use srt_wakeups::Wakeups;
 use std::alloc::{AllocError, Global};
-use std::sync::Wait;
+use std::sync::{OnceToken, Wait};
 use std::thread::Threads;
 use thiserror::Error;
 
@@ -84,16 +91,39 @@ pub struct Watched<K: Drop, T: Drop> {
     pub watch: T,
 }
 
-// What a run allocates besides its routes.
+// What the threads of a run share. It is opened before any of them is started.
 #[derive(Drop)]
-struct Resources {
-    names: Names,
+struct Shared {
     places: Vec<Place<Named>>,
     news: News,
-    plans: Plans,
     wakeups: Wakeups,
     // none if the run isn't watched
     post: Option<Post>,
+}
+
+// What a run allocates besides its routes and what its threads share.
+#[derive(Drop)]
+struct Prepared {
+    names: Names,
+    plans: Plans,
+    // room for those of all routes
+    accounts: Vec<Account>,
+}
+
+// Who takes part in a run besides its poller.
+#[derive(Drop)]
+struct Crew<K: Drop, G: Drop, T: Drop> {
+    ticker: K,
+    gates: Gates<G>,
+    watch: T,
+}
+
+// What the end of a run uses.
+#[derive(Drop)]
+struct Ending<'a> {
+    // of each place, which route it was given before any thread was started
+    put: Vec<OnceToken<'a, Seat<Named>>>,
+    // none, and room for those of all routes
     accounts: Vec<Account>,
 }
 
@@ -133,49 +163,52 @@ fn open_post(alloc: Global, is_watched: bool) -> Result<Option<Post>, AllocError
     }
 }
 
-fn open_resources(
+// Opens what the threads share, for a run that begins with this many routes.
+fn open_shared(
     alloc: Global,
-    entries: &[Entry],
-    schedules: &[Schedule],
+    first: usize,
     workers: usize,
     is_watched: bool,
-) -> Result<Resources, AllocError>
-    requires { length schedules.now ≡ length entries.now }
-    ensures names { IfOk result (λ s. names_of s.names ≡ first_names schedules.now (map terms_of entries.now)) }
+) -> Result<Shared, AllocError>
     ensures post { IfOk result (λ s. IsSome s.post ↔ (is_watched ≡ true)) }
-    ensures accounts { IfOk result (λ s. (s.accounts.items ≡ []) × (511 ≤ vec_capacity s.accounts)) }
     ensures places { IfOk result (λ s. is_watched ≡ true → length s.places.items ≡ 511) }
+{
+    let routes = if is_watched { MAX_ROUTES } else { first };
+    Ok(Shared {
+        places: open_places(alloc, routes)?,
+        news: News::open(alloc, routes)?,
+        wakeups: open_wakeups(alloc, routes, workers, is_watched)?,
+        post: open_post(alloc, is_watched)?,
+    })
+}
+
+// Takes the memory for the names, hides those of later routes, and makes room for plans and accounts.
+fn prepare(alloc: Global, entries: &[Entry], schedules: &[Schedule]) -> Result<Prepared, AllocError>
+    requires { length schedules.now ≡ length entries.now }
+    ensures names { IfOk result (λ p. names_of p.names ≡ first_names schedules.now (map terms_of entries.now)) }
+    ensures accounts { IfOk result (λ p. (p.accounts.items ≡ []) × (511 ≤ vec_capacity p.accounts)) }
 {
     let Ok(mut names) = Names::open(alloc, entries) else {
         return Err(AllocError);
     };
     hide_later(&mut names, schedules);
-    let routes = if is_watched {
-        MAX_ROUTES
-    } else {
-        entries.len()
-    };
-    Ok(Resources {
+    Ok(Prepared {
         names,
-        places: open_places(alloc, routes)?,
-        news: News::open(alloc, routes)?,
         plans: Plans::new(alloc)?,
-        wakeups: open_wakeups(alloc, routes, workers, is_watched)?,
-        post: open_post(alloc, is_watched)?,
         accounts: Vec::with_capacity(alloc, MAX_ROUTES)?,
     })
 }
 
 // Takes the poller's ends of the routes that have come since its last round, as long as there is room for them. None are
 // taken if the run isn't watched.
-fn take_late<O: Openings>(ends: &mut Vec<Ends>, openings: &mut O, is_watched: bool)
-    ensures { (more : List NewRoute) × ((more ≡ []) ⊎ (is_watched ≡ true)) × AreHidden (names_in more)
+fn take_late<O: Openings>(post: Option<&Post>, ends: &mut Vec<Ends>, openings: &mut O)
+    ensures { (more : List NewRoute) × ((more ≡ []) ⊎ IsSome post.entry) × AreHidden (names_in more)
         × (news (O.came openings.new) (O.asked openings.new) ≡ news_more (news (O.came openings.old) (O.asked openings.old)) more [])
         × (ends.new.items ≡ ends.old.items ++ ends_in more) }
 {
-    if !is_watched {
+    let Some(_) = post else {
         return;
-    }
+    };
     for at in ends.len()..ends.capacity() {
         let Some(newcomer) = openings.next() else {
             return;
@@ -186,8 +219,193 @@ fn take_late<O: Openings>(ends: &mut Vec<Ends>, openings: &mut O, is_watched: bo
     }
 }
 
-// Runs the gateway as `run` and `run_until` do. If it isn't watched, the watcher is never asked and sees nothing.
+// After all threads have ended: takes the clock's ends of the routes that have come since its last tick, and shows each
+// route once more to the watcher. Fails if the polling thread's reader hasn't come to all routes with which the run began,
+// or the ticking thread's to all to which that came, or if these are more than 511.
+fn come_to_all<'a, R: Wait, K: Drop, T: Watch>(
+    context: &RunContext<'a, R, Place<Named>>,
+    put: &Vec<OnceToken<'a, Seat<Named>>>,
+    routes: &SeatReader<'a, Named>,
+    clocks: &mut Clocks<K, ClockEnd, ClockArrivals<'a>>,
+    watch: &mut T,
+) -> Result<(), Busy>
+    requires put { map (λ t. t.of) put.now.items ≡ take (length put.now.items) (locks_of routes.now) }
+    requires places { locks_of clocks.old.coming.reader ≡ locks_of routes.now }
+    ensures began { OnOk result ((more : List CellIdentity) × (came routes.now ≡ map (λ t. identity_in t.value.cell) put.now.items ++ more)) }
+    ensures few { OnOk result (length (came routes.now) ≤ 511) }
+    ensures taken { OnOk result ((more : List Producer)
+        × (new_clocks (came clocks.new.coming.reader) ≡ new_clocks (came clocks.old.coming.reader) ++ more)
+        × (clocks.new.ends.items ≡ clocks.old.ends.items ++ more)) }
+    ensures all { OnOk result ((more : List CellIdentity) × (came clocks.new.coming.reader ≡ came routes.now ++ more)) }
+    ensures ticker { clocks.new.ticker ≡ clocks.old.ticker }
+{
+    let Ok(()) = began_with(routes, put) else {
+        return Err(Busy);
+    };
+    watch_last(context.rt, context.cells, context.post, watch);
+    take_new(&mut clocks.ends, &mut clocks.coming);
+    came_to_all(routes, &clocks.coming.reader)
+}
+
+// As `run_over`, over the routes with which the run begins.
 #[tactic(auto, unfolding(crate::specs::inside::Polled::AreUntouched))]
+fn run_opened<'a, R, S: Source, W: Wire, K, G, T>(
+    context: &RunContext<'a, R, Place<Named>>,
+    source: &mut S,
+    wire: &mut W,
+    mut polling: PollerState<G, PollerArrivals<'a, 'a>>,
+    mut others: OtherThreads<Clocks<K, ClockEnd, ClockArrivals<'a>>, G, T>,
+    ending: Ending<'a>,
+) -> Result<Watched<K, T>, RunFault>
+where
+    R: Threads + Wait + Sync,
+    K: Ticker + Send + Drop,
+    G: Gate + Send + Drop,
+    T: Watch + Send + Drop,
+    requires ready { AreReady context.now.schedules.now (names_of polling.names) polling.ends.items }
+    requires room { IsSome context.now.post → 511 ≤ vec_capacity polling.ends }
+    requires few { context.now.rounds ≤ 2 ^ 48 }
+    requires routes { length (terms_in (came polling.openings.reader)) ≤ 511 }
+    requires names { names_of polling.names ≡ first_names context.now.schedules.now (terms_in (came polling.openings.reader)) }
+    requires opened { AreOpened (came polling.openings.reader) polling.ends.items }
+    requires clocks { others.clocks.ends.items ≡ new_clocks (came others.clocks.coming.reader) }
+    requires places { locks_of others.clocks.coming.reader ≡ locks_of polling.openings.reader }
+    requires put { (map (λ t. t.of) ending.put.items ≡ take (length ending.put.items) (locks_of polling.openings.reader))
+        × (map (λ t. identity_in t.value.cell) ending.put.items ≡ came polling.openings.reader) }
+    requires accounts { (ending.accounts.items ≡ []) × (511 ≤ vec_capacity ending.accounts) }
+    ensures fixed { (IsSome context.now.post → ⊥) → IfOk result (λ r. RanUnder (IsSome context.now.post)
+        (class_of (secret_bytes context.now.secret.now)) context.now.schedules.now (terms_in (came polling.entry.openings.reader)) r.rounds
+        (told_by (heard (S.gave source.old) (S.calls source.old)) (carried (W.handed wire.old) (W.attempts wire.old)) (K.gave others.entry.clocks.ticker))
+        (told_by (heard (S.gave source.new) (S.calls source.new)) (carried (W.handed wire.new) (W.attempts wire.new)) (K.gave r.ticker))
+        r.report r.accounts.items) }
+    ensures changing { IsSome context.now.post → IfOk result (λ r. RanChanging
+        (class_of (secret_bytes context.now.secret.now)) context.now.schedules.now (terms_in (came polling.entry.openings.reader)) r.rounds
+        (told_by (heard (S.gave source.old) (S.calls source.old)) (carried (W.handed wire.old) (W.attempts wire.old)) (K.gave others.entry.clocks.ticker))
+        (told_by (heard (S.gave source.new) (S.calls source.new)) (carried (W.handed wire.new) (W.attempts wire.new)) (K.gave r.ticker))
+        r.report r.accounts.items) }
+    ensures rounds { IfOk result (λ r. (r.rounds ≤ context.now.rounds) × ((r.rounds ≡ context.now.rounds) ⊎ IsSome context.now.post)) }
+    ensures unread { (result ≡ Err RunFault.OutOfMemory) ⊎ (result ≡ Err RunFault.Thread) → (source.new ≡ source.old) × (wire.new ≡ wire.old) }
+{
+    let Some(pumping) = serve_routes(context, source, wire, &mut polling, &mut others) else {
+        return Err(RunFault::Thread);
+    };
+    let PollerState {
+        mut ends,
+        mut openings,
+        ..
+    } = polling;
+    let OtherThreads {
+        mut clocks,
+        mut watch,
+        ..
+    } = others;
+    take_late(context.post, &mut ends, &mut openings);
+    let routes = openings.reader;
+    let Ok(()) = come_to_all(context, &ending.put, &routes, &mut clocks, &mut watch) else {
+        return Err(RunFault::Busy);
+    };
+    let Clocks {
+        ends: clocks,
+        ticker,
+        ..
+    } = clocks;
+    let rt = context.rt;
+    let Ok(accounts) = settle_routes(rt, &routes, ends, clocks, ending.accounts) else {
+        return Err(RunFault::Busy);
+    };
+    Ok(Watched {
+        report: pumping.report,
+        rounds: pumping.rounds,
+        accounts,
+        ticker,
+        watch,
+    })
+}
+
+// As `run_with`, over what its threads share and what was prepared: opens the routes.
+fn run_over<'a, R, S: Source, W: Wire, K, G, T>(
+    context: &RunContext<'a, R, Place<Named>>,
+    entries: &[Entry],
+    source: &mut S,
+    wire: &mut W,
+    crew: Crew<K, G, T>,
+    prepared: Prepared,
+) -> Result<Watched<K, T>, RunFault>
+where
+    R: Threads + Wait + Sync,
+    K: Ticker + Send + Drop,
+    G: Gate + Send + Drop,
+    T: Watch + Send + Drop,
+    requires entries { fault_of (map terms_of entries.now) ≡ None }
+    requires schedules { length context.now.schedules.now ≡ length entries.now }
+    requires few { context.now.rounds ≤ 2 ^ 48 }
+    requires names { names_of prepared.names ≡ first_names context.now.schedules.now (map terms_of entries.now) }
+    requires accounts { (prepared.accounts.items ≡ []) × (511 ≤ vec_capacity prepared.accounts) }
+    requires places { IsSome context.now.post → length context.now.cells.now ≡ 511 }
+    ensures fixed { (IsSome context.now.post → ⊥) → IfOk result (λ r. RanUnder (IsSome context.now.post)
+        (class_of (secret_bytes context.now.secret.now)) context.now.schedules.now (map terms_of entries.now) r.rounds
+        (told_by (heard (S.gave source.old) (S.calls source.old)) (carried (W.handed wire.old) (W.attempts wire.old)) (K.gave crew.ticker))
+        (told_by (heard (S.gave source.new) (S.calls source.new)) (carried (W.handed wire.new) (W.attempts wire.new)) (K.gave r.ticker))
+        r.report r.accounts.items) }
+    ensures changing { IsSome context.now.post → IfOk result (λ r. RanChanging
+        (class_of (secret_bytes context.now.secret.now)) context.now.schedules.now (map terms_of entries.now) r.rounds
+        (told_by (heard (S.gave source.old) (S.calls source.old)) (carried (W.handed wire.old) (W.attempts wire.old)) (K.gave crew.ticker))
+        (told_by (heard (S.gave source.new) (S.calls source.new)) (carried (W.handed wire.new) (W.attempts wire.new)) (K.gave r.ticker))
+        r.report r.accounts.items) }
+    ensures rounds { IfOk result (λ r. (r.rounds ≤ context.now.rounds) × ((r.rounds ≡ context.now.rounds) ⊎ IsSome context.now.post)) }
+    ensures unread { (result ≡ Err RunFault.OutOfMemory) ⊎ (result ≡ Err RunFault.Thread) → (source.new ≡ source.old) × (wire.new ≡ wire.old) }
+{
+    let RunContext {
+        alloc,
+        cells,
+        news,
+        ..
+    } = *context;
+    let Ok(opened) = open_routes(alloc, entries, cells) else {
+        return Err(RunFault::OutOfMemory);
+    };
+    let Opened {
+        routes,
+        ends,
+        arrivals,
+        clocks,
+        put,
+    } = opened;
+    let Ok(openings) = PollerArrivals::new(alloc, routes, news, MAX_ROUTES) else {
+        return Err(RunFault::OutOfMemory);
+    };
+    let Prepared {
+        names,
+        plans,
+        accounts,
+    } = prepared;
+    let Crew {
+        ticker,
+        gates,
+        watch,
+    } = crew;
+    let Gates { poller, workers } = gates;
+    let polling = PollerState {
+        names,
+        ends,
+        plans,
+        openings,
+        gate: poller,
+    };
+    let others = OtherThreads {
+        clocks: Clocks {
+            ends: clocks,
+            coming: arrivals,
+            ticker,
+        },
+        gates: workers,
+        watch,
+    };
+    let ending = Ending { put, accounts };
+    run_opened(context, source, wire, polling, others, ending)
+}
+
+// Runs the gateway as `run` and `run_until` do. If it isn't watched, the watcher is never asked and sees nothing.
 fn run_with<'a, R, S: Source, W: Wire, K, G, T>(
     rt: &'a R,
     alloc: Global,
@@ -224,32 +442,18 @@ where
     ensures rounds { IfOk result (λ r. (r.rounds ≤ rounds) × ((r.rounds ≡ rounds) ⊎ (is_watched ≡ true))) }
     ensures unread { (result ≡ Err RunFault.OutOfMemory) ⊎ (result ≡ Err RunFault.Thread) → (source.new ≡ source.old) × (wire.new ≡ wire.old) }
 {
-    let Gates { poller, workers } = gates;
-    let Ok(resources) = open_resources(alloc, entries, schedules, workers.len(), is_watched) else {
+    let Ok(prepared) = prepare(alloc, entries, schedules) else {
         return Err(RunFault::OutOfMemory);
     };
-    let Resources {
-        names,
+    let Ok(shared) = open_shared(alloc, entries.len(), gates.workers.len(), is_watched) else {
+        return Err(RunFault::OutOfMemory);
+    };
+    let Shared {
         places,
         news,
-        plans,
         wakeups,
         post,
-        accounts,
-    } = resources;
-    let Ok(opened) = open_routes(alloc, entries, places.as_slice()) else {
-        return Err(RunFault::OutOfMemory);
-    };
-    let Opened {
-        routes,
-        ends,
-        arrivals,
-        clocks,
-        put,
-    } = opened;
-    let Ok(openings) = PollerArrivals::new(alloc, routes, &news, MAX_ROUTES) else {
-        return Err(RunFault::OutOfMemory);
-    };
+    } = shared;
     let told = post.as_ref();
     let context = RunContext {
         rt,
@@ -263,60 +467,12 @@ where
         post: told,
         rounds,
     };
-    let mut polling = PollerState {
-        names,
-        ends,
-        plans,
-        openings,
-        gate: poller,
-    };
-    let mut others = OtherThreads {
-        clocks: Clocks {
-            ends: clocks,
-            coming: arrivals,
-            ticker,
-        },
-        gates: workers,
+    let crew = Crew {
+        ticker,
+        gates,
         watch,
     };
-    let Some(pumping) = serve_routes(&context, source, wire, &mut polling, &mut others) else {
-        return Err(RunFault::Thread);
-    };
-    let OtherThreads {
-        clocks,
-        gates: _,
-        mut watch,
-    } = others;
-    let Clocks {
-        ends: mut clocks,
-        coming: mut arrivals,
-        ticker,
-    } = clocks;
-    let PollerState {
-        mut ends,
-        mut openings,
-        ..
-    } = polling;
-    take_late(&mut ends, &mut openings, is_watched);
-    let routes = openings.reader;
-    let Ok(()) = began_with(&routes, &put) else {
-        return Err(RunFault::Busy);
-    };
-    watch_last(rt, places.as_slice(), told, &mut watch);
-    take_new(&mut clocks, &mut arrivals);
-    let Ok(()) = came_to_all(&routes, &arrivals.reader) else {
-        return Err(RunFault::Busy);
-    };
-    let Ok(accounts) = settle_routes(rt, &routes, ends, clocks, accounts) else {
-        return Err(RunFault::Busy);
-    };
-    Ok(Watched {
-        report: pumping.report,
-        rounds: pumping.rounds,
-        accounts,
-        ticker,
-        watch,
-    })
+    run_over(&context, entries, source, wire, crew, prepared)
 }
 
 /// Runs the gateway of these entries for `rounds` rounds of its poller, and returns the poller's report and an account

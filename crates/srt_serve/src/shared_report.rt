@@ -1,6 +1,6 @@
 //! The poller's counts, as the polling thread leaves them for the watching one.
 
-use srt_poller::Report;
+use srt_supervision::Report;
 use std::sync::atomic::{AtomicBool, AtomicU64, Ordering};
 
 /// A report that one thread leaves and another one takes. The one writes the counts only while they are wanted, and the

@@ -9,7 +9,6 @@ use crate::tests::datagrams::{
     FIRST, SECOND, STUDIA, STUDIO, conclusion_answer, conclusion_of, refusal,
 };
 use crate::ticking::{Clocks, TickEnds, tick};
-use crate::wakeups::Wakeups;
 use crate::{Gates, Ran, RunFault, Ticker, run};
 use srt_cookie::Secret;
 use srt_lobby::Names;
@@ -17,6 +16,7 @@ use srt_mailbox::{ClockEnd, Gate, RouteCell, Serve, Ungated, open_route};
 use srt_poller::{Polled, Read, Report, Sent, Source, Wire};
 use srt_samples::{Difference, Sample, first_difference, shutdown};
 use srt_seq::{Access, Entry, Mode, Peer, Rules, Schedule};
+use srt_wakeups::Wakeups;
 use std::alloc::{AllocError, Global};
 use std::process::Abort;
 use std::sync::atomic::{AtomicBool, AtomicU64, Ordering};

@@ -3,13 +3,12 @@
 
 use crate::arrivals::{Host, Named, News, seat_route};
 use crate::post::Post;
-use crate::refusals::Refusal;
-use crate::wakeups::Wakeups;
 use srt_mailbox::{Look, Seat, Serve};
-use srt_poller::{Asked, Report};
 use srt_route::Route;
 use srt_seq::Entry;
 use srt_seq::limits::MAX_SESSIONS;
+use srt_supervision::{Asked, ChangeFault, Report, RouteChanges, Told, Watch};
+use srt_wakeups::Wakeups;
 use std::alloc::Global;
 use std::sync::Wait;
 use std::thread;
@@ -20,92 +19,6 @@ const REFUSALS_PER_REST: u32 = 1024;
 // The number of looks in a row that find all quiet before a watcher is told so. A hint is cleared before its outbox is
 // drained, so that one look alone may miss replies that are being sent.
 const QUIET_LOOKS: u32 = 2;
-
-/// What a watcher is told.
-#[derive(Clone, Copy, Debug, PartialEq, Eq)]
-pub struct Told {
-    /// Twice in a row no route had an open session, a reply that waits, or a hint of one in its outbox. Looked for only
-    /// while the poller is asked to close all or to end, and false before.
-    pub is_quiet: bool,
-    /// The number of socket faults so far: of waits, reads and sends that failed.
-    pub faults: u64,
-    /// The number of refusals so far that `refused` isn't told, since too many waited. They are counted together: no count
-    /// is kept for each code.
-    pub missed: u64,
-    /// The counts of the poller at the beginning of a round, as it told them last; all 0 before it told any. A reply that
-    /// is kept counts neither as sent nor as lost.
-    pub counts: Report,
-    /// How often the poller has told its counts. Before each rest it is asked for them, unless it still owes those that
-    /// it was asked for before, and it tells them at the beginning of its next round. So if this number stays the same
-    /// over several rests, no round began in them; a round takes some 10 milliseconds if nothing comes.
-    pub reports: u64,
-}
-
-/// A change of the routes of a run.
-#[derive(Drop)]
-pub struct RouteChanges {
-    /// The indexes of the routes that close. One that no route has yet, or that was asked before, changes nothing.
-    pub closes: Vec<usize>,
-    /// The entries of the routes that open. They get the next indexes, in this order.
-    pub opens: Vec<Entry>,
-}
-
-/// Why a change wasn't taken. Nothing of it was done.
-#[derive(Clone, Copy, Debug, PartialEq, Eq)]
-pub enum ChangeFault {
-    /// Memory was refused for the entry at this place of `opens`, or that entry is out of its limits.
-    OutOfMemory(usize),
-    /// `opens` has more entries than indexes are left: this many are.
-    NoIndexLeft(usize),
-}
-
-/// Who watches a run, in a thread of its own.
-pub trait Watch {
-    /// Rests for some milliseconds, and returns what the poller is asked from then on. `End` is final: whatever a later
-    /// call returns, the run ends. A run doesn't end before this call returns.
-    fn next(&mut self, told: Told) -> Asked;
-
-    /// Whether the routes are to be shown now; asked after each rest.
-    fn looks(&mut self) -> bool;
-
-    /// A route, at most once in each look. Workers can't serve it meanwhile. One that another thread has is left out of
-    /// this look; after the run all are shown once more.
-    fn see(&mut self, index: usize, route: &Route);
-
-    /// A conclusion was refused.
-    fn refused(&mut self, refusal: &Refusal);
-
-    /// A change of the routes, if there is one to be made now. Asked after each rest, but not once the poller is asked to
-    /// close all or to end.
-    fn change(&mut self) -> Option<RouteChanges>;
-
-    /// What became of the change that was given last: the index of the first route that opens, if it was taken.
-    fn changed(&mut self, outcome: Result<usize, ChangeFault>);
-}
-
-/// A watcher that asks for nothing and sees nothing, for runs that aren't watched.
-#[derive(Drop)]
-pub struct Nobody;
-
-impl Watch for Nobody {
-    fn next(&mut self, _told: Told) -> Asked {
-        Asked::GoOn
-    }
-
-    fn looks(&mut self) -> bool {
-        false
-    }
-
-    fn see(&mut self, _index: usize, _route: &Route) {}
-
-    fn refused(&mut self, _refusal: &Refusal) {}
-
-    fn change(&mut self) -> Option<RouteChanges> {
-        None
-    }
-
-    fn changed(&mut self, _outcome: Result<usize, ChangeFault>) {}
-}
 
 /// Makes the changes that a watcher asks for.
 #[derive(Drop)]
@@ -139,16 +52,21 @@ impl<C: Host> Changer<'_, C> {
         Ok(seats)
     }
 
-    // Makes a change: first all memory is taken, then the routes get their places, and then the polling thread is told.
-    fn make(&mut self, changes: RouteChanges) -> Result<usize, ChangeFault> {
-        let seats = self.open_all(&changes.opens)?;
-        let first = self.routes;
+    // Puts the routes of a change into their places.
+    fn host_all(&mut self, seats: Vec<Seat<Named>>) {
         for seat in seats {
             if let Some(place) = self.places.get(self.routes) {
                 place.host(seat);
             }
             self.routes = self.routes.wrapping_add(1);
         }
+    }
+
+    // Makes a change: first all memory is taken, then the routes get their places, and then the polling thread is told.
+    fn make(&mut self, changes: RouteChanges) -> Result<usize, ChangeFault> {
+        let seats = self.open_all(&changes.opens)?;
+        let first = self.routes;
+        self.host_all(seats);
         for route in &changes.closes {
             if *route < first {
                 self.news.close(*route);
@@ -156,6 +74,20 @@ impl<C: Host> Changer<'_, C> {
         }
         self.news.tell();
         Ok(first)
+    }
+
+    // Makes the change that the watcher asks for, if there is one.
+    fn change<T: Watch>(&mut self, watch: &mut T) {
+        if let Some(changes) = watch.change() {
+            let outcome = self.make(changes);
+            watch.changed(outcome);
+        }
+    }
+
+    // The places that are taken.
+    fn taken(&self) -> &[C] {
+        let taken = self.routes.min(self.places.len());
+        &self.places[..taken]
     }
 }
 
@@ -223,14 +155,17 @@ fn tell_refusals<R: Wait, T: Watch>(rt: &R, post: &Post, watch: &mut T) {
     }
 }
 
-// What the poller told of its counts: the last ones, and how often it told any.
+// What is known between two rests of the watcher.
 #[derive(Clone, Copy)]
-struct Counted {
+struct Known {
+    // the counts that the poller told last, and how often it told any
     counts: Report,
     reports: u64,
+    // how many looks in a row found all quiet
+    quiet: u32,
 }
 
-impl Counted {
+impl Known {
     // Takes the counts that were left since, if there are any.
     fn take(&mut self, post: &Post) {
         if let Some(counts) = post.report.take() {
@@ -238,6 +173,43 @@ impl Counted {
             self.reports = self.reports.saturating_add(1);
         }
     }
+
+    // What the watcher is told before its next rest.
+    fn told(&self, post: &Post) -> Told {
+        Told {
+            is_quiet: self.quiet >= QUIET_LOOKS,
+            faults: post.faults(),
+            missed: post.missed(),
+            counts: self.counts,
+            reports: self.reports,
+        }
+    }
+}
+
+// Lets the watcher rest once, and does what it asks.
+fn watch_once<R: Wait, C: Serve + Host, T: Watch>(
+    rt: &R,
+    changer: &mut Changer<'_, C>,
+    wakeups: &Wakeups,
+    post: &Post,
+    watch: &mut T,
+    known: &mut Known,
+) {
+    known.take(post);
+    let asked = watch.next(known.told(post));
+    post.ask(asked);
+    tell_refusals(rt, post, watch);
+    let looks = watch.looks();
+    let closes = !matches!(asked, Asked::GoOn);
+    if !closes {
+        changer.change(watch);
+    }
+    let is_quiet = (looks || closes) && look_at_all(rt, changer.taken(), watch, looks);
+    known.quiet = if is_quiet && closes && !wakeups.any_outbox_ready() {
+        known.quiet.saturating_add(1)
+    } else {
+        0
+    };
 }
 
 /// Watches until the run is over. After each rest of the watcher the poller is asked what it said, the refusals are told
@@ -250,40 +222,16 @@ pub fn watch_routes<R: Wait, C: Serve + Host, T: Watch>(
     watch: &mut T,
 ) {
     wakeups.arrive();
-    let mut counted = Counted {
+    let mut known = Known {
         counts: Report::NOTHING,
         reports: 0,
+        quiet: 0,
     };
-    let mut quiet = 0u32;
     for _ in rt.forever() {
         if wakeups.is_done() {
             return;
         }
-        counted.take(post);
-        let asked = watch.next(Told {
-            is_quiet: quiet >= QUIET_LOOKS,
-            faults: post.faults(),
-            missed: post.missed(),
-            counts: counted.counts,
-            reports: counted.reports,
-        });
-        post.ask(asked);
-        tell_refusals(rt, post, watch);
-        let looks = watch.looks();
-        let closes = !matches!(asked, Asked::GoOn);
-        if !closes {
-            if let Some(changes) = watch.change() {
-                let outcome = changer.make(changes);
-                watch.changed(outcome);
-            }
-        }
-        let taken = changer.routes.min(changer.places.len());
-        let is_quiet = (looks || closes) && look_at_all(rt, &changer.places[..taken], watch, looks);
-        quiet = if is_quiet && closes && !wakeups.any_outbox_ready() {
-            quiet.saturating_add(1)
-        } else {
-            0
-        };
+        watch_once(rt, &mut changer, wakeups, post, watch, &mut known);
         thread::yield_now();
     }
 }

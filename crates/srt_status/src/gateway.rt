@@ -1,7 +1,7 @@
 //! What is known of the gateway as a whole.
 
 /// How many datagrams the gateway's poller counted since the start. Each count stops at 2^64 - 1.
-#[derive(Clone, Copy, Debug, Default, PartialEq, Eq)]
+#[derive(Clone, Copy, Default)]
 pub struct PollerCounts {
     /// Datagrams that were read.
     pub read: u64,
@@ -27,7 +27,7 @@ pub struct PollerCounts {
 
 /// How many conclusions were refused, by the reason (draft-sharabayko-srt-01, section 4.3, table 7). The numbers and
 /// names are those of `srt_hs::RefusalCode`.
-#[derive(Clone, Copy, Debug, Default, PartialEq, Eq)]
+#[derive(Clone, Copy, Default)]
 pub struct RefusalCounts {
     /// 1002, `PEER`.
     pub peer: u64,
@@ -48,7 +48,7 @@ pub struct RefusalCounts {
 }
 
 /// How many conclusions were refused with 1002 before they belonged to a route, by what stood against the caller.
-#[derive(Clone, Copy, Debug, Default, PartialEq, Eq)]
+#[derive(Clone, Copy, Default, PartialEq, Eq)]
 pub struct CauseCounts {
     /// It brought no Stream ID, or one with a fault.
     pub no_name: u64,
@@ -65,7 +65,7 @@ pub struct CauseCounts {
 }
 
 /// What became of the changes of the configuration while the gateway runs.
-#[derive(Clone, Copy, Debug, Default, PartialEq, Eq)]
+#[derive(Clone, Copy, Default, PartialEq, Eq)]
 pub struct ChangeCounts {
     /// Changed configurations that were taken, and asked for something.
     pub taken: u64,
@@ -76,7 +76,7 @@ pub struct ChangeCounts {
 }
 
 /// The gateway at one moment.
-#[derive(Clone, Copy, Debug)]
+#[derive(Clone, Copy)]
 pub struct GatewayStatus<'a> {
     /// The version of the program, as `srtgw --version` prints it.
     pub version: &'a str,

@@ -15,7 +15,7 @@ pub const MAX_REQUEST: usize = 4096;
 const MAX_FIELDS: usize = 64;
 
 /// What can be asked for.
-#[derive(Clone, Copy, Debug, PartialEq, Eq)]
+#[derive(Clone, Copy, PartialEq, Eq)]
 pub enum Page {
     /// `/`: the page for people.
     Overview,
@@ -28,7 +28,7 @@ pub enum Page {
 }
 
 /// How it is asked for.
-#[derive(Clone, Copy, Debug, PartialEq, Eq)]
+#[derive(Clone, Copy, PartialEq, Eq)]
 pub enum Method {
     /// A whole response is wanted.
     Get,
@@ -37,7 +37,7 @@ pub enum Method {
 }
 
 /// What a caller asks for.
-#[derive(Clone, Copy, Debug, PartialEq, Eq)]
+#[derive(Clone, Copy, PartialEq, Eq)]
 pub enum Request {
     /// A page.
     Page {

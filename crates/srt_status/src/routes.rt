@@ -7,7 +7,7 @@ use srt_seq::{Mode, Peer, Role};
 pub const SLOTS: usize = 17;
 
 /// What publishers' sessions counted: packets, if nothing else is said. None of them goes back.
-#[derive(Clone, Copy, Debug, Default, PartialEq, Eq)]
+#[derive(Clone, Copy, Default, PartialEq, Eq)]
 pub struct PublisherCounts {
     /// Data packets that were received, each counted once.
     pub received: u64,
@@ -32,7 +32,7 @@ pub struct PublisherCounts {
 }
 
 /// What subscribers' sessions counted: packets, if nothing else is said. None of them goes back.
-#[derive(Clone, Copy, Debug, Default, PartialEq, Eq)]
+#[derive(Clone, Copy, Default)]
 pub struct SubscriberCounts {
     /// Payloads that were queued.
     pub queued: u64,
@@ -51,7 +51,7 @@ pub struct SubscriberCounts {
 }
 
 /// The state and the counts of a publisher's session.
-#[derive(Clone, Copy, Debug, PartialEq, Eq)]
+#[derive(Clone, Copy)]
 pub struct PublisherStatus {
     /// Whether it is the active publisher; another one stands by.
     pub active: bool,
@@ -64,7 +64,7 @@ pub struct PublisherStatus {
 }
 
 /// The state and the counts of a subscriber's session.
-#[derive(Clone, Copy, Debug, PartialEq, Eq)]
+#[derive(Clone, Copy)]
 pub struct SubscriberStatus {
     /// What it counted since its opening.
     pub counts: SubscriberCounts,
@@ -77,7 +77,7 @@ pub struct SubscriberStatus {
 }
 
 /// What a session does, by its role.
-#[derive(Clone, Copy, Debug, PartialEq, Eq)]
+#[derive(Clone, Copy)]
 pub enum Flow {
     /// The caller sends the stream to the route.
     Publisher(PublisherStatus),
@@ -86,7 +86,7 @@ pub enum Flow {
 }
 
 /// An open session at one moment.
-#[derive(Clone, Copy, Debug, PartialEq, Eq)]
+#[derive(Clone, Copy)]
 pub struct SessionStatus {
     /// The caller's address and port.
     pub peer: Peer,
@@ -107,7 +107,7 @@ pub struct SessionStatus {
 }
 
 /// How many conclusions a route refused with 1003, by what stood against the caller.
-#[derive(Clone, Copy, Debug, Default, PartialEq, Eq)]
+#[derive(Clone, Copy, Default)]
 pub struct LimitCounts {
     /// No slot was free.
     pub sessions: u64,
@@ -118,7 +118,7 @@ pub struct LimitCounts {
 }
 
 /// A route at one moment.
-#[derive(Debug, Drop)]
+#[derive(Drop)]
 pub struct RouteStatus {
     /// The name that Stream IDs ask for.
     pub name: String,

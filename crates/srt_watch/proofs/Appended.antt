@@ -2,7 +2,7 @@
 use Rattle.std.proofs.Common.{◌≡◌, ℕ, ◌+◌, ◌<◌, List, [], ◌∷◌, ◌++◌, length, map, take, drop, get_or, refl, sym, ap, ◌∙◌, arith, append_assoc}
 use Rattle.std.proofs.lemmas.List.{take_more, flat_map_more, map-append}
 use Rattle.std.specs.List.{flat_map}
-use Rattle.srt_gateway.specs.declared.changes.RouteChange.{RouteChange}
+use Rattle.srt_config.specs.declared.changes.RouteChange.{RouteChange}
 use Rattle.srt_log.specs.declared.config_events.RouteNumbers.{RouteNumbers}
 use Rattle.srt_watch.specs.Indexes.{index_of, next_after, indexes_from, counted, counted_all}
 

@@ -3,9 +3,9 @@ use Rattle.std.specs.Prelude.{ℕ, ◌+◌, ◌-◌, ◌*◌, ◌/◌, ◌^◌, 
 use Rattle.std.specs.Prelude.{slice_get, if◌then◌else◌}
 use Rattle.std.specs.List.{flat_map}
 use Rattle.srt_seq.specs.Terms.{Terms}
-use Rattle.srt_gateway.specs.declared.changes.FixedKeys.{FixedKeys}
-use Rattle.srt_gateway.specs.declared.changes.RouteChange.{RouteChange}
-use Rattle.srt_gateway.specs.declared.changes.RouteChange.TheVariants.{Stays, Reopens, Opens}
+use Rattle.srt_config.specs.declared.changes.FixedKeys.{FixedKeys}
+use Rattle.srt_config.specs.declared.changes.RouteChange.{RouteChange}
+use Rattle.srt_config.specs.declared.changes.RouteChange.TheVariants.{Stays, Reopens, Opens}
 use Rattle.srt_log.specs.declared.config_events.DifferingKeys.{DifferingKeys}
 use Rattle.srt_log.specs.declared.config_events.RouteNumbers.{RouteNumbers}
 use Rattle.srt_watch.specs.Census.{one_more}

@@ -9,7 +9,7 @@ use std::fmt::InlineText;
 pub const MAX_REASON: usize = 896;
 
 /// What the system says of a file without its content.
-#[derive(Clone, Copy, Debug, PartialEq, Eq)]
+#[derive(Clone, Copy)]
 pub struct FileStamp {
     /// When its content or one of its attributes changed last: nanoseconds since 1970, modulo 2^64. Nobody can set this
     /// time, as the time of the last writing can be set.
@@ -38,7 +38,7 @@ fn differs(before: Option<FileStamp>, now: FileStamp) -> bool
 }
 
 /// How far a file is that was found to be another one.
-#[derive(Clone, Copy, Debug, PartialEq, Eq)]
+#[derive(Clone, Copy)]
 pub(crate) enum Phase {
     /// It was other than at the look before: who writes it may be at work still.
     Settling,
@@ -59,7 +59,7 @@ fn next_phase(phase: Phase) -> Phase
 }
 
 /// The last look at a file.
-#[derive(Clone, Copy, Debug, PartialEq, Eq)]
+#[derive(Clone, Copy)]
 pub(crate) struct LastLook {
     // what the system said of it
     stamp: Option<FileStamp>,

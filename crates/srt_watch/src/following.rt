@@ -1,113 +1,28 @@
-//! How a watcher follows the configuration's file: what a changed one asks of the run, and what the log says of it.
+//! How a watcher follows the configuration's file: what a changed one asks of the run, and what becomes of that.
 
-ghost use Rattle.std.specs.Prelude.{◌≡◌, IfOk};
-ghost use Rattle.srt_seq.specs.Terms.{terms_of};
-
+use crate::asked_change::{AskedChange, NoRoom};
 use crate::config_file::ConfigFile;
-use crate::indexes::{asks_nothing, closing, indexes_after, megabytes_of, numbers_of, opens};
+use crate::config_lines::{refuse, tell_always, tell_no_room, tell_not_taken, tell_taken};
+use crate::in_force::{InForce, NotTaken, Wanted};
+use crate::indexes::reaches_mark;
 use crate::log::{LogWriter, When};
-use crate::reload::{News, Reload};
-use crate::watched_routes::{OpeningRoute, WatchedRoutes};
-use srt_gateway::{Changes, Config, RouteChange};
-use srt_log::{CloseCause, ConfigEvent, LogEvent, RouteNumbers};
-use srt_seq::Entry;
-use srt_serve::RouteChanges;
-use srt_status::RouteStatus;
+use crate::watched_file::WatchedFile;
+use crate::watched_routes::WatchedRoutes;
+use srt_config::Config;
+use srt_log::ConfigEvent;
+use srt_seq::limits::MAX_ROUTES;
+use srt_status::ChangeCounts;
+use srt_supervision::{ChangeFault, RouteChanges};
 use std::alloc::{AllocError, Global};
-use std::fmt::InlineText;
 use std::io::Write;
-
-/// The time between two looks at the configuration's file, in microseconds.
-const FILE_LOOK: u64 = 1_000_000;
-
-/// The time from the look that finds another file to the next one, in microseconds: who writes it has to be ready by then.
-const SETTLING: u64 = 50_000;
-
-/// A change that the run is asked for, with all that it takes of memory here.
-#[derive(Drop)]
-pub(crate) struct AskedChange {
-    config: Config,
-    changes: Changes,
-    pub numbers: RouteNumbers,
-    // the index of each of its routes
-    indexes: Vec<usize>,
-    // those that open, in their order
-    pub opening: Vec<OpeningRoute>,
-    // room for what the page shows of each of its routes
-    shown: Vec<RouteStatus>,
-}
-
-/// Why the run isn't asked for a change: memory was refused.
-#[derive(Clone, Copy)]
-pub(crate) enum NoRoom {
-    /// For the route of this name.
-    Route(InlineText<64>),
-    /// For something else.
-    Lists,
-}
-
-impl From<AllocError> for NoRoom {
-    fn from(_error: AllocError) -> NoRoom {
-        NoRoom::Lists
-    }
-}
-
-// A copy of an entry, for the run. Allocates; an error if memory is refused.
-fn copied(alloc: Global, entry: &Entry) -> Result<Entry, AllocError>
-    ensures { IfOk result (λ copy. terms_of copy ≡ terms_of entry.now) }
-{
-    Ok(Entry {
-        name: String::from_str(alloc, entry.name.as_str())?,
-        mode: entry.mode,
-        latency_ms: entry.latency_ms,
-        buffer: entry.buffer,
-        sessions: entry.sessions,
-        inbox: entry.inbox,
-        outbox: entry.outbox,
-        access: entry.access.copy(alloc)?,
-        rules: entry.rules,
-    })
-}
-
-// The routes of a change that open, in their order.
-#[derive(Drop)]
-struct Opens {
-    // their entries, for the run
-    entries: Vec<Entry>,
-    // what is kept of them here
-    routes: Vec<OpeningRoute>,
-}
-
-impl Opens {
-    fn add(&mut self, alloc: Global, entry: &Entry) -> Result<(), AllocError> {
-        self.entries.push(copied(alloc, entry)?)?;
-        self.routes.push(OpeningRoute::new(alloc, entry)?)?;
-        Ok(())
-    }
-
-    // Those of a configuration that asks for these changes. Allocates; the error names the route whose memory is refused.
-    fn of(alloc: Global, config: &Config, changes: &Changes) -> Result<Opens, NoRoom> {
-        let mut opened = Opens {
-            entries: Vec::new(alloc),
-            routes: Vec::new(alloc),
-        };
-        for (change, entry) in changes.routes.iter().zip(config.entries.iter()) {
-            if opens(*change) && opened.add(alloc, entry).is_err() {
-                return Err(NoRoom::Route(InlineText::of(entry.name.as_str())));
-            }
-        }
-        Ok(opened)
-    }
-}
+use std::mem;
 
 /// The configuration that the gateway follows.
 #[derive(Drop)]
 pub(crate) struct Following<'a, F: Drop> {
-    reload: Reload<'a, F>,
-    // the index of each route of the configuration in force, in its order
-    indexes: Vec<usize>,
-    // the moment of the next look at the file
-    next_look: u64,
+    alloc: Global,
+    file: WatchedFile<F>,
+    in_force: InForce<'a>,
     // what the run was asked for, until it answers
     asked: Option<AskedChange>,
 }
@@ -120,181 +35,139 @@ impl<'a, F: ConfigFile + Drop> Following<'a, F> {
         config: &'a Config,
         file: F,
     ) -> Result<Following<'a, F>, AllocError> {
-        let mut indexes = Vec::with_capacity(alloc, config.entries.len())?;
-        for index in 0..config.entries.len() {
-            indexes.push(index)?;
-        }
         Ok(Following {
-            reload: Reload::new(file, config),
-            indexes,
-            next_look: FILE_LOOK,
+            alloc,
+            file: WatchedFile::new(file),
+            in_force: InForce::new(alloc, config)?,
             asked: None,
         })
     }
 
-    /// What is new in the file, which is looked at once a second, and sooner while it may be half written. None if nothing
-    /// is, or while the run hasn't answered the last change.
-    pub(crate) fn look(&mut self, alloc: Global, moment: u64) -> Option<News> {
-        if moment < self.next_look || self.asked.is_some() {
+    // What is new in the file, once a second. None if nothing is, or while the run hasn't answered the last change.
+    fn look(&mut self, moment: u64) -> Option<Result<Wanted, NotTaken>> {
+        if self.asked.is_some() {
             return None;
         }
-        let news = self.reload.look(alloc);
-        let rest = if self.reload.is_settling() {
-            SETTLING
-        } else {
-            FILE_LOOK
-        };
-        self.next_look = moment.saturating_add(rest);
-        news
+        match self.file.look(moment)? {
+            Ok(content) => {
+                let wanted = self.in_force.wanted(self.alloc, content.as_slice());
+                self.file.keep(content);
+                Some(wanted)
+            }
+            Err(why) => Some(Err(NotTaken::Unread(why))),
+        }
     }
 
-    // A change with all that it takes of memory here.
-    fn prepared(
-        &self,
-        alloc: Global,
-        routes: &mut WatchedRoutes,
-        config: Config,
-        changes: Changes,
-        opening: Vec<OpeningRoute>,
-    ) -> Result<AskedChange, AllocError> {
-        let indexes = indexes_after(
-            alloc,
-            changes.routes.as_slice(),
-            self.indexes.as_slice(),
-            routes.used(),
-        )?;
-        let shown = routes.make_room(alloc, opening.len(), config.entries.len())?;
-        let numbers = numbers_of(&changes);
-        Ok(AskedChange {
-            config,
-            changes,
-            numbers,
-            indexes,
-            opening,
-            shown,
-        })
-    }
-
-    /// Takes all memory that a change needs here, and returns what the run is to be asked for; None if no route opens or
-    /// closes, and the configuration is in force already. After an error nothing has changed.
-    pub(crate) fn ask(
+    // Takes all memory that a change needs here, and returns what the run is to be asked for; None if no route opens or
+    // closes, and the configuration is in force already. After an error nothing has changed.
+    fn ask(
         &mut self,
-        alloc: Global,
         routes: &mut WatchedRoutes,
-        config: Config,
-        changes: Changes,
+        wanted: Wanted,
     ) -> Result<Option<RouteChanges>, NoRoom> {
-        let Opens {
-            entries,
-            routes: opening,
-        } = Opens::of(alloc, &config, &changes)?;
-        let closes = closing(alloc, &changes, self.indexes.as_slice())?;
-        let asked = self.prepared(alloc, routes, config, changes, opening)?;
-        let is_same = asks_nothing(asked.numbers);
-        self.asked = Some(asked);
-        if is_same {
-            self.take(alloc, routes);
+        let (asked, changes) = AskedChange::of(self.alloc, &self.in_force, routes, wanted)?;
+        if asked.asks_nothing() {
+            asked.put_in_force(self.alloc, &mut self.in_force, routes);
             return Ok(None);
         }
-        Ok(Some(RouteChanges {
-            closes,
-            opens: entries,
-        }))
+        self.asked = Some(asked);
+        Ok(Some(changes))
     }
 
-    /// Forgets the change that the run was asked for, and returns it.
-    pub(crate) fn forget(&mut self) -> Option<AskedChange> {
-        self.asked.take()
+    /// What the run is to be asked for, if a changed file asks for something that can be done. If it can't, a line tells
+    /// why, and it is counted.
+    pub(crate) fn change<W: Write + Drop>(
+        &mut self,
+        log: &mut LogWriter<W>,
+        when: When,
+        counts: &mut ChangeCounts,
+        routes: &mut WatchedRoutes,
+    ) -> Option<RouteChanges> {
+        match self.look(when.moment)? {
+            Ok(wanted) => match self.ask(routes, wanted) {
+                Ok(changes) => changes,
+                Err(no_room) => {
+                    tell_no_room(log, when, counts, &no_room);
+                    None
+                }
+            },
+            Err(not_taken) => {
+                tell_not_taken(log, when, counts, &not_taken);
+                None
+            }
+        }
     }
 
-    /// Puts the configuration in force whose change the run was asked for, and took. Takes no memory.
-    pub(crate) fn take(&mut self, alloc: Global, routes: &mut WatchedRoutes) {
-        let Some(asked) = self.asked.take() else {
-            return;
-        };
-        let AskedChange {
-            config,
-            changes,
-            numbers: _,
-            indexes,
-            opening,
-            shown,
-        } = asked;
-        routes.change(
-            alloc,
-            changes.routes.as_slice(),
-            indexes.as_slice(),
-            opening,
-            shown,
-        );
-        self.indexes = indexes;
-        self.reload.put_in_force(config);
+    // Puts the configuration in force whose change the run was asked for, with its lines. Takes no memory.
+    fn take<W: Write + Drop>(
+        &mut self,
+        log: &mut LogWriter<W>,
+        when: When,
+        routes: &mut WatchedRoutes,
+    ) {
+        if let Some(asked) = self.asked.take() {
+            tell_taken(log, when, &asked, self.in_force.config());
+            asked.put_in_force(self.alloc, &mut self.in_force, routes);
+        }
     }
 
-    /// Writes the lines of the change that the run was asked for and took, before it is in force: the first one always,
-    /// those of routes as many as their second has room for.
-    pub(crate) fn tell<W: Write + Drop>(&self, log: &mut LogWriter<W>, when: When) {
+    // Puts the configuration in force whose change the run took, with its lines, and counts it. A line tells when few
+    // indexes are left.
+    fn note_taken<W: Write + Drop>(
+        &mut self,
+        log: &mut LogWriter<W>,
+        when: When,
+        counts: &mut ChangeCounts,
+        routes: &mut WatchedRoutes,
+    ) {
+        let before = routes.used();
+        self.take(log, when, routes);
+        counts.taken = counts.taken.saturating_add(1);
+        let used = routes.used();
+        if reaches_mark(before, used) {
+            let left = MAX_ROUTES.saturating_sub(used) as u64;
+            tell_always(log, when, ConfigEvent::FewIndexes { left });
+        }
+    }
+
+    // Tells why the run didn't take the change that it was asked for.
+    fn tell_fault<W: Write + Drop>(
+        &self,
+        log: &mut LogWriter<W>,
+        when: When,
+        counts: &mut ChangeCounts,
+        fault: ChangeFault,
+    ) {
         let Some(asked) = self.asked.as_ref() else {
             return;
         };
-        let before = self.reload.in_force();
-        let routes = asked.numbers;
-        tell_always(log, when, ConfigEvent::Taken { routes });
-        for place in asked.changes.gone.iter() {
-            tell_close(log, when, before, *place, CloseCause::Removed);
-        }
-        for change in asked.changes.routes.iter() {
-            if let RouteChange::Reopens(place) = change {
-                tell_close(log, when, before, *place, CloseCause::OtherKeys);
+        let event = match fault {
+            ChangeFault::OutOfMemory(place) => ConfigEvent::NoMemory {
+                route: asked.name_at(place).as_bytes(),
+            },
+            ChangeFault::NoIndexLeft(left) => ConfigEvent::NoIndexes {
+                opens: asked.opens() as u64,
+                left: left as u64,
+            },
+        };
+        refuse(log, when, counts, event);
+    }
+
+    /// Puts the configuration in force whose change the run took, or forgets it, with the lines that tell so.
+    pub(crate) fn changed<W: Write + Drop>(
+        &mut self,
+        log: &mut LogWriter<W>,
+        when: When,
+        counts: &mut ChangeCounts,
+        routes: &mut WatchedRoutes,
+        outcome: Result<usize, ChangeFault>,
+    ) {
+        match outcome {
+            Ok(_) => self.note_taken(log, when, counts, routes),
+            Err(fault) => {
+                self.tell_fault(log, when, counts, fault);
+                mem::drop(self.asked.take());
             }
         }
-        for place in 0..asked.config.entries.len() {
-            asked.tell_open(log, when, place);
-        }
-    }
-}
-
-impl AskedChange {
-    // Tells the opening of the route at this place, if it opens.
-    fn tell_open<W: Write + Drop>(&self, log: &mut LogWriter<W>, when: When, place: usize) {
-        let (Some(entry), Some(change), Some(index)) = (
-            self.config.entries.get(place),
-            self.changes.routes.get(place),
-            self.indexes.get(place),
-        ) else {
-            return;
-        };
-        if opens(*change) {
-            let event = ConfigEvent::RouteOpens {
-                route: entry.name.as_bytes(),
-                index: *index as u64,
-                megabytes: megabytes_of(entry),
-            };
-            log.tell(when, LogEvent::Config { event });
-        }
-    }
-}
-
-/// Writes a line about the configuration, whether its second has room or not.
-pub(crate) fn tell_always<W: Write + Drop>(
-    log: &mut LogWriter<W>,
-    when: When,
-    event: ConfigEvent<'_>,
-) {
-    log.tell_always(when, LogEvent::Config { event });
-}
-
-// Tells that the route at this place of a configuration closes.
-fn tell_close<W: Write + Drop>(
-    log: &mut LogWriter<W>,
-    when: When,
-    before: &Config,
-    place: usize,
-    cause: CloseCause,
-) {
-    if let Some(entry) = before.entries.get(place) {
-        let route = entry.name.as_bytes();
-        let event = ConfigEvent::RouteCloses { route, cause };
-        log.tell(when, LogEvent::Config { event });
     }
 }

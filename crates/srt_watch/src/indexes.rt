@@ -7,7 +7,7 @@ ghost use Rattle.srt_seq.specs.Terms.{terms_of};
 ghost use Rattle.srt_watch.specs.Indexes.{index_at, reopened_at, closing, index_of, next_after, indexes_from};
 ghost use Rattle.srt_watch.specs.Indexes.{opens, counted, counted_all, numbers_of, asks_nothing, mark_of, reaches_mark, megabytes_of, differing};
 
-use srt_gateway::{Changes, FixedKeys, RouteChange};
+use srt_config::{Changes, FixedKeys, RouteChange};
 use srt_log::{DifferingKeys, RouteNumbers};
 use srt_seq::Entry;
 use std::alloc::{AllocError, Global};

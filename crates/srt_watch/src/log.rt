@@ -1,17 +1,28 @@
 //! A log: lines to a writer, at most 50 in a second.
 
+use crate::machine::Machine;
 use srt_log::{LineLimit, LogEvent, write_line};
 use srt_operate::utc_text;
 use std::io::Write;
 use std::mem;
 
 /// When something happened.
-#[derive(Clone, Copy, Debug)]
+#[derive(Clone, Copy)]
 pub(crate) struct When {
     /// The moment, in microseconds of the routes' clock.
     pub moment: u64,
     /// The time, in microseconds since 1970.
     pub time: u64,
+}
+
+impl When {
+    /// The present moment and time.
+    pub(crate) fn now<M: Machine>(machine: &mut M) -> When {
+        When {
+            moment: machine.moment(),
+            time: machine.time(),
+        }
+    }
 }
 
 /// The microseconds of a second.

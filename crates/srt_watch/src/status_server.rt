@@ -12,7 +12,7 @@ pub trait StatusServer {
 }
 
 /// No page: nobody asks.
-#[derive(Clone, Copy, Debug, Drop, PartialEq, Eq)]
+#[derive(Clone, Copy, Drop)]
 pub struct NoStatusServer;
 
 impl StatusServer for NoStatusServer {

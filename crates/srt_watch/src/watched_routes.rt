@@ -2,13 +2,14 @@
 
 use crate::census::{grown_limits, note_route};
 use crate::showing::{look_at, look_at_none};
-use srt_gateway::RouteChange;
+use srt_config::RouteChange;
 use srt_log::RouteLook;
 use srt_route::Route;
 use srt_seq::{Entry, Mode};
 use srt_status::{LimitCounts, PublisherCounts, RefusalCounts, RouteStatus, SubscriberCounts};
 use std::alloc::{AllocError, Global};
 use std::mem;
+use std::vec::IntoIter;
 
 // A route of the run.
 #[derive(Drop)]
@@ -90,13 +91,19 @@ impl WatchedRoutes {
             shown: Vec::with_capacity(alloc, entries.len())?,
         };
         for entry in entries {
-            let OpeningRoute { mut seen, status } = OpeningRoute::new(alloc, entry)?;
-            seen.place = Some(routes.shown.len());
-            if routes.seen.push(seen).is_err() || routes.shown.push(status).is_err() {
-                return Err(AllocError);
-            }
+            routes.add_shown(alloc, entry)?;
         }
         Ok(routes)
+    }
+
+    // Adds the route of an entry, for which there is room, and shows it behind the others. Allocates two copies of its
+    // name; an error if memory is refused.
+    fn add_shown(&mut self, alloc: Global, entry: &Entry) -> Result<(), AllocError> {
+        let mut opening = OpeningRoute::new(alloc, entry)?;
+        opening.seen.place = Some(self.shown.len());
+        let status = self.add(opening);
+        self.shown.push(status)?;
+        Ok(())
     }
 
     /// The number of indexes that are used.
@@ -171,7 +178,7 @@ impl WatchedRoutes {
     // Notes a route that opens, and returns what the page shows of it.
     fn add(&mut self, opening: OpeningRoute) -> RouteStatus {
         let OpeningRoute { seen, status } = opening;
-        // There is room for it (`make_room`).
+        // There is room for it (`open`, `make_room`).
         let _ = self.seen.push(seen);
         status
     }
@@ -182,6 +189,22 @@ impl WatchedRoutes {
         match self.shown.get_mut(place) {
             Some(status) => mem::replace(status, nothing),
             None => nothing,
+        }
+    }
+
+    // What the page shows of the next route of a changed configuration; those that open are taken in their order.
+    fn next_status(
+        &mut self,
+        alloc: Global,
+        change: RouteChange,
+        opening: &mut IntoIter<OpeningRoute>,
+    ) -> Option<RouteStatus> {
+        match change {
+            RouteChange::Stays(place) => Some(self.taken(alloc, place)),
+            RouteChange::Reopens(_) | RouteChange::Opens => match opening.next() {
+                Some(opening) => Some(self.add(opening)),
+                None => None,
+            },
         }
     }
 
@@ -198,25 +221,23 @@ impl WatchedRoutes {
     ) {
         let mut opening = opening.into_iter();
         for change in changes {
-            let status = match change {
-                RouteChange::Stays(place) => Some(self.taken(alloc, *place)),
-                RouteChange::Reopens(_) | RouteChange::Opens => match opening.next() {
-                    Some(opening) => Some(self.add(opening)),
-                    None => None,
-                },
-            };
-            if let Some(status) = status {
+            if let Some(status) = self.next_status(alloc, *change, &mut opening) {
                 let _ = shown.push(status);
             }
         }
         self.shown = shown;
-        for seen in self.seen.iter_mut() {
-            seen.place = None;
-        }
-        for (place, index) in indexes.iter().enumerate() {
-            if let Some(seen) = self.seen.get_mut(*index) {
-                seen.place = Some(place);
-            }
+        place_all(self.seen.as_mut_slice(), indexes);
+    }
+}
+
+// Notes which routes the page shows: those with these indexes, in this order.
+fn place_all(seen: &mut [SeenRoute], indexes: &[usize]) {
+    for route in seen.iter_mut() {
+        route.place = None;
+    }
+    for (place, index) in indexes.iter().enumerate() {
+        if let Some(route) = seen.get_mut(*index) {
+            route.place = Some(place);
         }
     }
 }

@@ -1,28 +1,20 @@
 -- How a run ends.
-use Rattle.std.specs.Prelude.{ℕ, Bool, true, false, Result, Ok, Err}
-use Rattle.srt_gateway.specs.declared.replaying.ReplayFault.{ReplayFault}
-use Rattle.srt_gateway.specs.declared.replaying.ReplayFault.TheVariants as replays
+use Rattle.std.specs.Prelude.{Bool, true}
+use Rattle.srt_offline.specs.declared.faults.OfflineFault.TheVariants.{Memory}
+use Rattle.srt_offline.specs.Ends.{is_printed as is_offline_printed}
+use Rattle.srt_poller.specs.declared.sockets.BindFault.TheVariants.{Socket}
+use Rattle.srt_host.specs.declared.watching.WatcherFault.{WatcherFault}
+use Rattle.srt_host.specs.declared.watching.WatcherFault.TheVariants as watchers
 use Rattle.srtgw.specs.declared.faults.Fault.{Fault}
-use Rattle.srtgw.specs.declared.faults.Fault.TheVariants.{File, Config, Replay, Bind, Run, Memory, Output}
+use Rattle.srtgw.specs.declared.faults.Fault.TheVariants.{Offline, Bind, Run}
 
--- a replay's fault is printed as a line, unless it is that of an output that can't be written
-abbrev pub is_replay_printed : ReplayFault → Bool
-is_replay_printed (replays.Tape line) = true
-is_replay_printed replays.OutOfMemory = true
-is_replay_printed replays.Read = true
-is_replay_printed replays.Write = false
-
--- so is every other fault
+-- a fault is printed as a line, unless it is that of an output that can't be written
 abbrev pub is_printed : Fault → Bool
-is_printed File = true
-is_printed (Config fault) = true
-is_printed (Replay fault) = is_replay_printed fault
+is_printed (Offline fault) = is_offline_printed fault
 is_printed (Bind fault) = true
 is_printed (Run fault) = true
-is_printed Memory = true
-is_printed Output = false
 
--- the exit status of a run
-abbrev pub status_after : Result (Unit {0}) Fault → ℕ
-status_after (Ok done) = 0
-status_after (Err fault) = 1
+-- the fault of a run without a watcher: its status page's socket counts as the gateway's own
+abbrev pub fault_of : WatcherFault → Fault
+fault_of (watchers.Page number) = Bind (Socket number)
+fault_of watchers.OutOfMemory = Offline Memory

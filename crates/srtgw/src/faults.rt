@@ -1,9 +1,10 @@
 //! The faults that end a run early. The text of each is the line that is printed for it.
 
 ghost use Rattle.std.specs.Prelude.{◌≡◌};
-ghost use Rattle.srtgw.specs.Ends.{is_printed};
+ghost use Rattle.srtgw.specs.Ends.{is_printed, fault_of};
 
-use srt_gateway::{ConfigFault, ReplayFault};
+use srt_host::WatcherFault;
+use srt_offline::OfflineFault;
 use srt_poller::BindFault;
 use srt_serve::RunFault;
 use thiserror::Error;
@@ -12,52 +13,35 @@ use thiserror::Error;
 /// standard output.
 #[derive(Debug, Drop, Error)]
 pub enum Fault {
-    /// A file can't be read, or is larger than its limit.
-    #[error("file fault")]
-    File,
-    /// The configuration has this fault.
+    /// Files, memory or the output, as at a command that opens no socket.
     #[error(transparent)]
-    Config(ConfigFault),
-    /// A replay ended with this fault.
-    #[error(transparent)]
-    Replay(ReplayFault),
+    Offline(OfflineFault),
     /// No UDP socket was bound, for this reason.
     #[error(transparent)]
     Bind(BindFault),
     /// The routes weren't served, or weren't taken back at the end, for this reason.
     #[error(transparent)]
     Run(RunFault),
-    /// Memory was refused.
-    #[error("memory")]
-    Memory,
-    /// The output can't be written. Nothing is printed.
-    #[error("output fault")]
-    Output,
-}
-
-impl From<ReplayFault> for Fault {
-    ghost use Rattle.srtgw.specs.declared.faults.Fault.TheVariants.{Replay};
-
-    ghost from_gives = { λ fault result. result ≡ Replay fault };
-
-    fn from(fault: ReplayFault) -> Fault {
-        Fault::Replay(fault)
-    }
 }
 
 impl Fault {
+    /// The fault of a run without a watcher.
+    pub fn of_watcher(fault: WatcherFault) -> Fault
+        ensures { result ≡ fault_of fault }
+    {
+        match fault {
+            WatcherFault::Page(number) => Fault::Bind(BindFault::Socket(number)),
+            WatcherFault::OutOfMemory => Fault::Offline(OfflineFault::Memory),
+        }
+    }
+
     /// Whether the fault's text is printed as a line: for all faults but an output that can't be written.
     pub fn is_printed(&self) -> bool
         ensures { result ≡ is_printed self.now }
     {
         match self {
-            Fault::Output | Fault::Replay(ReplayFault::Write) => false,
-            Fault::File
-            | Fault::Config(_)
-            | Fault::Replay(_)
-            | Fault::Bind(_)
-            | Fault::Run(_)
-            | Fault::Memory => true,
+            Fault::Offline(fault) => fault.is_printed(),
+            Fault::Bind(_) | Fault::Run(_) => true,
         }
     }
 }

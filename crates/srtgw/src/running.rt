@@ -1,19 +1,20 @@
 //! `srtgw run`: the gateway at a UDP socket, until it is told to stop.
 
-use crate::clocks::ClockTicker;
-use crate::command_line::VERSION;
+ghost use Rattle.std.specs.Prelude.{◌≤◌};
+ghost use Rattle.std.specs.Vec.{vec_len};
+
+use crate::clocks::{ClockPoller, ClockTicker};
 use crate::faults::Fault;
-use crate::host::{Errors, Host, HostFile, time_now};
 use crate::serving::{bind, gates, print_report};
-use crate::status_page::StatusPage;
+use srt_command_line::Manner;
+use srt_config::Config;
 use srt_explain::Explained;
-use srt_gateway::Config;
+use srt_host::{HostWatcher, open_watcher, time_now};
 use srt_mailbox::Account;
-use srt_operate::signals_are_blocked;
-use srt_poller::BindFault;
-use srt_serve::{RunFault, Watched, run_until};
-use srt_watch::{Start, Watcher};
-use std::io::{self, ErrorKind};
+use srt_offline::OfflineFault;
+use srt_poller::{BindFault, MioSource, MioWire, Report, Ungated};
+use srt_serve::{Gates, RunFault, Watched, run_until};
+use std::io;
 use std::net::{Ipv4Addr, Net};
 use std::rt::{Clock, Files};
 use std::sync::Wait;
@@ -22,15 +23,6 @@ use std::time::Instant;
 
 /// The most rounds of `run`: at one a microsecond they last nine years.
 const MAX_RUN_ROUNDS: u64 = 1 << 48;
-
-/// How a gateway runs.
-#[derive(Clone, Copy, Debug)]
-pub struct Manner {
-    /// How long it serves callers, in microseconds; `None` until it is told to stop.
-    pub lasts: Option<u64>,
-    /// Whether each line of the log begins with the time.
-    pub is_timed: bool,
-}
 
 /// Says on standard error why no socket was bound.
 fn explain_bind(rt: &impl Eprint, config: &Config, fault: BindFault) {
@@ -47,27 +39,6 @@ fn explain_bind(rt: &impl Eprint, config: &Config, fault: BindFault) {
     };
 }
 
-/// Binds the address of the status page, if the configuration has one. Says on standard error why it can't be bound.
-fn open_page(
-    rt: &(impl Eprint + AllocGlobal),
-    machine: &HostRuntime,
-    config: &Config,
-) -> Result<StatusPage, Fault> {
-    match StatusPage::bind(machine, rt.alloc(), config.status) {
-        Ok(page) => Ok(page),
-        Err(error) if error.kind() == ErrorKind::OutOfMemory => Err(Fault::Memory),
-        Err(error) => {
-            if let Some(address) = config.status {
-                let [a, b, c, d] = address.ip;
-                let ip = Ipv4Addr::new(a, b, c, d);
-                let port = address.port;
-                let _ = eprintln!(rt; "srtgw: status page at {ip}:{port}: {error}");
-            }
-            Err(Fault::Bind(BindFault::Socket(error.raw_os_error())))
-        }
-    }
-}
-
 /// Says on standard error why the routes weren't served.
 fn explain_run(rt: &impl Eprint, path: &str, fault: RunFault) {
     let why = match fault {
@@ -79,15 +50,6 @@ fn explain_run(rt: &impl Eprint, path: &str, fault: RunFault) {
     };
     let _ = eprintln!(rt; "srtgw: {path}: {why}");
 }
-
-/// The watcher of a run of this program.
-type HostWatcher<'a> = Watcher<
-    'a,
-    Host<'a, HostRuntime>,
-    Errors<'a, HostRuntime>,
-    StatusPage,
-    HostFile<'a, HostRuntime>,
->;
 
 /// Prints the account of each route, a line each, in the order of the routes' indexes.
 fn print_accounts(
@@ -109,6 +71,66 @@ fn print_accounts(
         )?;
     }
     Ok(())
+}
+
+/// Ends the log, and prints the report and an account of each route.
+fn tell_end(
+    rt: &impl Print,
+    mut watcher: HostWatcher<'_>,
+    report: &Report,
+    accounts: &[Account],
+) -> Result<(), Fault> {
+    watcher.end();
+    let printed = print_report(rt, report);
+    match printed.and_then(|_| print_accounts(rt, &watcher, accounts)) {
+        Ok(()) => Ok(()),
+        Err(_) => Err(Fault::Offline(OfflineFault::Output)),
+    }
+}
+
+/// Runs the gateway at this socket with this watcher, and tells how it ended.
+fn run_watched<R>(
+    rt: &R,
+    path: &str,
+    config: &Config,
+    source: &mut MioSource<ClockPoller<'_, R>>,
+    wire: &mut MioWire,
+    start: Option<Instant>,
+    gates: Gates<Ungated>,
+    watcher: HostWatcher<'_>,
+) -> Result<(), Fault>
+where
+    R: Print + Eprint + Files + AllocGlobal + Net + Clock + Threads + Wait + Sync,
+    requires { (1 ≤ vec_len gates.workers) × (vec_len gates.workers ≤ 16) }
+{
+    let ran = run_until(
+        rt,
+        rt.alloc(),
+        &config.secret.of_run(time_now(rt)),
+        config.entries.as_slice(),
+        config.schedules.as_slice(),
+        source,
+        wire,
+        ClockTicker::new(rt, start),
+        gates,
+        watcher,
+        MAX_RUN_ROUNDS,
+    );
+    match ran {
+        Ok(watched) => {
+            let Watched {
+                report,
+                accounts,
+                watch,
+                ..
+            } = watched;
+            tell_end(rt, watch, &report, &accounts)
+        }
+        Err(fault) => {
+            explain_run(rt, path, fault);
+            Err(Fault::Run(fault))
+        }
+    }
 }
 
 /// Serves the routes of an explained configuration until SIGINT or SIGTERM is pending or its time is over, and tells a
@@ -135,67 +157,18 @@ where
         }
     };
     let gates = gates(rt.alloc(), config.workers)?;
-    let beginning = Start {
-        ip: config.bind.ip,
-        port: config.bind.port,
-        workers: config.workers,
-        is_blocked: signals_are_blocked(rt),
-        lasts: manner.lasts,
-        version: VERSION,
+    let watcher = match open_watcher(machine, path, explained, manner, start) {
+        Ok(watcher) => watcher,
+        Err(fault) => return Err(Fault::of_watcher(fault)),
     };
-    let page = open_page(rt, machine, config)?;
-    let host = Host::new(machine, start, config.bind);
-    let entries = config.entries.as_slice();
-    let Ok(mut watcher) = Watcher::open(
-        rt.alloc(),
-        host,
-        page,
-        Errors::new(machine),
-        manner.is_timed,
-        entries,
-        beginning,
-    ) else {
-        return Err(Fault::Memory);
-    };
-    if let Some(file) = HostFile::at(machine, path) {
-        if watcher.follow(config, file).is_err() {
-            return Err(Fault::Memory);
-        }
-    }
-    for warning in explained.warnings.iter() {
-        if watcher.warn(explained.text_of(*warning)).is_err() {
-            return Err(Fault::Memory);
-        }
-    }
-    let ran = run_until(
+    run_watched(
         rt,
-        rt.alloc(),
-        &config.secret.of_run(time_now(rt)),
-        entries,
-        config.schedules.as_slice(),
+        path,
+        config,
         &mut source,
         &mut wire,
-        ClockTicker::new(rt, start),
+        start,
         gates,
         watcher,
-        MAX_RUN_ROUNDS,
-    );
-    let Watched {
-        report,
-        accounts,
-        watch: mut watcher,
-        ..
-    } = match ran {
-        Ok(watched) => watched,
-        Err(fault) => {
-            explain_run(rt, path, fault);
-            return Err(Fault::Run(fault));
-        }
-    };
-    watcher.end();
-    let printed = print_report(rt, &report);
-    match printed.and_then(|_| print_accounts(rt, &watcher, &accounts)) {
-        Ok(()) => Ok(()),
-        Err(_) => Err(Fault::Output),
-    }
+    )
 }

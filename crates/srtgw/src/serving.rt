@@ -3,9 +3,10 @@
 ghost use Rattle.std.specs.Prelude.{◌≡◌, IfOk};
 ghost use Rattle.std.specs.Vec.{vec_len};
 
-use crate::clocks::{ClockTicker, Since};
+use crate::clocks::{ClockPoller, ClockTicker};
 use crate::faults::Fault;
-use srt_gateway::Config;
+use srt_config::Config;
+use srt_offline::OfflineFault;
 use srt_poller::{BindFault, MioSource, MioWire, Report, Ungated};
 use srt_serve::{Gates, run};
 use std::alloc::{AllocError, Global};
@@ -20,10 +21,10 @@ pub fn bind<'a, R: AllocGlobal + Net + Clock>(
     rt: &'a R,
     config: &Config,
     start: Option<Instant>,
-) -> Result<(MioSource<Since<'a, R>>, MioWire), BindFault> {
+) -> Result<(MioSource<ClockPoller<'a, R>>, MioWire), BindFault> {
     let [a, b, c, d] = config.bind.ip;
     let address = SocketAddrV4::new(Ipv4Addr::new(a, b, c, d), config.bind.port);
-    MioSource::bind(rt, rt.alloc(), address, Since::new(rt, start))
+    MioSource::bind(rt, rt.alloc(), address, ClockPoller::new(rt, start))
 }
 
 /// A gate for each worker, which lets every turn pass.
@@ -42,13 +43,13 @@ pub fn gates(alloc: Global, count: u32) -> Result<Gates<Ungated>, Fault>
             poller: Some(Ungated),
             workers,
         }),
-        Err(_) => Err(Fault::Memory),
+        Err(_) => Err(Fault::Offline(OfflineFault::Memory)),
     }
 }
 
 /// Serves the routes of a configuration for this number of rounds of the poller, and returns its report. Routes open
 /// and close in the rounds of their schedules. Binds the UDP socket; starts a ticking thread and `workers` worker
-/// threads; the calling thread polls the socket. Errors: `Bind`, `Memory` and `Run`, before anything was read; but
+/// threads; the calling thread polls the socket. Errors: `Bind`, that of memory and `Run`, before anything was read; but
 /// `RunFault::Busy` comes at the end. docs/OPERATING.md says how long a round is.
 pub fn serve<R: AllocGlobal + Net + Clock + Threads + Wait + Sync>(
     rt: &R,

@@ -1,12 +1,11 @@
-//! The line of each fault, as docs/PROTOCOL.md has them ("The program's output").
+//! The line of each fault of a socket or of threads, as docs/PROTOCOL.md has them ("The program's output").
 
 use crate::faults::Fault;
-use srt_gateway::{ConfigFault, Key, ReplayFault};
+use srt_offline::OfflineFault;
 use srt_poller::BindFault;
 use srt_serve::RunFault;
 use std::fmt::InlineText;
 use std::process::Abort;
-use std::test::Fail;
 
 /// Asserts that this line is printed for a fault.
 fn assert_line(rt: &impl Abort, fault: Fault, line: &str) {
@@ -15,27 +14,7 @@ fn assert_line(rt: &impl Abort, fault: Fault, line: &str) {
 }
 
 #[test]
-fn each_fault_has_its_line(rt: HostRuntime) -> Result<(), Fail> {
-    let unknown = ConfigFault::UnknownKey(String::from_str(rt.alloc(), "colour")?);
-    assert_line(&rt, Fault::Config(ConfigFault::Toml), "config fault 1 -");
-    assert_line(&rt, Fault::Config(unknown), "config fault 2 colour");
-    assert_line(
-        &rt,
-        Fault::Config(ConfigFault::Missing(Key::Bind)),
-        "config fault 3 bind",
-    );
-    assert_line(
-        &rt,
-        Fault::Config(ConfigFault::BadSecret),
-        "config fault 8 secret",
-    );
-    assert_line(
-        &rt,
-        Fault::Replay(ReplayFault::Tape(1_000_001)),
-        "tape fault 1000001",
-    );
-    assert_line(&rt, Fault::Replay(ReplayFault::OutOfMemory), "memory");
-    assert_line(&rt, Fault::Replay(ReplayFault::Read), "file fault");
+fn each_fault_has_its_line(rt: HostRuntime) {
     assert_line(
         &rt,
         Fault::Bind(BindFault::Socket(Some(98))),
@@ -45,13 +24,6 @@ fn each_fault_has_its_line(rt: HostRuntime) -> Result<(), Fail> {
     assert_line(&rt, Fault::Run(RunFault::Thread), "thread fault");
     assert_line(&rt, Fault::Run(RunFault::Busy), "busy");
     assert_line(&rt, Fault::Run(RunFault::OutOfMemory), "memory");
-    assert_line(&rt, Fault::File, "file fault");
-    assert_line(&rt, Fault::Memory, "memory");
-    Ok(())
-}
-
-#[test]
-fn an_output_that_fails_has_no_line(rt: HostRuntime) {
-    assert!(rt; !Fault::Output.is_printed());
-    assert!(rt; !Fault::Replay(ReplayFault::Write).is_printed());
+    assert_line(&rt, Fault::Offline(OfflineFault::File), "file fault");
+    assert!(rt; !Fault::Offline(OfflineFault::Output).is_printed());
 }

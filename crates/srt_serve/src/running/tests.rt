@@ -6,16 +6,16 @@ ghost use Rattle.srt_lobby.specs.Opening.{fault_of};
 
 use crate::arrivals::PollerArrivals;
 use crate::opening::{Opened, open_routes};
-use crate::running::{Resources, open_resources};
+use crate::running::{Prepared, Shared, open_shared, prepare};
 use crate::serving::{OtherThreads, PollerState, RunContext, serve_routes};
 use crate::ticking::{Clocks, Ticker};
-use crate::watching::Nobody;
 use srt_cookie::Secret;
 use srt_lobby::Names;
 use srt_mailbox::Ungated;
 use srt_poller::{Polled, Pumping, Read, Sent, Source, Wire};
 use srt_seq::limits::MAX_ROUTES;
 use srt_seq::{Access, Entry, Mode, Peer, Rules, Schedule};
+use srt_supervision::Nobody;
 use std::sync::Wait;
 use std::test::Fail;
 use std::thread::Threads;
@@ -95,18 +95,23 @@ where
     requires schedules { length schedules.now ≡ length entries.now }
 {
     let alloc = rt.alloc();
-    let Ok(resources) = open_resources(alloc, entries, schedules, 1, false) else {
+    let Ok(prepared) = prepare(alloc, entries, schedules) else {
         return Err(Fail::from("memory"));
     };
-    let Resources {
+    let Prepared {
         names,
+        plans,
+        accounts: _,
+    } = prepared;
+    let Ok(shared) = open_shared(alloc, entries.len(), 1, false) else {
+        return Err(Fail::from("memory"));
+    };
+    let Shared {
         places,
         news,
-        plans,
         wakeups,
         post,
-        accounts: _,
-    } = resources;
+    } = shared;
     let Ok(opened) = open_routes(alloc, entries, places.as_slice()) else {
         return Err(Fail::from("memory"));
     };

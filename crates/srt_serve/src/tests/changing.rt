@@ -10,8 +10,7 @@ use super::datagrams::{
 };
 use super::watched::{MANY, studio, watched_over};
 use super::{MOMENT, YIELDS, entry_of, peer};
-use crate::watching::{ChangeFault, RouteChanges, Told, Watch};
-use crate::{Gates, Refusal, Ticker, Watched};
+use crate::{ChangeFault, Gates, Refusal, RouteChanges, Ticker, Told, Watch, Watched};
 use srt_mailbox::{Account, Gate, Ungated};
 use srt_poller::{Asked, Polled, Read, Sent, Source, Wire};
 use srt_route::Route;

@@ -1,10 +1,9 @@
 //! What a watcher is told of the poller's counts, and of a poller that makes no rounds.
 
-use crate::Refusal;
 use crate::tests::datagrams::{FIRST, STUDIO, conclusion_of};
 use crate::tests::watched::{MANY, studio, watched};
 use crate::tests::{ARRIVALS, Again, Meeting, YIELDS, scene_of};
-use crate::watching::{ChangeFault, RouteChanges, Told, Watch};
+use crate::{ChangeFault, Refusal, RouteChanges, Told, Watch};
 use srt_poller::{Asked, Report};
 use srt_route::Route;
 use std::sync::Arc;

@@ -7,11 +7,11 @@ use crate::tests::datagrams::{
 };
 use crate::tests::peer;
 use crate::tests::watched::studio;
-use crate::wakeups::Wakeups;
 use srt_lobby::Names;
 use srt_mailbox::{RouteCell, Ungated};
 use srt_poller::{Asked, Report, Signals};
 use srt_seq::NotAdmitted;
+use srt_wakeups::Wakeups;
 use std::alloc::Global;
 use std::process::Abort;
 use std::sync::Wait;

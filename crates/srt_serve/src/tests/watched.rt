@@ -5,8 +5,9 @@ ghost use Rattle.std.specs.Vec.{vec_len};
 
 use crate::tests::datagrams::{FIRST, SECOND, STUDIA, STUDIO, conclusion_of};
 use crate::tests::{ALWAYS, Again, LIMIT, Member, Routes, SECRET, Scene, peer, scene_of};
-use crate::watching::{ChangeFault, RouteChanges, Told, Watch};
-use crate::{Gates, Refusal, RunFault, Ticker, Watched, run_until};
+use crate::{
+    ChangeFault, Gates, Refusal, RouteChanges, RunFault, Ticker, Told, Watch, Watched, run_until,
+};
 use srt_cookie::Secret;
 use srt_lobby::Names;
 use srt_mailbox::{Gate, Ungated};

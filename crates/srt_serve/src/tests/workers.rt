@@ -1,11 +1,11 @@
 //! Workers and the polling thread at routes that only count, so that a run may last long.
 
 use crate::helping::Helper;
-use crate::wakeups::Wakeups;
 use crate::working::work;
 use srt_mailbox::{Gate, Look, Serve, Served, Ungated, Visit};
 use srt_poller::Signals;
 use srt_seq::Turned;
+use srt_wakeups::Wakeups;
 use std::alloc::{AllocError, Global};
 use std::sync::Wait;
 use std::sync::atomic::{AtomicU64, Ordering};

@@ -10,14 +10,13 @@ mod changing;
 use crate::{Machine, Start, StatusServer, Watcher};
 use arrayvec::ArrayVec;
 use changing::Written;
-use srt_poller::{Asked, Report};
 use srt_route::{Reply, Route};
 use srt_seq::{Access, Entry, Item, Mode, NotAdmitted, Peer, Role, Rules};
-use srt_serve::{Refusal, Told, Watch};
 use srt_status::{
     CauseCounts, ChangeCounts, Flow, GatewayStatus, PollerCounts, PublisherCounts, RefusalCounts,
     RouteStatus, SessionStatus,
 };
+use srt_supervision::{Asked, Refusal, Report, Told, Watch};
 use std::alloc::Global;
 use std::process::Abort;
 use std::test::Fail;
@@ -545,9 +544,9 @@ fn the_page_is_shown_sessions_and_totals(rt: HostRuntime) -> Result<(), Fail> {
         repeats: 1,
         ..PublisherCounts::default()
     };
-    assert_eq!(rt; watcher.page.publishers, counts);
-    assert_eq!(rt; watcher.page.opened, 1);
-    let Some(session) = watcher.page.first else {
+    assert!(rt; watcher.page.server.publishers == counts);
+    assert_eq!(rt; watcher.page.server.opened, 1);
+    let Some(session) = watcher.page.server.first else {
         return Err(Fail::from("an open session"));
     };
     assert_eq!(rt; session.peer, CALLER);
@@ -561,14 +560,14 @@ fn the_page_is_shown_sessions_and_totals(rt: HostRuntime) -> Result<(), Fail> {
         return Err(Fail::from("a publisher"));
     };
     assert!(rt; publisher.active);
-    assert_eq!(rt; publisher.counts, counts);
+    assert!(rt; publisher.counts == counts);
     assert_eq!(rt; publisher.window_used, 2);
     assert_eq!(rt; publisher.window_available, 30);
     hear(rt.alloc(), &mut route, 1_005_000, SHUTDOWN)?;
     watcher.see(0, &route);
     assert_eq!(rt; watcher.next(NOTHING), Asked::GoOn);
-    assert!(rt; watcher.page.first.is_none());
-    assert_eq!(rt; watcher.page.publishers.received, 2);
+    assert!(rt; watcher.page.server.first.is_none());
+    assert_eq!(rt; watcher.page.server.publishers.received, 2);
     Ok(())
 }
 
@@ -593,25 +592,25 @@ fn the_page_is_shown_the_gateway(rt: HostRuntime) -> Result<(), Fail> {
         ..NOTHING
     };
     assert_eq!(rt; watcher.next(told), Asked::GoOn);
-    assert!(rt; watcher.page.polling);
-    assert_eq!(rt; watcher.page.uptime_seconds, 1);
-    assert_eq!(rt; watcher.page.poller.read, 11);
-    assert_eq!(rt; watcher.page.kernel_drops, Some(9));
-    assert_eq!(rt; watcher.page.resident_bytes, Some(73_240_576));
-    assert_eq!(rt; watcher.page.poller.not_allowed, 4);
-    assert_eq!(rt; watcher.page.refused.peer, 2);
+    assert!(rt; watcher.page.server.polling);
+    assert_eq!(rt; watcher.page.server.uptime_seconds, 1);
+    assert_eq!(rt; watcher.page.server.poller.read, 11);
+    assert_eq!(rt; watcher.page.server.kernel_drops, Some(9));
+    assert_eq!(rt; watcher.page.server.resident_bytes, Some(73_240_576));
+    assert_eq!(rt; watcher.page.server.poller.not_allowed, 4);
+    assert_eq!(rt; watcher.page.server.refused.peer, 2);
     let causes = CauseCounts {
         unknown_name: 1,
         request_key: 1,
         ..CauseCounts::default()
     };
-    assert_eq!(rt; watcher.page.causes, causes);
-    assert_eq!(rt; watcher.page.take_overs, Some(0));
+    assert!(rt; watcher.page.server.causes == causes);
+    assert_eq!(rt; watcher.page.server.take_overs, Some(0));
     watcher.machine.moment = 2_000_000;
     assert_eq!(rt; watcher.next(told), Asked::GoOn);
-    assert!(rt; !watcher.page.polling);
+    assert!(rt; !watcher.page.server.polling);
     let told = Told { reports: 1, ..told };
     assert_eq!(rt; watcher.next(told), Asked::GoOn);
-    assert!(rt; watcher.page.polling);
+    assert!(rt; watcher.page.server.polling);
     Ok(())
 }

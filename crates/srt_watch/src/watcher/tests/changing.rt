@@ -4,10 +4,9 @@ use super::{NOTHING, Watching, assert_lines, start, watcher};
 use crate::config_file::LastLook;
 use crate::indexes::{megabytes_of, reaches_mark};
 use crate::{ConfigFile, FileStamp, MAX_REASON};
-use srt_gateway::{Config, read_config};
-use srt_poller::Asked;
-use srt_serve::{ChangeFault, RouteChanges, Watch};
+use srt_config::{Config, read_config};
 use srt_status::ChangeCounts;
+use srt_supervision::{Asked, ChangeFault, RouteChanges, Watch};
 use std::alloc::{AllocError, Global};
 use std::cell::Cell;
 use std::fmt::InlineText;
@@ -157,9 +156,9 @@ fn assert_page(rt: &impl Abort, watcher: &mut Watching<'_>, initials: &[u8], cou
         refused,
         indexes,
     };
-    assert_eq!(rt; watcher.page.changes, wanted);
-    assert_eq!(rt; watcher.page.initials.as_slice(), initials);
-    assert_eq!(rt; watcher.page.routes as usize, initials.len());
+    assert!(rt; watcher.page.server.changes == wanted);
+    assert_eq!(rt; watcher.page.server.initials.as_slice(), initials);
+    assert_eq!(rt; watcher.page.server.routes as usize, initials.len());
 }
 
 #[test]

@@ -1,0 +1,144 @@
+//! The program's commands with their arguments and help.
+
+use clap::builder::ValueParser;
+use clap::{Arg, ArgAction, Command};
+use std::alloc::{AllocError, Global};
+
+/// The most rounds of `serve`.
+const MAX_SERVE_ROUNDS: u64 = 1_000_000_000;
+
+/// The version, as CHANGELOG.md has it.
+pub const VERSION: &str = "0.5";
+
+fn path<'a>(alloc: Global, name: &'a str, help: &'a str) -> Arg<'a> {
+    Arg::new(alloc, name)
+        .required(true)
+        .action(ArgAction::Set)
+        .help(help)
+}
+
+fn config<'a>(alloc: Global) -> Arg<'a> {
+    path(
+        alloc,
+        "CONFIG",
+        "The configuration, a TOML file (examples/gateway.toml is one to start from)",
+    )
+}
+
+fn tape<'a>(alloc: Global) -> Arg<'a> {
+    path(
+        alloc,
+        "TAPE",
+        "A text of events, one a line: datagrams that arrive, ticks of the clock, turns of a route, sends",
+    )
+}
+
+fn rounds<'a>(alloc: Global) -> Arg<'a> {
+    Arg::new(alloc, "rounds")
+        .long("rounds")
+        .value_name("N")
+        .required(true)
+        .action(ArgAction::Set)
+        .value_parser(ValueParser::Unsigned(0, MAX_SERVE_ROUNDS))
+        .help(
+            "How many times the socket is polled before the gateway ends, at most 1000000000; an idle round takes up to 10 milliseconds",
+        )
+}
+
+fn explain<'a>(alloc: Global) -> Arg<'a> {
+    Arg::new(alloc, "explain")
+        .long("explain")
+        .action(ArgAction::SetTrue)
+        .help("Says on standard error where the fault is and how to mend it, or what is unwise")
+}
+
+fn duration<'a>(alloc: Global) -> Arg<'a> {
+    Arg::new(alloc, "for")
+        .long("for")
+        .value_name("DURATION")
+        .action(ArgAction::Set)
+        .help("Stops by itself after this time: a number and s, m, h or d, from 1s to 365d")
+}
+
+fn no_time<'a>(alloc: Global) -> Arg<'a> {
+    Arg::new(alloc, "no-time")
+        .long("no-time")
+        .action(ArgAction::SetTrue)
+        .help(
+            "Leaves out the time at the beginning of each line of the log, for a journal that has its own",
+        )
+}
+
+/// The command `check`.
+fn check<'a>(alloc: Global) -> Result<Command<'a>, AllocError> {
+    Command::new(alloc, "check")
+        .about("Prints how many routes a configuration has, or its first fault")
+        .arg(config(alloc))?
+        .arg(explain(alloc))
+}
+
+/// The command `replay`.
+fn replay<'a>(alloc: Global) -> Result<Command<'a>, AllocError> {
+    Command::new(alloc, "replay")
+        .about(
+            "Runs the gateway's core over a tape, a text of events, and prints what comes of each event",
+        )
+        .after_help(
+            "docs/PROTOCOL.md has the form of a tape; bin/explain prints one as a person reads it.",
+        )
+        .arg(config(alloc))?
+        .arg(tape(alloc))
+}
+
+/// The command `serve`.
+fn serve<'a>(alloc: Global) -> Result<Command<'a>, AllocError> {
+    Command::new(alloc, "serve")
+        .about(
+            "Serves SRT callers at the configuration's UDP address, and prints a report at the end",
+        )
+        .after_help(
+            "docs/OPERATING.md says how to call it, what the report means and how to keep it running.",
+        )
+        .arg(config(alloc))?
+        .arg(rounds(alloc))
+}
+
+/// The command `run`.
+fn run<'a>(alloc: Global) -> Result<Command<'a>, AllocError> {
+    Command::new(alloc, "run")
+        .about(
+            "Serves SRT callers until it is told to stop, tells on standard error what happens, and prints a report at the end",
+        )
+        .after_help(
+            "SIGINT and SIGTERM stop it if it was started by bin/srtgw, which blocks them: then every session gets a SHUTDOWN. docs/OPERATING.md has each line of the log.",
+        )
+        .arg(config(alloc))?
+        .arg(duration(alloc))?
+        .arg(no_time(alloc))
+}
+
+/// The commands that open no socket.
+fn with_files<'a>(alloc: Global, all: Command<'a>) -> Result<Command<'a>, AllocError> {
+    all.subcommand(check(alloc)?)?.subcommand(replay(alloc)?)
+}
+
+/// The commands that serve callers.
+fn with_callers<'a>(alloc: Global, all: Command<'a>) -> Result<Command<'a>, AllocError> {
+    all.subcommand(serve(alloc)?)?.subcommand(run(alloc)?)
+}
+
+/// The program without its commands.
+fn program<'a>(alloc: Global) -> Command<'a> {
+    Command::new(alloc, "srtgw")
+        .about(
+            "A gateway for SRT live streams: what a publisher sends on a route goes to each of the route's subscribers",
+        )
+        .version(VERSION)
+        .subcommand_required(true)
+}
+
+/// The program's commands with their arguments and help. It allocates; the only error is that it is refused.
+pub fn command<'a>(alloc: Global) -> Result<Command<'a>, AllocError> {
+    let all = with_files(alloc, program(alloc))?;
+    with_callers(alloc, all)
+}

@@ -1,0 +1,119 @@
+//! The tasks, and how one is found in a command line that was parsed.
+
+ghost use Rattle.std.specs.Prelude.{◌≡◌, IfSome, codes, option_map, Some};
+ghost use Rattle.clap.specs.Matches.{found_of, first_value, subcommand_name_of};
+ghost use Rattle.srt_command_line.specs.inside.Tasks.{lasts_of, command_of};
+
+use clap::ArgMatches;
+use srt_operate::duration_in;
+
+/// How a gateway runs.
+#[derive(Clone, Copy, Debug)]
+pub struct Manner {
+    /// How long it serves callers, in microseconds; `None` until it is told to stop.
+    pub lasts: Option<u64>,
+    /// Whether each line of the log begins with the time.
+    pub is_timed: bool,
+}
+
+/// What the command line asks for. Files are named by their paths.
+#[derive(Clone, Copy)]
+pub enum Task<'a> {
+    /// Check a configuration.
+    Check {
+        /// The configuration's file.
+        config: &'a str,
+        /// Whether the outcome is explained on standard error.
+        explains: bool,
+    },
+    /// Run a tape's events, and print their results.
+    Replay {
+        /// The configuration's file.
+        config: &'a str,
+        /// The tape's file.
+        tape: &'a str,
+    },
+    /// Serve the routes of a configuration.
+    Serve {
+        /// The configuration's file.
+        config: &'a str,
+        /// The number of rounds: how often the socket is polled, at most 1,000,000,000.
+        rounds: u32,
+    },
+    /// Serve the routes of a configuration until the gateway is told to stop, with a log.
+    Run {
+        /// The configuration's file.
+        config: &'a str,
+        /// How it runs.
+        manner: Manner,
+    },
+}
+
+/// What the words of a command line are.
+#[derive(Clone, Copy)]
+pub(crate) enum Given<'a> {
+    /// A task.
+    Task(Task<'a>),
+    /// The time of `--for` is no duration.
+    WrongDuration,
+}
+
+/// How a gateway runs by these words; None if the time of `--for` is no duration.
+fn manner_of(matches: &ArgMatches<'_>) -> Option<Manner>
+    ensures { option_map (λ manner. manner.lasts) result ≡ lasts_of (first_value (found_of matches.now) (codes "for")) }
+{
+    let is_timed = !matches.get_flag("no-time");
+    let lasts = match matches.get_str("for") {
+        Some(text) => Some(duration_in(text.as_bytes())?),
+        None => None,
+    };
+    Some(Manner { lasts, is_timed })
+}
+
+/// The task of `run`; None if a word is missing.
+fn run_in<'a>(matches: &ArgMatches<'a>) -> Option<Given<'a>>
+    ensures { IfSome result (λ given. command_of given ≡ codes "run") }
+{
+    let config = matches.get_str("CONFIG")?;
+    match manner_of(matches) {
+        Some(manner) => Some(Given::Task(Task::Run { config, manner })),
+        None => Some(Given::WrongDuration),
+    }
+}
+
+/// The task of a command other than `run`; None if a word is missing, or for another name.
+fn task_in<'a>(name: &str, matches: &ArgMatches<'a>) -> Option<Task<'a>>
+    ensures { IfSome result (λ task. command_of (Given.Task task) ≡ name.now) }
+{
+    let config = matches.get_str("CONFIG")?;
+    match name {
+        "check" => Some(Task::Check {
+            config,
+            explains: matches.get_flag("explain"),
+        }),
+        "serve" => Some(Task::Serve {
+            config,
+            rounds: matches.get_one("rounds")?,
+        }),
+        "replay" => Some(Task::Replay {
+            config,
+            tape: matches.get_str("TAPE")?,
+        }),
+        _ => None,
+    }
+}
+
+/// What a command line asks for that was parsed: a task of its own command. None if a word is missing, which `command`
+/// doesn't accept.
+pub(crate) fn given_in<'a>(matches: &ArgMatches<'a>) -> Option<Given<'a>>
+    ensures { IfSome result (λ given. subcommand_name_of matches.now ≡ Some (command_of given)) }
+{
+    let (name, inner) = matches.subcommand()?;
+    if name == "run" {
+        return run_in(inner);
+    }
+    match task_in(name, inner) {
+        Some(task) => Some(Given::Task(task)),
+        None => None,
+    }
+}

@@ -1,0 +1,9 @@
+pub mod Digits
+pub mod KeyFaults
+pub mod FirstByte
+pub mod TableKeys
+pub mod RouteItems
+pub mod Sound
+pub mod Sameness
+pub mod SameFile
+pub mod Compared

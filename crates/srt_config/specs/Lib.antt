@@ -1,0 +1,16 @@
+pub mod inside
+pub mod Numbers
+pub mod Faults
+pub mod FirstFault
+pub mod Keys
+pub mod Address
+pub mod AddressParts
+pub mod Access
+pub mod Rules
+pub mod Routes
+pub mod RouteNumbers
+pub mod Config
+pub mod SameKeys
+pub mod Changes
+pub mod ChangeLaws
+pub mod KeyFaults

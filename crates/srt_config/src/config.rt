@@ -1,0 +1,50 @@
+//! The configuration: a TOML table.
+
+ghost use Rattle.std.specs.Prelude.{◌≡◌, None, length, map, true};
+ghost use Rattle.std.specs.List.{list_all};
+ghost use Rattle.srt_seq.specs.Terms.{terms_of};
+ghost use Rattle.srt_seq.specs.Entries.{is_between};
+ghost use Rattle.srt_lobby.specs.Opening.{fault_of};
+ghost use Rattle.srt_config.specs.Routes.{closes_later};
+
+mod access;
+mod address;
+mod faults;
+mod keys;
+mod reading;
+mod routes;
+mod rules;
+mod values;
+
+pub use access::{MAX_KEY, MAX_NETWORKS, is_key_text, read_network};
+pub use address::BindAddress;
+pub use faults::{ConfigFault, Key};
+pub use reading::{TOP_KEYS, read_config, read_table};
+pub use routes::{MAX_ROUND, ROUTE_KEYS, RouteNumbers};
+use srt_cookie::Secret;
+use srt_seq::{Entry, Schedule};
+
+/// The most threads that serve routes.
+pub const MAX_WORKERS: usize = 16;
+
+/// A configuration: everything that the gateway is started with.
+#[derive(Drop)]
+pub struct Config {
+    /// The secret of the handshake cookies: 32 bytes.
+    pub secret: Secret,
+    /// The address and UDP port at which `serve` receives datagrams.
+    pub bind: BindAddress,
+    /// The number of threads that serve the routes in `serve`: 1 to 16.
+    pub workers: u32,
+    /// The address and TCP port at which `run` shows its status page; `None` if it shows none.
+    pub status: Option<BindAddress>,
+    /// The routes, in the order of their indexes: 1 to 511, with distinct names.
+    pub entries: Vec<Entry>,
+    /// The rounds of the poller in which each of them opens and closes, in the same order. A replay has no rounds: it
+    /// opens all of them at its start.
+    pub schedules: Vec<Schedule>,
+    pub ghost served: { is_between 1 16 workers ≡ true },
+    pub ghost sound: { fault_of (map terms_of entries.items) ≡ None },
+    pub ghost scheduled: { length schedules.items ≡ length entries.items },
+    pub ghost later: { list_all closes_later schedules.items ≡ true },
+}

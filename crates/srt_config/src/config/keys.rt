@@ -1,0 +1,142 @@
+//! The keys of a table and their values.
+
+ghost use Rattle.std.specs.Prelude.{◌≡◌, ◌<◌, ◌^◌, option_map, true, Some, IfOk, IfSome};
+ghost use Rattle.toml.specs.Data.{get_member};
+ghost use Rattle.toml.specs.View.{view, table_view};
+ghost use Rattle.srt_seq.specs.Entries.{is_between};
+ghost use Rattle.srt_config.specs.Faults.{key_name};
+ghost use Rattle.srt_config.specs.FirstFault.{seen, Gives};
+ghost use Rattle.srt_config.specs.Keys.{is_key, least_unknown, known, value_at, value_seen, text_value, text_at, within, number_value};
+ghost use Rattle.srt_config.specs.Keys.{number_at, optional_number_at};
+
+use super::faults::{ConfigFault, Key};
+use srt_seq::is_between;
+use std::alloc::Global;
+use toml::{Table, Value};
+
+fn is_key(keys: &[Key], text: &str) -> bool
+    ensures { result ≡ is_key keys.now text.now }
+{
+    keys.iter().any(|key| key.name() == text)
+}
+
+#[tactic(auto, using(crate::proofs::TableKeys::view_keys))]
+fn least_unknown<'a>(keys: &[Key], table: &'a Table) -> Option<&'a str>
+    ensures { option_map (λ t. t.now) result ≡ least_unknown keys.now (table_view table.now) }
+{
+    for key in table.keys() {
+        if !is_key(keys, key.as_str()) {
+            return Some(key.as_str());
+        }
+    }
+    None
+}
+
+/// Checks that a table has no key but these. The error is `UnknownKey` with the first other key in the order of bytes;
+/// allocates its name alone.
+#[tactic(auto, unfolding(crate::specs::Keys::known))]
+pub(crate) fn only_known(alloc: Global, keys: &[Key], table: &Table) -> Result<(), ConfigFault>
+    ensures { Gives (λ u. u) result (known keys.now (table_view table.now)) }
+{
+    let Some(key) = least_unknown(keys, table) else {
+        return Ok(());
+    };
+    match String::from_str(alloc, key) {
+        Ok(key) => Err(ConfigFault::UnknownKey(key)),
+        Err(_) => Err(ConfigFault::OutOfMemory),
+    }
+}
+
+/// The value at a key, if there is one.
+pub(crate) fn found_at(table: &Table, key: Key) -> Option<&Value>
+    ensures { option_map value_seen result ≡ get_member (key_name key) (table_view table.now) }
+{
+    table.get(key.name())
+}
+
+/// The value at a key, or `Missing`.
+#[tactic(auto, unfolding(crate::specs::Keys::value_at))]
+pub(crate) fn value_at(table: &Table, key: Key) -> Result<&Value, ConfigFault>
+    ensures { seen value_seen result ≡ value_at key (table_view table.now) }
+{
+    match found_at(table, key) {
+        Some(value) => Ok(value),
+        None => Err(ConfigFault::Missing(key)),
+    }
+}
+
+/// The text that the value of a key is, or `WrongKind`.
+#[tactic(auto, unfolding(crate::specs::Keys::text_value))]
+pub(crate) fn text_value(key: Key, value: &Value) -> Result<&str, ConfigFault>
+    ensures { seen (λ t. t.now) result ≡ text_value key (view value.now) }
+{
+    match value.as_str() {
+        Some(text) => Ok(text),
+        None => Err(ConfigFault::WrongKind(key)),
+    }
+}
+
+/// The text at a key, or `Missing` or `WrongKind`.
+#[tactic(auto, unfolding(crate::specs::Keys::text_at))]
+pub(crate) fn text_at(table: &Table, key: Key) -> Result<&str, ConfigFault>
+    ensures { seen (λ t. t.now) result ≡ text_at key (table_view table.now) }
+{
+    text_value(key, value_at(table, key)?)
+}
+
+fn within(key: Key, low: usize, high: usize, number: i64) -> Result<u32, ConfigFault>
+    requires { high < 2 ^ 32 }
+    ensures value { seen (λ n. n) result ≡ within key low high number }
+    ensures inside { IfOk result (λ n. is_between low high n ≡ true) }
+{
+    match u32::try_from(number) {
+        Ok(number) if is_between(low, high, number as usize) => Ok(number),
+        _ => Err(ConfigFault::OutOfRange(key)),
+    }
+}
+
+/// The number that the value of a key is, from `low` to `high`, or `WrongKind` or `OutOfRange`.
+#[tactic(auto, unfolding(crate::specs::Keys::number_value))]
+fn number_value(key: Key, low: usize, high: usize, value: &Value) -> Result<u32, ConfigFault>
+    requires { high < 2 ^ 32 }
+    ensures value { seen (λ n. n) result ≡ number_value key low high (view value.now) }
+    ensures inside { IfOk result (λ n. is_between low high n ≡ true) }
+{
+    match value.as_integer() {
+        Some(number) => within(key, low, high, number),
+        None => Err(ConfigFault::WrongKind(key)),
+    }
+}
+
+/// The number at a key, from `low` to `high`, or `Missing`, `WrongKind` or `OutOfRange`.
+#[tactic(auto, unfolding(crate::specs::Keys::number_at))]
+pub(crate) fn number_at(
+    table: &Table,
+    key: Key,
+    low: usize,
+    high: usize,
+) -> Result<u32, ConfigFault>
+    requires { high < 2 ^ 32 }
+    ensures value { seen (λ n. n) result ≡ number_at key low high (table_view table.now) }
+    ensures inside { IfOk result (λ n. is_between low high n ≡ true) }
+{
+    number_value(key, low, high, value_at(table, key)?)
+}
+
+/// The number at a key that may be missing, from `low` to `high`, or `WrongKind` or `OutOfRange`.
+#[tactic(auto, unfolding(crate::specs::Keys::optional_number_at))]
+pub(crate) fn optional_number_at(
+    table: &Table,
+    key: Key,
+    low: usize,
+    high: usize,
+) -> Result<Option<u32>, ConfigFault>
+    requires { high < 2 ^ 32 }
+    ensures value { seen (λ n. n) result ≡ optional_number_at key low high (table_view table.now) }
+    ensures inside { IfOk result (λ found. IfSome found (λ n. is_between low high n ≡ true)) }
+{
+    match found_at(table, key) {
+        Some(value) => Ok(Some(number_value(key, low, high, value)?)),
+        None => Ok(None),
+    }
+}

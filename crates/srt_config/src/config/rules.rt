@@ -1,0 +1,77 @@
+//! What a route does beyond the draft: the keys in its table.
+
+ghost use Rattle.std.specs.Prelude.{◌≡◌, ◌≤◌};
+ghost use Rattle.toml.specs.View.{view, table_view};
+ghost use Rattle.srt_config.specs.FirstFault.{seen};
+ghost use Rattle.srt_config.specs.Rules.{callers_in, callers_value, callers_at, most_reserved, rules_at};
+
+use super::faults::{ConfigFault, Key};
+use super::keys::{found_at, optional_number_at, text_value};
+use srt_seq::limits::{
+    MAX_RESEND_PERCENT, MAX_RESERVED, MAX_SESSIONS, MAX_TAKEOVER_MS, MIN_RESEND_PERCENT,
+    MIN_TAKEOVER_MS,
+};
+use srt_seq::{Callers, Rules};
+use toml::{Table, Value};
+
+#[tactic(auto, unfolding(crate::specs::Rules::callers_in))]
+fn read_callers(text: &str) -> Result<Callers, ConfigFault>
+    ensures { seen (λ c. c) result ≡ callers_in text.now }
+{
+    if text == "draft" {
+        return Ok(Callers::Draft);
+    }
+    if text == "libsrt" {
+        return Ok(Callers::Libsrt);
+    }
+    Err(ConfigFault::OutOfRange(Key::Callers))
+}
+
+#[tactic(auto, unfolding(crate::specs::Rules::callers_value))]
+fn callers_value(value: &Value) -> Result<Callers, ConfigFault>
+    ensures { seen (λ c. c) result ≡ callers_value (view value.now) }
+{
+    read_callers(text_value(Key::Callers, value)?)
+}
+
+/// Which rules the sessions of the route of a table follow; None if its key is missing.
+#[tactic(auto, unfolding(crate::specs::Rules::callers_at))]
+pub(crate) fn callers_at(table: &Table) -> Result<Option<Callers>, ConfigFault>
+    ensures { seen (λ c. c) result ≡ callers_at (table_view table.now) }
+{
+    match found_at(table, Key::Callers) {
+        Some(value) => Ok(Some(callers_value(value)?)),
+        None => Ok(None),
+    }
+}
+
+/// The greatest number of slots that may be kept for publishers in a route of this number of sessions.
+fn most_reserved(sessions: u32) -> usize
+    ensures value { result ≡ most_reserved sessions }
+    ensures few { result ≤ 2 }
+{
+    MAX_RESERVED.min((sessions as usize).saturating_sub(1))
+}
+
+/// The rules of the route of a table, with this number of sessions, and for these callers.
+#[tactic(auto, unfolding(crate::specs::Rules::rules_at))]
+pub(crate) fn rules_at(sessions: u32, callers: Callers, table: &Table) -> Result<Rules, ConfigFault>
+    ensures { seen (λ r. r) result ≡ rules_at sessions callers (table_view table.now) }
+{
+    let reserved = optional_number_at(table, Key::Reserved, 0, most_reserved(sessions))?;
+    let sessions_per_address = optional_number_at(table, Key::SessionsPerAddress, 1, MAX_SESSIONS)?;
+    let takeover_ms = optional_number_at(table, Key::TakeoverMs, MIN_TAKEOVER_MS, MAX_TAKEOVER_MS)?;
+    let resend_percent = optional_number_at(
+        table,
+        Key::ResendPercent,
+        MIN_RESEND_PERCENT,
+        MAX_RESEND_PERCENT,
+    )?;
+    Ok(Rules {
+        callers,
+        reserved: reserved.unwrap_or(0),
+        sessions_per_address,
+        takeover_ms,
+        resend_percent,
+    })
+}

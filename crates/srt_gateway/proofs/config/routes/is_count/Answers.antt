@@ -1,7 +1,0 @@
-use Rattle.std.proofs.Common.{ap, ◌∙◌}
-use Rattle.srt_seq.specs.Entries.{is_between}
-use Rattle.srt_gateway.proofs.RouteItems.{counted}
-use Rattle.srt_gateway.proofs.config.routes.is_count.Goals as goal
-
-pub returns : goal.returns
-returns c = c.is_between.ensures ∙ ap (is_between 1 511) (counted c.args.values.now)

@@ -1,7 +1,0 @@
-use Rattle.std.proofs.Common.{rules}
-use Rattle.srt_gateway.specs.Events.{event_in}
-use Rattle.srt_gateway.proofs.events.read_fields.Goals as goal
-
-pub returns-in_ok-letter-in-79-clause-value : goal.returns-in_ok-letter-in-79-clause-value
-unfolding event_in
-returns-in_ok-letter-in-79-clause-value c = let h = c.read_opening.ensures.value c.args.buffer.now in search (rules, h)

@@ -1,8 +1,0 @@
-use Rattle.srt_gateway.proofs.SentLines.{lines_tell, tapes_isolated}
-use Rattle.srt_gateway.proofs.laws.tapes.Goals as goal
-
-pub returns-clause-lines : goal.returns-clause-lines
-returns-clause-lines c = lines_tell
-
-pub returns-clause-isolated : goal.returns-clause-isolated
-returns-clause-isolated c = tapes_isolated

@@ -1,6 +1,0 @@
-use Rattle.std.proofs.Common.{◌≡◌, drop}
-use Rattle.srt_gateway.specs.Tape.{digits_from}
-use Rattle.srt_gateway.proofs.numbers.read_digits.Given as goal
-
-abbrev pub invariant-loop-b : goal.invariant-loop-b
-invariant-loop-b l = digits_from 0 l.text ≡ digits_from l.number (drop l.b-index l.text)

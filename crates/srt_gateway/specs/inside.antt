@@ -1,7 +1,0 @@
--- What proofs and internal functions need: no public contract, law or document rests on it.
-pub mod AccessParts
-pub mod Parts
-pub mod Pieces
-pub mod RouteParts
-pub mod Said
-pub mod Step

@@ -1,0 +1,7 @@
+-- The routes' clock (our choice).
+use Rattle.std.specs.Prelude.{ℕ}
+use Rattle.srt_host.specs.declared.clock.Since.{Since}
+
+-- the moment that it told last, in microseconds
+abbrev pub last_of : {R : Type 0} → Since R → ℕ
+last_of clock = clock.last

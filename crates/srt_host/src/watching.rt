@@ -1,0 +1,107 @@
+//! The watcher of a gateway that runs on this machine.
+
+use crate::host::{Errors, Host, HostFile};
+use crate::status_page::StatusPage;
+use srt_command_line::{Manner, VERSION};
+use srt_config::Config;
+use srt_explain::Explained;
+use srt_operate::signals_are_blocked;
+use srt_watch::{Start, Watcher};
+use std::io::ErrorKind;
+use std::net::Ipv4Addr;
+use std::time::Instant;
+
+/// A watcher over this machine.
+pub type HostWatcher<'a> = Watcher<
+    'a,
+    Host<'a, HostRuntime>,
+    Errors<'a, HostRuntime>,
+    StatusPage,
+    HostFile<'a, HostRuntime>,
+>;
+
+/// Why there is no watcher.
+#[derive(Clone, Copy, Debug, PartialEq, Eq)]
+pub enum WatcherFault {
+    /// The status page's address can't be bound: the system's number of the error, if it has one. Standard error has its
+    /// text.
+    Page(Option<i32>),
+    /// Memory was refused.
+    OutOfMemory,
+}
+
+/// Binds the address of the status page, if the configuration has one. Says on standard error why it can't be bound.
+fn open_page(machine: &HostRuntime, config: &Config) -> Result<StatusPage, WatcherFault> {
+    match StatusPage::bind(machine, machine.alloc(), config.status) {
+        Ok(page) => Ok(page),
+        Err(error) if error.kind() == ErrorKind::OutOfMemory => Err(WatcherFault::OutOfMemory),
+        Err(error) => {
+            if let Some(address) = config.status {
+                let [a, b, c, d] = address.ip;
+                let ip = Ipv4Addr::new(a, b, c, d);
+                let port = address.port;
+                let _ = eprintln!(machine; "srtgw: status page at {ip}:{port}: {error}");
+            }
+            Err(WatcherFault::Page(error.raw_os_error()))
+        }
+    }
+}
+
+/// What a run of this configuration begins with.
+fn beginning(machine: &HostRuntime, config: &Config, manner: Manner) -> Start {
+    Start {
+        ip: config.bind.ip,
+        port: config.bind.port,
+        workers: config.workers,
+        is_blocked: signals_are_blocked(machine),
+        lasts: manner.lasts,
+        version: VERSION,
+    }
+}
+
+/// Has the watcher follow the configuration's file, and tell what is unwise in it.
+fn tell_watcher<'a>(
+    machine: &'a HostRuntime,
+    path: &'a str,
+    explained: &'a Explained,
+    watcher: &mut HostWatcher<'a>,
+) -> Result<(), WatcherFault> {
+    if let Some(file) = HostFile::at(machine, path) {
+        if watcher.follow(&explained.config, file).is_err() {
+            return Err(WatcherFault::OutOfMemory);
+        }
+    }
+    for warning in explained.warnings.iter() {
+        if watcher.warn(explained.text_of(*warning)).is_err() {
+            return Err(WatcherFault::OutOfMemory);
+        }
+    }
+    Ok(())
+}
+
+/// A watcher of a run that began at `start`, the moment 0 of its clock. It follows the configuration's file, which is at
+/// `path`, and tells what is unwise in it behind its first line. Binds the status page's address. Allocates some
+/// kilobytes for each route.
+pub fn open_watcher<'a>(
+    machine: &'a HostRuntime,
+    path: &'a str,
+    explained: &'a Explained,
+    manner: Manner,
+    start: Option<Instant>,
+) -> Result<HostWatcher<'a>, WatcherFault> {
+    let config = &explained.config;
+    let page = open_page(machine, config)?;
+    let Ok(mut watcher) = Watcher::open(
+        machine.alloc(),
+        Host::new(machine, start, config.bind),
+        page,
+        Errors::new(machine),
+        manner.is_timed,
+        config.entries.as_slice(),
+        beginning(machine, config, manner),
+    ) else {
+        return Err(WatcherFault::OutOfMemory);
+    };
+    tell_watcher(machine, path, explained, &mut watcher)?;
+    Ok(watcher)
+}

@@ -1,0 +1,54 @@
+-- How a command ends (our choice).
+use Rattle.std.specs.Prelude.{ℕ, ◌≡◌, Bool, true, false, Result, Ok, Err}
+use Rattle.srt_command_line.specs.declared.words.WordsFault.{WordsFault}
+use Rattle.srt_command_line.specs.declared.words.WordsFault.TheVariants as words
+use Rattle.srt_replay.specs.declared.replaying.ReplayFault.{ReplayFault}
+use Rattle.srt_replay.specs.declared.replaying.ReplayFault.TheVariants as replays
+use Rattle.srt_offline.specs.declared.faults.OfflineFault.{OfflineFault}
+use Rattle.srt_offline.specs.declared.faults.OfflineFault.TheVariants.{File, Config, Replay, Memory, Output}
+
+-- a replay's fault is printed as a line, unless it is that of an output that can't be written
+abbrev pub is_replay_printed : ReplayFault → Bool
+is_replay_printed (replays.Tape line) = true
+is_replay_printed replays.OutOfMemory = true
+is_replay_printed replays.Read = true
+is_replay_printed replays.Write = false
+
+-- so is every other fault
+abbrev pub is_printed : OfflineFault → Bool
+is_printed File = true
+is_printed (Config fault) = true
+is_printed (Replay fault) = is_replay_printed fault
+is_printed Memory = true
+is_printed Output = false
+
+-- the fault of a command line that came to nothing
+abbrev pub words_fault : WordsFault → OfflineFault
+words_fault words.OutOfMemory = Memory
+words_fault words.Output = Output
+
+-- the exit status of a run, whatever its faults are
+abbrev pub status_after : {F : Type 0} → Result (Unit {0}) F → ℕ
+status_after (Ok done) = 0
+status_after (Err fault) = 1
+
+-- a configuration's file is read, or it has one of these faults
+abbrev pub IsConfigFault : OfflineFault → Type 0
+IsConfigFault File = Unit {0}
+IsConfigFault (Config fault) = Unit {0}
+IsConfigFault (Replay fault) = ⊥
+IsConfigFault Memory = Unit {0}
+IsConfigFault Output = ⊥
+
+-- a check replays nothing
+abbrev pub IsCheckFault : OfflineFault → Type 0
+IsCheckFault File = Unit {0}
+IsCheckFault (Config fault) = Unit {0}
+IsCheckFault (Replay fault) = ⊥
+IsCheckFault Memory = Unit {0}
+IsCheckFault Output = Unit {0}
+
+-- a replay that was made ends as it does; its fault is the command's, unchanged
+abbrev pub command_end : Result (Unit {0}) ReplayFault → Result (Unit {0}) OfflineFault
+command_end (Ok done) = Ok done
+command_end (Err fault) = Err (Replay fault)

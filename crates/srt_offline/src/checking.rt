@@ -1,0 +1,130 @@
+//! `srtgw check`: whether a configuration is right, and what is told of it.
+
+ghost use Rattle.std.specs.Prelude.{◌≡◌, ◌≤◌, IfErr, IsUtf8, Err};
+ghost use Rattle.toml.specs.Parse.{parse_document};
+ghost use Rattle.srt_config.specs.FirstFault.{Gives};
+ghost use Rattle.srt_config.specs.Config.{settings_of, config_in};
+ghost use Rattle.srt_offline.specs.Ends.{IsConfigFault, IsCheckFault};
+
+use crate::faults::OfflineFault;
+use crate::files::{MAX_CONFIG, read_file};
+use srt_config::{Config, ConfigFault, read_config};
+use srt_explain::{Explained, explain};
+use std::alloc::Global;
+use std::rt::Files;
+use std::str;
+
+/// The configuration that these bytes are, or its first fault. Bytes that aren't UTF-8 aren't TOML.
+fn config_in(alloc: Global, bytes: &[u8]) -> Result<Config, ConfigFault>
+    ensures gives { IsUtf8 bytes.now → Gives settings_of result (config_in (parse_document bytes.now)) }
+    ensures no_text { ¬ (IsUtf8 bytes.now) → result ≡ Err ConfigFault.Toml }
+{
+    match str::from_utf8(bytes) {
+        Ok(text) => read_config(alloc, text),
+        Err(_) => Err(ConfigFault::Toml),
+    }
+}
+
+/// Reads a configuration's file, at most 65,536 bytes. A file that isn't UTF-8 isn't TOML. Allocates the bytes, and the
+/// configuration.
+pub fn config_at(rt: &(impl Files + AllocGlobal), path: &str) -> Result<Config, OfflineFault>
+    ensures { IfErr result IsConfigFault }
+{
+    let bytes = match read_file(rt, path, MAX_CONFIG) {
+        Ok(bytes) => bytes,
+        Err(unread) => return Err(unread.fault()),
+    };
+    match config_in(rt.alloc(), &bytes) {
+        Ok(config) => Ok(config),
+        Err(fault) => Err(OfflineFault::Config(fault)),
+    }
+}
+
+/// A configuration's explanation from the bytes of its file. What is wrong is explained on standard error.
+fn explained_in(
+    rt: &(impl Eprint + AllocGlobal),
+    path: &str,
+    bytes: &[u8],
+) -> Result<Explained, ConfigFault> {
+    match explain(rt.alloc(), bytes) {
+        Ok(explained) => Ok(explained),
+        Err(explanation) => {
+            let why = &explanation;
+            let _ = eprintln!(rt; "srtgw: {path}: {why}");
+            Err(explanation.into_fault())
+        }
+    }
+}
+
+/// Reads a configuration's file, as [`config_at`] does, with what is unwise in it. What is wrong is explained on standard
+/// error.
+pub fn explained_at(
+    rt: &(impl Eprint + Files + AllocGlobal),
+    path: &str,
+) -> Result<Explained, OfflineFault>
+    ensures { IfErr result IsConfigFault }
+{
+    let bytes = match read_file(rt, path, MAX_CONFIG) {
+        Ok(bytes) => bytes,
+        Err(unread) => {
+            let why = &unread;
+            let _ = eprintln!(rt; "srtgw: {path}: {why}");
+            return Err(unread.fault());
+        }
+    };
+    match explained_in(rt, path, &bytes) {
+        Ok(explained) => Ok(explained),
+        Err(fault) => Err(OfflineFault::Config(fault)),
+    }
+}
+
+/// Prints the number of routes in a configuration.
+fn print_routes(rt: &impl Print, config: &Config) -> Result<(), OfflineFault>
+    ensures { IfErr result IsCheckFault }
+{
+    let routes = config.entries.len();
+    match println!(rt; "routes {routes}") {
+        Ok(()) => Ok(()),
+        Err(_) => Err(OfflineFault::Output),
+    }
+}
+
+/// Prints what is unwise in a configuration, a line each, on standard error.
+fn print_warnings(rt: &impl Eprint, path: &str, explained: &Explained) {
+    for warning in explained.warnings.iter() {
+        let text = explained.text_of(*warning);
+        let _ = eprintln!(rt; "srtgw: {path}: {text}");
+    }
+}
+
+/// `srtgw check CONFIG`.
+fn check_plainly(rt: &(impl Print + Files + AllocGlobal), path: &str) -> Result<(), OfflineFault>
+    ensures { IfErr result IsCheckFault }
+{
+    let config = config_at(rt, path)?;
+    print_routes(rt, &config)
+}
+
+/// `srtgw check CONFIG --explain`.
+fn check_explained<R>(rt: &R, path: &str) -> Result<(), OfflineFault>
+where
+    R: Print + Eprint + Files + AllocGlobal,
+    ensures { IfErr result IsCheckFault }
+{
+    let explained = explained_at(rt, path)?;
+    print_warnings(rt, path, &explained);
+    print_routes(rt, &explained.config)
+}
+
+/// `srtgw check CONFIG`: prints the number of routes in the configuration. If it `explains`, as with `--explain`, standard
+/// error gets what is wrong or unwise, a line each. Allocates the file's bytes, and the configuration.
+pub fn check_file<R>(rt: &R, path: &str, explains: bool) -> Result<(), OfflineFault>
+where
+    R: Print + Eprint + Files + AllocGlobal,
+    ensures { IfErr result IsCheckFault }
+{
+    if explains {
+        return check_explained(rt, path);
+    }
+    check_plainly(rt, path)
+}

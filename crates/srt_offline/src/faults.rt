@@ -1,0 +1,79 @@
+//! The faults that end a command early. The text of each is the line that is printed for it.
+
+ghost use Rattle.std.specs.Prelude.{◌≡◌};
+ghost use Rattle.std.specs.Process.{exit_status};
+ghost use Rattle.srt_offline.specs.Ends.{is_printed, status_after, words_fault};
+
+use srt_command_line::WordsFault;
+use srt_config::ConfigFault;
+use srt_replay::ReplayFault;
+use std::process::ExitCode;
+use thiserror::Error;
+
+/// Why a command ended early. All give status 1, and all but an output that can't be written print one line, their text,
+/// on standard output.
+#[derive(Debug, Drop, Error)]
+pub enum OfflineFault {
+    /// A file can't be read, or is larger than its limit.
+    #[error("file fault")]
+    File,
+    /// The configuration has this fault.
+    #[error(transparent)]
+    Config(ConfigFault),
+    /// A replay ended with this fault.
+    #[error(transparent)]
+    Replay(ReplayFault),
+    /// Memory was refused.
+    #[error("memory")]
+    Memory,
+    /// The output can't be written. Nothing is printed.
+    #[error("output fault")]
+    Output,
+}
+
+impl OfflineFault {
+    /// The fault of a replay that ended with this one.
+    pub fn of_replay(fault: ReplayFault) -> OfflineFault
+        ensures { result ≡ OfflineFault.Replay fault }
+    {
+        OfflineFault::Replay(fault)
+    }
+
+    /// The fault of a command line that came to nothing.
+    pub fn of_words(fault: WordsFault) -> OfflineFault
+        ensures { result ≡ words_fault fault }
+    {
+        match fault {
+            WordsFault::OutOfMemory => OfflineFault::Memory,
+            WordsFault::Output => OfflineFault::Output,
+        }
+    }
+
+    /// Whether the fault's text is printed as a line: for all faults but an output that can't be written.
+    pub fn is_printed(&self) -> bool
+        ensures { result ≡ is_printed self.now }
+    {
+        match self {
+            OfflineFault::Output | OfflineFault::Replay(ReplayFault::Write) => false,
+            OfflineFault::File
+            | OfflineFault::Config(_)
+            | OfflineFault::Replay(_)
+            | OfflineFault::Memory => true,
+        }
+    }
+}
+
+/// The exit status of a command: 0, or 1 after a fault, whose line is printed.
+pub fn status_of(rt: &impl Print, ended: Result<(), OfflineFault>) -> ExitCode
+    ensures { exit_status result ≡ status_after ended }
+{
+    match ended {
+        Ok(()) => ExitCode::SUCCESS,
+        Err(fault) => {
+            if fault.is_printed() {
+                let _ = rt.println(&fault);
+            }
+            ExitCode::FAILURE
+        }
+    }
+}

@@ -1,0 +1,11 @@
+pub mod Splits
+pub mod Letters
+pub mod Taking
+pub mod FirstLine
+pub mod Writing
+pub mod EventTexts
+pub mod Utf8
+pub mod Numbered
+pub mod Replays
+pub mod TapeEvents
+pub mod SentLines

@@ -1,0 +1,10 @@
+pub mod inside
+pub mod Tape
+pub mod Events
+pub mod Texts
+pub mod Replay
+pub mod Known
+pub mod Counted
+pub mod Tries
+pub mod ReplayOver
+pub mod Sent

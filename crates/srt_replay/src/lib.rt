@@ -1,0 +1,32 @@
+//! The replay of tapes: texts of events, one a line, run over a gateway without threads.
+//!
+//! It opens no file and no socket: reader and writer are arguments. The program is `srtgw`; the gateway with a socket and
+//! threads is in `srt_poller` and `srt_serve`. What an event does is decided by `srt_hub`, and the configuration is read
+//! by `srt_config`.
+//!
+//! Types: `CountedReader` and `CountedWriter`, a reader and a writer with a bound on the number of calls; `ReplayFault`,
+//! why a replay ended early.
+//!
+//! Calls: `replay` on a configuration and a tape, or `replay_over` with a hub of one's own.
+//!
+//! Files: `events.rt`, `fields.rt` and `hexadecimal.rt` have the grammar of a line (docs/PROTOCOL.md, "Tapes");
+//! `lines.rt` and `reader.rt` take lines; `texts.rt` and `writer.rt` write the answers; `replaying.rt` joins them.
+//! `laws.rt` states that tapes of one route don't depend on the others.
+#![tactic(auto)]
+
+mod events;
+mod fields;
+mod hexadecimal;
+pub mod laws;
+mod lines;
+mod reader;
+mod replaying;
+mod texts;
+mod writer;
+
+pub use reader::{Brought, CountedReader};
+pub use replaying::{ReplayFault, replay, replay_over};
+pub use writer::{CountedWriter, Tried};
+
+#[cfg(test)]
+mod tests;

@@ -1,0 +1,22 @@
+//! How the threads of a run wake each other, how long they sleep, and what they are called.
+//!
+//! All of it is hints, and no contract depends on them: a lost one delays work and never loses an item. So nothing here has
+//! a clause that says more than what memory and arithmetic need, and the crate knows neither routes nor queues: a route is
+//! an index.
+//!
+//! Types: `Wakeups` is what the threads of a run share, the marks of the routes and the notifiers at which threads sleep; an
+//! `AtomicBitSet` has a mark for each route; a `ThreadName` names a thread by `name_thread`. `pacing` has the times and the
+//! counts by which threads sleep and share work.
+//!
+//! Files: `wakeups.rt`, over `bit_set.rt` and `notifier.rt`; `pacing.rt`; `naming.rt`.
+#![tactic(auto)]
+
+mod bit_set;
+mod naming;
+mod notifier;
+pub mod pacing;
+mod wakeups;
+
+pub use bit_set::AtomicBitSet;
+pub use naming::{ThreadName, name_thread};
+pub use wakeups::Wakeups;
