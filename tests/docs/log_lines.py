@@ -11,7 +11,7 @@ from texts import parsed, ticked
 PAGE, CALLERS, CODE = "docs/operating/log.md", "docs/operating/callers.md", "crates/srt_log/src/"
 LITERAL = re.compile(r'b"((?:[^"\\]|\\.)*)"')
 NAMED = re.compile(r'(\d{4}) => line\.put\(b" (\w+)"\)')
-HEADS = {"line", "reason", "behind a refusal"}
+HEADS = {"line", "reason", "after a refusal"}
 # What stands for a part of a line that differs each time; a reason and a cause have rows of their own.
 BLANKS = re.compile(r"CODE NAME|, REASON|IP:PORT|\b(?:NAME|PEER|ID|N|TEXT)\b")
 VALUES = {"CODE NAME": r"\d{4} [A-Z]+", "IP:PORT": r"[\d.]+:\d+", "NAME": r"[^ \"]+", "PEER": r"[\d.]+:\d+", "ID": "0x[0-9a-f]{8}",
@@ -63,7 +63,7 @@ def line_of(form: str, reasons: List[str], causes: List[str]) -> str:
 
 def wrong_shown(index: Index) -> List[str]:
     """The lines of the log that documents show, and that have no form of the page."""
-    causes, reasons = forms(index, "behind a refusal"), forms(index, "reason")
+    causes, reasons = forms(index, "after a refusal"), forms(index, "reason")
     lines = [re.compile(line_of(it, reasons, causes)) for it in forms(index, "line")]
     wrong = []
     for path in documents(index):
