@@ -236,7 +236,29 @@ def defaults_are_right():
         run.stop()
 
 
-# ---- warnings ----
+# ---- explanations and warnings ----
+
+
+@case("CONFIGURATION shows explanations that the program prints")
+def explanations_are_right():
+    shown = re.findall(r"(?m)^    (srtgw: gateway\.toml: .*)$", read(KEYS))
+    keys = keys_in(read(KEYS))
+    right = {it: FULL[it] for it in REQUIRED}
+    whole, front = text_of(keys, right), text_of([it for it in keys if it.of == "file"], right)
+    tried = (front + routes(keys, 1) + text_of([it for it in keys if it.of == "route"], {**right, "sessions": "40"}),
+             whole.replace("latency_ms", "latency"), whole.replace("workers = 1\n", "").replace("bind = \"127.0.0.1:0\"", "bind = \"0.0\nworkers = 1"))
+    printed = []
+    with tempfile.TemporaryDirectory(prefix="srtgw-shown-") as room:
+        for text in tried:
+            with open(f"{room}/gateway.toml", "w") as it:
+                it.write(text)
+            printed += subprocess.run([PROGRAM, "check", "gateway.toml", "--explain"], cwd=room, capture_output=True, text=True).stderr.splitlines()
+    # Where a text that isn't TOML has its fault differs by the text.
+    place = r"srtgw: gateway\.toml: line \d+, column \d+: \S.*"
+    fits = len(shown) == len(printed) == 3 and shown[:2] == printed[:2] and all(re.fullmatch(place, it[2]) for it in (shown, printed))
+    expect(fits, f"the page shows {shown}, and the program prints {printed}")
+
+
 
 
 def warning_of(values: dict[str, str]) -> list[str]:
