@@ -7,7 +7,7 @@ from dataclasses import dataclass, field
 from typing import Dict, List, Optional, Set, Tuple
 
 from index import Index
-from texts import Block, Document, ticked
+from texts import Block, Document, parsed, ticked
 
 PLACEHOLDER = re.compile(r"[A-Z][A-Z_]*(?:\.\w+)?")
 ASSIGNMENT = re.compile(r"[A-Z_]+=\S*")
@@ -293,7 +293,7 @@ def wrong_configurations(index: Index, documents: List[Document]) -> Tuple[int, 
         if path.endswith(".toml") and (path.startswith("examples/") or path.startswith("crates/")):
             count += 1
             wrong += [f"{path}:{it}" for it in wrong_keys(index.text(path).splitlines(), 1, keys)]
-    table = index.text("docs/PROTOCOL.md").partition("## Configuration")[2].partition("\n## ")[0]
-    said = {it for line in re.findall(r"^\| (`[^|]*) \|", table, re.MULTILINE) for it in ticked(line)} - {"[[route]]"}
-    missing = (keys[0] | keys[1]) - {"route"} ^ said
-    return count, wrong + [f"docs/PROTOCOL.md, Configuration: {it} is in table or code alone" for it in sorted(missing)]
+    rows = [it for it in parsed("", index.text("docs/CONFIGURATION.md")).pieces if it.is_row() and it.head[:2] == ["key", "of"]]
+    said = {(it.cells[1], key) for it in rows for key in ticked(it.cells[0])}
+    missing = sorted({*(("file", it) for it in keys[0]), *(("route", it) for it in keys[1])} ^ said)
+    return count, wrong + [f"docs/CONFIGURATION.md: {key} of a {of} is in table or code alone" for of, key in missing]

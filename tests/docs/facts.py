@@ -237,7 +237,9 @@ def facts_of(index: Index) -> List[Fact]:
         (rf"no contract line is over {NUMBER} characters", rf"longest contract line has {NUMBER} characters"),
         is_stated=False,
     )
-    return [*publisher_facts(publishers(index)), *limit_facts(index), *memory_facts(index), lines]
+    alerts = float(index.text("operate/srtgw.rules.yml").count("- alert: "))
+    rules = Fact("the alerts of operate/srtgw.rules.yml", (alerts,), (rf"\b{NUMBER} (?:ready )?alerts\b",), is_stated=False)
+    return [*publisher_facts(publishers(index)), *limit_facts(index), *memory_facts(index), lines, rules]
 
 
 def wrong_facts(index: Index) -> Tuple[int, List[str]]:

@@ -90,10 +90,10 @@ def order_in(text: str) -> List[int]:
 
 
 def wrong_causes(index: Index) -> Tuple[int, List[str]]:
-    """Each code has the same causes in PROTOCOL, in the comments of the codes and in OPERATING, and PROTOCOL and the comments
+    """Each code has the same causes in PROTOCOL, in the comments of the codes and in callers.md, and PROTOCOL and the comments
     check them in the same order."""
     code_file = "crates/srt_hs/src/refusals.rt"
-    homes = {"docs/PROTOCOL.md": r"\n\n|\n(?=\d+\. )|\n\||(?<=\.) ", code_file: r"\n *\w+,\n", "docs/OPERATING.md": r"\n(?=\|)"}
+    homes = {"docs/PROTOCOL.md": r"\n\n|\n(?=\d+\. )|\n\||(?<=\.) ", code_file: r"\n *\w+,\n", "docs/operating/callers.md": r"\n(?=\|)"}
     wrong = []
     for path, mark in homes.items():
         stated = stated_causes(index, path, mark)

@@ -4,7 +4,7 @@ from typing import Dict, List, Tuple
 
 from index import Index
 
-MOST_WORDS: Dict[str, int] = {"README.md": 500, "docs/MODEL.md": 900}
+MOST_WORDS: Dict[str, int] = {"README.md": 500, "docs/MODEL.md": 900, "docs/OPERATING.md": 150, "docs/operating/start.md": 450}
 MOST_OF_LAB = 400
 MOST_OF_SENTENCE = 18.0
 

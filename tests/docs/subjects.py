@@ -7,10 +7,12 @@ from typing import Callable, Dict, List, Set, Tuple
 import commands
 import facts
 import links
+import log_lines
 import names
 import promises
 import rules
 import sizes
+import unsupported
 from index import Index
 from texts import Document, parsed, ticked
 
@@ -100,6 +102,16 @@ def checked_crates(index: Index) -> Answer:
     return f"{len(index.crates)} crates", wrong
 
 
+def checked_cases(index: Index) -> Answer:
+    """ARCHITECTURE's row of tests/operate names each file that has cases."""
+    path, folder = "docs/ARCHITECTURE.md", "tests/operate"
+    rows = [it for it in parsed(path, index.text(path)).pieces if it.is_row() and folder in ticked(it.cells[0])]
+    named = {name for it in rows for name in ticked(it.text())}
+    files = sorted(it for it in index.files if os.path.dirname(it) == folder and "\n@case(" in index.text(it))
+    missing = [it for it in files if os.path.basename(it) not in named]
+    return f"{len(files)} files of cases", [f"{path}: the row of {folder} lacks {os.path.basename(it)}" for it in missing]
+
+
 def checked_facts(index: Index) -> Answer:
     count, wrong = facts.wrong_facts(index)
     return f"{count} statements", wrong + rules.wrong_literals(index)
@@ -121,9 +133,12 @@ def of_tree(index: Index, outside: Dict[str, str]) -> Dict[str, Callable[[], Ans
     found["commands"] = partial(checked_commands, resolver, documents)
     found["words"] = partial(checked_words, resolver)
     found["crates"] = partial(checked_crates, index)
+    found["cases"] = partial(checked_cases, index)
     found["configurations"] = lambda: counted(commands.wrong_configurations(index, documents), "configurations")
     found["facts"] = partial(checked_facts, index)
     found["causes"] = lambda: counted(rules.wrong_causes(index), "codes")
+    found["log"] = lambda: counted(log_lines.wrong_log(index), "forms of lines")
+    found["unsupported"] = lambda: counted(unsupported.wrong_unsupported(index), "features that aren't supported")
     found["versions"] = lambda: ("the newest is the program's", rules.wrong_versions(index))
     found["sections"] = lambda: counted(rules.wrong_sections(index), "sections")
     found["lines"] = lambda: counted(rules.wrong_lines(index), "crates without a line over 160 characters")

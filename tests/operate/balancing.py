@@ -1,4 +1,4 @@
-"""The balancer's recipe of docs/OPERATING.md: nginx's stream module over UDP, hashed by source address, in front of two
+"""The balancer's recipe of docs/operating/scaling.md: nginx's stream module over UDP, hashed by source address, in front of two
 gateways."""
 import os
 import re

@@ -1,6 +1,7 @@
-"""What docs/OPERATING.md has for machines: its blocks, and the names of its tables."""
+"""What the pages of docs/operating/ have for machines: their blocks, and the names of their tables."""
 from __future__ import annotations
 
+import glob
 import itertools
 import re
 import textwrap
@@ -8,22 +9,17 @@ import textwrap
 from expecting import expect
 from tree import TOP, read
 
-OPERATING = f"{TOP}/docs/OPERATING.md"
+PAGES = f"{TOP}/docs/operating"
+OPERATE = f"{TOP}/operate"
 
 
 def block_of(first: str) -> str:
-    """The block that begins with this line, without what all its lines are indented by."""
-    lines = read(OPERATING).split("\n")
-    expect(f"    {first}" in lines, f"docs/OPERATING.md has no block {first!r}")
+    """The block that begins with this line, on whatever page, without what all its lines are indented by."""
+    found = [read(it).split("\n") for it in sorted(glob.glob(f"{PAGES}/*.md")) if f"\n    {first}\n" in read(it)]
+    expect(len(found) == 1, f"{len(found)} pages of docs/operating have a block {first!r}")
+    lines = found[0]
     block = itertools.takewhile(lambda it: not it or it.startswith("    "), lines[lines.index(f"    {first}"):])
     return textwrap.dedent("\n".join(block)).strip("\n") + "\n"
-
-
-def section_of(heading: str) -> str:
-    """The text below a heading, up to the next one of its kind."""
-    found = re.search(rf"(?ms)^## {re.escape(heading)}\n(.*?)(?=^## |\Z)", read(OPERATING))
-    expect(found, f"docs/OPERATING.md has no section {heading!r}")
-    return found[1]
 
 
 def names_in_tables(text: str) -> set[str]:

@@ -2,16 +2,17 @@
 import os
 import re
 import shlex
+import shutil
 import signal
 import subprocess
 import tempfile
 import time
 
 from cases import case
-from documents import block_of
+from documents import OPERATE
 from expecting import expect
 from running import TIME, UNBLOCKED, Run, Skipped, can_block, expect_polite, launcher, live, seconds_of
-from tree import PROGRAM, TOP
+from tree import PROGRAM, TOP, read
 
 WRONG_DURATIONS = ["0s", "5x", "366d", "", "s", "7", "-1s", "1.5h", "0d", "8761h", "31536001s", "2 s", "1h30m", "99999999999999999999s"]
 SMALL = dict(buffer=190, sessions=2, inbox=16)
@@ -82,7 +83,7 @@ def other_commands():
 
 @case("the unit's command starts it, and SIGTERM stops it politely")
 def starts_as_unit():
-    line = re.search(r"(?m)^ExecStart=(.*)$", block_of("[Unit]"))[1]
+    line = re.search(r"(?m)^ExecStart=(.*)$", read(f"{OPERATE}/srtgw.service"))[1]
     expect("/opt/srtgw/srtgw" in line and "/etc/srtgw/gateway.toml" in line, f"it is {line}")
     command = shlex.split(line.replace("/opt/srtgw/srtgw", PROGRAM).replace("/etc/srtgw/gateway.toml", "gateway.toml"))
     if not can_block() or not os.access(command[0], os.X_OK):
@@ -97,8 +98,7 @@ def starts_as_unit():
 def unit_is_safe():
     """The exposure by systemd's own measure is below 3 of 10."""
     with tempfile.TemporaryDirectory(prefix="srtgw-unit-") as room:
-        with open(f"{room}/srtgw.service", "w") as it:
-            it.write(block_of("[Unit]"))
+        shutil.copy(f"{OPERATE}/srtgw.service", room)
         words = ["systemd-analyze", "security", "--offline=true", "--threshold=29", f"{room}/srtgw.service"]
         it = subprocess.run(words, capture_output=True, text=True, env={**os.environ, "SYSTEMD_PAGER": "", "LC_ALL": "C.UTF-8"})
     if "unrecognized option" in it.stderr:

@@ -1,4 +1,5 @@
-"""What docs/OPERATING.md says of the status page for machines, by Prometheus' own tool and beside the program."""
+"""What docs/operating/metrics.md says of the status page for machines, by Prometheus' own tool and beside the program; the alerts
+and the dashboard of operate/."""
 from __future__ import annotations
 
 import json
@@ -15,11 +16,12 @@ import urllib.request
 from typing import Any
 
 from cases import case
-from documents import block_of, names_in_tables, section_of
+from documents import OPERATE, PAGES, block_of, names_in_tables
 from expecting import expect
 from machine import free_port
 from page import Page
 from running import Shown, live
+from tree import read
 
 PROMTOOL = "promtool"
 PROMETHEUS = "prometheus"
@@ -34,11 +36,11 @@ def expect_taken(room: str, *words: str) -> None:
     expect(it.returncode == 0, f"promtool {' '.join(words)}: {it.stdout[-800:]}{it.stderr[-300:]}")
 
 
-@case("the status page's configuration of Prometheus and its alerts, as OPERATING has them", needs=[PROMTOOL])
+@case("the status page's configuration of Prometheus and its alerts, as metrics.md and operate/ have them", needs=[PROMTOOL])
 def prometheus_takes_them():
     scrapes, fewer = block_of("scrape_configs:"), block_of("    metric_relabel_configs:")
     with tempfile.TemporaryDirectory(prefix="srtgw-rules-") as room:
-        texts = {RULES: block_of("groups:"), "prometheus.yml": scrapes,
+        texts = {RULES: read(f"{OPERATE}/{RULES}"), "prometheus.yml": scrapes,
                  "fewer.yml": scrapes.replace("rule_files:", textwrap.indent(fewer, "    ") + "rule_files:")}
         for name, text in texts.items():
             with open(f"{room}/{name}", "w", encoding="utf-8") as file:
@@ -60,7 +62,7 @@ class Server:
         target = "{}:{}".format(*page.address)
         text = block_of("scrape_configs:").replace("127.0.0.1:9001", target).replace("scrape_interval: 5s", "scrape_interval: 1s")
         expect(target in text and "1s" in text, "the document's configuration has another address or interval")
-        for name, its in ((RULES, block_of("groups:")), ("prometheus.yml", text)):
+        for name, its in ((RULES, read(f"{OPERATE}/{RULES}")), ("prometheus.yml", text)):
             with open(f"{self.room}/{name}", "w", encoding="utf-8") as file:
                 file.write(its)
         words = [PROMETHEUS, "--config.file=prometheus.yml", "--storage.tsdb.path=data", f"--web.listen-address=127.0.0.1:{port}"]
@@ -96,7 +98,7 @@ class Server:
         return self.value(expression) == wanted
 
 
-@case("the status page is scraped by Prometheus, as OPERATING configures it", needs=[PROMETHEUS])
+@case("the status page is scraped by Prometheus, as metrics.md configures it", needs=[PROMETHEUS])
 def prometheus_scrapes():
     with Shown([live("studio"), live("evening")], "--no-time") as run:
         run.is_up()
@@ -107,8 +109,31 @@ def prometheus_scrapes():
             expect(found == 4, f"two roles of two routes are {found} series")
             loaded = server.answer("rules")
             expect(loaded and len(loaded["groups"][0]["rules"]) == 7, f"the rules that it has are {loaded}")
+            for expression in expressions_of_dashboard():
+                whole = re.sub(r"\$(?:instance|route)\b", ".*", expression)
+                expect(server.answer(f"query?{urllib.parse.urlencode({'query': whole})}") is not None, f"Prometheus doesn't take {whole!r}")
             run.stop()
             expect(server.becomes('up{job="srtgw"}', 0, 10), "Prometheus doesn't see that it is gone")
+
+
+def used_by_alerts() -> set[str]:
+    return set(re.findall(r"srtgw_\w+", read(f"{OPERATE}/{RULES}")))
+
+
+def dashboard() -> Any:
+    return json.loads(read(f"{OPERATE}/srtgw-dashboard.json"))
+
+
+def expressions_of_dashboard() -> list[str]:
+    return [target["expr"] for panel in dashboard()["panels"] for target in panel["targets"]]
+
+
+def used_by_dashboard() -> set[str]:
+    """The metrics of the dashboard's panels and variables. Raises Wrong if a panel has none."""
+    expressions = expressions_of_dashboard()
+    expect(all("srtgw_" in it for it in expressions), "a panel of the dashboard shows no metric")
+    queries = [str(it.get("definition", "")) for it in dashboard()["templating"]["list"]]
+    return set(re.findall(r"srtgw_\w+", " ".join(expressions + queries)))
 
 
 def short(family: str) -> str:
@@ -116,16 +141,19 @@ def short(family: str) -> str:
     return PREFIXES.sub("", family, count=1)
 
 
-@case("the status page's numbers are those that OPERATING explains")
+@case("the status page's numbers are those that metrics.md explains, and alerts and dashboard use")
 def numbers_are_explained():
     with Shown([live("studio")], "--no-time") as run:
         run.is_up()
         kinds = run.page.metrics().kinds
         run.stop()
-    text = section_of("The status page")
+    text = read(f"{PAGES}/metrics.md")
     explained = names_in_tables(text)
     counts = {it for it in map(short, kinds) if f"route_{it}" in map(short, kinds)}  # They stand for routes and for sessions.
     shown = {it for it in map(short, kinds) if it.removeprefix("route_") not in counts} | counts
     expect(shown == explained, f"not explained are {sorted(shown - explained)}, and not shown {sorted(explained - shown)}")
-    used = set(re.findall(r"srtgw_\w+", block_of("groups:")))
-    expect(used <= set(kinds), f"the alerts use {sorted(used - set(kinds))}")
+    for used in (used_by_alerts(), used_by_dashboard()):
+        expect(used and used <= set(kinds), f"not shown, and used by alerts or the dashboard: {sorted(used - set(kinds))}")
+    alerts = re.findall(r"- alert: (\w+)", read(f"{OPERATE}/{RULES}"))
+    rows = re.findall(r"(?m)^\| `([A-Z]\w+)` \|", text)
+    expect(alerts == rows, f"the alerts are {alerts}, and metrics.md has rows of {rows}")
