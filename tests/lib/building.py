@@ -1,16 +1,20 @@
 """Proves and builds crates side by side, each as soon as those that it uses are built.
 
 A command of the toolchain locks the folders of a crate and of all below it, so that two in one tree wait for each other. Each
-crate is therefore built in a room, a copy of its sources and of the libraries below it, and what was built moves back."""
+crate is therefore built in a room, a copy of its sources and of the libraries below it, and what was built moves back. Two builds in
+one tree take turns."""
 from __future__ import annotations
 
+import contextlib
+import fcntl
 import os
+import re
 import shutil
 import subprocess
 import tempfile
 import time
 from concurrent.futures import FIRST_COMPLETED, Future, ThreadPoolExecutor, wait
-from typing import Callable, Iterable, NamedTuple, TextIO
+from typing import Callable, Iterable, Iterator, NamedTuple, TextIO
 
 from durations import KEPT, NOTHING, Durations
 from planning import Plan, by_one_job
@@ -23,6 +27,8 @@ PROGRAM = "srtgw"
 OFFLINE = "srtgw_offline"
 # A file below a crate's out/ which says that one job proved the crate from nothing.
 ONE_JOB = "proved_by_one_job"
+# What the name of a room begins with, before the id of the process that builds there.
+ROOM = "srtgw-build-"
 
 
 class NotBuilt(Exception):
@@ -61,9 +67,12 @@ def is_program(crate: Crate) -> bool:
     return os.path.isfile(f"{crate.folder}/src/main.rt")
 
 
-def take_back(crate: Crate, room: str) -> None:
-    """Moves what was built in the room to the crate's own folder."""
+def take_back(crate: Crate, room: str, began: float) -> None:
+    """Moves what was built in the room to the crate's own folder. A program gets the time at which its build began: a source that
+    changed meanwhile is newer."""
     os.makedirs(f"{crate.folder}/out", exist_ok=True)
+    if is_program(crate):
+        os.utime(f"{room}/crates/{crate.name}/out/{crate.name}", (began, began))
     for part in ("incremental", "rlib", crate.name):
         made = f"{room}/crates/{crate.name}/out/{part}"
         if os.path.exists(made):
@@ -92,9 +101,9 @@ def call(words: list[str], folder: str) -> tuple[int, str, float]:
         return started.returncode, said.read().decode(errors="replace"), used.ru_utime + used.ru_stime
 
 
-def build(crate: Crate, jobs: int) -> Built:
-    """Builds one crate in a room of its own."""
-    with tempfile.TemporaryDirectory(prefix="srtgw-build-", dir=rooms()) as room:
+def build(crate: Crate, jobs: int, began: float) -> Built:
+    """Builds one crate in a room of its own; `began` is when the whole build did."""
+    with tempfile.TemporaryDirectory(prefix=f"{ROOM}{os.getpid()}-", dir=rooms()) as room:
         make_room(room, [crate.name])
         lend_libraries(crate, below([crate.name]), room)
         words = ["rt", "run", "--jobs", str(jobs), "--", "--help"] if is_program(crate) else ["rt", "lib", "--jobs", str(jobs)]
@@ -103,7 +112,7 @@ def build(crate: Crate, jobs: int) -> Built:
         status, said, seconds = call(words, here)
         if status or not os.path.exists(f"{here}/out/{crate.name if is_program(crate) else 'rlib'}"):
             raise NotBuilt(f"{crate.name} could not be built; the end of the log:\n{said[-2000:]}", said)
-        take_back(crate, room)
+        take_back(crate, room, began)
     # Where another checkout of this machine has it, the toolchain begins with what a check kept there, or takes the library.
     over = None if "logic=proved" not in said else KEPT if had or "begins with what a check kept" in said else NOTHING
     if over:
@@ -120,20 +129,41 @@ def note_profile(crate: Crate, is_one: bool) -> None:
         os.remove(note)
 
 
+def git_folder() -> str | None:
+    """The repository's own folder of git, if it has one that can be written."""
+    git = f"{TOP}/.git"
+    return git if os.path.isdir(git) and os.access(git, os.W_OK) else None
+
+
 def rooms() -> str | None:
     """A folder for rooms on the repository's own disk, so that what was built moves by its name; the system's own if there is none."""
-    git = f"{TOP}/.git"
-    if not os.path.isdir(git) or not os.access(git, os.W_OK):
-        return None
-    os.makedirs(f"{git}/rooms", exist_ok=True)
-    return f"{git}/rooms"
+    git = git_folder()
+    if git:
+        os.makedirs(f"{git}/rooms", exist_ok=True)
+    return f"{git}/rooms" if git else None
 
 
 def clear_rooms() -> None:
     """Removes the rooms that a build left which was killed: the toolchain would take their crates for the repository's."""
     folder = rooms()
-    for it in os.listdir(folder) if folder else []:
-        shutil.rmtree(f"{folder}/{it}", ignore_errors=True)
+    for name in os.listdir(folder) if folder else []:
+        found = re.match(rf"{ROOM}(\d+)-", name)
+        if not found or not os.path.exists(f"/proc/{found[1]}"):
+            shutil.rmtree(f"{folder}/{name}", ignore_errors=True)
+
+
+@contextlib.contextmanager
+def turn(tell: Callable[[str], None]) -> Iterator[None]:
+    """Waits until no other build of this tree runs, and lets none begin until the end."""
+    folder = git_folder() or f"{TOP}/crates/{PROGRAM}/out"
+    os.makedirs(folder, exist_ok=True)
+    with open(f"{folder}/srtgw-build.lock", "w") as file:
+        try:
+            fcntl.flock(file, fcntl.LOCK_EX | fcntl.LOCK_NB)
+        except BlockingIOError:
+            tell("another build of this tree runs; this one waits until it ends")
+            fcntl.flock(file, fcntl.LOCK_EX)
+        yield
 
 
 def jobs_of_memory() -> int:
@@ -200,8 +230,9 @@ class Progress:
 
 def build_all(wanted: list[Crate], log: TextIO, tell: Callable[[str], None]) -> float:
     """Builds these crates, each after those that it uses, as many at a time as there are processors. It tells how far it is as crates
-    end, and each minute. Returns the processor seconds of all."""
+    end, and each minute. Returns the processor seconds of all. To be called in the build's `turn`."""
     clear_rooms()
+    began = time.time()
     durations = Durations()
     plan = plan_of(wanted, durations)
     progress = Progress(plan)
@@ -213,7 +244,7 @@ def build_all(wanted: list[Crate], log: TextIO, tell: Callable[[str], None]) -> 
                 crate, jobs = begins
                 now = time.monotonic()
                 progress.running[crate.name] = jobs, now
-                running[pool.submit(build, crate, jobs)] = crate, now
+                running[pool.submit(build, crate, jobs, began)] = crate, now
             tell(progress.text())
             for it in wait(running, timeout=60, return_when=FIRST_COMPLETED).done:
                 crate, start = running.pop(it)

@@ -8,7 +8,7 @@ import os
 import statistics
 from typing import Iterable
 
-from tree import TOP, Crate, below, crates, files_of, read, write
+from tree import TOP, Crate, below, crates, files_of, machine_folder, read, write
 
 SHIPPED = f"{TOP}/tests/lib/build_seconds.txt"
 WHAT = "Processor seconds of each crate, proved from nothing by one job: bin/build reckons with them where it hasn't built a crate before."
@@ -21,8 +21,7 @@ OF_KEPT = 0.25
 
 def file_of_machine() -> str:
     """The file with the seconds of this machine's builds."""
-    cache = os.environ.get("XDG_CACHE_HOME", "")
-    return f"{cache if os.path.isabs(cache) else os.path.expanduser('~/.cache')}/srtgw/build_seconds.json"
+    return f"{machine_folder()}/build_seconds.json"
 
 
 def shipped() -> tuple[str, dict[str, float]]:

@@ -18,7 +18,7 @@ import snapshot
 import steps
 import verdicts
 from machine import Meter
-from parts import OF_FILES, Count, all_of, note_failed
+from parts import LEFT_OUT, OF_FILES, Count, all_of, note_failed
 from steps import Ended, Step
 from tree import TOP, Crate, crates
 from verdicts import Checksums, Verdict
@@ -32,6 +32,9 @@ OF_CASES = r"\w+: (\d+) passed, (\d+) failed, \d+ skipped"
 # gate's beginning, nor after the first, counted from that of the edits. What is left out is said to be.
 EDITS_WITHIN, EDITS_WITHIN_FEW = 40, 75
 BEGIN_WITHIN = 150
+# Each step has to end within so many minutes of the gate's beginning, or, where everything is done anew, of the second. One that
+# doesn't is ended, and has failed: so the gate says what hung.
+ALL_WITHIN, ALL_WITHIN_ANEW = 170, 600
 # With fewer processors than this the chain of the proofs leaves none idle.
 MANY = 4
 BUILT = re.compile(r"rt: (\w+) (?:proved$|is kept: )")
@@ -76,7 +79,7 @@ class Gate:
 
     def do(self, step: Step, is_live: bool = False) -> Ended:
         """Runs a step of the gate."""
-        ended = steps.run(step, self.on_line if is_live else None)
+        ended = steps.run(step, self.on_line if is_live else None, self.seconds_left())
         self.ended.append(ended)
         return ended
 
@@ -160,20 +163,23 @@ class Gate:
         """Does once more, with nothing beside it, what failed and may have failed for what ran beside it. Only that counts."""
         beside = [it for lane in PLAYS for it in lane] + [f"tests of {it.name}" for it in self.only_run]
         for first in [it for it in self.ended if it.count.failed and it.step.name in beside]:
+            if self.seconds_left() <= 0:
+                steps.say(f"\n{first.step.name}: not done once more alone, since the time of the gate is over")
+                continue
             names = steps.named_cases(first) if first.step.name in BY_CASE else []
             steps.say(f"\n{first.step.name}: {first.count.failed} failed beside other work; once more alone: {', '.join(names) or 'all of it'}")
             step = first.step
             if names:
                 step = step._replace(words=[f"{self.room.whole}/tests/{step.name}/run", *names], last_line=OF_CASES)
-            again = steps.run(step)
+            again = steps.run(step, seconds=self.seconds_left())
             self.ended[self.ended.index(first)] = merged(first, again, bool(names))
-        if self.is_proved and self.failed_tests:
+        if self.is_proved and self.failed_tests and self.seconds_left() > 0:
             self.run_failed_tests()
 
     def run_failed_tests(self) -> None:
         """Runs the tests alone that are proved and failed when `rt ci` ran them beside other work. Only that counts."""
         steps.say(f"\nTests that failed beside other work, once more alone: {', '.join(self.failed_tests)}")
-        again = [steps.run(self.tests_of(it)) for it in self.failed_tests]
+        again = [steps.run(self.tests_of(it), seconds=self.seconds_left()) for it in self.failed_tests]
         first = next(it for it in self.ended if it.step.name == "proofs")
         amended = first._replace(count=first.count._replace(failed=0), failures=[])
         self.ended[self.ended.index(first)] = amended
@@ -183,6 +189,10 @@ class Gate:
 
     def minutes(self) -> float:
         return (time.monotonic() - self.began) / 60
+
+    def seconds_left(self) -> float:
+        """The seconds in which each step has to end."""
+        return 60 * ((ALL_WITHIN_ANEW if self.anew else ALL_WITHIN) - self.minutes())
 
     def do_all(self) -> None:
         """Does all steps."""
@@ -221,6 +231,9 @@ class Gate:
         skipped = [f"{it.step.name}: {case}" for it in self.ended for case in it.skipped]
         if skipped:
             print("\nSkipped, and not counted:\n" + "\n".join(f"  {it}" for it in skipped))
+        left_out = [line for it in self.ended for line in it.left_out]
+        if left_out:
+            print("\nLeft out for want of time, and not counted:\n" + "\n".join(f"  {it}" for it in left_out))
         print("\nMinutes of each part, on the clock and of processors:")
         for it in self.ended:
             print(f"  {it.step.name:<24} {it.minutes:6.1f} {it.processor_minutes:7.1f}")
@@ -252,6 +265,7 @@ def merged(first: Ended, again: Ended, is_by_name: bool) -> Ended:
         count,
         again.failures,
         first.skipped,
+        first.left_out,
         first.minutes + again.minutes,
         first.processor_minutes + again.processor_minutes,
     )
@@ -280,6 +294,7 @@ def whole(anew: bool = False) -> Count:
     for it in gate.ended:
         for line in it.failures:
             note_failed(line)
+        LEFT_OUT.extend(it.left_out)
     if anew and not count.failed:
         releases.write_page(content, gate.commit, count, gate.ended, gate.minutes())
         print(f"{os.path.relpath(releases.PAGE, TOP)} says so")

@@ -2,6 +2,7 @@
 from __future__ import annotations
 
 import os
+import signal
 import socket
 import threading
 from typing import NamedTuple
@@ -113,6 +114,29 @@ def is_below(pid: str, above: str, every: dict[str, Process]) -> bool:
     while pid in every and pid != above:
         pid = every[pid].parent
     return pid == above
+
+
+def family(pid: int) -> dict[str, str]:
+    """A process and all that were started below it, by their numbers, and when each began."""
+    every = processes()
+    return {it: every[it].began for it in every if is_below(it, str(pid), every)}
+
+
+def still_running(those: dict[str, str], every: dict[str, Process]) -> list[str]:
+    """Which of these processes still run, by their numbers and when they began."""
+    return [it for it, began in those.items() if it in every and every[it].began == began]
+
+
+def kill(those: dict[str, str]) -> None:
+    """Ends those of these processes that still run, and all below them, by force."""
+    every = processes()
+    running = still_running(those, every)
+    for it in (it for it in every if any(is_below(it, above, every) for above in running)):
+        try:
+            os.kill(int(it), signal.SIGKILL)
+        except ProcessLookupError:
+            # It has ended meanwhile.
+            pass
 
 
 def provers() -> list[Prover]:

@@ -4,15 +4,14 @@ from __future__ import annotations
 import json
 import os
 
-import verdicts
-from tree import read, write
+from tree import machine_folder, read, write
 
 # A crate of which nothing had to be proved again takes less than this, and keeps the figure that it had.
 LEAST = 0.1
 
 
 def of_machine() -> str:
-    return f"{os.path.dirname(verdicts.of_machine())}/minutes"
+    return f"{machine_folder()}/minutes"
 
 
 def last() -> dict[str, float]:

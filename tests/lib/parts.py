@@ -23,6 +23,8 @@ class Count(NamedTuple):
 
 # What failed so far, a line each: `bin/test` prints them again at its end.
 FAILED: list[str] = []
+# What was left out for want of time, a line each: `bin/test` prints them again, too.
+LEFT_OUT: list[str] = []
 LONGEST = 400
 MOST_SUSPECTS = 40
 

@@ -10,7 +10,8 @@ from tree import Crate
 MOST_JOBS = 4
 BATCHED = 0.75
 OVERHEAD = 1.3
-# A crate of fewer seconds takes a third more of the processors in batches, a long one a tenth: a small one gets a second job alone.
+# A crate of fewer seconds takes a third more of the processors in batches, a long one a tenth: a small one gets a second job only if
+# no other crate is ready for a processor.
 SMALL = 110.0
 
 
@@ -45,10 +46,12 @@ class Plan:
         idle = self.lanes - sum(running.values())
         if not ready or idle < 1:
             return None
-        crate, is_alone = ready[0], len(ready) == 1 and not running
-        if self.seconds[crate.name] < SMALL and not is_alone:
-            return crate, 1
-        return crate, max(1, min(most, MOST_JOBS, idle // len(ready)))
+        crate = ready[0]
+        share = idle // len(ready) if self.seconds[crate.name] >= SMALL else 1
+        # The processors for which no other crate is ready go to the one with the longest chain of all.
+        is_longest = all(self.chains[crate.name] > self.chains[it] for it in running)
+        spare = max(0, idle - len(ready)) if is_longest else 0
+        return crate, max(1, min(most, MOST_JOBS, max(share, 1 + spare)))
 
     def seconds_of(self, name: str, jobs: int) -> float:
         """How long a crate takes by so many jobs."""

@@ -12,11 +12,11 @@ from tree import TOP, files_of, sum_of, write
 PAGE = f"{TOP}/tests/RELEASE.md"
 # What the tests write themselves is no part of what they judge.
 WRITTEN = ("tests/RELEASE.md", "tests/verdicts")
-JUDGED = ("crates", "tests", "bin", "examples")
+JUDGED = ("crates", "tests", "bin", "examples", "operate")
 
 
 def checksum(top: str = TOP) -> str:
-    """A checksum of what a release's test judges: crates, tests, commands and examples, also in a copy of the tree."""
+    """A checksum of what a release's test judges: crates, tests, commands, examples and what is installed, also in a copy of the tree."""
     parts = [path for part in JUDGED for path in files_of(f"{top}/{part}", [""])]
     built = [f"{top}/crates/{it}/out/" for it in os.listdir(f"{top}/crates")]
     kept = [it for it in parts if not it.startswith(tuple(built)) and "/__pycache__/" not in it and not it.endswith(tuple(WRITTEN))]

@@ -54,9 +54,9 @@ def sweep(folder: str) -> None:
             shutil.rmtree(f"{folder}/{name}", ignore_errors=True)
 
 
-def copy_tree(to: str) -> None:
-    """Copies the tree to a new folder, and makes that the top of a repository."""
-    shutil.copytree(TOP, to, symlinks=True, ignore=LEFT_OUT)
+def copy_tree(top: str, to: str) -> None:
+    """Copies a tree to a new folder, and makes that the top of a repository."""
+    shutil.copytree(top, to, symlinks=True, ignore=LEFT_OUT)
     subprocess.run(["git", "init", "--quiet"], cwd=to, check=True)
 
 
@@ -69,8 +69,9 @@ def take() -> Snapshot:
     room = Snapshot(tempfile.mkdtemp(prefix=f"{PREFIX}{os.getpid()}-", dir=folder))
     # Some programs run as another user.
     os.chmod(room.folder, 0o755)
-    copy_tree(room.whole)
-    copy_tree(room.bare)
+    copy_tree(TOP, room.whole)
+    # The second is a copy of the first, so that both have the content that the gate looks at.
+    copy_tree(room.whole, room.bare)
     return room
 
 

@@ -3,11 +3,13 @@ from __future__ import annotations
 
 import os
 import re
+import signal
 import subprocess
 import threading
 import time
 from typing import Callable, NamedTuple
 
+from machine import family, kill, processes, still_running
 from parts import SAYS_FAILED, Count
 from tree import TOP
 
@@ -18,6 +20,9 @@ OF_TEST = r"(\d+) passed, (\d+) failed"
 IS_WRONG = re.compile(r"^[\w ]+ (?:of )?[\w.]+: wrong\b")
 FAILURES = "What failed:"
 SKIPPED = re.compile(r"case (.+: skipped, .*)")
+LEFT_OUT = re.compile(r"edits of \w+: \d+ not tried, .*")
+# The seconds in which a step has to end that is told to.
+GRACE = 30
 PRINTING = threading.Lock()
 # The processes of the steps that run now, and whether no other one may begin.
 RUNNING: set[subprocess.Popen[str]] = set()
@@ -40,15 +45,16 @@ class Step(NamedTuple):
 
 
 class Ended(NamedTuple):
-    """What became of a step: its counts, the lines that tell of failures, the cases that were skipped, and its minutes, on the clock
-    and of processors."""
+    """What became of a step: its counts, the lines that tell of failures, the cases that were skipped, what was left out for want of
+    time, and its minutes, on the clock and of processors."""
 
     step: Step
     count: Count
     failures: list[str]
     skipped: list[str]
-    minutes: float
-    processor_minutes: float
+    left_out: list[str] = []
+    minutes: float = 0.0
+    processor_minutes: float = 0.0
 
 
 def end_all() -> None:
@@ -71,16 +77,35 @@ def failures_in(lines: list[str]) -> list[str]:
     return list(dict.fromkeys(it for it in lines if SAYS_FAILED.search(it) or IS_WRONG.search(it)))
 
 
-def run(step: Step, on_line: Callable[[str], None] | None = None) -> Ended:
-    """Runs a step. With `on_line`, it calls that for each line and prints them as they come, and else all of them at the end."""
+def end_late(step: Step, process: subprocess.Popen[str], is_late: threading.Event) -> None:
+    """Ends a step whose time is over, politely, and after a while by force what is left of it and of all that it started."""
+    is_late.set()
+    say(f"\n== {step.name} is ended, since the time of the gate is over")
+    those, until = family(process.pid), time.monotonic() + GRACE
+    if str(process.pid) in those:
+        os.kill(process.pid, signal.SIGTERM)
+    while still_running(those, processes()) and time.monotonic() < until:
+        time.sleep(0.5)
+    kill(those)
+
+
+def run(step: Step, on_line: Callable[[str], None] | None = None, seconds: float = threading.TIMEOUT_MAX) -> Ended:
+    """Runs a step, for at most so many seconds: one that is ended then, or can't begin, has failed. With `on_line`, it calls that for
+    each line and prints them as they come, and else all of them at the end."""
     began, lines = time.monotonic(), list[str]()
     words = ["nice", "-n", str(step.gives_way), *step.words]
     if ENDING.is_set():
         raise Stopped
+    if seconds <= 0:
+        return Ended(step, Count(0, 1), [f"{step.name} wasn't begun, since the time of the gate was over"], [])
     process = subprocess.Popen(
         words, cwd=step.folder, stdin=subprocess.DEVNULL, stdout=subprocess.PIPE, stderr=subprocess.STDOUT, text=True, errors="replace"
     )
     RUNNING.add(process)
+    is_late = threading.Event()
+    timer = threading.Timer(seconds, end_late, [step, process, is_late])
+    timer.daemon = True
+    timer.start()
     assert process.stdout
     for line in process.stdout:
         lines.append(line.rstrip("\n"))
@@ -90,11 +115,19 @@ def run(step: Step, on_line: Callable[[str], None] | None = None) -> Ended:
     RUNNING.discard(process)
     _, status, used = os.wait4(process.pid, 0)
     process.returncode = os.waitstatus_to_exitcode(status)
+    timer.cancel()
+    if is_late.is_set():
+        timer.join()
     minutes, processor = (time.monotonic() - began) / 60, (used.ru_utime + used.ru_stime) / 60
     if not on_line:
         say("\n".join([f"\n== {step.name}, {minutes:.1f} minutes", *lines]))
     skipped = [found[1] for it in lines if (found := SKIPPED.match(it))]
-    return Ended(step, *counted(step, lines, process.returncode), skipped, minutes, processor)
+    left_out = [it for it in lines if LEFT_OUT.fullmatch(it)]
+    count, failures = counted(step, lines, process.returncode)
+    if is_late.is_set():
+        count = Count(count.passed, max(1, count.failed))
+        failures = [f"{step.name} was ended after {minutes:.0f} minutes, since the time of the gate was over", *failures]
+    return Ended(step, count, failures, skipped, left_out, minutes, processor)
 
 
 def counted(step: Step, lines: list[str], status: int) -> tuple[Count, list[str]]:

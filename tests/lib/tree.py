@@ -24,6 +24,12 @@ class Crate(NamedTuple):
         return f"{TOP}/crates/{self.name}"
 
 
+def machine_folder() -> str:
+    """The folder for what is kept on this machine, in whatever clone. A relative XDG_CACHE_HOME doesn't count."""
+    cache = os.environ.get("XDG_CACHE_HOME", "")
+    return f"{cache if os.path.isabs(cache) else os.path.expanduser('~/.cache')}/srtgw"
+
+
 def read(path: str) -> str:
     with open(path, encoding="utf-8") as file:
         return file.read()

@@ -2,12 +2,14 @@
 proved, and that each of their edits was refused. Which edits and which refusals of memory the gate tries again follows from it.
 
 Each is a fact about content. A wrong body is one by the contracts that it breaks, and a test calls what contracts describe; so of the
-crates below count what these say, `src` and `specs`, and not how it is proved. The toolchain isn't counted.
+crates below count what these say, `src` and `specs`, and not how it is proved. The toolchain counts where tests are proved and memory
+is refused, and not for copies and edits, whose verdicts stay over a change of it.
 
 A verdict is a line of `tests/verdicts`, which git keeps, and of a file of this machine, where it counts in every clone."""
 from __future__ import annotations
 
 import fcntl
+import functools
 import hashlib
 import os
 import subprocess
@@ -17,7 +19,7 @@ import copying
 import placing
 import trying
 from trying import Batch, Plan
-from tree import TOP, Crate, below, crates, files_of, read, sum_of
+from tree import TOP, Crate, below, crates, files_of, machine_folder, read, sum_of
 
 KEPT = f"{TOP}/tests/verdicts"
 HEAD = """\
@@ -58,6 +60,15 @@ def said_below(crate: Crate) -> list[str]:
     return [path for it in below([crate.name]) if it != crate for path in files_of(it.folder, ["src", "specs"]) if not is_test(path)]
 
 
+@functools.cache
+def toolchain() -> str:
+    """The line by which the toolchain tells its version, or an empty text where there is none."""
+    try:
+        return subprocess.run(["rt", "version"], stdout=subprocess.PIPE, stderr=subprocess.DEVNULL, text=True, check=True).stdout.strip()
+    except (OSError, subprocess.CalledProcessError):
+        return ""
+
+
 def checksums_of(crate: Crate) -> Checksums:
     """The checksums of a crate as it stands."""
     copies, _ = copying.copies_of(crate.folder, trying.edits_of(crate.name))
@@ -67,14 +78,13 @@ def checksums_of(crate: Crate) -> Checksums:
     return Checksums(
         sum_of([*own, copying.__file__], "\n".join(functions)),
         sum_of([*own, *edits, *said, *judging], crate.line),
-        sum_of([*own, *said], crate.line),
+        sum_of([*own, *said], f"{crate.line}\n{toolchain()}"),
     )
 
 
 def of_machine() -> str:
     """The file with what was learned on this machine, in whatever clone."""
-    folder = os.environ.get("XDG_CACHE_HOME") or os.path.expanduser("~/.cache")
-    return f"{folder}/srtgw/verdicts"
+    return f"{machine_folder()}/verdicts"
 
 
 def verdicts_in(text: str) -> list[Verdict]:

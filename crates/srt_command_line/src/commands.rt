@@ -127,18 +127,19 @@ fn with_callers<'a>(alloc: Global, all: Command<'a>) -> Result<Command<'a>, Allo
     all.subcommand(serve(alloc)?)?.subcommand(run(alloc)?)
 }
 
-/// The program without its commands.
-fn program<'a>(alloc: Global) -> Command<'a> {
+/// The program without its commands. Its name in usage lines is set, since it would be that of the file which was called.
+fn program<'a>(alloc: Global) -> Result<Command<'a>, AllocError> {
     Command::new(alloc, "srtgw")
         .about(
             "A gateway for SRT live streams: what a publisher sends on a route goes to each of the route's subscribers",
         )
         .version(VERSION)
         .subcommand_required(true)
+        .bin_name("srtgw")
 }
 
 /// The program's commands with their arguments and help. It allocates; the only error is that it is refused.
 pub fn command<'a>(alloc: Global) -> Result<Command<'a>, AllocError> {
-    let all = with_files(alloc, program(alloc))?;
+    let all = with_files(alloc, program(alloc)?)?;
     with_callers(alloc, all)
 }

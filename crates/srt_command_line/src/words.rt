@@ -1,6 +1,6 @@
 //! The words of a call, from the process to a task or a printed text.
 
-ghost use Rattle.std.specs.Prelude.{◌≡◌, IfOk};
+ghost use Rattle.std.specs.Prelude.{◌≡◌, IfErr, IfOk};
 ghost use Rattle.clap.specs.Values.{kind_of};
 ghost use Rattle.srt_command_line.specs.Statuses.{status_of, HasStatus};
 
@@ -82,10 +82,12 @@ where
 }
 
 /// The words of the process. `None` if one of them isn't UTF-8, which standard error then says: the status is that of
-/// wrong words, 2. Allocates them.
+/// wrong words, 2. Allocates them; the only fault is that memory is refused.
 pub fn words_given(
     rt: &(impl Env + Eprint + AllocGlobal),
-) -> Result<Option<Vec<String>>, WordsFault> {
+) -> Result<Option<Vec<String>>, WordsFault>
+    ensures { IfErr result (λ fault. fault ≡ WordsFault.OutOfMemory) }
+{
     match env::args(rt) {
         Ok(words) => match words.collect(rt.alloc()) {
             Ok(words) => Ok(Some(words)),

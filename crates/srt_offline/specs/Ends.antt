@@ -48,6 +48,14 @@ IsCheckFault (Replay fault) = ⊥
 IsCheckFault Memory = Unit {0}
 IsCheckFault Output = Unit {0}
 
+-- a replay tells no output fault of its own: a result that can't be written is a fault of the replay that was made
+abbrev pub IsReplayFault : OfflineFault → Type 0
+IsReplayFault File = Unit {0}
+IsReplayFault (Config fault) = Unit {0}
+IsReplayFault (Replay fault) = Unit {0}
+IsReplayFault Memory = Unit {0}
+IsReplayFault Output = ⊥
+
 -- a replay that was made ends as it does; its fault is the command's, unchanged
 abbrev pub command_end : Result (Unit {0}) ReplayFault → Result (Unit {0}) OfflineFault
 command_end (Ok done) = Ok done

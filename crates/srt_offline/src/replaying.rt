@@ -1,9 +1,9 @@
 //! `srtgw replay`: runs a tape's events, and prints the result of each.
 
-ghost use Rattle.std.specs.Prelude.{◌≡◌, ◌⊎◌, Result};
+ghost use Rattle.std.specs.Prelude.{◌≡◌, ◌⊎◌, Result, IfErr};
 ghost use Rattle.srt_replay.specs.Replay.{WasRefused};
 ghost use Rattle.srt_replay.specs.ReplayOver.{ReplaysOf};
-ghost use Rattle.srt_offline.specs.Ends.{command_end};
+ghost use Rattle.srt_offline.specs.Ends.{IsReplayFault, command_end};
 
 use crate::checking::config_at;
 use crate::faults::OfflineFault;
@@ -21,7 +21,8 @@ fn answer<B: BufRead, W: Write>(
     reader: &mut CountedReader<B>,
     writer: &mut CountedWriter<W>,
 ) -> Result<(), OfflineFault>
-    ensures { (ended : _) × (result ≡ command_end ended) × (WasRefused reader.old reader.new writer.old writer.new ended
+    ensures faults { IfErr result IsReplayFault }
+    ensures ends { (ended : _) × (result ≡ command_end ended) × (WasRefused reader.old reader.new writer.old writer.new ended
         ⊎ ReplaysOf config.now B.remaining reader.old W.contents writer.old writer.new ended) }
 {
     match replay(alloc, config, reader, writer) {
@@ -35,7 +36,9 @@ fn print_answers(
     rt: &(impl Print + AllocGlobal),
     config: &Config,
     tape: &[u8],
-) -> Result<(), OfflineFault> {
+) -> Result<(), OfflineFault>
+    ensures { IfErr result IsReplayFault }
+{
     match BufWriter::new(rt.alloc(), io::writer(rt)) {
         Ok(writer) => {
             let mut reader = CountedReader::new(tape);
@@ -52,7 +55,9 @@ pub fn replay_file(
     rt: &(impl Print + Files + AllocGlobal),
     config: &str,
     tape: &str,
-) -> Result<(), OfflineFault> {
+) -> Result<(), OfflineFault>
+    ensures { IfErr result IsReplayFault }
+{
     let config = config_at(rt, config)?;
     match read_file(rt, tape, MAX_TAPE) {
         Ok(bytes) => print_answers(rt, &config, &bytes),
