@@ -24,6 +24,15 @@ use std::time::Instant;
 /// The most rounds of `run`: at one a microsecond they last nine years.
 const MAX_RUN_ROUNDS: u64 = 1 << 48;
 
+/// The gateway's UDP socket: what arrives at it, what is sent from it, and the moment 0 of both. Without a clock there is
+/// no such moment.
+#[derive(Drop)]
+struct Bound<'a, R: Clock> {
+    source: MioSource<ClockPoller<'a, R>>,
+    wire: MioWire,
+    start: Option<Instant>,
+}
+
 /// Says on standard error why no socket was bound.
 fn explain_bind(rt: &impl Eprint, config: &Config, fault: BindFault) {
     let [a, b, c, d] = config.bind.ip;
@@ -37,6 +46,25 @@ fn explain_bind(rt: &impl Eprint, config: &Config, fault: BindFault) {
         BindFault::Socket(None) => eprintln!(rt; "srtgw: {ip}:{port}: the socket can't be used"),
         BindFault::OutOfMemory => eprintln!(rt; "srtgw: {ip}:{port}: memory was refused"),
     };
+}
+
+/// Binds the UDP socket of a configuration. Standard error gets why there is none.
+fn bind_explained<'a, R>(rt: &'a R, config: &Config) -> Result<Bound<'a, R>, Fault>
+where
+    R: Eprint + AllocGlobal + Net + Clock,
+{
+    let start = Instant::now(rt).ok();
+    match bind(rt, config, start) {
+        Ok((source, wire)) => Ok(Bound {
+            source,
+            wire,
+            start,
+        }),
+        Err(fault) => {
+            explain_bind(rt, config, fault);
+            Err(Fault::Bind(fault))
+        }
+    }
 }
 
 /// Says on standard error why the routes weren't served.
@@ -93,9 +121,7 @@ fn run_watched<R>(
     rt: &R,
     path: &str,
     config: &Config,
-    source: &mut MioSource<ClockPoller<'_, R>>,
-    wire: &mut MioWire,
-    start: Option<Instant>,
+    bound: &mut Bound<'_, R>,
     gates: Gates<Ungated>,
     watcher: HostWatcher<'_>,
 ) -> Result<(), Fault>
@@ -109,9 +135,9 @@ where
         &config.secret.of_run(time_now(rt)),
         config.entries.as_slice(),
         config.schedules.as_slice(),
-        source,
-        wire,
-        ClockTicker::new(rt, start),
+        &mut bound.source,
+        &mut bound.wire,
+        ClockTicker::new(rt, bound.start),
         gates,
         watcher,
         MAX_RUN_ROUNDS,
@@ -148,27 +174,11 @@ where
     R: Print + Eprint + Files + AllocGlobal + Net + Clock + Threads + Wait + Sync,
 {
     let config = &explained.config;
-    let start = Instant::now(rt).ok();
-    let (mut source, mut wire) = match bind(rt, config, start) {
-        Ok(both) => both,
-        Err(fault) => {
-            explain_bind(rt, config, fault);
-            return Err(Fault::Bind(fault));
-        }
-    };
+    let mut bound = bind_explained(rt, config)?;
     let gates = gates(rt.alloc(), config.workers)?;
-    let watcher = match open_watcher(machine, path, explained, manner, start) {
+    let watcher = match open_watcher(machine, path, explained, manner, bound.start) {
         Ok(watcher) => watcher,
         Err(fault) => return Err(Fault::of_watcher(fault)),
     };
-    run_watched(
-        rt,
-        path,
-        config,
-        &mut source,
-        &mut wire,
-        start,
-        gates,
-        watcher,
-    )
+    run_watched(rt, path, config, &mut bound, gates, watcher)
 }
