@@ -5,7 +5,7 @@ ghost use Rattle.srt_log.specs.Changes.{is_same, is_open, is_active, is_new, end
 ghost use Rattle.srt_log.specs.Changes.{has_trouble, trouble_at, troubled_at, opened_below, unseen, change_at};
 
 use crate::events::Trouble;
-use crate::looks::{RouteLook, SLOTS, SessionLook, Troubles};
+use crate::snapshots::{RouteSnapshot, SLOTS, SessionSnapshot, Troubles};
 
 /// The number of steps in which two looks are compared.
 pub const STEPS: usize = 120;
@@ -51,7 +51,7 @@ pub enum Change {
 }
 
 /// Whether two looks at a slot have the same session.
-fn is_same(old: &Option<SessionLook>, new: &Option<SessionLook>) -> bool
+fn is_same(old: &Option<SessionSnapshot>, new: &Option<SessionSnapshot>) -> bool
     ensures { result ≡ is_same old.now new.now }
 {
     match old {
@@ -64,7 +64,7 @@ fn is_same(old: &Option<SessionLook>, new: &Option<SessionLook>) -> bool
 }
 
 /// Whether a slot has an open session.
-fn is_open(look: &Option<SessionLook>) -> bool
+fn is_open(look: &Option<SessionSnapshot>) -> bool
     ensures { result ≡ is_open look.now }
 {
     match look {
@@ -74,7 +74,7 @@ fn is_open(look: &Option<SessionLook>) -> bool
 }
 
 /// Whether the session of a slot is the active publisher.
-fn is_active(look: &Option<SessionLook>) -> bool
+fn is_active(look: &Option<SessionSnapshot>) -> bool
     ensures { result ≡ is_active look.now }
 {
     match look {
@@ -84,14 +84,18 @@ fn is_active(look: &Option<SessionLook>) -> bool
 }
 
 /// Whether the later look at a slot has a session that the earlier one hasn't.
-fn is_new(old: &Option<SessionLook>, new: &Option<SessionLook>) -> bool
+fn is_new(old: &Option<SessionSnapshot>, new: &Option<SessionSnapshot>) -> bool
     ensures { result ≡ is_new old.now new.now }
 {
     new.is_some() && !is_same(old, new)
 }
 
 /// The end of the session that was open in a slot.
-fn ended_at(slot: usize, old: &Option<SessionLook>, new: &Option<SessionLook>) -> Option<Change>
+fn ended_at(
+    slot: usize,
+    old: &Option<SessionSnapshot>,
+    new: &Option<SessionSnapshot>,
+) -> Option<Change>
     ensures { result ≡ ended_at slot old.now new.now }
 {
     if !is_open(old) {
@@ -108,7 +112,11 @@ fn ended_at(slot: usize, old: &Option<SessionLook>, new: &Option<SessionLook>) -
 }
 
 /// The opening of a session in a slot.
-fn opened_at(slot: usize, old: &Option<SessionLook>, new: &Option<SessionLook>) -> Option<Change>
+fn opened_at(
+    slot: usize,
+    old: &Option<SessionSnapshot>,
+    new: &Option<SessionSnapshot>,
+) -> Option<Change>
     ensures { result ≡ opened_at slot old.now new.now }
 {
     if is_new(old, new) {
@@ -121,8 +129,8 @@ fn opened_at(slot: usize, old: &Option<SessionLook>, new: &Option<SessionLook>) 
 /// The end of a session that opened in a slot since the earlier look.
 fn ended_at_once(
     slot: usize,
-    old: &Option<SessionLook>,
-    new: &Option<SessionLook>,
+    old: &Option<SessionSnapshot>,
+    new: &Option<SessionSnapshot>,
 ) -> Option<Change>
     ensures { result ≡ ended_at_once slot old.now new.now }
 {
@@ -137,7 +145,11 @@ fn ended_at_once(
 }
 
 /// The take-over by the publisher of a slot.
-fn took_over_at(slot: usize, old: &Option<SessionLook>, new: &Option<SessionLook>) -> Option<Change>
+fn took_over_at(
+    slot: usize,
+    old: &Option<SessionSnapshot>,
+    new: &Option<SessionSnapshot>,
+) -> Option<Change>
     ensures { result ≡ took_over_at slot old.now new.now }
 {
     if !is_same(old, new) {
@@ -161,7 +173,7 @@ fn count_of(trouble: Trouble, troubles: &Troubles) -> u64
 }
 
 /// Whether this was wrong with the session of a slot.
-fn has_trouble(trouble: Trouble, look: &Option<SessionLook>) -> bool
+fn has_trouble(trouble: Trouble, look: &Option<SessionSnapshot>) -> bool
     ensures { result ≡ has_trouble trouble look.now }
 {
     match look {
@@ -185,8 +197,8 @@ fn trouble_at(step: usize) -> Trouble
 fn troubled_at(
     slot: usize,
     trouble: Trouble,
-    old: &Option<SessionLook>,
-    new: &Option<SessionLook>,
+    old: &Option<SessionSnapshot>,
+    new: &Option<SessionSnapshot>,
 ) -> Option<Change>
     ensures { result ≡ troubled_at slot trouble old.now new.now }
 {
@@ -201,7 +213,7 @@ fn troubled_at(
 
 /// How many slots have a new session.
 #[tactic(auto, using(crate::proofs::Slots::no_slots, crate::proofs::Slots::next_slot))]
-fn opened_in(old: &RouteLook, new: &RouteLook) -> u64
+fn opened_in(old: &RouteSnapshot, new: &RouteSnapshot) -> u64
     ensures { result ≡ opened_below 17 old.now.slots new.now.slots }
 {
     let mut opened = 0u64;
@@ -215,7 +227,7 @@ fn opened_in(old: &RouteLook, new: &RouteLook) -> u64
 
 /// How many sessions opened and ended between the looks, and how many conclusions were refused, if there were any.
 #[tactic(auto, unfolding(crate::specs::Changes::unseen))]
-fn unseen(old: &RouteLook, new: &RouteLook) -> Option<Change>
+fn unseen(old: &RouteSnapshot, new: &RouteSnapshot) -> Option<Change>
     ensures { result ≡ unseen old.now new.now }
 {
     let opened = new
@@ -233,7 +245,7 @@ fn unseen(old: &RouteLook, new: &RouteLook) -> Option<Change>
 /// such step. Taken in order, the steps give what a log tells: the ends of sessions that the earlier look had open,
 /// slots upwards; for each slot the session that opened there, and its end if it has ended again; the publisher that
 /// took over; for each slot what is wrong for the first time with its session's stream; how many sessions no look saw.
-pub fn change_at(old: &RouteLook, new: &RouteLook, step: usize) -> Option<Change>
+pub fn change_at(old: &RouteSnapshot, new: &RouteSnapshot, step: usize) -> Option<Change>
     ensures { result ≡ change_at old.now new.now step }
 {
     if step < 17 {

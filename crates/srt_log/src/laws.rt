@@ -3,6 +3,6 @@
 ghost use Rattle.srt_log.specs.Changes.{NothingBetweenEqual};
 
 /// Two looks that are equal have nothing between them.
-pub fn equal_looks()
+pub fn equal_snapshots()
     ensures { NothingBetweenEqual }
 {}

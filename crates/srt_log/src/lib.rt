@@ -7,7 +7,7 @@
 //!
 //! Types: [`LogEvent`] (`events.rt`), what a line says, and [`ConfigEvent`] (`config_events.rt`), what one says of a changed
 //! configuration; [`LineLimit`] (`limit.rt`), how many lines a second may have;
-//! [`RouteLook`] (`looks.rt`), the sessions of a route at one moment; [`Change`] (`changes.rt`), what changed between two.
+//! [`RouteSnapshot`] (`looks.rt`), the sessions of a route at one moment; [`Change`] (`changes.rt`), what changed between two.
 //!
 //! Calls: [`write_line`] (`writing.rt`, `config_lines.rt`) writes an event's line, [`LineLimit::line`] says whether it may, [`change_at`]
 //! compares two looks, step by step, and [`event_of`] (`telling.rt`) gives what the log says of a change. `srtgw` makes
@@ -21,8 +21,8 @@ mod events;
 pub mod laws;
 mod limit;
 mod line;
-mod looks;
 mod peers;
+mod snapshots;
 mod telling;
 mod writing;
 
@@ -30,7 +30,7 @@ pub use changes::{Change, STEPS, change_at};
 pub use config_events::{CloseCause, ConfigEvent, DifferingKeys, RouteNumbers};
 pub use events::{Caller, EndReason, LogEvent, SessionCounts, StopCause, Trouble};
 pub use limit::{LineAllowance, LineLimit};
-pub use looks::{RouteLook, SLOTS, SessionEnd, SessionLook, Troubles};
+pub use snapshots::{RouteSnapshot, SLOTS, SessionEnd, SessionSnapshot, Troubles};
 pub use telling::event_of;
 pub use writing::write_line;
 

@@ -5,18 +5,18 @@ ghost use Rattle.srt_log.specs.Telling.{session_at, caller_of, stands_by, opened
 
 use crate::changes::Change;
 use crate::events::{Caller, EndReason, LogEvent, Trouble};
-use crate::looks::{RouteLook, SLOTS, SessionLook};
+use crate::snapshots::{RouteSnapshot, SLOTS, SessionSnapshot};
 use srt_seq::Role;
 
 /// The session in a slot; None if there is none.
-fn session_at(look: &RouteLook, slot: usize) -> Option<SessionLook>
+fn session_at(look: &RouteSnapshot, slot: usize) -> Option<SessionSnapshot>
     ensures { result ≡ session_at look.now slot }
 {
     if slot < SLOTS { look.slots[slot] } else { None }
 }
 
 /// A session as a line names it.
-fn caller_of<'a>(route: &'a [u8], session: &SessionLook) -> Caller<'a>
+fn caller_of<'a>(route: &'a [u8], session: &SessionSnapshot) -> Caller<'a>
     ensures { result ≡ caller_of route.entry session.now }
 {
     Caller {
@@ -28,7 +28,7 @@ fn caller_of<'a>(route: &'a [u8], session: &SessionLook) -> Caller<'a>
 }
 
 /// Whether a session is a publisher that isn't the active one.
-fn stands_by(session: &SessionLook) -> bool
+fn stands_by(session: &SessionSnapshot) -> bool
     ensures { result ≡ stands_by session.now }
 {
     match session.role {
@@ -37,7 +37,7 @@ fn stands_by(session: &SessionLook) -> bool
     }
 }
 
-fn opened_event<'a>(route: &'a [u8], session: &SessionLook) -> LogEvent<'a>
+fn opened_event<'a>(route: &'a [u8], session: &SessionSnapshot) -> LogEvent<'a>
     ensures { result ≡ opened_event route.entry session.now }
 {
     LogEvent::Opened {
@@ -47,7 +47,7 @@ fn opened_event<'a>(route: &'a [u8], session: &SessionLook) -> LogEvent<'a>
     }
 }
 
-fn ended_event<'a>(route: &'a [u8], session: &SessionLook) -> Option<LogEvent<'a>>
+fn ended_event<'a>(route: &'a [u8], session: &SessionSnapshot) -> Option<LogEvent<'a>>
     ensures { result ≡ ended_event route.entry session.now }
 {
     match session.end {
@@ -62,7 +62,7 @@ fn ended_event<'a>(route: &'a [u8], session: &SessionLook) -> Option<LogEvent<'a
 }
 
 /// The event of a session that is gone: it lasted at least to this moment.
-fn gone_event<'a>(route: &'a [u8], session: &SessionLook, moment: u64) -> LogEvent<'a>
+fn gone_event<'a>(route: &'a [u8], session: &SessionSnapshot, moment: u64) -> LogEvent<'a>
     ensures { result ≡ gone_event route.entry session.now moment }
 {
     LogEvent::Ended {
@@ -73,7 +73,7 @@ fn gone_event<'a>(route: &'a [u8], session: &SessionLook, moment: u64) -> LogEve
     }
 }
 
-fn took_over_event<'a>(route: &'a [u8], session: &SessionLook) -> LogEvent<'a>
+fn took_over_event<'a>(route: &'a [u8], session: &SessionSnapshot) -> LogEvent<'a>
     ensures { result ≡ took_over_event route.entry session.now }
 {
     LogEvent::TookOver {
@@ -81,7 +81,7 @@ fn took_over_event<'a>(route: &'a [u8], session: &SessionLook) -> LogEvent<'a>
     }
 }
 
-fn troubled_event<'a>(route: &'a [u8], session: &SessionLook, trouble: Trouble) -> LogEvent<'a>
+fn troubled_event<'a>(route: &'a [u8], session: &SessionSnapshot, trouble: Trouble) -> LogEvent<'a>
     ensures { result ≡ troubled_event route.entry session.now trouble }
 {
     LogEvent::Troubled {
@@ -95,8 +95,8 @@ fn troubled_event<'a>(route: &'a [u8], session: &SessionLook, trouble: Trouble) 
 /// again the line has what the earlier look knew.
 pub fn event_of<'a>(
     route: &'a [u8],
-    old: &RouteLook,
-    new: &RouteLook,
+    old: &RouteSnapshot,
+    new: &RouteSnapshot,
     change: Change,
 ) -> Option<LogEvent<'a>>
     ensures { result ≡ event_of route.entry old.now new.now change }

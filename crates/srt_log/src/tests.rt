@@ -2,8 +2,8 @@
 
 use crate::{
     Caller, Change, CloseCause, ConfigEvent, DifferingKeys, EndReason, LineLimit, LogEvent,
-    RouteLook, RouteNumbers, SLOTS, STEPS, SessionCounts, SessionEnd, SessionLook, StopCause,
-    Trouble, Troubles, change_at, event_of, write_line,
+    RouteNumbers, RouteSnapshot, SLOTS, STEPS, SessionCounts, SessionEnd, SessionSnapshot,
+    StopCause, Trouble, Troubles, change_at, event_of, write_line,
 };
 use srt_seq::{NotAdmitted, Peer, Role};
 use std::process::Abort;
@@ -503,8 +503,8 @@ fn lines_left_out_are_told_by_a_look(rt: HostRuntime) {
 }
 
 /// An open session with this socket ID.
-fn session(id: u32, active: bool) -> SessionLook {
-    SessionLook {
+fn session(id: u32, active: bool) -> SessionSnapshot {
+    SessionSnapshot {
         id,
         opened_at: 7,
         role: Role::Publish,
@@ -527,7 +527,7 @@ fn session(id: u32, active: bool) -> SessionLook {
 }
 
 /// The same, ended.
-fn ended(id: u32) -> SessionLook {
+fn ended(id: u32) -> SessionSnapshot {
     let mut look = session(id, false);
     look.end = Some(SessionEnd {
         reason: EndReason::Shutdown,
@@ -538,15 +538,15 @@ fn ended(id: u32) -> SessionLook {
 
 /// A route with these sessions in its slots 0 and 16.
 fn route(
-    first: Option<SessionLook>,
-    last: Option<SessionLook>,
+    first: Option<SessionSnapshot>,
+    last: Option<SessionSnapshot>,
     opened: u64,
     refused: u64,
-) -> RouteLook {
+) -> RouteSnapshot {
     let mut slots = [None; SLOTS];
     slots[0] = first;
     slots[16] = last;
-    RouteLook {
+    RouteSnapshot {
         moment: 4_000_007,
         slots,
         opened,
@@ -555,7 +555,7 @@ fn route(
 }
 
 /// Asserts that these changes, and no others, come between two looks, in this order.
-fn assert_changes(rt: &impl Abort, old: &RouteLook, new: &RouteLook, want: &[Change]) {
+fn assert_changes(rt: &impl Abort, old: &RouteSnapshot, new: &RouteSnapshot, want: &[Change]) {
     let mut seen = 0usize;
     for step in 0..STEPS {
         if let Some(change) = change_at(old, new, step) {
@@ -584,7 +584,7 @@ fn openings_ends_and_a_take_over(rt: HostRuntime) {
 }
 
 /// The same, open, with these troubles.
-fn troubled(misdirected: u64, full_window: u64, late: u64) -> SessionLook {
+fn troubled(misdirected: u64, full_window: u64, late: u64) -> SessionSnapshot {
     let mut look = session(1, true);
     look.troubles = Troubles {
         misdirected,
@@ -678,8 +678,8 @@ fn what_came_and_went_is_counted(rt: HostRuntime) {
 /// Asserts that the changes between two looks at the route `studio` have these lines.
 fn assert_told<R: Abort + AllocGlobal>(
     rt: &R,
-    old: &RouteLook,
-    new: &RouteLook,
+    old: &RouteSnapshot,
+    new: &RouteSnapshot,
     lines: &str,
 ) -> Result<(), Fail> {
     let mut out = Vec::new(rt.alloc());

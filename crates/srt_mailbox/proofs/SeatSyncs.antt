@@ -9,7 +9,7 @@ use Rattle.std.proofs.option.Option.TheSendSync as option_is
 use Rattle.std.proofs.Crossing as heap
 use Rattle.std.proofs.sync.OnceLock.TheSendSync as once_is
 use Rattle.std.proofs.sync.OnceToken.TheSendSync as token_is
-use Rattle.srt_mailbox.specs.declared.seats.Companion.{Ghosts}
+use Rattle.srt_mailbox.specs.declared.seats.Attachment.{Ghosts}
 use Rattle.srt_mailbox.specs.contracts.seats.PollerEnds as ends
 use Rattle.srt_mailbox.specs.contracts.seats.ClockHand as hand
 use Rattle.srt_mailbox.specs.contracts.seats.SeatTag as tag

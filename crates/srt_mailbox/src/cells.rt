@@ -10,7 +10,7 @@ ghost use Rattle.srt_mailbox.specs.declared.gates.Served.TheVariants.{GateRefuse
 
 use crate::gates::{Gate, Served, Visit};
 use crate::inbox_rule::Inbox;
-use crate::looks::Look;
+use crate::observer::Observer;
 use crate::outbox_rule::Outbox;
 use crate::running::Running;
 use counted_slot::{Counted, FREE, Fits, PRESENT, TAKEN};
@@ -195,7 +195,7 @@ impl RouteCell {
 
     /// Shows the route, once, if no other call has it. False if another call has it; then nothing was shown. Makes no
     /// turn: the route is given back as it was. Doesn't allocate and doesn't wait for the route.
-    pub fn show<R: Wait, L: Look>(&self, rt: &R, look: &mut L) -> bool
+    pub fn show<R: Wait, L: Observer>(&self, rt: &R, look: &mut L) -> bool
         ensures shown { result ≡ true → OneWasShown (identity_in self.now) (L.looked look.old) (L.looked look.new) }
         ensures busy { result ≡ false → look.new ≡ look.old }
     {
@@ -226,7 +226,7 @@ pub trait Serve {
         ensures held { result ≡ GateRefused → Grew (G.held gate.old) (G.held gate.new) };
 
     /// Shows the route, as `RouteCell::show` does.
-    fn show<R: Wait, L: Look>(&self, rt: &R, look: &mut L) -> bool
+    fn show<R: Wait, L: Observer>(&self, rt: &R, look: &mut L) -> bool
         ensures shown { result ≡ true → (s : Seen) × SawMore s (L.looked look.old) (L.looked look.new) }
         ensures busy { result ≡ false → look.new ≡ look.old };
 }
@@ -240,7 +240,7 @@ impl Serve for RouteCell {
         RouteCell::serve(self, rt, gate)
     }
 
-    fn show<R: Wait, L: Look>(&self, rt: &R, look: &mut L) -> bool {
+    fn show<R: Wait, L: Observer>(&self, rt: &R, look: &mut L) -> bool {
         RouteCell::show(self, rt, look)
     }
 }

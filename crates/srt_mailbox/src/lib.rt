@@ -7,9 +7,9 @@
 //! Types: the four ends of a route, which are `Ingress` (the poller offers datagrams), `ClockEnd` (the ticking thread
 //! offers ticks), `RouteCell` (workers serve the route) and `Drain` (the poller takes replies). A `Gate` may refuse a
 //! turn (`Ungated` never does), `Served` is the outcome of a turn that was asked for, `Visit` that of several, and
-//! `Account` has the counts of a route that has ended. A `Look` is shown a route under its claim. `InboxFull` and
+//! `Account` has the counts of a route that has ended. A `Observer` is shown a route under its claim. `InboxFull` and
 //! `OutboxEmpty` are evidence of a refusal. For routes that come while threads run: a `Seat` has a route and its ends
-//! until their owners take them (`PollerEnds` with a `Companion`, `ClockHand`), a `Place` has a seat or is empty, and
+//! until their owners take them (`PollerEnds` with a `Attachment`, `ClockHand`), a `Place` has a seat or is empty, and
 //! each owner has a `SeatReader`.
 //!
 //! Calls: `open_route`; then, each from its own thread, `offer` on `Ingress` (for a datagram also `offer_datagram`) and
@@ -31,7 +31,7 @@ mod evidence;
 mod gates;
 mod inbox;
 mod inbox_rule;
-mod looks;
+mod observer;
 mod openings;
 mod outbox;
 mod outbox_rule;
@@ -46,13 +46,13 @@ pub use cells::{RouteCell, Serve};
 pub use evidence::{InboxFull, OutboxEmpty};
 pub use gates::{Gate, Served, Ungated, Visit};
 pub use inbox::{ClockEnd, Ingress, OfferFault};
-pub use looks::Look;
+pub use observer::Observer;
 pub use openings::open_route;
 pub use outbox::Drain;
 pub use places::Place;
 pub use readers::SeatReader;
 pub use running::{BUFFER_ROOM, Running};
-pub use seats::{ClockHand, Companion, PollerEnds, Seat, SeatTag, open_seat};
+pub use seats::{Attachment, ClockHand, PollerEnds, Seat, SeatTag, open_seat};
 
 #[cfg(test)]
 mod tests;

@@ -7,18 +7,18 @@ ghost use Rattle.srt_mailbox.specs.declared.gates.Served.TheVariants.{GateRefuse
 
 use crate::cells::Serve;
 use crate::gates::{Gate, Served, Visit};
-use crate::looks::Look;
-use crate::seats::{Companion, Seat};
+use crate::observer::Observer;
+use crate::seats::{Attachment, Seat};
 use srt_seq::Turned;
 use std::sync::{OnceLock, OnceToken, Wait};
 
 /// A place for one route, empty until a seat is put there. The seat stays.
 #[derive(Drop)]
-pub struct Place<X: Companion + Drop> {
+pub struct Place<X: Attachment + Drop> {
     pub(crate) seat: OnceLock<Seat<X>>,
 }
 
-impl<X: Companion + Drop> Place<X> {
+impl<X: Attachment + Drop> Place<X> {
     ghost use Rattle.srt_mailbox.specs.Places.{lock_in};
 
     /// An empty place. Takes no memory.
@@ -38,7 +38,7 @@ impl<X: Companion + Drop> Place<X> {
     }
 }
 
-impl<X: Companion + Drop> Serve for Place<X> {
+impl<X: Attachment + Drop> Serve for Place<X> {
     // An empty place has nothing to do: that is an idle turn.
     fn visit<R: Wait, G: Gate>(&self, rt: &R, gate: &mut G, most: u32) -> Visit {
         match self.seat.get() {
@@ -59,7 +59,7 @@ impl<X: Companion + Drop> Serve for Place<X> {
     }
 
     // An empty place shows nothing.
-    fn show<R: Wait, L: Look>(&self, rt: &R, look: &mut L) -> bool {
+    fn show<R: Wait, L: Observer>(&self, rt: &R, look: &mut L) -> bool {
         match self.seat.get() {
             Some(seat) => seat.cell.show(rt, look),
             None => false,
@@ -70,6 +70,6 @@ impl<X: Companion + Drop> Serve for Place<X> {
 fn is_sync<T: Sync>(_it: &T) {}
 
 // Compiles only if threads may share a place.
-fn place_is_sync<X: Companion + Drop + Send + Sync>(place: &Place<X>) {
+fn place_is_sync<X: Attachment + Drop + Send + Sync>(place: &Place<X>) {
     is_sync(place);
 }

@@ -7,13 +7,13 @@ ghost use Rattle.srt_mailbox.specs.Identities.{identity_in};
 ghost use Rattle.srt_mailbox.specs.Seats.{IsNewPoller, IsNewClock};
 
 use crate::places::Place;
-use crate::seats::{ClockHand, Companion, PollerEnds, Seat};
+use crate::seats::{Attachment, ClockHand, PollerEnds, Seat};
 use std::alloc::{AllocError, Global};
 use std::sync::OnceToken;
 
 /// One owner's reader of places: which routes it has come to, one after the other.
 #[derive(Drop)]
-pub struct SeatReader<'a, X: Companion + Drop> {
+pub struct SeatReader<'a, X: Attachment + Drop> {
     places: &'a [Place<X>],
     // of each place that was read, which seat it has; no bytes
     tokens: Vec<OnceToken<'a, Seat<X>>>,
@@ -31,7 +31,7 @@ fn item_at<T>(items: &[T], index: usize) -> &T
     &items[index]
 }
 
-impl<'a, X: Companion + Drop> SeatReader<'a, X> {
+impl<'a, X: Attachment + Drop> SeatReader<'a, X> {
     ghost use Rattle.srt_mailbox.specs.Places.{came, places_of, locks_of, is_next};
 
     /// A reader of these places that has come to none of them. Allocates all that it will ever need; an error means that

@@ -16,7 +16,7 @@ ghost use Rattle.srt_mailbox.specs.declared.gates.Served.TheVariants.{GateRefuse
 use crate::evidence::QueueRefusals;
 use crate::gates::{Gate, Served, Visit};
 use crate::inbox::InboxReceiver;
-use crate::looks::Look;
+use crate::observer::Observer;
 use crate::outbox::OutboxSender;
 use crate::outbox_rule::Parcel;
 use crate::spares::Boxes;
@@ -283,7 +283,7 @@ impl Running {
     }
 
     /// Shows the route, once, with the number of replies that wait. Changes nothing.
-    pub fn show<L: Look>(&self, look: &mut L)
+    pub fn show<L: Observer>(&self, look: &mut L)
         ensures { WasShown self.now (L.looked look.old) (L.looked look.new) }
     {
         look.look(&self.route, self.waiting);

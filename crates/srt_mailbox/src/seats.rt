@@ -23,7 +23,7 @@ use std::snapshot::Snapshot;
 use std::sync::Wait;
 
 /// What the poller is given with its ends of a route that comes, such as the route's name.
-pub trait Companion {
+pub trait Attachment {
     /// Whether it belongs to a route of these terms and this index.
     ghost belongs: { Terms → ℕ → Self → Type 0 };
 }
@@ -45,7 +45,7 @@ impl Model for SeatTag {
 
 /// The poller's ends of a route that has come, and what belongs to it.
 #[derive(Drop)]
-pub struct PollerEnds<X: Companion + Drop> {
+pub struct PollerEnds<X: Attachment + Drop> {
     /// Offers datagrams.
     pub ingress: Ingress,
     /// Takes replies.
@@ -54,7 +54,7 @@ pub struct PollerEnds<X: Companion + Drop> {
     pub companion: X,
 }
 
-impl<X: Companion + Drop> Fits for PollerEnds<X> {
+impl<X: Attachment + Drop> Fits for PollerEnds<X> {
     type Tag = SeatTag;
 
     ghost fits = { λ n e. IsNewPoller n e.ingress e.drain × X.belongs n.terms n.index e.companion };
@@ -75,7 +75,7 @@ impl Fits for ClockHand {
 
 /// A route that has come, and its ends until the poller and the clock's thread take them.
 #[derive(Drop)]
-pub struct Seat<X: Companion + Drop> {
+pub struct Seat<X: Attachment + Drop> {
     /// The route, which workers serve. It is the first field, so that a worker that finds the place empty or claimed has
     /// read one cache line.
     pub cell: RouteCell,
@@ -90,7 +90,7 @@ pub struct Seat<X: Companion + Drop> {
 ///
 /// Errors, in this order: `Names` if the route's name is malformed, `Limits` if a number or the index is out of range,
 /// `OutOfMemory`. Nothing is kept after an error.
-pub fn open_seat<X: Companion + Drop>(
+pub fn open_seat<X: Attachment + Drop>(
     alloc: Global,
     entry: &Entry,
     index: usize,
@@ -118,7 +118,7 @@ pub fn open_seat<X: Companion + Drop>(
     })
 }
 
-impl<X: Companion + Drop> Seat<X> {
+impl<X: Attachment + Drop> Seat<X> {
     /// Takes the poller's ends and what came with them. `None` if they were taken before. One compare-exchange; never
     /// waits.
     pub fn take_poller(&self) -> Option<PollerEnds<X>>

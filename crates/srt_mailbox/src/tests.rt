@@ -3,7 +3,7 @@
 
 mod boxes;
 mod datagrams;
-mod looks;
+mod observing;
 mod queues;
 mod seats;
 mod visits;

@@ -4,8 +4,8 @@
 //! (`srt_lobby` does) nor what a route replies (`srt_route`), and it serves no route (`srt_mailbox`).
 //!
 //! Types: a `Source` gives datagrams and a `Wire` takes them; `Ends` are the poller's ends of one route's queues; a
-//! `Report` has the counts; `Signals` are what is asked of a poller before a round (`Asked`), and hints that save looks
-//! at empty outboxes. `Report` and `Asked` are `srt_supervision`'s. Devices in memory are `SourceScript`, `WireScript`
+//! `Report` has the counts; `Signals` are what is asked of a poller before a round (`Order`), and hints that save looks
+//! at empty outboxes. `Report` and `Order` are `srt_supervision`'s. Devices in memory are `SourceScript`, `WireScript`
 //! and `ClockScript`; `MioSource` and `MioWire` share one UDP socket.
 //!
 //! Calls: open the routes (`srt_mailbox::open_route`), hide those that open later (`srt_lobby::Names::hide`), bind or
@@ -53,7 +53,7 @@ pub use scripts::{
 pub use signals::{Signals, Unsignalled};
 pub use sockets::{BindFault, MioSource, MioWire};
 pub use srt_mailbox::{Gate, Ungated};
-pub use srt_supervision::{Asked, Report};
+pub use srt_supervision::{Order, Report};
 
 #[cfg(test)]
 mod tests;

@@ -27,7 +27,7 @@ pub trait Openings {
     /// The indexes of all routes that it asked to close, the oldest first, or `None` for openings that don't record them.
     ghost asked: { Self → Option (List ℕ) };
 
-    /// Whether there may be a route that comes or is to close. Asked before each round, so it should cost no more than a
+    /// Whether there may be a route that comes or is to close. Order before each round, so it should cost no more than a
     /// load or two. If it is wrong, changes come in a later round.
     fn has_news(&self) -> bool;
 

@@ -17,7 +17,7 @@ use crate::signals::{Signals, Unsignalled};
 use srt_cookie::Secret;
 use srt_lobby::Names;
 use srt_seq::Schedule;
-use srt_supervision::{Asked, Report};
+use srt_supervision::{Order, Report};
 use std::alloc::Global;
 use std::sync::Wait;
 
@@ -80,7 +80,7 @@ pub fn pump<R: Wait, S: Source, W: Wire>(
 }
 
 /// As `pump`, but before each round the poller is asked whether it is made, whether it closes all, or whether that is the
-/// end (`Asked`), and there are hints. A round that closes all shows no route, and offers `Close` to each shown one. A
+/// end (`Order`), and there are hints. A round that closes all shows no route, and offers `Close` to each shown one. A
 /// route whose outbox has nothing by the hints is passed over, except in every 64th round, the first among them, and in
 /// the round after one that left an outbox before it was found empty.
 pub fn pump_under<R: Wait, S: Source, W: Wire, G: Signals>(
@@ -136,9 +136,9 @@ pub(crate) fn ask<G: Signals>(signals: &G) -> Option<bool>
     ensures end { IfNone result (G.stops signals.now) }
 {
     match signals.asked() {
-        Asked::GoOn => Some(false),
-        Asked::CloseAll => Some(true),
-        Asked::End => None,
+        Order::GoOn => Some(false),
+        Order::CloseAll => Some(true),
+        Order::End => None,
     }
 }
 

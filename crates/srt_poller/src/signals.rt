@@ -4,14 +4,14 @@ ghost use Rattle.std.specs.Prelude.{◌≡◌};
 
 use srt_lobby::Names;
 use srt_seq::Peer;
-use srt_supervision::{Asked, Report};
+use srt_supervision::{Order, Report};
 
 /// What is asked of a poller, and hints in both directions. No contract but those of the rounds that are made depends on
 /// what is asked, and none on a hint: a wrong one makes replies leave up to 64 rounds later, and loses nothing. Calls
 /// come from the poller's thread.
 pub trait Signals {
     ghost use Rattle.std.specs.Prelude.{◌≡◌};
-    ghost use Rattle.srt_supervision.specs.declared.asked.Asked.TheVariants.{GoOn, CloseAll, End};
+    ghost use Rattle.srt_supervision.specs.declared.order.Order.TheVariants.{GoOn, CloseAll, End};
 
     /// What is known once `asked` has returned `GoOn`. It may be nothing.
     ghost goes: { Self → Type 0 };
@@ -23,7 +23,7 @@ pub trait Signals {
     ghost stops: { Self → Type 0 };
 
     /// What is asked of the poller; called before each round, the first among them.
-    fn asked(&self) -> Asked
+    fn asked(&self) -> Order
         ensures goes { result ≡ GoOn → goes self.now }
         ensures closes { result ≡ CloseAll → closes self.now }
         ensures stops { result ≡ End → stops self.now };
@@ -68,8 +68,8 @@ impl Signals for Unsignalled {
 
     ghost stops = { λ s. ⊥ };
 
-    fn asked(&self) -> Asked {
-        Asked::GoOn
+    fn asked(&self) -> Order {
+        Order::GoOn
     }
 
     fn reported(&self, _report: &Report) {}

@@ -10,7 +10,7 @@ ghost use Rattle.srt_serve.specs.Opened.{new_clocks};
 
 use crate::ticking::TickEnds;
 use srt_lobby::NewName;
-use srt_mailbox::{ClockEnd, Companion, Place, PollerEnds, Seat, SeatReader, open_seat};
+use srt_mailbox::{Attachment, ClockEnd, Place, PollerEnds, Seat, SeatReader, open_seat};
 use srt_poller::{Ends, Newcomer, Openings};
 use srt_seq::Entry;
 use srt_wakeups::AtomicBitSet;
@@ -24,7 +24,7 @@ pub struct Named {
     pub name: NewName,
 }
 
-impl Companion for Named {
+impl Attachment for Named {
     ghost belongs = { λ terms index named. new_name named.name ≡ as_hidden (name_of terms) };
 }
 

@@ -11,7 +11,7 @@ use srt_lobby::Names;
 use srt_mailbox::{Gate, Serve};
 use srt_poller::Signals;
 use srt_seq::Peer;
-use srt_supervision::{Asked, Report};
+use srt_supervision::{Order, Report};
 use srt_wakeups::Wakeups;
 use srt_wakeups::pacing::{FEW_ROUTES, MANY_DATAGRAMS, POLLER_TURNS};
 use std::cell::Cell;
@@ -108,10 +108,10 @@ impl<R: Wait, C: Serve, G: Gate + Drop> Signals for Helper<'_, R, C, G> {
 
     ghost stops = { λ s. IsSome s.post };
 
-    fn asked(&self) -> Asked {
+    fn asked(&self) -> Order {
         match self.post {
             Some(post) => post.asked(),
-            None => Asked::GoOn,
+            None => Order::GoOn,
         }
     }
 

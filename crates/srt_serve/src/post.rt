@@ -4,7 +4,7 @@
 
 use crate::shared_report::SharedReport;
 use crossbeam_queue::ArrayQueue;
-use srt_supervision::{Asked, Refusal};
+use srt_supervision::{Order, Refusal};
 use std::alloc::{AllocError, Global};
 use std::sync::Wait;
 use std::sync::atomic::{AtomicBool, AtomicU64, Ordering};
@@ -43,22 +43,22 @@ impl Post {
     }
 
     /// Asks this of the poller from now on. Once it was asked to end, nothing else is asked of it.
-    pub fn ask(&self, asked: Asked) {
+    pub fn ask(&self, asked: Order) {
         match asked {
-            Asked::GoOn => self.closes.store(false, Ordering::SeqCst),
-            Asked::CloseAll => self.closes.store(true, Ordering::SeqCst),
-            Asked::End => self.ends.store(true, Ordering::SeqCst),
+            Order::GoOn => self.closes.store(false, Ordering::SeqCst),
+            Order::CloseAll => self.closes.store(true, Ordering::SeqCst),
+            Order::End => self.ends.store(true, Ordering::SeqCst),
         }
     }
 
     /// What is asked of the poller.
-    pub fn asked(&self) -> Asked {
+    pub fn asked(&self) -> Order {
         if self.ends.load(Ordering::SeqCst) {
-            Asked::End
+            Order::End
         } else if self.closes.load(Ordering::SeqCst) {
-            Asked::CloseAll
+            Order::CloseAll
         } else {
-            Asked::GoOn
+            Order::GoOn
         }
     }
 

@@ -32,7 +32,7 @@ use srt_mailbox::{Account, ClockEnd, Gate, Place, Seat, SeatReader};
 use srt_poller::{Ends, Openings, Plans, Source, Wire};
 use srt_seq::limits::MAX_ROUTES;
 use srt_seq::{Entry, Schedule};
-use srt_supervision::{Nobody, Report, Watch};
+use srt_supervision::{NoWatcher, Report, Watch};
 use srt_wakeups::Wakeups;
 use std::alloc::{AllocError, Global};
 use std::sync::{OnceToken, Wait};
@@ -520,7 +520,7 @@ where
         wire,
         ticker,
         gates,
-        Nobody,
+        NoWatcher,
         false,
         rounds as u64,
     ) {

@@ -74,7 +74,7 @@ pub trait TickEnds<E> {
     /// The names of the places from which it takes them. No call changes that.
     ghost places: { Self → List ℕ };
 
-    /// The next end, if one has come. Asked before each tick, so it may not wait, and should cost no more than a load or
+    /// The next end, if one has come. Order before each tick, so it may not wait, and should cost no more than a load or
     /// two if none has.
     fn next(&mut self) -> Option<E>
         ensures some { IfSome result (λ end. came self.new ≡ came self.old ++ end ∷ []) }

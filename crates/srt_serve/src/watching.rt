@@ -3,11 +3,11 @@
 
 use crate::arrivals::{Host, Named, News, seat_route};
 use crate::post::Post;
-use srt_mailbox::{Look, Seat, Serve};
+use srt_mailbox::{Observer, Seat, Serve};
 use srt_route::Route;
 use srt_seq::Entry;
 use srt_seq::limits::MAX_SESSIONS;
-use srt_supervision::{Asked, ChangeFault, Report, RouteChanges, Told, Watch};
+use srt_supervision::{ChangeFault, Order, Report, RouteChanges, RunStatus, Watch};
 use srt_wakeups::Wakeups;
 use std::alloc::Global;
 use std::sync::Wait;
@@ -110,7 +110,7 @@ struct Viewer<'a, T> {
     is_quiet: bool,
 }
 
-impl<T: Watch> Look for Viewer<'_, T> {
+impl<T: Watch> Observer for Viewer<'_, T> {
     ghost use Rattle.std.specs.Prelude.{None};
 
     ghost looked = { λ _. None };
@@ -118,7 +118,7 @@ impl<T: Watch> Look for Viewer<'_, T> {
     fn look(&mut self, route: &Route, waiting: usize) {
         self.is_quiet = waiting == 0 && !has_session(route);
         if self.looks {
-            self.watch.see(self.index, route);
+            self.watch.show_route(self.index, route);
         }
     }
 }
@@ -175,8 +175,8 @@ impl Known {
     }
 
     // What the watcher is told before its next rest.
-    fn told(&self, post: &Post) -> Told {
-        Told {
+    fn told(&self, post: &Post) -> RunStatus {
+        RunStatus {
             is_quiet: self.quiet >= QUIET_LOOKS,
             faults: post.faults(),
             missed: post.missed(),
@@ -199,8 +199,8 @@ fn watch_once<R: Wait, C: Serve + Host, T: Watch>(
     let asked = watch.next(known.told(post));
     post.ask(asked);
     tell_refusals(rt, post, watch);
-    let looks = watch.looks();
-    let closes = !matches!(asked, Asked::GoOn);
+    let looks = watch.wants_routes();
+    let closes = !matches!(asked, Order::GoOn);
     if !closes {
         changer.change(watch);
     }

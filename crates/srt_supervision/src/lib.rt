@@ -1,24 +1,24 @@
-//! What a run of the gateway and who watches it tell each other.
+//! The interface between a run of the gateway and its watcher.
 //!
-//! The crate has types alone, so that a watcher needs no thread, socket or queue: it is proved beside `srt_mailbox`,
-//! `srt_poller` and `srt_serve`, which make a run.
+//! The crate has only types, so that a watcher needs no thread, socket or queue: it is proved in parallel with
+//! `srt_mailbox`, `srt_poller` and `srt_serve`, which make a run.
 //!
-//! Types: a `Watch` is shown the routes of a run (`srt_route::Route`), is told how it goes (`Told`, with the counts of the
-//! poller, a `Report`) and each `Refusal`; it answers what the poller is `Asked`, and gives `RouteChanges`, which may meet a
-//! `ChangeFault`. `Nobody` is the watcher of a run that isn't watched.
+//! Types: a `Watch` gets the run's `RunStatus` (with the poller's counters, a `Report`), the routes (`srt_route::Route`)
+//! and each `Refusal`. It returns an `Order` for the poller, and opens and closes routes through the `ChangeRoutes` that
+//! it is handed (`RouteChanges`, `ChangeFault`). `NoWatcher` is the watcher of a run that isn't watched.
 //!
-//! No contract speaks of a watcher: whatever it answers, the contracts of a run hold (`srt_serve`). `srt_poller` counts in a
-//! `Report` and obeys what it is `Asked`; both crates re-export what their callers name.
+//! No contract depends on a watcher: whatever it returns, the contracts of a run hold (`srt_serve`). `srt_poller` counts
+//! in a `Report` and obeys an `Order`; both crates re-export what their callers name.
 #![tactic(auto)]
 
-mod asked;
 mod changes;
+mod order;
 mod refusal;
 mod report;
 mod watch;
 
-pub use asked::Asked;
-pub use changes::{ChangeFault, RouteChanges};
+pub use changes::{ChangeFault, ChangeRoutes, RouteChanges};
+pub use order::Order;
 pub use refusal::Refusal;
 pub use report::Report;
-pub use watch::{Nobody, Told, Watch};
+pub use watch::{NoWatcher, RunStatus, Watch};

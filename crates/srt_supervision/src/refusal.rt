@@ -1,4 +1,4 @@
-//! A conclusion that was refused, as a watcher is told it.
+//! A refused conclusion, as it is reported to a watcher.
 
 use arrayvec::ArrayVec;
 use srt_seq::limits::MAX_NAME;
@@ -13,9 +13,9 @@ pub struct Refusal {
     pub peer: Peer,
     /// Why it was refused: the handshake type of the answer, 1000 or more (section 4.3, table 7).
     pub code: u32,
-    /// If the lobby refused it, the name that its Stream ID asked for, cut to 64 bytes. Empty if the Stream ID asks for
-    /// none, and if a route refused it. Any bytes of UTF-8 may stand here.
+    /// If the lobby refused it, the name in its Stream ID, cut to 64 bytes. Empty if the Stream ID has none, and if a
+    /// route refused it. Any bytes of UTF-8 are possible.
     pub name: ArrayVec<u8, MAX_NAME>,
-    /// If the lobby refused it with 1002, what stood against the caller.
+    /// If the lobby refused it with 1002, the reason.
     pub cause: Option<NotAdmitted>,
 }

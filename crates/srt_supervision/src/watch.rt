@@ -1,75 +1,68 @@
-//! Who watches a run, and what it is told.
+//! The watcher of a run.
 
-use crate::asked::Asked;
-use crate::changes::{ChangeFault, RouteChanges};
+use crate::changes::ChangeRoutes;
+use crate::order::Order;
 use crate::refusal::Refusal;
 use crate::report::Report;
 use srt_route::Route;
 
-/// What a watcher is told.
+/// The state of a run, as its watcher gets it.
 #[derive(Clone, Copy, Debug, PartialEq, Eq)]
-pub struct Told {
-    /// Twice in a row no route had an open session, a reply that waits, or a hint of one in its outbox. Looked for only
-    /// while the poller is asked to close all or to end, and false before.
+pub struct RunStatus {
+    /// Twice in a row no route had an open session, a waiting reply, or a hint of one in its outbox. Checked only while
+    /// the poller's order is to close all or to end, and false before.
     pub is_quiet: bool,
     /// The number of socket faults so far: of waits, reads and sends that failed.
     pub faults: u64,
-    /// The number of refusals so far that `refused` isn't told, since too many waited. They are counted together: no count
-    /// is kept for each code.
+    /// The number of refusals so far that weren't passed to `refused`, since too many waited. They are counted together:
+    /// no count is kept for each code.
     pub missed: u64,
-    /// The counts of the poller at the beginning of a round, as it told them last; all 0 before it told any. A reply that
-    /// is kept counts neither as sent nor as lost.
+    /// The poller's counters at the beginning of a round, as it reported them last; all 0 before its first report. A
+    /// reply that is kept counts neither as sent nor as lost.
     pub counts: Report,
-    /// How often the poller has told its counts. Before each rest it is asked for them, unless it still owes those that
-    /// it was asked for before, and it tells them at the beginning of its next round. So if this number stays the same
-    /// over several rests, no round began in them; a round takes some 10 milliseconds if nothing comes.
+    /// How often the poller has reported its counters. A report is requested before each rest, unless an earlier request
+    /// is still open, and the poller answers at the beginning of its next round. So if this number stays the same over
+    /// several rests, no round began in them; a round takes some 10 milliseconds if nothing arrives.
     pub reports: u64,
 }
 
-/// Who watches a run, in a thread of its own.
+/// The watcher of a run, in a thread of its own.
 pub trait Watch {
-    /// Rests for some milliseconds, and returns what the poller is asked from then on. `End` is final: whatever a later
-    /// call returns, the run ends. A run doesn't end before this call returns.
-    fn next(&mut self, told: Told) -> Asked;
+    /// Rests for some milliseconds, and returns the order that the poller has from then on. `End` is final: whatever a
+    /// later call returns, the run ends. A run doesn't end before this call returns.
+    fn next(&mut self, status: RunStatus) -> Order;
 
-    /// Whether the routes are to be shown now; asked after each rest.
-    fn looks(&mut self) -> bool;
+    /// Whether the routes are to be shown now. Called after each rest.
+    fn wants_routes(&mut self) -> bool;
 
-    /// A route, at most once in each look. Workers can't serve it meanwhile. One that another thread has is left out of
-    /// this look; after the run all are shown once more.
-    fn see(&mut self, index: usize, route: &Route);
+    /// Shows a route, at most once after each `wants_routes`. Workers can't serve it meanwhile. A route that another
+    /// thread is serving is left out; after the run each route is shown once more.
+    fn show_route(&mut self, index: usize, route: &Route);
 
-    /// A conclusion was refused.
+    /// Reports a conclusion that was refused.
     fn refused(&mut self, refusal: &Refusal);
 
-    /// A change of the routes, if there is one to be made now. Asked after each rest, but not once the poller is asked to
-    /// close all or to end.
-    fn change(&mut self) -> Option<RouteChanges>;
-
-    /// What became of the change that was given last: the index of the first route that opens, if it was taken.
-    fn changed(&mut self, outcome: Result<usize, ChangeFault>);
+    /// Lets the watcher open and close routes. Called after each rest, but not once the poller's order is to close all or
+    /// to end.
+    fn change_routes<C: ChangeRoutes>(&mut self, run: &mut C);
 }
 
-/// A watcher that asks for nothing and sees nothing, for runs that aren't watched.
+/// A watcher that changes nothing and observes nothing, for runs that aren't watched.
 #[derive(Drop)]
-pub struct Nobody;
+pub struct NoWatcher;
 
-impl Watch for Nobody {
-    fn next(&mut self, _told: Told) -> Asked {
-        Asked::GoOn
+impl Watch for NoWatcher {
+    fn next(&mut self, _status: RunStatus) -> Order {
+        Order::GoOn
     }
 
-    fn looks(&mut self) -> bool {
+    fn wants_routes(&mut self) -> bool {
         false
     }
 
-    fn see(&mut self, _index: usize, _route: &Route) {}
+    fn show_route(&mut self, _index: usize, _route: &Route) {}
 
     fn refused(&mut self, _refusal: &Refusal) {}
 
-    fn change(&mut self) -> Option<RouteChanges> {
-        None
-    }
-
-    fn changed(&mut self, _outcome: Result<usize, ChangeFault>) {}
+    fn change_routes<C: ChangeRoutes>(&mut self, _run: &mut C) {}
 }

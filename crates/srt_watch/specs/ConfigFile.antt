@@ -2,7 +2,7 @@
 use Rattle.std.specs.Prelude.{ℕ, ◌==◌, Bool, true, false, not, ◌||◌, List, Option, None, Some, if◌then◌else◌}
 use Rattle.std.specs.Str.{bytes_eq}
 use Rattle.srt_watch.specs.declared.config_file.FileStamp.{FileStamp}
-use Rattle.srt_watch.specs.declared.config_file.LastLook.{LastLook}
+use Rattle.srt_watch.specs.declared.config_file.LastRead.{LastRead}
 use Rattle.srt_watch.specs.declared.config_file.Phase.{Phase}
 use Rattle.srt_watch.specs.declared.config_file.Phase.TheVariants.{Settling, Read, Known}
 
@@ -22,7 +22,7 @@ settles Settling = true
 settles Read = false
 settles Known = false
 
-abbrev pub is_settling : LastLook → Bool
+abbrev pub is_settling : LastRead → Bool
 is_settling last = settles last.phase
 
 abbrev pub is_known : Phase → Bool
@@ -31,11 +31,11 @@ is_known Read = false
 is_known Known = true
 
 -- a file that differs is read at the next two looks at which it is the same; one of which the system says nothing is read each time
-abbrev pub reads : LastLook → Option FileStamp → Bool
+abbrev pub reads : LastRead → Option FileStamp → Bool
 reads last None = true
 reads last (Some now) = if differs last.stamp now then false else not (is_known last.phase)
 
-abbrev pub after_look : LastLook → Option FileStamp → LastLook
+abbrev pub after_look : LastRead → Option FileStamp → LastRead
 after_look last None = record { stamp = None; phase = Known }
 after_look last (Some now) = record { stamp = Some now; phase = if differs last.stamp now then Settling else next_phase last.phase }
 

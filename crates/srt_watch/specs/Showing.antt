@@ -9,9 +9,9 @@ use Rattle.srt_route.specs.declared.view.Traffic.TheVariants.{Received, Sent}
 use Rattle.srt_log.specs.declared.events.EndReason.{EndReason}
 use Rattle.srt_log.specs.declared.events.EndReason.TheVariants as reasons
 use Rattle.srt_log.specs.declared.events.SessionCounts.{SessionCounts}
-use Rattle.srt_log.specs.declared.looks.Troubles.{Troubles}
-use Rattle.srt_log.specs.declared.looks.SessionEnd.{SessionEnd}
-use Rattle.srt_log.specs.declared.looks.SessionLook.{SessionLook}
+use Rattle.srt_log.specs.declared.snapshots.Troubles.{Troubles}
+use Rattle.srt_log.specs.declared.snapshots.SessionEnd.{SessionEnd}
+use Rattle.srt_log.specs.declared.snapshots.SessionSnapshot.{SessionSnapshot}
 
 -- why a session ended, for a log; while the gateway stops, that closed the routes
 abbrev pub reason_of : (stops : Bool) → EndCause → EndReason
@@ -40,7 +40,7 @@ troubles_of (Sent x) = record { misdirected = x.counts.misdirected; full_window 
 abbrev pub latency_of : (latency_ms : ℕ) → Option ℕ
 latency_of latency_ms = if latency_ms == 0 then None else Some latency_ms
 
-abbrev pub look_of : SessionView → Option SessionEnd → SessionLook
+abbrev pub look_of : SessionView → Option SessionEnd → SessionSnapshot
 look_of view end = record {
   id = view.id;
   opened_at = view.opened;
@@ -57,7 +57,7 @@ abbrev pub end_of : (stops : Bool) → EndedSession → SessionEnd
 end_of stops session = record { reason = reason_of stops session.cause; moment = session.moment }
 
 -- a slot has the session that is open in it; where none is, the one that ended last in it
-abbrev pub slot_of : (stops : Bool) → Option SessionView → Option EndedSession → Option SessionLook
+abbrev pub slot_of : (stops : Bool) → Option SessionView → Option EndedSession → Option SessionSnapshot
 slot_of stops (Some view) ended = Some (look_of view None)
 slot_of stops None (Some session) = Some (look_of session.view (Some (end_of stops session)))
 slot_of stops None None = None

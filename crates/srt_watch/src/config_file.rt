@@ -11,7 +11,7 @@ pub const MAX_REASON: usize = 896;
 /// What the system says of a file without its content.
 #[derive(Clone, Copy)]
 pub struct FileStamp {
-    /// When its content or one of its attributes changed last: nanoseconds since 1970, modulo 2^64. Nobody can set this
+    /// When its content or one of its attributes changed last: nanoseconds since 1970, modulo 2^64. NoWatcher can set this
     /// time, as the time of the last writing can be set.
     pub changed: u64,
     /// Its size in bytes.
@@ -60,16 +60,16 @@ fn next_phase(phase: Phase) -> Phase
 
 /// The last look at a file.
 #[derive(Clone, Copy)]
-pub(crate) struct LastLook {
+pub(crate) struct LastRead {
     // what the system said of it
     stamp: Option<FileStamp>,
     phase: Phase,
 }
 
-impl LastLook {
+impl LastRead {
     /// No look so far.
-    pub(crate) fn none() -> LastLook {
-        LastLook {
+    pub(crate) fn none() -> LastRead {
+        LastRead {
             stamp: None,
             phase: Phase::Known,
         }

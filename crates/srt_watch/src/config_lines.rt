@@ -1,9 +1,9 @@
 //! The lines of a configuration that changes while the gateway runs.
 
-use crate::asked_change::{AskedChange, NoRoom};
 use crate::in_force::NotTaken;
 use crate::indexes::{megabytes_of, opens};
 use crate::log::{LogWriter, When};
+use crate::requested_change::{NoRoom, RequestedChange};
 use srt_config::{Config, RouteChange};
 use srt_log::{CloseCause, ConfigEvent, LogEvent};
 use srt_seq::Entry;
@@ -99,7 +99,7 @@ fn tell_open<W: Write + Drop>(log: &mut LogWriter<W>, when: When, entry: &Entry,
 fn tell_closes<W: Write + Drop>(
     log: &mut LogWriter<W>,
     when: When,
-    asked: &AskedChange,
+    asked: &RequestedChange,
     before: &Config,
 ) {
     let changes = &asked.wanted().changes;
@@ -114,7 +114,7 @@ fn tell_closes<W: Write + Drop>(
 }
 
 // Tells the routes that open, in the order of the configuration.
-fn tell_opens<W: Write + Drop>(log: &mut LogWriter<W>, when: When, asked: &AskedChange) {
+fn tell_opens<W: Write + Drop>(log: &mut LogWriter<W>, when: When, asked: &RequestedChange) {
     let wanted = asked.wanted();
     for (place, entry) in wanted.config.entries.iter().enumerate() {
         if let (Some(change), Some(index)) = (
@@ -133,7 +133,7 @@ fn tell_opens<W: Write + Drop>(log: &mut LogWriter<W>, when: When, asked: &Asked
 pub(crate) fn tell_taken<W: Write + Drop>(
     log: &mut LogWriter<W>,
     when: When,
-    asked: &AskedChange,
+    asked: &RequestedChange,
     before: &Config,
 ) {
     let routes = asked.numbers();

@@ -1,11 +1,11 @@
 //! How a watcher follows the configuration's file: what a changed one asks of the run, and what becomes of that.
 
-use crate::asked_change::{AskedChange, NoRoom};
 use crate::config_file::ConfigFile;
 use crate::config_lines::{refuse, tell_always, tell_no_room, tell_not_taken, tell_taken};
 use crate::in_force::{InForce, NotTaken, Wanted};
 use crate::indexes::reaches_mark;
 use crate::log::{LogWriter, When};
+use crate::requested_change::{NoRoom, RequestedChange};
 use crate::watched_file::WatchedFile;
 use crate::watched_routes::WatchedRoutes;
 use srt_config::Config;
@@ -24,7 +24,7 @@ pub(crate) struct Following<'a, F: Drop> {
     file: WatchedFile<F>,
     in_force: InForce<'a>,
     // what the run was asked for, until it answers
-    asked: Option<AskedChange>,
+    asked: Option<RequestedChange>,
 }
 
 impl<'a, F: ConfigFile + Drop> Following<'a, F> {
@@ -65,7 +65,7 @@ impl<'a, F: ConfigFile + Drop> Following<'a, F> {
         routes: &mut WatchedRoutes,
         wanted: Wanted,
     ) -> Result<Option<RouteChanges>, NoRoom> {
-        let (asked, changes) = AskedChange::of(self.alloc, &self.in_force, routes, wanted)?;
+        let (asked, changes) = RequestedChange::of(self.alloc, &self.in_force, routes, wanted)?;
         if asked.asks_nothing() {
             asked.put_in_force(self.alloc, &mut self.in_force, routes);
             return Ok(None);

@@ -16,13 +16,12 @@
 //! (`losses.rt`), of sessions (`route_lines.rt`) and of a changed configuration (`config_lines.rt`). `showing.rt` turns sessions
 //! of a route into what the log has of them, `census.rt` into what the status page shows. `following.rt` asks the run for what
 //! a changed configuration says, and takes or forgets it: `watched_file.rt` says what is new in the file, and by `config_file.rt`
-//! when it is read; `in_force.rt` has the configuration in force and compares it with the file's; `asked_change.rt` has a change
+//! when it is read; `in_force.rt` has the configuration in force and compares it with the file's; `requested_change.rt` has a change
 //! with all that it takes of memory; `indexes.rt` says which routes of the run close and which indexes the others have.
 //! `machine.rt`, `status_server.rt` and `config_file.rt` have the traits. The words of each line are `srt_log`'s, those of the
 //! page `srt_status`'s, what a changed configuration asks is `srt_config`'s, and when a stop is over is `srt_operate`'s.
 #![tactic(auto)]
 
-mod asked_change;
 mod census;
 mod config_file;
 mod config_lines;
@@ -36,6 +35,7 @@ mod losses;
 mod machine;
 mod overview;
 mod page;
+mod requested_change;
 mod route_lines;
 mod showing;
 mod status_server;

@@ -67,7 +67,7 @@ impl<W: Write + Drop> LogWriter<W> {
         mem::replace(&mut self.missed, 0)
     }
 
-    // Writes a line, whatever the limit says. Nobody is told if it can't be written: the gateway goes on without a log.
+    // Writes a line, whatever the limit says. NoWatcher is told if it can't be written: the gateway goes on without a log.
     fn write(&mut self, when: When, event: LogEvent<'_>) {
         let time = if self.is_timed {
             Some(utc_text(when.time))

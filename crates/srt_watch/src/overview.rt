@@ -9,7 +9,7 @@ const ROUND_MISSED: u64 = 2_000_000;
 
 /// What the poller told last.
 #[derive(Clone, Copy)]
-struct PollerNews {
+struct PollerReport {
     counts: PollerCounts,
     // how often it told its counts, and the moment at which it did so last
     reports: u64,
@@ -28,7 +28,7 @@ pub(crate) struct Overview {
     // the refusals of the lobby
     refused: RefusalCounts,
     causes: CauseCounts,
-    poller: PollerNews,
+    poller: PollerReport,
 }
 
 impl Overview {
@@ -40,7 +40,7 @@ impl Overview {
             changes: ChangeCounts::default(),
             refused: RefusalCounts::default(),
             causes: CauseCounts::default(),
-            poller: PollerNews {
+            poller: PollerReport {
                 counts: PollerCounts::default(),
                 reports: 0,
                 reported_at: 0,

@@ -1,7 +1,7 @@
 //! The lines of what two looks at a route tell apart.
 
 use crate::log::{LogWriter, When};
-use crate::watched_routes::{TwoLooks, WatchedRoutes};
+use crate::watched_routes::{SnapshotPair, WatchedRoutes};
 use srt_log::{Change, LogEvent, STEPS, change_at, event_of};
 use srt_status::LimitCounts;
 use std::io::Write;
@@ -11,7 +11,7 @@ fn tell_change<W: Write + Drop>(
     log: &mut LogWriter<W>,
     when: When,
     name: &[u8],
-    looks: &TwoLooks,
+    looks: &SnapshotPair,
     change: Change,
 ) {
     if let Some(event) = event_of(name, &looks.old, &looks.new, change) {
@@ -25,7 +25,7 @@ pub(crate) fn tell_changes<W: Write + Drop>(
     when: When,
     routes: &mut WatchedRoutes,
     index: usize,
-    looks: &TwoLooks,
+    looks: &SnapshotPair,
 ) {
     for step in 0..STEPS {
         if let Some(change) = change_at(&looks.old, &looks.new, step) {

@@ -3,7 +3,9 @@
 ghost use Rattle.std.specs.Prelude.{◌≡◌};
 ghost use Rattle.srt_watch.specs.Showing.{reason_of, counts_of, troubles_of, latency_of, look_of, end_of, slot_of};
 
-use srt_log::{EndReason, RouteLook, SLOTS, SessionCounts, SessionEnd, SessionLook, Troubles};
+use srt_log::{
+    EndReason, RouteSnapshot, SLOTS, SessionCounts, SessionEnd, SessionSnapshot, Troubles,
+};
 use srt_route::{EndCause, EndedSession, Route, SessionView, Traffic};
 
 /// Why a session ended, for a log.
@@ -80,10 +82,10 @@ pub(crate) fn latency_of(latency_ms: u16) -> Option<u32>
     }
 }
 
-fn look_of(view: &SessionView, end: Option<SessionEnd>) -> SessionLook
+fn look_of(view: &SessionView, end: Option<SessionEnd>) -> SessionSnapshot
     ensures { result ≡ look_of view.now end }
 {
-    SessionLook {
+    SessionSnapshot {
         id: view.id,
         opened_at: view.opened,
         role: view.role,
@@ -110,7 +112,7 @@ fn slot_of(
     stops: bool,
     current: Option<SessionView>,
     ended: Option<EndedSession>,
-) -> Option<SessionLook>
+) -> Option<SessionSnapshot>
     ensures { result ≡ slot_of stops current ended }
 {
     match current {
@@ -124,12 +126,12 @@ fn slot_of(
 
 /// A route at a moment, in microseconds. `stops`: the gateway is about to end, and that closed the route. Refusals are
 /// told one by one, and not by looks.
-pub(crate) fn look_at(route: &Route, moment: u64, stops: bool) -> RouteLook {
+pub(crate) fn look_at(route: &Route, moment: u64, stops: bool) -> RouteSnapshot {
     let mut slots = [None; SLOTS];
     for slot in 0..SLOTS {
         slots[slot] = slot_of(stops, route.session(slot), route.ended(slot));
     }
-    RouteLook {
+    RouteSnapshot {
         moment,
         slots,
         opened: route.opened(),
@@ -138,8 +140,8 @@ pub(crate) fn look_at(route: &Route, moment: u64, stops: bool) -> RouteLook {
 }
 
 /// A look at a route before its first event.
-pub(crate) fn look_at_none() -> RouteLook {
-    RouteLook {
+pub(crate) fn look_at_none() -> RouteSnapshot {
+    RouteSnapshot {
         moment: 0,
         slots: [None; SLOTS],
         opened: 0,

@@ -1,6 +1,6 @@
 //! The configuration's file: when it is looked at, and what is new in it.
 
-use crate::config_file::{ConfigFile, LastLook, MAX_REASON, is_other};
+use crate::config_file::{ConfigFile, LastRead, MAX_REASON, is_other};
 use std::fmt::InlineText;
 use std::mem;
 
@@ -16,7 +16,7 @@ pub(crate) struct WatchedFile<F: Drop> {
     file: F,
     // the moment of the next look
     next_look: u64,
-    last_look: LastLook,
+    last_look: LastRead,
     // that it can't be read was told
     is_unread: bool,
     // the content that was looked at last
@@ -29,7 +29,7 @@ impl<F: ConfigFile + Drop> WatchedFile<F> {
         WatchedFile {
             file,
             next_look: FILE_LOOK,
-            last_look: LastLook::none(),
+            last_look: LastRead::none(),
             is_unread: false,
             content: None,
         }

@@ -3,7 +3,7 @@
 use crate::census::{grown_limits, note_route};
 use crate::showing::{look_at, look_at_none};
 use srt_config::RouteChange;
-use srt_log::RouteLook;
+use srt_log::RouteSnapshot;
 use srt_route::Route;
 use srt_seq::{Entry, Mode};
 use srt_status::{LimitCounts, PublisherCounts, RefusalCounts, RouteStatus, SubscriberCounts};
@@ -13,10 +13,10 @@ use std::vec::IntoIter;
 
 // A route of the run.
 #[derive(Drop)]
-struct SeenRoute {
+struct WatchedRoute {
     name: String,
     // the look before the next one
-    look: RouteLook,
+    look: RouteSnapshot,
     // its place among those that the page shows; none once it is no longer in the configuration
     place: Option<usize>,
 }
@@ -24,15 +24,15 @@ struct SeenRoute {
 /// What is kept of a route that opens while the gateway runs, all of its memory taken.
 #[derive(Drop)]
 pub(crate) struct OpeningRoute {
-    seen: SeenRoute,
+    seen: WatchedRoute,
     status: RouteStatus,
 }
 
 /// Two looks at a route, and what its limits refused between them.
 #[derive(Clone, Copy)]
-pub(crate) struct TwoLooks {
-    pub old: RouteLook,
-    pub new: RouteLook,
+pub(crate) struct SnapshotPair {
+    pub old: RouteSnapshot,
+    pub new: RouteSnapshot,
     pub grown: Option<LimitCounts>,
 }
 
@@ -40,7 +40,7 @@ pub(crate) struct TwoLooks {
 #[derive(Drop)]
 pub(crate) struct WatchedRoutes {
     // by their indexes
-    seen: Vec<SeenRoute>,
+    seen: Vec<WatchedRoute>,
     // in the order of the configuration
     shown: Vec<RouteStatus>,
 }
@@ -67,7 +67,7 @@ impl OpeningRoute {
         let mut status = unseen_status(alloc, entry.mode, entry.sessions);
         status.name = String::from_str(alloc, entry.name.as_str())?;
         Ok(OpeningRoute {
-            seen: SeenRoute {
+            seen: WatchedRoute {
                 name: String::from_str(alloc, entry.name.as_str())?,
                 look: look_at_none(),
                 place: None,
@@ -138,7 +138,7 @@ impl WatchedRoutes {
         route: &Route,
         moment: u64,
         stops: bool,
-    ) -> Option<TwoLooks> {
+    ) -> Option<SnapshotPair> {
         let seen = self.seen.get_mut(index)?;
         let new = look_at(route, moment, stops);
         let old = seen.look;
@@ -151,7 +151,7 @@ impl WatchedRoutes {
             }
             None => None,
         };
-        Some(TwoLooks { old, new, grown })
+        Some(SnapshotPair { old, new, grown })
     }
 
     /// Counts a take-over on the route with this index.
@@ -231,7 +231,7 @@ impl WatchedRoutes {
 }
 
 // Notes which routes the page shows: those with these indexes, in this order.
-fn place_all(seen: &mut [SeenRoute], indexes: &[usize]) {
+fn place_all(seen: &mut [WatchedRoute], indexes: &[usize]) {
     for route in seen.iter_mut() {
         route.place = None;
     }

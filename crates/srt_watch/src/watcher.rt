@@ -18,7 +18,7 @@ use srt_operate::StopStep;
 use srt_route::Route;
 use srt_seq::Entry;
 use srt_status::PollerCounts;
-use srt_supervision::{Asked, ChangeFault, Refusal, Report, RouteChanges, Told, Watch};
+use srt_supervision::{ChangeFault, Order, Refusal, Report, RouteChanges, RunStatus, Watch};
 use std::alloc::{AllocError, Global};
 use std::fmt::Display;
 use std::io::Write;
@@ -131,7 +131,7 @@ where
 
     // Takes in what is told: faults of the socket and the counts of the poller, for the next look, and refusals that nobody
     // was told.
-    fn take_in(&mut self, moment: u64, told: Told) {
+    fn take_in(&mut self, moment: u64, told: RunStatus) {
         self.overview
             .note_poller(moment, counts_of_poller(&told.counts), told.reports);
         self.log.miss(self.losses.note_missed(told.missed));
@@ -178,7 +178,7 @@ where
     P: StatusServer + Drop,
     F: ConfigFile + Drop,
 {
-    fn next(&mut self, told: Told) -> Asked {
+    fn next(&mut self, told: RunStatus) -> Order {
         self.page
             .rest(&mut self.machine, &self.overview, &self.routes);
         let when = When::now(&mut self.machine);
@@ -188,13 +188,13 @@ where
         self.look_for_stop(when);
         self.serve_page();
         match self.course.step(when.moment, told.is_quiet) {
-            StopStep::GoOn => Asked::GoOn,
-            StopStep::Close => Asked::CloseAll,
-            StopStep::End => Asked::End,
+            StopStep::GoOn => Order::GoOn,
+            StopStep::Close => Order::CloseAll,
+            StopStep::End => Order::End,
         }
     }
 
-    fn looks(&mut self) -> bool {
+    fn wants_routes(&mut self) -> bool {
         let when = When::now(&mut self.machine);
         if !self.course.looks(when.moment) {
             return false;
@@ -204,7 +204,7 @@ where
         true
     }
 
-    fn see(&mut self, index: usize, route: &Route) {
+    fn show_route(&mut self, index: usize, route: &Route) {
         let when = When::now(&mut self.machine);
         let stops = self.course.is_stopping();
         if let Some(looks) = self.routes.look(index, route, when.moment, stops) {

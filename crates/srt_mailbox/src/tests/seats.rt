@@ -7,10 +7,10 @@ ghost use Rattle.srt_mailbox.specs.Identities.{identity_in};
 ghost use Rattle.srt_mailbox.specs.Places.{came, places_of};
 
 use crate::tests::datagrams::{publisher_answer, publisher_conclusion};
-use crate::tests::looks::Eye;
+use crate::tests::observing::Eye;
 use crate::tests::{Fixed, IDLE, assert_drained, assert_visited, entry, offer_times, tick};
 use crate::{
-    Account, ClockEnd, ClockHand, Companion, Drain, Ingress, Place, PollerEnds, Seat, SeatReader,
+    Account, Attachment, ClockEnd, ClockHand, Drain, Ingress, Place, PollerEnds, Seat, SeatReader,
     Serve, Served, open_seat,
 };
 use srt_seq::OpenFault;
@@ -25,7 +25,7 @@ use std::thread::{Threads, join_mut};
 #[derive(Drop)]
 struct Mark(u32);
 
-impl Companion for Mark {
+impl Attachment for Mark {
     ghost belongs = { λ terms index mark. mark.0 ≤ 100 };
 }
 

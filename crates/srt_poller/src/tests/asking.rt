@@ -1,7 +1,7 @@
 //! Signals that ask what they are told to ask, and note what they are told.
 
 use super::peer;
-use crate::{Asked, Report, Signals};
+use crate::{Order, Report, Signals};
 use srt_lobby::Names;
 use srt_samples::{Difference, first_difference};
 use srt_seq::Peer;
@@ -19,7 +19,7 @@ pub struct Told {
 /// Asks for these, in turn, and then to go on. All outboxes have hints.
 #[derive(Drop)]
 pub struct Asking<'a> {
-    asked: &'a [Asked],
+    asked: &'a [Order],
     at: Cell<usize>,
     /// What is to be told, in this order: replies have no datagram, and answers no route.
     expected: Vec<Told>,
@@ -36,7 +36,7 @@ pub struct Asking<'a> {
 }
 
 impl<'a> Asking<'a> {
-    pub fn new(asked: &'a [Asked], expected: Vec<Told>) -> Asking<'a> {
+    pub fn new(asked: &'a [Order], expected: Vec<Told>) -> Asking<'a> {
         Asking {
             asked,
             at: Cell::new(0),
@@ -51,7 +51,7 @@ impl<'a> Asking<'a> {
     }
 
     /// Asks so, and expects to be told nothing of answers and replies.
-    pub fn of(alloc: Global, asked: &'a [Asked]) -> Asking<'a> {
+    pub fn of(alloc: Global, asked: &'a [Order]) -> Asking<'a> {
         Asking::new(asked, Vec::new(alloc))
     }
 
@@ -86,10 +86,10 @@ impl Signals for Asking<'_> {
 
     ghost stops = { λ s. Unit {0} };
 
-    fn asked(&self) -> Asked {
+    fn asked(&self) -> Order {
         let at = self.at.get();
         self.at.set(at.wrapping_add(1));
-        self.asked.get(at).copied().unwrap_or(Asked::GoOn)
+        self.asked.get(at).copied().unwrap_or(Order::GoOn)
     }
 
     fn reported(&self, report: &Report) {

@@ -12,7 +12,7 @@ use super::{ALWAYS, ROUTES, SECRET, Serving, assert_handed, comes, entry, named,
 use crate::changing_rounds::pump_changing_from;
 use crate::poller::Poller;
 use crate::{
-    Asked, Ends, Newcomer, Openings, Plans, Report, SourceStep, Unchanged, WireScript,
+    Ends, Newcomer, Openings, Order, Plans, Report, SourceStep, Unchanged, WireScript,
     pump_changing,
 };
 use srt_cookie::Secret;
@@ -26,9 +26,9 @@ use std::process::Abort;
 use std::sync::Wait;
 use std::test::Fail;
 
-const ON: Asked = Asked::GoOn;
+const ON: Order = Order::GoOn;
 
-const CLOSE: Asked = Asked::CloseAll;
+const CLOSE: Order = Order::CloseAll;
 
 /// A route comes before a round, and routes are asked to close before others, in the order of these.
 #[derive(Drop)]
@@ -97,7 +97,7 @@ struct Play<'a> {
     /// What they ask for.
     blocks: &'a [Block<'a>; 2],
     /// What the poller is asked.
-    asked: &'a [Asked],
+    asked: &'a [Order],
 }
 
 /// The ends of the two routes, with room for 511.

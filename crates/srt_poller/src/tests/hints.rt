@@ -7,7 +7,7 @@ use super::{
     ALWAYS, Routes, Serving, assert_replies, comes, conclude, open_routes, pumped_under,
     with_places, with_replies,
 };
-use crate::{Asked, Ends, Report, Sent, Signals, Source, SourceScript, WireScript};
+use crate::{Ends, Order, Report, Sent, Signals, Source, SourceScript, WireScript};
 use srt_lobby::Names;
 use srt_seq::Peer;
 use std::alloc::Global;
@@ -25,8 +25,8 @@ impl Signals for Silent {
 
     ghost stops = { λ s. ⊥ };
 
-    fn asked(&self) -> Asked {
-        Asked::GoOn
+    fn asked(&self) -> Order {
+        Order::GoOn
     }
 
     fn reported(&self, _report: &Report) {}

@@ -8,19 +8,19 @@ use super::rounds::{
     BOTH_CONCLUSIONS, Coming, FOUR_CONCLUSIONS, MANY_CONCLUSIONS, both_ended, script,
 };
 use super::{ALWAYS, Serving, assert_handed, comes, open_routes, pumped_under, scheduled};
-use crate::{Asked, Pumping, Report, SourceScript, SourceStep, WireScript};
+use crate::{Order, Pumping, Report, SourceScript, SourceStep, WireScript};
 use srt_seq::Schedule;
 use std::alloc::Global;
 use std::process::Abort;
 use std::sync::Wait;
 use std::test::Fail;
 
-/// Asked in each of the first rounds.
-const ON: Asked = Asked::GoOn;
+/// Order in each of the first rounds.
+const ON: Order = Order::GoOn;
 
-const CLOSE: Asked = Asked::CloseAll;
+const CLOSE: Order = Order::CloseAll;
 
-const END: Asked = Asked::End;
+const END: Order = Order::End;
 
 /// What the poller did in at most this many rounds, three of which would each read a conclusion, under these signals.
 fn pumped_within(
@@ -57,7 +57,7 @@ fn pumped_within(
 fn assert_made(
     rt: &(impl AllocGlobal + Wait + Abort),
     rounds: u64,
-    asked: &[Asked],
+    asked: &[Order],
     made: u64,
 ) -> Result<(), Fail>
     requires { rounds ≤ 2 ^ 48 }
@@ -87,7 +87,7 @@ fn rounds_end_once_the_signals_say_so(rt: HostRuntime) -> Result<(), Fail> {
 fn assert_counts_told(
     rt: &(impl AllocGlobal + Wait + Abort),
     rounds: u64,
-    asked: &[Asked],
+    asked: &[Order],
     reports: u64,
     read: u64,
 ) -> Result<(), Fail>
@@ -140,7 +140,7 @@ fn assert_asked(
     rt: &(impl AllocGlobal + Wait + Abort),
     first: Schedule,
     comings: &[Coming],
-    asked: &[Asked],
+    asked: &[Order],
     wanted: Report,
     applied: u32,
 ) -> Result<WireScript, Fail> {

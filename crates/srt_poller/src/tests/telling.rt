@@ -6,7 +6,7 @@ use super::datagrams::{
     publisher_answer, stray_shutdown,
 };
 use super::{ALWAYS, Serving, comes, pumped_under, scheduled};
-use crate::{Asked, Sent, SourceStep, WireScript};
+use crate::{Order, Sent, SourceStep, WireScript};
 use srt_samples::Sample;
 use srt_seq::Schedule;
 use std::alloc::Global;
@@ -39,7 +39,7 @@ fn assert_told(
     first: Schedule,
     steps: Vec<SourceStep>,
     sends: Vec<Sent>,
-    asked: &[Asked],
+    asked: &[Order],
     expected: Vec<Told>,
 ) -> Result<(), Fail> {
     let alloc = rt.alloc();
@@ -86,6 +86,6 @@ fn each_handshake_of_a_route_is_told(rt: HostRuntime) -> Result<(), Fail> {
     let steps = vec![in alloc; comes(alloc, conclusion_of(1, &STUDIO))?]?;
     let expected = vec![in alloc; told_of_a_reply(alloc, publisher_answer(1))?]?;
     let sends = vec![in alloc; Sent::Later]?;
-    let asked = [Asked::GoOn, Asked::GoOn, Asked::CloseAll];
+    let asked = [Order::GoOn, Order::GoOn, Order::CloseAll];
     assert_told(&rt, ALWAYS, steps, sends, &asked, expected)
 }

@@ -15,7 +15,7 @@ use srt_mailbox::Ungated;
 use srt_poller::{Polled, Pumping, Read, Sent, Source, Wire};
 use srt_seq::limits::MAX_ROUTES;
 use srt_seq::{Access, Entry, Mode, Peer, Rules, Schedule};
-use srt_supervision::Nobody;
+use srt_supervision::NoWatcher;
 use std::sync::Wait;
 use std::test::Fail;
 use std::thread::Threads;
@@ -154,7 +154,7 @@ where
             ticker: Device { calls: 0 },
         },
         gates,
-        watch: Nobody,
+        watch: NoWatcher,
     };
     wakeups.finish();
     Ok(serve_routes(&context, source, wire, &mut polling, &mut others))

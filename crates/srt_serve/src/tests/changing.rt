@@ -10,9 +10,9 @@ use super::datagrams::{
 };
 use super::watched::{MANY, studio, watched_over};
 use super::{MOMENT, YIELDS, entry_of, peer};
-use crate::{ChangeFault, Gates, Refusal, RouteChanges, Ticker, Told, Watch, Watched};
+use crate::{ChangeFault, Gates, Refusal, RouteChanges, RunStatus, Ticker, Watch, Watched};
 use srt_mailbox::{Account, Gate, Ungated};
-use srt_poller::{Asked, Polled, Read, Sent, Source, Wire};
+use srt_poller::{Order, Polled, Read, Sent, Source, Wire};
 use srt_route::Route;
 use srt_samples::shutdown;
 use srt_seq::{Entry, Peer};
@@ -143,15 +143,15 @@ enum Step {
     Call(Call, Reply),
     /// This conclusion comes in each round, until `FULL` more datagrams found their inbox full.
     Fill(Call),
-    /// Nobody calls, until the wire took this reply.
+    /// NoWatcher calls, until the wire took this reply.
     Hear(Reply),
-    /// Nobody calls, and a tick comes at `LATER`, until this route has no session.
+    /// NoWatcher calls, and a tick comes at `LATER`, until this route has no session.
     Silence(usize),
-    /// Nobody calls, until the poller took what it was told before.
+    /// NoWatcher calls, until the poller took what it was told before.
     Rest,
     /// The gates let turns of the first route pass from now on.
     Free,
-    /// Nobody calls, until the source holds a round.
+    /// NoWatcher calls, until the source holds a round.
     Held,
 }
 
@@ -428,7 +428,7 @@ impl Script {
     }
 
     /// What a step counts.
-    fn count(&self, step: Step, told: Told) -> u64 {
+    fn count(&self, step: Step, told: RunStatus) -> u64 {
         match step {
             Step::Change(_, _) => self.outcomes.len() as u64,
             Step::Renew => self.refused,
@@ -460,7 +460,7 @@ impl Script {
     }
 
     /// Begins a step, or goes on to the next one once what it counts has grown enough.
-    fn follow(&mut self, step: Step, told: Told) {
+    fn follow(&mut self, step: Step, told: RunStatus) {
         let count = self.count(step, told);
         if !self.has_begun {
             self.has_begun = true;
@@ -514,24 +514,24 @@ impl Script {
 }
 
 impl Watch for Script {
-    fn next(&mut self, told: Told) -> Asked {
+    fn next(&mut self, told: RunStatus) -> Order {
         thread::yield_now();
         self.rests = self.rests.saturating_add(1);
         if let Some(step) = self.steps.get(self.at) {
             self.follow(*step, told);
         }
         if self.at < self.steps.len() && self.stage.waits(self.rests) {
-            return Asked::GoOn;
+            return Order::GoOn;
         }
         self.stage.is_over.store(true, Ordering::SeqCst);
-        Asked::End
+        Order::End
     }
 
-    fn looks(&mut self) -> bool {
+    fn wants_routes(&mut self) -> bool {
         matches!(self.step(), Some(Step::Silence(_)))
     }
 
-    fn see(&mut self, index: usize, route: &Route) {
+    fn show_route(&mut self, index: usize, route: &Route) {
         if let Some(Step::Silence(silent)) = self.step() {
             if index == silent && route.session(0).is_none() {
                 self.is_silent = true;

@@ -3,8 +3,8 @@
 use crate::tests::datagrams::{FIRST, STUDIO, conclusion_of};
 use crate::tests::watched::{MANY, studio, watched};
 use crate::tests::{ARRIVALS, Again, Meeting, YIELDS, scene_of};
-use crate::{ChangeFault, Refusal, RouteChanges, Told, Watch};
-use srt_poller::{Asked, Report};
+use crate::{ChangeFault, Refusal, RouteChanges, RunStatus, Watch};
+use srt_poller::{Order, Report};
 use srt_route::Route;
 use std::sync::Arc;
 use std::sync::atomic::Ordering;
@@ -56,7 +56,7 @@ impl Follower {
     }
 
     /// Lets the source give one datagram more, once it was told of all that came.
-    fn follow(&mut self, counts: Report) -> Asked {
+    fn follow(&mut self, counts: Report) -> Order {
         if counts.read > self.counts.read {
             self.grown = self.grown.saturating_add(1);
         }
@@ -66,16 +66,16 @@ impl Follower {
             .store(counts.accepted, Ordering::SeqCst);
         self.meeting.told.store(counts.read, Ordering::SeqCst);
         if counts.accepted >= ARRIVALS && counts.sent >= ARRIVALS {
-            Asked::End
+            Order::End
         } else {
-            Asked::GoOn
+            Order::GoOn
         }
     }
 
     /// Holds the source in its second wait for some rests, and counts the reports meanwhile.
-    fn hold(&mut self, reports: u64) -> Asked {
+    fn hold(&mut self, reports: u64) -> Order {
         if !self.meeting.waited.load(Ordering::SeqCst) {
-            return Asked::GoOn;
+            return Order::GoOn;
         }
         if self.held == 0 {
             self.before = reports;
@@ -83,24 +83,24 @@ impl Follower {
         if self.held < HELD {
             self.held = self.held.saturating_add(1);
             self.after = reports;
-            return Asked::GoOn;
+            return Order::GoOn;
         }
         self.meeting.freed.store(true, Ordering::SeqCst);
         if reports >= self.after.saturating_add(HELD) {
-            Asked::End
+            Order::End
         } else {
-            Asked::GoOn
+            Order::GoOn
         }
     }
 }
 
 impl Watch for Follower {
-    fn next(&mut self, told: Told) -> Asked {
+    fn next(&mut self, told: RunStatus) -> Order {
         thread::yield_now();
         self.rests = self.rests.saturating_add(1);
         if self.rests >= YIELDS {
             self.is_late = true;
-            return Asked::End;
+            return Order::End;
         }
         match self.until {
             Until::Answered => self.follow(told.counts),
@@ -108,11 +108,11 @@ impl Watch for Follower {
         }
     }
 
-    fn looks(&mut self) -> bool {
+    fn wants_routes(&mut self) -> bool {
         false
     }
 
-    fn see(&mut self, _index: usize, _route: &Route) {}
+    fn show_route(&mut self, _index: usize, _route: &Route) {}
 
     fn refused(&mut self, _refusal: &Refusal) {}
 

@@ -9,7 +9,7 @@ use crate::tests::peer;
 use crate::tests::watched::studio;
 use srt_lobby::Names;
 use srt_mailbox::{RouteCell, Ungated};
-use srt_poller::{Asked, Report, Signals};
+use srt_poller::{Order, Report, Signals};
 use srt_seq::NotAdmitted;
 use srt_wakeups::Wakeups;
 use std::alloc::Global;
@@ -122,13 +122,13 @@ fn counts_are_told_when_they_are_wanted(rt: HostRuntime) -> Result<(), Fail> {
 #[test]
 fn the_end_is_final(rt: HostRuntime) -> Result<(), Fail> {
     let post = Post::open(rt.alloc())?;
-    assert_eq!(rt; post.asked(), Asked::GoOn);
-    post.ask(Asked::CloseAll);
-    assert_eq!(rt; post.asked(), Asked::CloseAll);
-    post.ask(Asked::GoOn);
-    assert_eq!(rt; post.asked(), Asked::GoOn);
-    post.ask(Asked::End);
-    post.ask(Asked::GoOn);
-    assert_eq!(rt; post.asked(), Asked::End);
+    assert_eq!(rt; post.asked(), Order::GoOn);
+    post.ask(Order::CloseAll);
+    assert_eq!(rt; post.asked(), Order::CloseAll);
+    post.ask(Order::GoOn);
+    assert_eq!(rt; post.asked(), Order::GoOn);
+    post.ask(Order::End);
+    post.ask(Order::GoOn);
+    assert_eq!(rt; post.asked(), Order::End);
     Ok(())
 }

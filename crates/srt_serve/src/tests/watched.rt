@@ -6,12 +6,13 @@ ghost use Rattle.std.specs.Vec.{vec_len};
 use crate::tests::datagrams::{FIRST, SECOND, STUDIA, STUDIO, conclusion_of};
 use crate::tests::{ALWAYS, Again, LIMIT, Member, Routes, SECRET, Scene, peer, scene_of};
 use crate::{
-    ChangeFault, Gates, Refusal, RouteChanges, RunFault, Ticker, Told, Watch, Watched, run_until,
+    ChangeFault, Gates, Refusal, RouteChanges, RunFault, RunStatus, Ticker, Watch, Watched,
+    run_until,
 };
 use srt_cookie::Secret;
 use srt_lobby::Names;
 use srt_mailbox::{Gate, Ungated};
-use srt_poller::{Asked, Source, Wire};
+use srt_poller::{Order, Source, Wire};
 use srt_route::{Route, SessionView};
 use srt_seq::{Peer, Role};
 use std::alloc::{AllocError, Global};
@@ -62,7 +63,7 @@ struct Guard {
     closes: bool,
     shown: u32,
     /// What it was told first when all was quiet.
-    quiet: Option<Told>,
+    quiet: Option<RunStatus>,
     notes: Vec<Note>,
 }
 
@@ -84,21 +85,21 @@ impl Guard {
         }
     }
 
-    fn wish(&mut self, told: Told) -> Asked {
+    fn wish(&mut self, told: RunStatus) -> Order {
         match self.until {
-            Until::Rests(rests) if self.rests > rests => Asked::End,
-            Until::Refusals(count) if self.notes.len() >= count => Asked::End,
-            Until::Quiet if self.quiet.is_some() => Asked::End,
+            Until::Rests(rests) if self.rests > rests => Order::End,
+            Until::Refusals(count) if self.notes.len() >= count => Order::End,
+            Until::Quiet if self.quiet.is_some() => Order::End,
             Until::Quiet if told.is_quiet => {
                 self.was_closing = self.closes;
                 self.quiet = Some(told);
-                Asked::End
+                Order::End
             }
             Until::Quiet if self.open.is_some() => {
                 self.closes = true;
-                Asked::CloseAll
+                Order::CloseAll
             }
-            _ => Asked::GoOn,
+            _ => Order::GoOn,
         }
     }
 
@@ -115,21 +116,21 @@ impl Guard {
 }
 
 impl Watch for Guard {
-    fn next(&mut self, told: Told) -> Asked {
+    fn next(&mut self, told: RunStatus) -> Order {
         thread::yield_now();
         self.rests = self.rests.saturating_add(1);
         if self.rests >= LIMIT {
             self.is_late = true;
-            return Asked::End;
+            return Order::End;
         }
         self.wish(told)
     }
 
-    fn looks(&mut self) -> bool {
+    fn wants_routes(&mut self) -> bool {
         self.looks
     }
 
-    fn see(&mut self, index: usize, route: &Route) {
+    fn show_route(&mut self, index: usize, route: &Route) {
         self.shown = self.shown.saturating_add(1);
         self.is_open = false;
         if let Some(view) = route.session(0) {

@@ -2,7 +2,7 @@
 
 use crate::helping::Helper;
 use crate::working::work;
-use srt_mailbox::{Gate, Look, Serve, Served, Ungated, Visit};
+use srt_mailbox::{Gate, Observer, Serve, Served, Ungated, Visit};
 use srt_poller::Signals;
 use srt_seq::Turned;
 use srt_wakeups::Wakeups;
@@ -68,7 +68,7 @@ impl Serve for Desk {
         Served::Turned(Turned::Idle)
     }
 
-    fn show<R: Wait, L: Look>(&self, _rt: &R, _look: &mut L) -> bool {
+    fn show<R: Wait, L: Observer>(&self, _rt: &R, _look: &mut L) -> bool {
         false
     }
 }

@@ -453,7 +453,7 @@ fn a_notification_ends_a_sleep_in_reserve(rt: HostRuntime) -> Result<(), Fail> {
     assert_notified_in_time(&rt, Sleep::Reserve)
 }
 
-/// Nobody notifies here: a nap is short, and so is a rest while an inbox is ready; after the end of the run nobody sleeps.
+/// NoWatcher notifies here: a nap is short, and so is a rest while an inbox is ready; after the end of the run nobody sleeps.
 #[test]
 fn who_must_look_again_sleeps_little(rt: HostRuntime) -> Result<(), Fail> {
     let wakeups = Wakeups::open(rt.alloc(), ROUTES, 2)?;

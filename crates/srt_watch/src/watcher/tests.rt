@@ -16,7 +16,7 @@ use srt_status::{
     CauseCounts, ChangeCounts, Flow, GatewayStatus, PollerCounts, PublisherCounts, RefusalCounts,
     RouteStatus, SessionStatus,
 };
-use srt_supervision::{Asked, Refusal, Report, Told, Watch};
+use srt_supervision::{Order, Refusal, Report, RunStatus, Watch};
 use std::alloc::Global;
 use std::process::Abort;
 use std::test::Fail;
@@ -40,7 +40,7 @@ const CALLER: Peer = Peer {
 };
 
 /// What a gateway is told while nothing happens.
-const NOTHING: Told = Told {
+const NOTHING: RunStatus = RunStatus {
     is_quiet: false,
     faults: 0,
     missed: 0,
@@ -256,13 +256,13 @@ fn the_first_lines(rt: HostRuntime) -> Result<(), Fail> {
     watcher.warn("warning: route 1 (studio): sessions = 2")?;
     assert_lines(&rt, &mut watcher, "");
     watcher.machine.moment = 2_000;
-    assert_eq!(rt; watcher.next(NOTHING), Asked::GoOn);
+    assert_eq!(rt; watcher.next(NOTHING), Order::GoOn);
     assert_lines(
         &rt,
         &mut watcher,
         "2026-11-26T15:04:05.125Z serving at 192.0.2.1:9000, routes 1, workers 2, memory 71524 KiB\n2026-11-26T15:04:05.125Z SIGINT or SIGTERM ends the gateway at once, without a report: bin/srtgw run blocks them\n2026-11-26T15:04:05.125Z warning: route 1 (studio): sessions = 2\n",
     );
-    assert_eq!(rt; watcher.next(NOTHING), Asked::GoOn);
+    assert_eq!(rt; watcher.next(NOTHING), Order::GoOn);
     assert_lines(&rt, &mut watcher, "");
     Ok(())
 }
@@ -271,23 +271,23 @@ fn the_first_lines(rt: HostRuntime) -> Result<(), Fail> {
 fn a_signal_stops_it(rt: HostRuntime) -> Result<(), Fail> {
     let entries = vec![in rt.alloc(); entry(rt.alloc())?]?;
     let mut watcher = watcher(rt.alloc(), &entries, false, start(true, None))?;
-    assert_eq!(rt; watcher.next(NOTHING), Asked::GoOn);
+    assert_eq!(rt; watcher.next(NOTHING), Order::GoOn);
     watcher.log.out.clear();
     watcher.machine.stops = true;
     watcher.machine.moment = 1_000_000;
-    assert_eq!(rt; watcher.next(NOTHING), Asked::CloseAll);
+    assert_eq!(rt; watcher.next(NOTHING), Order::CloseAll);
     assert_lines(&rt, &mut watcher, "stopping, by a signal\n");
-    let quiet = Told {
+    let quiet = RunStatus {
         is_quiet: true,
         ..NOTHING
     };
     watcher.machine.moment = 1_049_999;
-    assert_eq!(rt; watcher.next(quiet), Asked::CloseAll);
+    assert_eq!(rt; watcher.next(quiet), Order::CloseAll);
     watcher.machine.moment = 1_999_999;
-    assert_eq!(rt; watcher.next(NOTHING), Asked::CloseAll);
-    assert_eq!(rt; watcher.next(quiet), Asked::End);
+    assert_eq!(rt; watcher.next(NOTHING), Order::CloseAll);
+    assert_eq!(rt; watcher.next(quiet), Order::End);
     watcher.machine.moment = 2_000_000;
-    assert_eq!(rt; watcher.next(NOTHING), Asked::End);
+    assert_eq!(rt; watcher.next(NOTHING), Order::End);
     watcher.end();
     assert_lines(&rt, &mut watcher, "stopped\n");
     Ok(())
@@ -298,12 +298,12 @@ fn it_stops_after_its_time(rt: HostRuntime) -> Result<(), Fail> {
     let entries = vec![in rt.alloc(); entry(rt.alloc())?]?;
     let mut watcher = watcher(rt.alloc(), &entries, false, start(true, Some(3_000_000)))?;
     watcher.machine.moment = 500_000;
-    assert_eq!(rt; watcher.next(NOTHING), Asked::GoOn);
+    assert_eq!(rt; watcher.next(NOTHING), Order::GoOn);
     watcher.log.out.clear();
     watcher.machine.moment = 3_499_999;
-    assert_eq!(rt; watcher.next(NOTHING), Asked::GoOn);
+    assert_eq!(rt; watcher.next(NOTHING), Order::GoOn);
     watcher.machine.moment = 3_500_000;
-    assert_eq!(rt; watcher.next(NOTHING), Asked::CloseAll);
+    assert_eq!(rt; watcher.next(NOTHING), Order::CloseAll);
     assert_lines(&rt, &mut watcher, "stopping, the time of --for is over\n");
     Ok(())
 }
@@ -312,13 +312,13 @@ fn it_stops_after_its_time(rt: HostRuntime) -> Result<(), Fail> {
 fn it_looks_twice_a_second(rt: HostRuntime) -> Result<(), Fail> {
     let entries = vec![in rt.alloc(); entry(rt.alloc())?]?;
     let mut watcher = watcher(rt.alloc(), &entries, false, start(true, None))?;
-    assert!(rt; watcher.looks());
-    assert!(rt; !watcher.looks());
+    assert!(rt; watcher.wants_routes());
+    assert!(rt; !watcher.wants_routes());
     watcher.machine.moment = 499_999;
-    assert!(rt; !watcher.looks());
+    assert!(rt; !watcher.wants_routes());
     watcher.machine.moment = 500_000;
-    assert!(rt; watcher.looks());
-    assert!(rt; !watcher.looks());
+    assert!(rt; watcher.wants_routes());
+    assert!(rt; !watcher.wants_routes());
     Ok(())
 }
 
@@ -327,28 +327,28 @@ fn a_session_opens_and_ends(rt: HostRuntime) -> Result<(), Fail> {
     let entries = vec![in rt.alloc(); entry(rt.alloc())?]?;
     let mut watcher = watcher(rt.alloc(), &entries, false, start(true, None))?;
     let mut route = Route::open(rt.alloc(), &entries[0], 0)?;
-    watcher.see(0, &route);
+    watcher.show_route(0, &route);
     hear(rt.alloc(), &mut route, 1_000_000, PUBLISHER)?;
-    watcher.see(0, &route);
+    watcher.show_route(0, &route);
     assert_lines(
         &rt,
         &mut watcher,
         "studio: publisher 127.0.0.1:5000 opened, socket 0x00100000, latency 120 ms\n",
     );
-    watcher.see(0, &route);
+    watcher.show_route(0, &route);
     assert_lines(&rt, &mut watcher, "");
     hear(rt.alloc(), &mut route, 3_500_000, SHUTDOWN)?;
-    watcher.see(0, &route);
+    watcher.show_route(0, &route);
     assert_lines(
         &rt,
         &mut watcher,
         "studio: publisher 127.0.0.1:5000 ended, socket 0x00100000, its peer sent a SHUTDOWN, after 2500 ms, 0 packets, 0 bytes, 0 lost, 0 resent\n",
     );
     hear(rt.alloc(), &mut route, 4_000_000, PUBLISHER)?;
-    watcher.see(0, &route);
+    watcher.show_route(0, &route);
     watcher.log.out.clear();
     close(rt.alloc(), &mut route, 5_000_000)?;
-    watcher.see(0, &route);
+    watcher.show_route(0, &route);
     assert_lines(
         &rt,
         &mut watcher,
@@ -363,12 +363,12 @@ fn a_stop_is_told_as_the_cause(rt: HostRuntime) -> Result<(), Fail> {
     let mut watcher = watcher(rt.alloc(), &entries, false, start(true, None))?;
     let mut route = Route::open(rt.alloc(), &entries[0], 0)?;
     hear(rt.alloc(), &mut route, 1_000_000, PUBLISHER)?;
-    watcher.see(0, &route);
+    watcher.show_route(0, &route);
     watcher.machine.stops = true;
-    assert_eq!(rt; watcher.next(NOTHING), Asked::CloseAll);
+    assert_eq!(rt; watcher.next(NOTHING), Order::CloseAll);
     watcher.log.out.clear();
     close(rt.alloc(), &mut route, 1_500_000)?;
-    watcher.see(0, &route);
+    watcher.show_route(0, &route);
     assert_lines(
         &rt,
         &mut watcher,
@@ -382,14 +382,14 @@ fn what_came_and_went_between_two_looks(rt: HostRuntime) -> Result<(), Fail> {
     let entries = vec![in rt.alloc(); entry(rt.alloc())?]?;
     let mut watcher = watcher(rt.alloc(), &entries, false, start(true, None))?;
     let mut route = Route::open(rt.alloc(), &entries[0], 0)?;
-    watcher.see(0, &route);
+    watcher.show_route(0, &route);
     hear(rt.alloc(), &mut route, 1_000_000, PUBLISHER)?;
     hear(rt.alloc(), &mut route, 1_001_000, SHUTDOWN)?;
     hear(rt.alloc(), &mut route, 2_000_000, PUBLISHER)?;
     hear(rt.alloc(), &mut route, 2_001_000, LATER_SHUTDOWNS[0])?;
     hear(rt.alloc(), &mut route, 3_000_000, PUBLISHER)?;
     hear(rt.alloc(), &mut route, 3_001_000, LATER_SHUTDOWNS[1])?;
-    watcher.see(0, &route);
+    watcher.show_route(0, &route);
     assert_lines(
         &rt,
         &mut watcher,
@@ -434,7 +434,7 @@ fn a_flood_has_fifty_lines_a_second(rt: HostRuntime) -> Result<(), Fail> {
     let entries = vec![in rt.alloc(); entry(rt.alloc())?]?;
     let mut watcher = watcher(rt.alloc(), &entries, false, start(true, None))?;
     let flood = refusal(None, b"x", UNKNOWN)?;
-    assert_eq!(rt; watcher.next(NOTHING), Asked::GoOn);
+    assert_eq!(rt; watcher.next(NOTHING), Order::GoOn);
     watcher.log.out.clear();
     watcher.machine.moment = 1_000_000;
     for _ in 0..1_000 {
@@ -449,7 +449,7 @@ fn a_flood_has_fifty_lines_a_second(rt: HostRuntime) -> Result<(), Fail> {
     assert_eq!(rt; lines, 50);
     watcher.log.out.clear();
     watcher.machine.moment = 2_000_000;
-    assert_eq!(rt; watcher.next(NOTHING), Asked::GoOn);
+    assert_eq!(rt; watcher.next(NOTHING), Order::GoOn);
     assert_lines(&rt, &mut watcher, "lines left out 950\n");
     Ok(())
 }
@@ -458,27 +458,27 @@ fn a_flood_has_fifty_lines_a_second(rt: HostRuntime) -> Result<(), Fail> {
 fn counts_are_told_when_they_grow(rt: HostRuntime) -> Result<(), Fail> {
     let entries = vec![in rt.alloc(); entry(rt.alloc())?]?;
     let mut watcher = watcher(rt.alloc(), &entries, false, start(true, None))?;
-    assert_eq!(rt; watcher.next(NOTHING), Asked::GoOn);
-    assert!(rt; watcher.looks());
+    assert_eq!(rt; watcher.next(NOTHING), Order::GoOn);
+    assert!(rt; watcher.wants_routes());
     watcher.log.out.clear();
-    let told = Told {
+    let told = RunStatus {
         faults: 3,
         missed: 7,
         ..NOTHING
     };
-    assert_eq!(rt; watcher.next(told), Asked::GoOn);
+    assert_eq!(rt; watcher.next(told), Order::GoOn);
     assert_lines(&rt, &mut watcher, "");
     watcher.machine.moment = 500_000;
     watcher.machine.drops = 208;
-    assert!(rt; watcher.looks());
+    assert!(rt; watcher.wants_routes());
     assert_lines(
         &rt,
         &mut watcher,
         "socket faults 3\ndatagrams dropped by the kernel 208\n",
     );
     watcher.machine.moment = 1_000_000;
-    assert!(rt; watcher.looks());
-    assert_eq!(rt; watcher.next(told), Asked::GoOn);
+    assert!(rt; watcher.wants_routes());
+    assert_eq!(rt; watcher.next(told), Order::GoOn);
     assert_lines(&rt, &mut watcher, "lines left out 7\n");
     watcher.machine.drops = 210;
     watcher.end();
@@ -494,29 +494,29 @@ fn counts_are_told_when_they_grow(rt: HostRuntime) -> Result<(), Fail> {
 fn a_flood_hides_no_count(rt: HostRuntime) -> Result<(), Fail> {
     let entries = vec![in rt.alloc(); entry(rt.alloc())?]?;
     let mut watcher = watcher(rt.alloc(), &entries, false, start(true, None))?;
-    assert_eq!(rt; watcher.next(NOTHING), Asked::GoOn);
+    assert_eq!(rt; watcher.next(NOTHING), Order::GoOn);
     watcher.machine.moment = 1_000_000;
-    assert_eq!(rt; watcher.next(NOTHING), Asked::GoOn);
+    assert_eq!(rt; watcher.next(NOTHING), Order::GoOn);
     let flood = refusal(None, b"x", UNKNOWN)?;
     for _ in 0..60 {
         watcher.refused(&flood);
     }
     watcher.log.out.clear();
     watcher.machine.drops = 8_395;
-    let told = Told {
+    let told = RunStatus {
         faults: 2,
         missed: 300,
         ..NOTHING
     };
-    assert_eq!(rt; watcher.next(told), Asked::GoOn);
-    assert!(rt; watcher.looks());
+    assert_eq!(rt; watcher.next(told), Order::GoOn);
+    assert!(rt; watcher.wants_routes());
     assert_lines(
         &rt,
         &mut watcher,
         "socket faults 2\ndatagrams dropped by the kernel 8395\n",
     );
     watcher.machine.moment = 2_000_000;
-    assert_eq!(rt; watcher.next(told), Asked::GoOn);
+    assert_eq!(rt; watcher.next(told), Order::GoOn);
     assert_lines(&rt, &mut watcher, "lines left out 310\n");
     Ok(())
 }
@@ -536,8 +536,8 @@ fn the_page_is_shown_sessions_and_totals(rt: HostRuntime) -> Result<(), Fail> {
     hear(rt.alloc(), &mut route, 1_002_000, DATA[0])?;
     hear(rt.alloc(), &mut route, 1_003_000, DATA[1])?;
     hear(rt.alloc(), &mut route, 1_004_000, DATA[1])?;
-    watcher.see(0, &route);
-    assert_eq!(rt; watcher.next(NOTHING), Asked::GoOn);
+    watcher.show_route(0, &route);
+    assert_eq!(rt; watcher.next(NOTHING), Order::GoOn);
     let counts = PublisherCounts {
         received: 2,
         bytes: 4,
@@ -564,8 +564,8 @@ fn the_page_is_shown_sessions_and_totals(rt: HostRuntime) -> Result<(), Fail> {
     assert_eq!(rt; publisher.window_used, 2);
     assert_eq!(rt; publisher.window_available, 30);
     hear(rt.alloc(), &mut route, 1_005_000, SHUTDOWN)?;
-    watcher.see(0, &route);
-    assert_eq!(rt; watcher.next(NOTHING), Asked::GoOn);
+    watcher.show_route(0, &route);
+    assert_eq!(rt; watcher.next(NOTHING), Order::GoOn);
     assert!(rt; watcher.page.server.first.is_none());
     assert_eq!(rt; watcher.page.server.publishers.received, 2);
     Ok(())
@@ -576,13 +576,13 @@ fn the_page_is_shown_the_gateway(rt: HostRuntime) -> Result<(), Fail> {
     let entries = vec![in rt.alloc(); entry(rt.alloc())?]?;
     let mut watcher = watcher(rt.alloc(), &entries, false, start(true, None))?;
     watcher.machine.drops = 9;
-    assert!(rt; watcher.looks());
+    assert!(rt; watcher.wants_routes());
     watcher.refused(&refusal(None, b"x", UNKNOWN)?);
     let keyless = Some(NotAdmitted::Key(Role::Request));
     watcher.refused(&refusal(None, b"studio", keyless)?);
     watcher.refused(&refusal(Some(0), b"", None)?);
     watcher.machine.moment = 1_999_999;
-    let told = Told {
+    let told = RunStatus {
         counts: Report {
             read: 11,
             dropped: 5,
@@ -591,7 +591,7 @@ fn the_page_is_shown_the_gateway(rt: HostRuntime) -> Result<(), Fail> {
         },
         ..NOTHING
     };
-    assert_eq!(rt; watcher.next(told), Asked::GoOn);
+    assert_eq!(rt; watcher.next(told), Order::GoOn);
     assert!(rt; watcher.page.server.polling);
     assert_eq!(rt; watcher.page.server.uptime_seconds, 1);
     assert_eq!(rt; watcher.page.server.poller.read, 11);
@@ -607,10 +607,10 @@ fn the_page_is_shown_the_gateway(rt: HostRuntime) -> Result<(), Fail> {
     assert!(rt; watcher.page.server.causes == causes);
     assert_eq!(rt; watcher.page.server.take_overs, Some(0));
     watcher.machine.moment = 2_000_000;
-    assert_eq!(rt; watcher.next(told), Asked::GoOn);
+    assert_eq!(rt; watcher.next(told), Order::GoOn);
     assert!(rt; !watcher.page.server.polling);
-    let told = Told { reports: 1, ..told };
-    assert_eq!(rt; watcher.next(told), Asked::GoOn);
+    let told = RunStatus { reports: 1, ..told };
+    assert_eq!(rt; watcher.next(told), Order::GoOn);
     assert!(rt; watcher.page.server.polling);
     Ok(())
 }

@@ -1,12 +1,12 @@
 //! A watcher that follows a configuration's file, over a file in memory that says something else at each look.
 
 use super::{NOTHING, Watching, assert_lines, start, watcher};
-use crate::config_file::LastLook;
+use crate::config_file::LastRead;
 use crate::indexes::{megabytes_of, reaches_mark};
 use crate::{ConfigFile, FileStamp, MAX_REASON};
 use srt_config::{Config, read_config};
 use srt_status::ChangeCounts;
-use srt_supervision::{Asked, ChangeFault, RouteChanges, Watch};
+use srt_supervision::{ChangeFault, Order, RouteChanges, Watch};
 use std::alloc::{AllocError, Global};
 use std::cell::Cell;
 use std::fmt::InlineText;
@@ -149,7 +149,7 @@ fn assert_asks(
 
 /// Asserts what the page shows: the initials of its routes, and the counts of changes taken, refused, and of indexes.
 fn assert_page(rt: &impl Abort, watcher: &mut Watching<'_>, initials: &[u8], counts: [u64; 3]) {
-    assert_eq!(rt; watcher.next(NOTHING), Asked::GoOn);
+    assert_eq!(rt; watcher.next(NOTHING), Order::GoOn);
     let [taken, refused, indexes] = counts;
     let wanted = ChangeCounts {
         taken,
@@ -290,7 +290,7 @@ fn stamp_at(changed: u64) -> Option<FileStamp> {
 
 #[test]
 fn a_file_that_is_being_written_is_not_read(rt: HostRuntime) {
-    let mut last = LastLook::none();
+    let mut last = LastRead::none();
     assert!(rt; !last.reads(stamp_at(1)) && last.is_settling());
     assert!(rt; !last.reads(stamp_at(2)) && last.is_settling());
     assert!(rt; last.reads(stamp_at(2)) && !last.is_settling());

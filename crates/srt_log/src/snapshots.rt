@@ -28,7 +28,7 @@ pub struct Troubles {
 
 /// A session, as it stood at a moment.
 #[derive(Clone, Copy)]
-pub struct SessionLook {
+pub struct SessionSnapshot {
     /// Its socket ID here.
     pub id: u32,
     /// The moment of its opening, in microseconds. No other session of its slot has both the same.
@@ -51,11 +51,11 @@ pub struct SessionLook {
 
 /// The sessions of a route at a moment, and the route's counts so far.
 #[derive(Clone, Copy)]
-pub struct RouteLook {
+pub struct RouteSnapshot {
     /// The moment, in microseconds.
     pub moment: u64,
     /// In each slot the session that was opened there last; `None` if there was none.
-    pub slots: [Option<SessionLook>; SLOTS],
+    pub slots: [Option<SessionSnapshot>; SLOTS],
     /// The sessions that were opened so far.
     pub opened: u64,
     /// The conclusions that were refused so far.

@@ -1,5 +1,5 @@
 use Rattle.srt_log.proofs.Equal.{nothing_between}
-use Rattle.srt_log.proofs.laws.equal_looks.Goals as goal
+use Rattle.srt_log.proofs.laws.equal_snapshots.Goals as goal
 
 pub returns : goal.returns
 returns c = nothing_between

@@ -6,7 +6,7 @@ ghost use Rattle.srt_mailbox.specs.Looks.{Seen, seen};
 use srt_route::Route;
 
 /// Who is shown a route under its claim. Workers can't serve the route meanwhile.
-pub trait Look {
+pub trait Observer {
     /// The routes that it was shown, each as it was then, the newest first; `None` for one that keeps no record.
     ghost looked: { Self → Option (List Seen) };
 

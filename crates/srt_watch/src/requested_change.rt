@@ -130,13 +130,13 @@ fn lists_of(
 
 /// A change that the run is asked for, with all that it takes of memory here.
 #[derive(Drop)]
-pub(crate) struct AskedChange {
+pub(crate) struct RequestedChange {
     numbers: RouteNumbers,
     room: Room,
     wanted: Wanted,
 }
 
-impl AskedChange {
+impl RequestedChange {
     /// That of a configuration that can be taken, and what the run is to be asked for. Allocates; after an error nothing
     /// has changed.
     pub(crate) fn of(
@@ -144,10 +144,10 @@ impl AskedChange {
         in_force: &InForce<'_>,
         routes: &mut WatchedRoutes,
         wanted: Wanted,
-    ) -> Result<(AskedChange, RouteChanges), NoRoom> {
+    ) -> Result<(RequestedChange, RouteChanges), NoRoom> {
         let (changes, room) = lists_of(alloc, in_force, routes, &wanted)?;
         let numbers = numbers_of(&wanted.changes);
-        let asked = AskedChange {
+        let asked = RequestedChange {
             numbers,
             room,
             wanted,
@@ -195,7 +195,7 @@ impl AskedChange {
         in_force: &mut InForce<'_>,
         routes: &mut WatchedRoutes,
     ) {
-        let AskedChange {
+        let RequestedChange {
             numbers: _,
             room,
             wanted,

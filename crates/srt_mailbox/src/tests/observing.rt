@@ -1,7 +1,7 @@
 //! Looks at a route: what they see, that none makes a turn, and that the route is claimed meanwhile and given back.
 
 use crate::gates::Served;
-use crate::looks::Look;
+use crate::observer::Observer;
 use crate::tests::datagrams::publisher_conclusion;
 use crate::tests::{APPLIED, Fixed, IDLE, MOVED, assert_served, offer_times, peer, studio, tick};
 use crate::{RouteCell, Serve};
@@ -32,7 +32,7 @@ impl Eye {
     }
 }
 
-impl Look for Eye {
+impl Observer for Eye {
     ghost use Rattle.std.specs.Prelude.{None};
 
     ghost looked = { λ _. None };
@@ -91,7 +91,7 @@ struct Inside<'a, R> {
     eye: Eye,
 }
 
-impl<R: Wait> Look for Inside<'_, R> {
+impl<R: Wait> Observer for Inside<'_, R> {
     ghost use Rattle.std.specs.Prelude.{None};
 
     ghost looked = { λ _. None };
