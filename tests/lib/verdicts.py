@@ -1,9 +1,9 @@
 """What is known of crates at the content that they have: that their tests were proved, that the unchanged copies of functions were
 proved, and that each of their edits was refused. Which edits and which refusals of memory the gate tries again follows from it.
 
-Each is a fact about content. A wrong body is one by the contracts that it breaks, and a test calls what contracts describe; so of the
-crates below count what these say, `src` and `specs`, and not how it is proved. The toolchain counts where tests are proved and memory
-is refused, and not for copies and edits, whose verdicts stay over a change of it.
+Each is a fact about content, and comments are none of it. A mutant is one by the contracts that it breaks, and a test calls what
+contracts describe; so of the crates below count `src` and `specs`, and not the proofs. The toolchain counts where tests are proved and
+memory is refused, and not for copies and edits, whose verdicts stay over a change of it.
 
 A verdict is a line of `tests/verdicts`, which git keeps, and of a file of this machine, where it counts in every clone."""
 from __future__ import annotations
@@ -12,6 +12,7 @@ import fcntl
 import functools
 import hashlib
 import os
+import re
 import subprocess
 from typing import Iterable, NamedTuple
 
@@ -50,6 +51,33 @@ class Checksums(NamedTuple):
     tests: str
 
 
+# What begins a line that is a comment, by the end of a file's name.
+COMMENTS = {".rt": b"//", ".antt": b"--"}
+
+
+def has_long_text(text: bytes) -> bool:
+    """Whether a text between quotes may go over the end of a line, in which a line that looks like a comment is none."""
+    return any(re.sub(rb"\\.|'\"'", b"", line).count(b'"') % 2 for line in text.split(b"\n") if not line.lstrip().startswith(b"//"))
+
+
+def without_comments(path: str, text: bytes) -> bytes:
+    """A source's text without the lines that are comments; all of it for other files."""
+    mark = COMMENTS.get(os.path.splitext(path)[1])
+    if mark is None or (path.endswith(".rt") and has_long_text(text)):
+        return text
+    return b"\n".join(line for line in text.split(b"\n") if not line.lstrip().startswith(mark))
+
+
+def sum_of_content(paths: Iterable[str], more: str = "", top: str = TOP) -> str:
+    """One checksum of these files of the repository, or of a copy of it, with their places, and of a text. Comments don't count."""
+    total = hashlib.sha256(more.encode())
+    for path in paths:
+        with open(path, "rb") as file:
+            text = without_comments(path, file.read())
+        total.update(f"{os.path.relpath(path, top)}\0".encode() + text + b"\0")
+    return total.hexdigest()
+
+
 def is_test(path: str) -> bool:
     """Whether a file below src/ holds tests alone."""
     return path.endswith("tests.rt") or "/tests/" in path
@@ -76,9 +104,9 @@ def checksums_of(crate: Crate) -> Checksums:
     own, edits, said = files_of(crate.folder), trying.edits_of(crate.name, outside_only=True), said_below(crate)
     judging = [it.__file__ for it in (copying, placing, trying)]
     return Checksums(
-        sum_of([*own, copying.__file__], "\n".join(functions)),
-        sum_of([*own, *edits, *said, *judging], crate.line),
-        sum_of([*own, *said], f"{crate.line}\n{toolchain()}"),
+        sum_of_content([*own, copying.__file__], "\n".join(functions)),
+        sum_of_content([*own, *edits, *said, *judging], crate.line),
+        sum_of_content([*own, *said], f"{crate.line}\n{toolchain()}"),
     )
 
 
