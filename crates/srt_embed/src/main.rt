@@ -1,7 +1,7 @@
-//! The gateway's core in a program of your own: one route, without a socket, a clock or threads.
+//! An example of the gateway's core embedded in another program: one route, without a socket, a clock or threads.
 //!
 //! A caller sends an induction, which the lobby answers, and a conclusion, which opens a session of the route. Both
-//! datagrams, and what is sent back, are those of `examples/induction.tape` and `examples/opening.tape`.
+//! datagrams, and the replies, are those of `examples/induction.tape` and `examples/opening.tape`.
 #![tactic(auto)]
 
 use anyhow::bail;
@@ -10,7 +10,7 @@ use srt_hub::{Arrived, SrtGateway};
 use srt_seq::limits::MAX_DATAGRAM;
 use srt_seq::{Access, Entry, Mode, Peer, Rules};
 
-/// The secret of the cookies. A gateway on the air has one that nobody else knows.
+/// The secret of the cookies. A gateway in production must have a secret value that nobody else knows.
 const SECRET: &str = "000102030405060708090a0b0c0d0e0f101112131415161718191a1b1c1d1e1f";
 
 /// The caller: 127.0.0.1, port 5000.
@@ -19,12 +19,12 @@ const CALLER: Peer = Peer {
     port: 5000,
 };
 
-/// The first datagram of its call.
+/// The caller's first datagram, an induction.
 const INDUCTION: &str = "\
 80000000000000000000000000000000000000040000000200000005000005dc000020000000000100bc614e00000000\
 00000000000000000000000000000000";
 
-/// The second one: it has the cookie of the first one's answer, and wants to publish on `studio`.
+/// The caller's second datagram, a conclusion with the cookie of that answer: it requests to publish on `studio`.
 const CONCLUSION: &str = "\
 80000000000000000000000000000000000000050000000500000005000005dc00002000ffffffff00000001ecc958a6\
 000000000000000000000000000000000001000300010500000000bf00780078000500063a3a212374733d726f696475\
@@ -61,7 +61,7 @@ fn main(rt: HostRuntime) -> anyhow::Result<()> {
         other => bail!("the conclusion: {other:?}"),
     }
 
-    // The first turn applies the conclusion, the second one moves the route's reply to its outbox.
+    // The first turn processes the conclusion, the second one moves the route's reply to its outbox.
     let first = hub.turn(0);
     let second = hub.turn(0);
     println!(rt; "{first:?}, {second:?}")?;

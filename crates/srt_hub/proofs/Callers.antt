@@ -34,7 +34,7 @@ taken access e Turn m h = tt
 taken access e Send m h = tt
 taken access e Nothing m h = tt
 
--- a datagram of a route that is there is of a caller that may call it
+-- a datagram of an existing route is of a caller that may call it
 arrival_may : (secret : List ℕ) (w : World) (r : ℕ) (d : Datagram) (moment : ℕ)
     → r < length w.places → class_of secret (names_in w) d moment ≡ Route r → IsOfCaller (entry_in w r).access (Received d moment)
 arrival_may secret w r d moment below h = route_is_for_callers secret (names_in w) d moment r (name_at (place_in w r)) (named w.places r below) h
@@ -71,7 +71,7 @@ step_may secret w r (Closes s moment) below = by (s == r) (is_shown_in w r)
     by true false = tt
     by false shown = tt
 
--- a route that isn't there accepts nothing
+-- a route that doesn't exist accepts nothing
 no_more : (secret : List ℕ) (w : World) (r : ℕ) (event : Event) (rest : List Item)
     → (nat_lt r (length w.places) ≡ false → rest ≡ []) → nat_lt r (length (places_after event w)) ≡ false
     → takes_in (entry_in w r) (step_for (sorting secret) w r event) (w.lane r) ++ rest ≡ []
@@ -97,7 +97,7 @@ both_all : (access : AccessTerms) (xs ys : List Item)
 both_all access [] ys p q = q
 both_all access (x ∷ xs) ys p q = (p.0, both_all access xs ys p.1 q)
 
--- one event more
+-- one more event
 grown : (secret : List ℕ) (w : World) (r : ℕ) (event : Event) (rest : List Item)
     → AllByRecursion (IsOfCaller (entry_in w r).access) rest → (nat_lt r (length w.places) ≡ false → rest ≡ [])
     → AllByRecursion (IsOfCaller (at (places_after event w) r).entry.access)

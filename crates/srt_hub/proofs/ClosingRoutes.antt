@@ -1,4 +1,4 @@
--- What the closing of a route changes.
+-- The changes by the closing of a route.
 use Rattle.std.proofs.Common.{◌≡◌, ℕ, zero, suc, ◌<◌, Bool, true, false, not, ◌&&◌, cond, eqb}
 use Rattle.std.proofs.Common.{List, [], ◌∷◌, length, refl, ap, ◌∙◌, arith}
 use Rattle.srt_hub.specs.declared.answers.Closing.TheVariants as closings
@@ -49,7 +49,7 @@ full_closing_is class reply entries events r moment h =
           (close_here class w r moment ∙ ap (λ (b : Bool). offer_if b (Close moment)) from.0) (close_elsewhere class w r moment) (rw from.1 refl),
     )
 
--- a route that is shown is there
+-- a visible route exists
 shown_there : (places : List Place) (r : ℕ) → (at places r).is_shown ≡ true → r < length places
 shown_there [] r h = absurd (let bad : false ≡ true = h in cc)
 shown_there (p ∷ places) zero h = omega arith

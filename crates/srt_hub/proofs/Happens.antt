@@ -12,7 +12,7 @@ use Rattle.srt_hub.specs.World.{step_for, after_step, places_after, after, empty
 use Rattle.srt_hub.specs.Hubs.{AreLanes}
 use Rattle.srt_hub.proofs.Places.{nowhere, at, there_in, entry_stays}
 
--- a step of a route that is there
+-- a step of an existing route
 pub step_there : (class : Sorting) (w : World) (r : ℕ) (event : Event) → r < length w.places → step_for class w r event ≡ own_step class w r event
 step_there class w r event below = ap (λ (b : Bool). cond b (own_step class w r event) Nothing) (there_in (length w.places) r below)
 
@@ -20,7 +20,7 @@ either_way : (b : Bool) → cond b Nothing Nothing ≡ Nothing
 either_way true = refl
 either_way false = refl
 
--- what would be no step of a route if it were there is none
+-- an event that wouldn't be a step of a route if it existed is none
 pub no_step : (class : Sorting) (w : World) (k : ℕ) (event : Event) → own_step class w k event ≡ Nothing → step_for class w k event ≡ Nothing
 no_step class w k event h = ap (λ (s : Step). cond (nat_lt k (length w.places)) s Nothing) h ∙ either_way (nat_lt k (length w.places))
 
@@ -100,7 +100,7 @@ pub answer_is : {X A : Type 0} (Is : X → Terms → ℕ → Lane → Type 0) (w
 answer_is {X} {A} Is w lanes r old answer result lt there says h =
     says (entry_in w r) r (w.lane r) (subst (λ (x : X). Is x (entry_in w r) r (w.lane r)) (sym there) (h.each r old lt))
 
--- ticks, turns and sends are one route's
+-- ticks, turns and sends are steps of one route
 pub tick_here : (class : Sorting) (w : World) (r moment : ℕ) → own_step class w r (Ticks r moment) ≡ Offers (Tick moment)
 tick_here class w r moment = rw (eq-eqb r r refl) refl
 
@@ -150,7 +150,7 @@ one_more {X} Is entries lanes e lane new h =
       ];
     }
 
--- what the lobby answers or drops is no route's step
+-- an arrival that the lobby answers or drops is no route's step
 pub answer_nowhere : (class : Sorting) (w : World) (d : Datagram) (moment : ℕ) (refused : Bool) (bytes : List ℕ) (k : ℕ)
     → class (names_in w) d moment ≡ Answer bytes → own_step class w k (Arrives d moment refused) ≡ Nothing
 answer_nowhere class w d moment refused bytes k is = rw is refl
@@ -159,12 +159,12 @@ pub drop_nowhere : (class : Sorting) (w : World) (d : Datagram) (moment : ℕ) (
     → class (names_in w) d moment ≡ Dropped cause → own_step class w k (Arrives d moment refused) ≡ Nothing
 drop_nowhere class w d moment refused cause k is = rw is refl
 
--- nor is an arrival for whose copy there was no memory
+-- an arrival whose copy couldn't be allocated is no route's step
 pub refused_nowhere : (class : Sorting) (w : World) (d : Datagram) (moment r k : ℕ)
     → class (names_in w) d moment ≡ Route r → own_step class w k (Arrives d moment true) ≡ Nothing
 refused_nowhere class w d moment r k is = rw is (either_way (eqb r k))
 
--- another arrival is its route's step
+-- any other arrival is a step of its route
 pub arrival_here : (class : Sorting) (w : World) (d : Datagram) (moment r : ℕ)
     → class (names_in w) d moment ≡ Route r → own_step class w r (Arrives d moment false) ≡ Offers (Received d moment)
 arrival_here class w d moment r is = rw (is, eq-eqb r r refl) refl

@@ -1,4 +1,4 @@
--- The law of isolation.
+-- The theorem of isolation.
 use Rattle.std.proofs.Common.{◌≡◌, ℕ, ◌≤◌, ltb, Bool, true, false, cond, List, [], ◌∷◌, ◌++◌, reverse, length, refl, sym, ap, ◌∙◌}
 use Rattle.std.proofs.Common.{append_assoc, arith, length-append}
 use Rattle.std.proofs.lemmas.List.{append-nil, reverse-append}
@@ -100,7 +100,7 @@ kept class reply entries r events =
     let h = by_own class reply entries r events (entry_at class reply entries r events) (λ below. refl) in
     rw (h.lane, h.items_are, h.out_is) (kept_by reply (entry_at class reply entries r events) r _)
 
--- more items make more replies
+-- the replies to fewer items are a prefix of those to more
 solo_more : (reply : Meaning) (e : Terms) (r : ℕ) (newer items : List Item) → IsFrontOf (solo reply e r items) (solo reply e r (newer ++ items))
 solo_more reply e r [] items = ([], append-nil (solo reply e r items))
 solo_more reply e r (x ∷ newer) items =

@@ -20,13 +20,13 @@ pub start_names : (entries : List Terms) → map name_at (map opened entries) �
 start_names [] = refl
 start_names (e ∷ entries) = ap (λ (ns : List RouteName). name_of e ∷ ns) (start_names entries)
 
--- the name of a route that is there
+-- the name of an existing route
 pub named : (places : List Place) (r : ℕ) → r < length places → slice_get (map name_at places) r ≡ Some (name_at (at places r))
 named [] r below = absurd (omega (arith, below))
 named (p ∷ places) zero below = refl
 named (p ∷ places) (suc r) below = named places r (omega (arith, below))
 
--- after a route is hidden, and after one is opened
+-- the names after a route is hidden, and after one is opened
 pub hidden_names : (places : List Place) (r : ℕ) → map name_at (hidden_at r places) ≡ changing.hidden_at r (map name_at places)
 hidden_names [] r = refl
 hidden_names (p ∷ places) zero = refl
@@ -51,7 +51,7 @@ opened_distinct w e refused (Err fault) is distinct = distinct
 opened_distinct w e refused (Ok r) is distinct =
     subst AreDistinct (sym (more_names w.places e)) (adding_keeps_names (names_in w) e (sound_of _ r refused (fault_of_adding (names_in w) e) is) distinct)
 
--- no two shown routes have the same name, after any events
+-- no two visible routes have the same name, after any events
 pub always_distinct : (class : Sorting) (reply : Meaning) (entries : List Terms) (events : List Event)
     → AreDistinct (names entries) → AreDistinct (names_at class reply entries events)
 always_distinct class reply entries [] h = rw (start_names entries) h

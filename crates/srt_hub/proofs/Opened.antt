@@ -50,7 +50,7 @@ each_is_named (x ∷ entries) zero entry all below there =
 each_is_named (x ∷ entries) (suc i) entry all below there =
     each_is_named entries i entry (and_parts (is_fresh (terms_of x) (map terms_of entries)) (are_names (map terms_of entries)) all).1 (omega arith) there
 
--- each entry has a name of the right form, is within its limits, and has an index below 511
+-- an entry has a name of the right form, is within its limits, and has an index below 511
 pub record IsRight (e : Terms) (index : ℕ) : Type 0 where
   pub name : is_name e.name ≡ true
   pub limits : in_limits e ≡ true

@@ -1,4 +1,4 @@
--- What the opening of a route changes.
+-- The changes by the opening of a route.
 use Rattle.std.proofs.Common.{◌≡◌, ℕ, ◌≤◌, nat_lt, Bool, true, false, ◌⊎◌, Option, None}
 use Rattle.std.proofs.Common.{Some, Ok, Err, List, [], ◌∷◌, ◌++◌, length, refl, sym, ap, ◌∙◌, arith, inl, inr}
 use Rattle.std.proofs.lemmas.Bool.{cases_lt}
@@ -39,7 +39,7 @@ opening_index next refused (Some f) r h = absurd (let bad : Err f ≡ Ok r = h i
 opening_index next true None r h = absurd (let bad : Err faults.OutOfMemory ≡ Ok r = h in cc)
 opening_index next false None r h = let same : r ≡ next = cc in same
 
--- a route that isn't there yet took no step
+-- a route that doesn't exist yet made no step
 no_steps : (class : Sorting) (reply : Meaning) (entries : List Terms) (r : ℕ) (events : List Event)
     → length (world_after class reply entries events).places ≤ r → own_steps class reply entries r events ≡ []
 no_steps class reply entries r [] h = refl
@@ -55,7 +55,7 @@ no_steps class reply entries r (event ∷ events) h =
       | inr le ↦ le
     ]
 
--- and holds nothing
+-- a route that doesn't exist yet holds nothing
 pub empty_before : (class : Sorting) (reply : Meaning) (entries : List Terms) (r : ℕ) (events : List Event)
     → length (world_after class reply entries events).places ≤ r → lane_at class reply entries r events ≡ empty
 unfolding lane_by accepted_by sent_by

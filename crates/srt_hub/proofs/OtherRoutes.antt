@@ -1,4 +1,4 @@
--- An event of one route is no step of another.
+-- An event of one route is not a step of another.
 use Rattle.std.proofs.Common.{◌≡◌, ◌≢◌, ℕ, Bool, true, false, eqb}
 use Rattle.std.proofs.Common.{length, refl}
 use Rattle.std.proofs.lemmas.Bool.{eq-eqb, ne_eqb}
@@ -11,7 +11,7 @@ use Rattle.srt_hub.proofs.Places.{below_of, opening_keeps, closing_keeps}
 use Rattle.srt_hub.proofs.Happens.{no_step, other_way, tick_elsewhere, turn_elsewhere, send_elsewhere}
 use Rattle.srt_hub.proofs.Happens.{refused_nowhere, arrival_elsewhere}
 
--- closings and openings are nobody else's steps
+-- closings and openings are steps of no other route
 pub close_elsewhere : (class : Sorting) (w : World) (r moment k : ℕ) → k ≢ r → own_step class w k (Closes r moment) ≡ Nothing
 close_elsewhere class w r moment k other = rw (ne_eqb r k (other_way k r other)) refl
 

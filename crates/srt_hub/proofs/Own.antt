@@ -26,7 +26,7 @@ use Rattle.srt_hub.proofs.Named.{named, always_distinct}
 use Rattle.srt_hub.proofs.Isolation.{sent_is_front, sent_is_whole, isolated}
 use Rattle.srt_hub.proofs.OwnSteps.{own_steps_decide, sorting_decides}
 
--- a route that is there, by its name
+-- an existing route, by its name
 has_route : (w : World) (r : ℕ) (name : RouteName)
     → r < length w.places → name_at (place_in w r) ≡ name → AreDistinct (names_in w) → HasRoute (names_in w) r name
 has_route w r name below same distinct = record {
@@ -71,7 +71,7 @@ sorts_by_own_name secret names others r name has have d moment =
     (λ yes. tests_so r (class_of secret others d moment) (either.0 (is_routes r (class_of secret names d moment) yes)))
     (λ yes. tests_so r (class_of secret names d moment) (either.1 (is_routes r (class_of secret others d moment) yes)))
 
--- two gateways that were opened with the same entry for a route, and without a name twice, give it the same steps
+-- a route that two gateways without duplicate names were opened with, by the same entry, has the same steps in both
 steps_alike : (class : (secret : List ℕ) → Sorting)
     → SortsByOwnName class → (reply : Meaning) (secret : List ℕ) (entries entries' : List Terms) (r : ℕ) → OpenWith entries entries' r →
     (earlier : List Event) → is_shown_at (class secret) reply entries r earlier ≡ is_shown_at (class secret) reply entries' r earlier →

@@ -1,4 +1,4 @@
--- A route's own steps decide all of it.
+-- A route's own steps determine its lane, and what it accepts and sends.
 use Rattle.std.proofs.Common.{◌≡◌, ℕ, ◌<◌, nat_lt, Bool, true, false, cond, List, [], ◌∷◌, ◌++◌, length, refl, sym, ap, ◌∙◌}
 use Rattle.std.proofs.lemmas.List.{append-nil}
 use Rattle.srt_seq.specs.Items.{Datagram, Item, Received}
@@ -37,7 +37,7 @@ more reply e r Turn steps m items out h = rw (h.lane, h.items_are, h.out_is) (re
 more reply e r Send steps m items out h = rw (h.lane, h.items_are, h.out_is) (record { lane = refl; items_are = refl; out_is = refl })
 more reply e r Nothing steps m items out h = rw append-nil h
 
--- a route that isn't there takes no step, and one that is has its entry
+-- a route that doesn't exist makes no step, and one that exists has its entry
 more_there : (reply : Meaning) (e f : Terms) (r : ℕ) (there : Bool) → (there ≡ true → f ≡ e)
     → (step : Step) (steps : List Step) (m : Lane) (items : List Item) (out : List Datagram) → AreBy reply e r steps m items out
     →
@@ -68,7 +68,7 @@ own_steps_decide class class' reply entries entries' r events events' entry same
       h.out_is ∙ ap (sent_by reply e r) same ∙ sym h'.out_is,
     )
 
--- two gateways in which a route is there, is shown in both or hidden in both, and has the same datagrams: an event is the
+-- in two gateways with a route that is visible in both or hidden in both, and has the same datagrams, an event is the
 -- same step for it
 same_own : (class class' : Sorting) (w w' : World) (r : ℕ) (event : Event) → is_shown_in w r ≡ is_shown_in w' r →
     ((d : Datagram) (moment : ℕ) → is_route r (class (names_in w) d moment) ≡ is_route r (class' (names_in w') d moment)) →

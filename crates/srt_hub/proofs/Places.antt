@@ -16,7 +16,7 @@ use Rattle.srt_hub.specs.World.{entry_in, is_shown_in, hidden, hidden_at, openin
 use Rattle.srt_hub.specs.World.{places_after, world_after, has_room}
 use Rattle.srt_hub.specs.Hubs.{terms_at, entry_at}
 
--- where there is no route
+-- the place at an index without a route
 abbrev pub nowhere : Place
 nowhere =
     record {
@@ -80,7 +80,7 @@ opened_length : (places : List Place) (e : Terms) (result : Result ℕ OpenFault
 opened_length places e (Ok next) r below = omega (arith, below, length_push places (opened e))
 opened_length places e (Err fault) r below = below
 
--- a route that is there stays there
+-- a route that exists continues to exist
 pub there_stays : (event : Event) (w : World) (r : ℕ) → r < length w.places → r < length (places_after event w)
 there_stays (Arrives d moment refused) w r h = h
 there_stays (Ticks s moment) w r h = h
@@ -89,7 +89,7 @@ there_stays (Sends s) w r h = h
 there_stays (Opens e refused) w r h = opened_length w.places e (opening w e refused) r h
 there_stays (Closes s moment) w r h = omega (arith, h, length-closed w.places s (closing w s))
 
--- and keeps its entry
+-- an existing route keeps its entry
 pub entry_stays : (event : Event) (w : World) (r : ℕ) → r < length w.places → (at (places_after event w) r).entry ≡ entry_in w r
 entry_stays (Arrives d moment refused) w r h = refl
 entry_stays (Ticks s moment) w r h = refl
@@ -98,14 +98,14 @@ entry_stays (Sends s) w r h = refl
 entry_stays (Opens e refused) w r h = ap (λ (p : Place). p.entry) (opened_place w.places e (opening w e refused) r h)
 entry_stays (Closes s moment) w r h = closed_entry w.places s r (closing w s)
 
--- the opening of a route keeps the places of those that are there, and a closing keeps all other places
+-- the opening of a route keeps the existing places, and a closing keeps all other places
 pub opening_keeps : (w : World) (e : Terms) (refused : Bool) (r : ℕ) → r < length w.places → at (places_after (Opens e refused) w) r ≡ place_in w r
 opening_keeps w e refused r h = opened_place w.places e (opening w e refused) r h
 
 pub closing_keeps : (w : World) (s moment r : ℕ) → (r ≡ s → ⊥) → at (places_after (Closes s moment) w) r ≡ place_in w r
 closing_keeps w s moment r other = closed_other w.places s r (closing w s) other
 
--- whether a route is shown after an event, given whether it was shown and whether its inbox had room
+-- whether a route is visible after an event, from whether it was visible and whether its inbox had room
 abbrev pub shows_on : Event → (r : ℕ) → (shown room : Bool) → Bool
 shows_on (Arrives d moment refused) r shown room = shown
 shows_on (Ticks s moment) r shown room = shown

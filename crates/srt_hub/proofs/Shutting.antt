@@ -11,7 +11,7 @@ use Rattle.srt_hub.proofs.Places.{at}
 use Rattle.srt_hub.proofs.Named.{hidden_names}
 use Rattle.srt_hub.proofs.OtherRoutes.{close_here, close_elsewhere}
 
--- what the lobby knows of a route is what its place says
+-- whether a route is visible to the lobby is what its place states
 pub shown_is : (places : List Place) (r : ℕ) → is_shown_at (map name_at places) r ≡ (at places r).is_shown
 shown_is [] r = refl
 shown_is (p ∷ places) zero = refl
@@ -20,7 +20,7 @@ shown_is (p ∷ places) (suc r) = shown_is places r
 pub shown_by : (w : World) (r : ℕ) (shows b : Bool) → shows ≡ is_shown_at (names_in w) r → shows ≡ b → is_shown_in w r ≡ b
 shown_by w r shows b told is = sym (shown_is w.places r) ∙ sym told ∙ is
 
--- a hidden route is closed
+-- closing a hidden route returns `Closed`
 pub closed_is : (w : World) (r : ℕ) → is_shown_in w r ≡ false → closing w r ≡ closings.Closed
 closed_is w r shown = ap (λ (b : Bool). closing_of b (has_room (entry_in w r) (w.lane r))) shown
 
@@ -31,7 +31,7 @@ close_nowhere class w r moment shown k = elim (cases_eq k r) [
   | inr other ↦ close_elsewhere class w r moment k other
 ]
 
--- a shown one is closed if its inbox has room
+-- a visible route is closed if its inbox has room
 pub shown_closing : (w : World) (r : ℕ) (room : Bool) → is_shown_in w r ≡ true → room ≡ has_room (entry_in w r) (w.lane r) → closing w r ≡ closing_of true room
 shown_closing w r room shown took = ap (λ (b : Bool). closing_of b (has_room (entry_in w r) (w.lane r))) shown ∙ ap (closing_of true) (sym took)
 
@@ -43,7 +43,7 @@ pub fewer_names : (w : World) (r moment : ℕ)
     → closing w r ≡ closings.Accepted → map name_at (places_after (Closes r moment) w) ≡ changing.hidden_at r (names_in w)
 fewer_names w r moment is = ap (λ (ps : List Place). map name_at ps) (ap (places_closed r w.places) is) ∙ hidden_names w.places r
 
--- a name that isn't shown stays as it is
+-- hiding the name of a hidden route changes nothing
 pub hidden_already : (names : List RouteName) (r : ℕ) → is_shown_at names r ≡ false → names ≡ changing.hidden_at r names
 hidden_already [] r h = refl
 hidden_already (n ∷ ns) zero h = ap (λ (b : Bool). record { text = n.text; is_shown = b; access = n.access } ∷ ns) h

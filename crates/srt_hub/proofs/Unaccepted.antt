@@ -1,4 +1,4 @@
--- When an item isn't accepted or a turn does nothing, and what the lobby answers for itself.
+-- When an item isn't accepted or a turn does nothing, and the lobby's own answers.
 use Rattle.std.proofs.Common.{◌≡◌, ℕ, ◌≤◌, ltb, Bool, true, false, cond, Option, None}
 use Rattle.std.proofs.Common.{Some, List, [], ◌∷◌, ◌++◌, length, refl, sym, ap, ◌∙◌}
 use Rattle.srt_seq.specs.declared.shared.Turned.TheVariants.{Moved, Applied, Blocked, Idle}

@@ -1,4 +1,4 @@
--- Events that change no route, or leave the one as it is whose step they are.
+-- Events that change no route: those that are no route's step, and those that leave the route whose step they are.
 use Rattle.std.proofs.Common.{◌≡◌, ◌≢◌, ℕ, ◌≤◌, ltb, nat_lt, Bool, true, false, cond}
 use Rattle.std.proofs.Common.{List, ◌∷◌, length, refl, sym, subst, arith, inl, inr}
 use Rattle.std.proofs.lemmas.Bool.{cases_eq}
@@ -26,7 +26,7 @@ stays_so : (reply : Meaning) (e : Terms) (r : ℕ) (there : Bool) (step : Step) 
 stays_so reply e r true step m h = h
 stays_so reply e r false step m h = refl
 
--- nor does one that is a step of one route and leaves it as it is
+-- an event that is a step of one route and leaves it as it is changes no route
 pub leaves : (class : Sorting) (reply : Meaning) (entries : List Terms) (events : List Event) (event : Event) (r : ℕ) (step : Step) →
     let w = world_after class reply entries events in
     places_after event w ≡ w.places → own_step class w r event ≡ step → ((k : ℕ) → k ≢ r → own_step class w k event ≡ Nothing)

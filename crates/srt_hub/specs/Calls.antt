@@ -1,4 +1,4 @@
--- What a call makes of a gateway, a lane, a lobby or a route, and what it answers, whatever happened before the call.
+-- The effect of a call on a gateway, a lane, a lobby or a route, and its result, whatever happened before the call.
 use Rattle.std.specs.Prelude.{◌≡◌, ℕ, Bool, true, false, List, ◌∷◌, take, Option, option_map, Result, Ok, Err, is_err}
 use Rattle.std.specs.Result.{result_ok}
 use Rattle.srt_seq.specs.declared.shared.OpenFault.{OpenFault}
@@ -15,11 +15,11 @@ use Rattle.srt_hub.specs.declared.answers.OutOfMemory.{OutOfMemory}
 use Rattle.srt_hub.specs.World.{Event, Sorting, Meaning, Lane, arrival_of, first, opening, closing, world_after}
 use Rattle.srt_hub.specs.Hubs.{names_at, routes_at, entry_at, lane_at, room_at}
 
--- these bytes, from or for this peer
+-- a datagram with these bytes, from or for this peer
 abbrev pub datagram : Peer → List ℕ → Datagram
 datagram peer bytes = record { peer = peer; bytes = bytes }
 
--- the datagram that was written to the front of a buffer, given its receiver and its length
+-- the datagram that was written to the front of a buffer, from its receiver and its length
 abbrev pub datagram_at : (buffer : List ℕ) → Option (Peer × ℕ) → Option Datagram
 datagram_at buffer written = option_map (λ sent. datagram sent.0 (take sent.1 buffer)) written
 
@@ -27,25 +27,25 @@ datagram_at buffer written = option_map (λ sent. datagram sent.0 (take sent.1 b
 abbrev pub first_out : Terms → Lane → Option Datagram
 first_out e m = first m.outbox
 
--- a lobby's way of sorting, for its secret and its routes' names
+-- how a lobby classifies datagrams, by its secret and its routes' names
 abbrev pub SortingFor : Type 0
 SortingFor = (secret : List ℕ) → Sorting
 
--- what a gateway may have behind it: the secret and the entries that it was opened with, and its events, the newest first
+-- a gateway's possible history: the secret and the entries that it was opened with, and its events, the newest first
 abbrev pub Past : Type 1
 Past = (secret : List ℕ) → (entries : List Terms) → (events : List Event) → Type 0
 
--- nothing happened after all that happened before
+-- no event happened: every history of the old gateway is one of the new
 abbrev pub IsUnchanged : {X : Type 0} → (Stands : X → Past) → (old new : X) → Type 0
 IsUnchanged Stands old new =
     (secret : List ℕ) (entries : List Terms) (events : List Event) → Stands old secret entries events → Stands new secret entries events
 
--- a gateway of this number of routes
+-- the gateway has this number of routes
 abbrev pub HasRoutes : {X : Type 0} → (Stands : X → Past) → X → SortingFor → Meaning → (number : ℕ) → Type 0
 HasRoutes Stands hub class reply number =
     (secret : List ℕ) (entries : List Terms) (events : List Event) → Stands hub secret entries events → number ≡ routes_at (class secret) reply entries events
 
--- this event happened, after all that happened before
+-- this event happened, after the events before it
 abbrev pub Happened : {X : Type 0} → (Stands : X → Past) → (old new : X) → Event → Type 0
 Happened Stands old new event =
     (secret : List ℕ) (entries : List Terms) (events : List Event)
@@ -67,7 +67,7 @@ RouteAnswers Stands old class reply r answer result =
     (secret : List ℕ) (entries : List Terms) (events : List Event) → Stands old secret entries events →
     result ≡ answer (entry_at (class secret) reply entries r events) (lane_at (class secret) reply entries r events)
 
--- whether it was memory that was refused
+-- whether an opening ran out of memory
 abbrev pub wants_memory : Result ℕ OpenFault → Bool
 wants_memory (Ok r) = false
 wants_memory (Err faults.Names) = false
@@ -80,19 +80,19 @@ OpeningAnswers Stands old class reply e result =
     (secret : List ℕ) (entries : List Terms) (events : List Event) → Stands old secret entries events →
     result ≡ opening (world_after (class secret) reply entries events) e (wants_memory result)
 
--- the first reason why a route of this name can't be opened, memory aside, is the model's, with the names in force
+-- the first fault of an opening with this name, memory aside, is the model's, with the names in force
 abbrev pub FaultAnswers : {X : Type 0} → (Stands : X → Past) → X → SortingFor → Meaning → (name : List ℕ) → (within : Bool) → Option OpenFault → Type 0
 FaultAnswers Stands hub class reply name within result =
     (secret : List ℕ) (entries : List Terms) (events : List Event) → Stands hub secret entries events →
     result ≡ fault_of_name (names_at (class secret) reply entries events) name within
 
--- a closing's result is the model's too
+-- a closing's result is the model's
 abbrev pub ClosingAnswers : {X : Type 0} → (Stands : X → Past) → (old : X) → SortingFor → Meaning → (r : ℕ) → Closing → Type 0
 ClosingAnswers Stands old class reply r result =
     (secret : List ℕ) (entries : List Terms) (events : List Event) → Stands old secret entries events →
     result ≡ closing (world_after (class secret) reply entries events) r
 
--- a lane becomes what the model makes of it, whatever its terms and its index are
+-- a lane becomes the model's lane after a step, whatever its terms and its index are
 abbrev pub LaneBecomes : {X : Type 0} → (Is : X → Terms → (index : ℕ) → Lane → Type 0) → (old new : X) → (after : Terms → (index : ℕ) → Lane → Lane) → Type 0
 LaneBecomes Is old new after = (e : Terms) (r : ℕ) (m : Lane) → Is old e r m → Is new e r (after e r m)
 
@@ -105,7 +105,7 @@ abbrev pub LobbyAnswers : {X : Type 0}
     → (Knows : X → (secret : List ℕ) → (names : List RouteName) → Type 0) → X → SortingFor → Datagram → (moment : ℕ) → Class → Type 0
 LobbyAnswers Knows lobby class d moment result = (secret : List ℕ) (names : List RouteName) → Knows lobby secret names → result ≡ class secret names d moment
 
--- after an item these replies wait: the route's to that item, whatever its terms, its index and its items so far are
+-- the replies that wait after an item are the route's to that item, whatever its terms, index and earlier items are
 abbrev pub RouteReplies : {X : Type 0}
     → (Stands : X → Terms → (index : ℕ) → List Item → Type 0) → (old : X) → Meaning → Item → (waiting : List Datagram) → Type 0
 RouteReplies Stands old reply item waiting = (e : Terms) (index : ℕ) (items : List Item) → Stands old e index items → waiting ≡ reply e index (item ∷ items)

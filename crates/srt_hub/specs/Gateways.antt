@@ -1,4 +1,4 @@
--- The laws of the gateway with the real lobby and the real routes.
+-- Theorems about the gateway with the real lobby and the real routes.
 use Rattle.std.specs.Prelude.{◌≡◌, ◌↔◌, ℕ, ◌<◌, Bool, List, All, length, ⊤}
 use Rattle.std.specs.List.{AllByRecursion}
 use Rattle.srt_seq.specs.Items.{Datagram, Item, Received, Tick, Close}
@@ -15,13 +15,13 @@ use Rattle.srt_hub.specs.World.{Event, Sorting, solo, accepted, sent, IsQuiet}
 use Rattle.srt_hub.specs.Hubs.{names, terms_at, names_at, routes_at, entry_at, is_shown_at, lane_at}
 use Rattle.srt_hub.specs.Laws.{own_steps}
 
--- how the lobby sorts datagrams with this secret, by the names in force
+-- how the lobby classifies datagrams with this secret, by the names in force
 abbrev pub sorting : (secret : List ℕ) → Sorting
 sorting secret = class_of secret
 
--- of a gateway of this secret that was opened with these entries, after these events: the names in force and the number
--- of routes; and of the route with this index its entry, whether it is shown, the items that it accepted, and the
--- datagrams that were sent for it
+-- the state of a gateway that was opened with this secret and these entries, after these events: the names in force and
+-- the number of routes; for the route with this index its entry, whether it is visible, the items that it accepted, and
+-- the datagrams sent for it
 abbrev pub names_of : (secret : List ℕ) → List Terms → List Event → List RouteName
 names_of secret entries events = names_at (sorting secret) reply entries events
 
@@ -43,8 +43,8 @@ sent_of secret entries r events = sent (sorting secret) reply entries r events
 abbrev pub HasQuiet : (secret : List ℕ) → List Terms → ℕ → List Event → Type 0
 HasQuiet secret entries r events = IsQuiet (lane_at (sorting secret) reply entries r events)
 
--- after these events both gateways have this route under the same name, with the same lists and keys, and both show it or
--- both hide it; neither was opened with a name twice, as no gateway is
+-- after these events both gateways have this route under the same name, with the same lists and keys, and it is visible
+-- in both or hidden in both; neither was opened with a duplicate name, as no gateway is
 pub record HaveRoute (secret : List ℕ) (entries others : List Terms) (events events' : List Event) (r : ℕ) : Type 0 where
   pub below : r < routes_of secret entries events
   pub below_there : r < routes_of secret others events'
@@ -55,7 +55,7 @@ pub record HaveRoute (secret : List ℕ) (entries others : List Terms) (events e
   pub distinct_there : AreDistinct (names others)
 
 -- whether a datagram is the route's depends on the secret, the route's index and name, its lists and keys, whether the
--- route is shown, and that datagram alone
+-- route is visible, and that datagram alone
 abbrev pub ArrivalsAreOwn : Type 0
 ArrivalsAreOwn =
     (secret : List ℕ) (entries others : List Terms) (events events' : List Event) (r : ℕ) → HaveRoute secret entries others events events' r →
@@ -63,7 +63,7 @@ ArrivalsAreOwn =
     → (sorting secret (names_of secret entries events) d moment ≡ Route r)
     ↔ (sorting secret (names_of secret others events') d moment ≡ Route r)
 
--- both gateways were opened with the same entry for this route, and neither with a name twice
+-- both gateways were opened with the same entry for this route, and neither with a duplicate name
 pub record OpenWith (entries others : List Terms) (r : ℕ) : Type 0 where
   pub below : r < length entries
   pub below_there : r < length others
@@ -71,13 +71,13 @@ pub record OpenWith (entries others : List Terms) (r : ℕ) : Type 0 where
   pub distinct : AreDistinct (names entries)
   pub distinct_there : AreDistinct (names others)
 
--- so the same events are the same steps for the route, whatever other routes there are
+-- the same events are the same steps for the route, whatever other routes there are
 abbrev pub StepsAreOwn : Type 0
 StepsAreOwn =
     (secret : List ℕ) (entries others : List Terms) (r : ℕ) → OpenWith entries others r →
     (events : List Event) → own_steps (sorting secret) reply entries r events ≡ own_steps (sorting secret) reply others r events
 
--- and with the same steps it accepts and sends the same, whatever else happened, also if something waits
+-- with the same steps the route accepts and sends the same, whatever else happened, also if something waits
 abbrev pub SentByOwnSteps : Type 0
 SentByOwnSteps =
     (secret : List ℕ) (entries others : List Terms) (r : ℕ) (events events' : List Event) →
@@ -85,9 +85,9 @@ SentByOwnSteps =
     own_steps (sorting secret) reply entries r events ≡ own_steps (sorting secret) reply others r events' →
     (accepted_of secret entries r events ≡ accepted_of secret others r events') × (sent_of secret entries r events ≡ sent_of secret others r events')
 
--- two gateways with the same secret and the same entry for a route, after any events, among which the route may have been
--- opened: if the route's inbox accepted the same items in the same order and nothing of it waits, what was sent for it is
--- the same, and is what the route alone replies
+-- two gateways with the same secret and the same entry for a route, after any events, among which the route may have
+-- been opened: if the route's inbox accepted the same items in the same order and nothing of it waits, the same
+-- datagrams were sent for it, and they are those that the route alone replies
 abbrev pub SentByAccepted : Type 0
 SentByAccepted =
     (secret : List ℕ) (entries others : List Terms) (r : ℕ) (events events' : List Event) →
@@ -97,8 +97,8 @@ SentByAccepted =
     (sent_of secret entries r events ≡ sent_of secret others r events') ×
     (sent_of secret entries r events ≡ solo reply (entry_of secret entries r events) r (accepted_of secret entries r events))
 
--- what the route alone replies is the list that the laws of `srt_route` are about, so that they hold for what was sent:
--- with other sequence numbers, other timestamps, or later moments
+-- what the route alone replies is the list that the theorems of `srt_route` are about, so they hold for what was sent:
+-- with other sequence numbers, other timestamps, or later times
 abbrev pub SoloIsTheRoutes : Type 0
 SoloIsTheRoutes = (e : Terms) (index : ℕ) (items : List Item) → solo reply e index items ≡ route.solo e index items
 
@@ -113,7 +113,7 @@ IsOfCaller access (Received d moment) = MayCall access d
 IsOfCaller access (Tick moment) = ⊤
 IsOfCaller access (Close moment) = ⊤
 
--- whatever is sent to the gateway, this holds of each item that ever entered the route's inbox
+-- whatever is sent to the gateway, this holds for each item that ever entered the route's inbox
 abbrev pub CallersMayCall : Type 0
 CallersMayCall =
     (secret : List ℕ) (entries : List Terms) (r : ℕ) (events : List Event) →

@@ -17,14 +17,14 @@ terms_at entries r =
 abbrev pub names : List Terms → List RouteName
 names entries = map name_of entries
 
--- after these events: the names in force, and the number of routes, hidden ones too
+-- after these events: the names in force, and the number of routes, including hidden ones
 abbrev pub names_at : Sorting → Meaning → List Terms → List Event → List RouteName
 names_at class reply entries events = names_in (world_after class reply entries events)
 
 abbrev pub routes_at : Sorting → Meaning → List Terms → List Event → ℕ
 routes_at class reply entries events = length (world_after class reply entries events).places
 
--- the route with this index after these events: its entry, whether it is shown, and its queues
+-- the route with this index after these events: its entry, whether it is visible, and its queues
 abbrev pub entry_at : Sorting → Meaning → List Terms → ℕ → List Event → Terms
 entry_at class reply entries r events = entry_in (world_after class reply entries events) r
 

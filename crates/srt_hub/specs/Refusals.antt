@@ -20,7 +20,7 @@ pub record ChangesNoRoute (class : Sorting) (reply : Meaning) (entries : List Te
   pub lanes : (k : ℕ) → lane_at class reply entries k (event ∷ events) ≡ lane_at class reply entries k events
   pub places : (world_after class reply entries (event ∷ events)).places ≡ (world_after class reply entries events).places
 
--- an arrival is refused as Full only if it is that route's and that route's own inbox holds its capacity
+-- an arrival is refused as Full only if it is that route's and that route's own inbox is full
 abbrev pub FullIsAtCapacity : Type 0
 FullIsAtCapacity =
     (class : Sorting) (reply : Meaning) (entries : List Terms) (events : List Event) (d : Datagram) (moment : ℕ) (refused : Bool) (r : ℕ) →
@@ -29,7 +29,7 @@ FullIsAtCapacity =
     (length (lane_at class reply entries r events).inbox ≡ (entry_at class reply entries r events).inbox) ×
     ChangesNoRoute class reply entries events (Arrives d moment refused)
 
--- so is a tick
+-- the same of a tick
 abbrev pub FullTickIsAtCapacity : Type 0
 FullTickIsAtCapacity =
     (class : Sorting) (reply : Meaning) (entries : List Terms) (events : List Event) (r moment : ℕ) →
@@ -37,7 +37,7 @@ FullTickIsAtCapacity =
     (length (lane_at class reply entries r events).inbox ≡ (entry_at class reply entries r events).inbox) ×
     ChangesNoRoute class reply entries events (Ticks r moment)
 
--- a turn is Blocked only if a reply of the route waits and its own outbox holds its capacity
+-- a turn is Blocked only if a reply of the route waits and its own outbox is full
 abbrev pub BlockedIsAtCapacity : Type 0
 BlockedIsAtCapacity =
     (class : Sorting) (reply : Meaning) (entries : List Terms) (events : List Event) (r : ℕ) →
@@ -46,7 +46,7 @@ BlockedIsAtCapacity =
     (length (lane_at class reply entries r events).outbox ≡ (entry_at class reply entries r events).outbox) ×
     ChangesNoRoute class reply entries events (Turns r)
 
--- and Idle only if none waits and its inbox is empty
+-- a turn is Idle only if no reply waits and the inbox is empty
 abbrev pub IdleIsEmpty : Type 0
 IdleIsEmpty =
     (class : Sorting) (reply : Meaning) (entries : List Terms) (events : List Event) (r : ℕ) →
@@ -54,7 +54,7 @@ IdleIsEmpty =
     ((lane_at class reply entries r events).waiting ≡ []) × ((lane_at class reply entries r events).inbox ≡ []) ×
     ChangesNoRoute class reply entries events (Turns r)
 
--- an arrival ends in an error only if it is a route's and the memory for its copy was refused
+-- an arrival ends in an error only if it is a route's and its copy couldn't be allocated
 abbrev pub RefusedIsARoutes : Type 0
 RefusedIsARoutes =
     (class : Sorting) (reply : Meaning) (entries : List Terms) (events : List Event) (d : Datagram) (moment : ℕ) (refused : Bool) →
@@ -62,8 +62,8 @@ RefusedIsARoutes =
     ((r : ℕ) × (class (names_at class reply entries events) d moment ≡ Route r)) × (refused ≡ true) ×
     ChangesNoRoute class reply entries events (Arrives d moment refused)
 
--- what the lobby answers or drops depends on its class of that one datagram, whatever the routes hold and whatever
--- memory there is
+-- what the lobby answers or drops depends only on its class of that one datagram, whatever the routes hold and however
+-- much memory there is
 abbrev pub LobbyAnswersAlone : Type 0
 LobbyAnswersAlone =
     (class : Sorting) (reply : Meaning) (entries : List Terms) (events : List Event) (d : Datagram) (moment : ℕ) (refused : Bool) →
@@ -74,8 +74,8 @@ LobbyAnswersAlone =
     (arrival_of refused (room_at class reply entries events) (class (names_at class reply entries events) d moment) ≡ Some (arrived.Dropped cause)) ×
     ChangesNoRoute class reply entries events (Arrives d moment refused))
 
--- an opening that ends in a fault opens nothing: the fault is that of the entry beside the names in force, or else the
--- memory for the route was refused
+-- an opening with a fault opens nothing: the fault is that of the entry, given the names in force, or else the route
+-- couldn't be allocated
 abbrev pub FaultOpensNothing : Type 0
 FaultOpensNothing =
     (class : Sorting) (reply : Meaning) (entries : List Terms) (events : List Event) (e : Terms) (refused : Bool) (fault : OpenFault) →
@@ -85,8 +85,8 @@ FaultOpensNothing =
     ×
     ChangesNoRoute class reply entries events (Opens e refused)
 
--- an opening's index is the number of routes so far, those that are hidden too, so that no index is used again; there the
--- route is shown, with its entry, and with nothing accepted or sent
+-- an opening's index is the number of routes so far, including hidden ones, so no index is used again; the new route is
+-- visible, with its entry, and with nothing accepted or sent
 pub record HasOpened (class : Sorting) (reply : Meaning) (entries : List Terms) (events : List Event) (e : Terms) (refused : Bool) (r : ℕ) : Type 0 where
   pub index : r ≡ routes_at class reply entries events
   pub one_more : routes_at class reply entries (Opens e refused ∷ events) ≡ r + 1
@@ -108,7 +108,7 @@ ClosedIsHidden =
     closing (world_after class reply entries events) r ≡ closings.Closed →
     (is_shown_at class reply entries r events ≡ false) × ChangesNoRoute class reply entries events (Closes r moment)
 
--- and refused as Full only if the route is shown and its own inbox holds its capacity; it is then still shown
+-- a closing is refused as Full only if the route is visible and its own inbox is full; the route then stays visible
 abbrev pub FullClosingIsAtCapacity : Type 0
 FullClosingIsAtCapacity =
     (class : Sorting) (reply : Meaning) (entries : List Terms) (events : List Event) (r moment : ℕ) →

@@ -1,8 +1,8 @@
 -- A model of the whole gateway: one step for each event (our choice). Lists of events, and of applied and accepted
 -- items, have the newest first; queues and lists of what was sent have the oldest first.
 --
--- The model doesn't say what routes and lobby do: a route's meaning is its replies to all its items, and the lobby's is
--- the class of each datagram with the names in force.
+-- The model doesn't fix the behaviour of routes and lobby: a route's meaning is its replies to all its items, and the
+-- lobby's is the class of each datagram with the names in force.
 use Rattle.std.specs.Prelude.{◌≡◌, ℕ, zero, suc, ◌==◌, Bool, true, false, Option, None, Some, Result, Ok, Err, List, [], ◌∷◌, ◌++◌, map}
 use Rattle.std.specs.Prelude.{length, slice_index_or, nat_lt, if◌then◌else◌}
 use Rattle.srt_seq.specs.declared.shared.Mode.TheVariants.{Live}
@@ -25,8 +25,7 @@ use Rattle.srt_seq.specs.Access.{anyone}
 use Rattle.srt_seq.specs.Entries.{draft_rules}
 use Rattle.srt_seq.specs.Terms.{Terms}
 
--- the events of the gateway; an arrival is refused if there was no memory for its copy, and the opening of a route if
--- there was none for the route
+-- the events of the gateway; if `refused`, the copy of an arrival, or a route that opens, couldn't be allocated
 pub data Event : Type 0 where
   Arrives : (datagram : Datagram) (moment : ℕ) (refused : Bool) → Event
   Ticks : (route moment : ℕ) → Event
@@ -43,7 +42,7 @@ Sorting = (names : List RouteName) → Datagram → (moment : ℕ) → Class
 abbrev pub Meaning : Type 0
 Meaning = Terms → (index : ℕ) → List Item → List Datagram
 
--- all replies, the oldest first
+-- all replies of a route to its items, the oldest first
 abbrev pub solo : Meaning → Terms → (index : ℕ) → List Item → List Datagram
 solo reply e r [] = []
 solo reply e r (item ∷ items) = solo reply e r items ++ reply e r (item ∷ items)
@@ -58,7 +57,7 @@ pub record Lane : Type 0 where
 abbrev pub empty : Lane
 empty = record { inbox = []; applied = []; waiting = []; outbox = [] }
 
--- a route that was opened, at the place of its index: its entry, and whether it is shown. A hidden route is never shown
+-- the place of a route that was opened: its entry, and whether it is visible. A hidden route never becomes visible
 -- again, and its place stays
 pub record Place : Type 0 where
   pub entry : Terms
@@ -69,7 +68,7 @@ pub record World : Type 0 where
   pub places : List Place
   pub lane : (index : ℕ) → Lane
 
--- a route that was just opened is shown
+-- the place of a route that was just opened, which is visible
 abbrev pub opened : Terms → Place
 opened e = record { entry = e; is_shown = true }
 
@@ -98,7 +97,7 @@ name_at p = record { text = p.entry.name; is_shown = p.is_shown; access = p.entr
 abbrev pub names_in : World → List RouteName
 names_in w = map name_at w.places
 
--- what an event is to one route
+-- the step of one route for an event
 pub data Step : Type 0 where
   Offers : (item : Item) → Step
   Turn : Step
@@ -116,7 +115,7 @@ offer_unless refused item = if refused then Nothing else Offers item
 abbrev pub offer_if : (shown : Bool) → Item → Step
 offer_if shown item = if shown then Offers item else Nothing
 
--- what an event is to a route that is there; a route is closed by an item of its own, unless it is hidden
+-- the step of an existing route for an event; a closing is an item of the route, unless it is hidden
 abbrev pub own_step : Sorting → World → ℕ → Event → Step
 own_step class w r (Arrives d moment refused) = if is_route r (class (names_in w) d moment) then offer_unless refused (Received d moment) else Nothing
 own_step class w r (Ticks s moment) = if s == r then Offers (Tick moment) else Nothing
@@ -125,7 +124,7 @@ own_step class w r (Sends s) = if s == r then Send else Nothing
 own_step class w r (Opens e refused) = Nothing
 own_step class w r (Closes s moment) = if s == r then offer_if (is_shown_in w r) (Close moment) else Nothing
 
--- no event is a step of a route that isn't there
+-- the step of a route for an event; none if the route doesn't exist
 abbrev pub step_for : Sorting → World → ℕ → Event → Step
 step_for class w r event = if is_there w r then own_step class w r event else Nothing
 
@@ -136,7 +135,7 @@ has_room e m = nat_lt (length m.inbox) e.inbox
 abbrev pub offered : Terms → Item → Lane → Lane
 offered e item m = if has_room e m then record m { inbox = m.inbox ++ item ∷ [] } else m
 
--- a waiting reply goes first; an item is applied only if none waits
+-- a waiting reply is moved first; an item is processed only if none waits
 abbrev pub turned_by : Meaning → Terms → ℕ → List Datagram → List Item → Lane → Lane
 turned_by reply e r (d ∷ ds) inbox m = if nat_lt (length m.outbox) e.outbox then record m { waiting = ds; outbox = m.outbox ++ d ∷ [] } else m
 turned_by reply e r [] (x ∷ xs) m = record m { inbox = xs; applied = x ∷ m.applied; waiting = reply e r (x ∷ m.applied) }
@@ -171,7 +170,7 @@ after_step reply e r Turn m = turned reply e r m
 after_step reply e r Send m = sent_from m
 after_step reply e r Nothing m = m
 
--- the result of an opening is the next index, or a fault; that of the entry beside the names in force comes first
+-- the result of an opening: the next index, or a fault; the entry's, given the names in force, precedes lack of memory
 abbrev pub opening_of : (next : ℕ) → (refused : Bool) → Option OpenFault → Result ℕ OpenFault
 opening_of next refused (Some fault) = Err fault
 opening_of next refused None = if refused then Err faults.OutOfMemory else Ok next
@@ -183,7 +182,7 @@ abbrev pub places_opened : Terms → List Place → Result ℕ OpenFault → Lis
 places_opened e places (Ok next) = places ++ opened e ∷ []
 places_opened e places (Err fault) = places
 
--- the result of a closing: a hidden route is closed; else it is the route's own inbox that refuses it
+-- the result of a closing: `Closed` if the route is hidden, otherwise `Accepted` or `Full` by the route's own inbox
 abbrev pub closing_of : (shown room : Bool) → Closing
 closing_of shown room = if shown then (if room then closings.Accepted else closings.Full) else closings.Closed
 
@@ -213,7 +212,7 @@ places_after (Sends r) w = w.places
 places_after (Opens e refused) w = places_opened e w.places (opening w e refused)
 places_after (Closes r moment) w = places_closed r w.places (closing w r)
 
--- the gateway after an event: each route takes what the event is to it
+-- the gateway after an event: each route makes its step
 abbrev pub after : Sorting → Meaning → Event → World → World
 after class reply event w = record {
   places = places_after event w;

@@ -5,13 +5,13 @@ use srt_lobby::Cause;
 /// The result of an arrival.
 #[derive(Clone, Copy, Debug, PartialEq, Eq)]
 pub enum Arrived {
-    /// The lobby answers it with this datagram: to be sent to the peer. No route is changed.
+    /// The lobby answers with this datagram, to be sent to the peer. No route is changed.
     Answer([u8; 64]),
     /// It is now the last item in the inbox of the route with this index.
     Accepted(usize),
-    /// The inbox of the route with this index held its capacity, and the datagram is dropped.
+    /// The inbox of the route with this index was full, and the datagram is dropped.
     Full(usize),
-    /// It is dropped by the lobby, for this cause.
+    /// The lobby dropped it, for this cause.
     Dropped(Cause),
 }
 
@@ -20,21 +20,21 @@ pub enum Arrived {
 pub enum Ticked {
     /// It is now the last item in the inbox.
     Accepted,
-    /// The inbox held its capacity, and the tick is dropped.
+    /// The inbox was full, and the tick is dropped.
     Full,
 }
 
 /// The result of closing a route.
 #[derive(Clone, Copy, Debug, PartialEq, Eq)]
 pub enum Closing {
-    /// The route was hidden already. Nothing changed.
+    /// The route was already hidden. Nothing changed.
     Closed,
-    /// The route's inbox held its capacity. Nothing changed: the route is still shown.
+    /// The route's inbox was full. Nothing changed: the route is still visible.
     Full,
     /// The last item in the inbox now ends the route's sessions, and the route is hidden from now on.
     Accepted,
 }
 
-/// The memory for the copy of a datagram's body was refused. Nothing changed.
+/// The copy of a datagram's body couldn't be allocated. Nothing changed.
 #[derive(Clone, Copy, Debug, PartialEq, Eq)]
 pub struct OutOfMemory;

@@ -1,5 +1,5 @@
-//! The gateway with its lobby and its routes, from bytes to bytes. The cookies were computed by Python's hashlib.
-//! Refused memory is shown by `rt try --test --fail-alloc N`: each test then ends in its own error, or as it should.
+//! The gateway with its lobby and its routes, from bytes to bytes. The cookies were computed by Python's hashlib. `rt
+//! try --test --fail-alloc N` tests failed allocations: each test then ends with its own error, or passes.
 
 use crate::tests::{assert_floods, assert_sends, assert_sends_nothing, assert_turns, live_entry};
 use crate::{Arrived, Cause, Hub, SrtGateway, Ticked};
@@ -14,7 +14,7 @@ use std::array;
 use std::process::Abort;
 use std::test::Fail;
 
-/// A call: its port, the time of its conclusion in microseconds, and what the caller says of itself, with its cookie of
+/// A call: its port, the time of its conclusion in microseconds, the caller's handshake values, and its cookie of
 /// minute 0.
 #[derive(Clone, Copy)]
 pub(crate) struct Call {
@@ -171,7 +171,7 @@ pub(crate) fn opened(alloc: Global) -> Result<SrtGateway, Fail> {
     }
 }
 
-/// A datagram: the port that it comes from, the time in microseconds, and its bytes.
+/// A datagram: the port that it is sent from, the time in microseconds, and its bytes.
 #[derive(Clone, Copy)]
 pub(crate) struct Arrival<'a> {
     pub(crate) port: u16,
@@ -195,7 +195,7 @@ pub(crate) fn assert_arrives(
     Ok(())
 }
 
-/// Asserts that the first route applies its only item and sends this alone.
+/// Asserts that the first route processes its only item and sends only this.
 fn assert_answers(
     rt: &(impl AllocGlobal + Abort),
     gateway: &mut SrtGateway,
@@ -214,7 +214,7 @@ fn assert_answers(
     Ok(())
 }
 
-/// Asserts that a caller's conclusion with these blocks is answered with this alone.
+/// Asserts that a caller's conclusion with these blocks is answered with only this.
 pub(crate) fn assert_concludes(
     rt: &(impl AllocGlobal + Abort),
     gateway: &mut SrtGateway,
@@ -269,7 +269,7 @@ fn two_publish(rt: &(impl AllocGlobal + Abort), gateway: &mut SrtGateway) -> Res
     assert_concludes(rt, gateway, &SECOND, &PUBLISHES, second)
 }
 
-/// A second publisher stands by, and a third one is refused.
+/// A second publisher is the standby, and a third one is refused.
 #[test]
 fn a_third_publisher_is_refused(rt: HostRuntime) -> Result<(), Fail> {
     let mut gateway = opened(rt.alloc())?;
@@ -277,8 +277,8 @@ fn a_third_publisher_is_refused(rt: HostRuntime) -> Result<(), Fail> {
     assert_concludes(&rt, &mut gateway, &THIRD, &PUBLISHES, refused(&THIRD))
 }
 
-/// The first and the second caller publish and the third subscribes; the second, who stands by, sends a packet that is
-/// due at 1131000.
+/// The first and the second caller publish and the third subscribes; the second, which is the standby, sends a packet
+/// that is due at 1131000.
 fn stands_by(rt: &(impl AllocGlobal + Abort), gateway: &mut SrtGateway) -> Result<(), Fail> {
     two_publish(rt, gateway)?;
     let third = agreed(&THIRD, 1024, 0x10_0002);

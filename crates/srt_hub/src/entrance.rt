@@ -12,7 +12,7 @@ use srt_lobby::{Class, Names, classify};
 use srt_seq::{Entry, OpenFault, Peer};
 use std::alloc::Global;
 
-/// What the lobby keeps: the secret of the cookies, and the names of the routes.
+/// The lobby's state: the secret of the cookies, and the names of the routes.
 #[derive(Drop)]
 pub struct Entrance {
     secret: Secret,

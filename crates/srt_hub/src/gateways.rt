@@ -10,7 +10,7 @@ use srt_route::{Reply, Route};
 use srt_seq::{Entry, Item, OpenFault};
 use std::alloc::Global;
 
-/// The gateway: `srt_route`'s routes behind `srt_lobby`'s rules.
+/// The gateway: routes of `srt_route`, under the rules of `srt_lobby`.
 pub type SrtGateway = Hub<Route, Entrance>;
 
 impl RouteStep for Route {

@@ -1,4 +1,4 @@
-//! All routes of a gateway behind its lobby.
+//! A gateway: its lobby, and all routes with their queues.
 
 ghost use Rattle.std.specs.Prelude.{◌≡◌, ℕ, ◌+◌, ◌<◌, ◌≤◌, ◌^◌, List, [], false, None, Some, Err, IfOk, IfErr, OnErr, IfSome, IfNone, map};
 ghost use Rattle.std.specs.Prelude.{take, drop, length, is_err, if◌then◌else◌};
@@ -69,7 +69,7 @@ impl<R: RouteStep, L: Lobby> Hub<R, L> {
     ghost use Rattle.srt_hub.specs.World.{Arrives, Ticks, Turns, Sends, tick, turn};
     ghost use Rattle.srt_hub.specs.Calls.{HasRoutes, Happened, ArrivalAnswers, RouteAnswers, datagram, datagram_at, first_out};
 
-    /// Opens the gateway of these entries, 1 to 511. Allocates all but the copies of datagrams. Errors:
+    /// Opens the gateway of these entries, 1 to 511. Allocates everything except the copies of datagrams. Errors:
     /// `Names` if a name has a wrong form or appears twice, else `Limits` if the number of entries or a number of an
     /// entry is outside its limits, else `OutOfMemory`. After an error nothing is kept.
     pub fn open(alloc: Global, secret: Secret, entries: &[Entry]) -> Result<Hub<R, L>, OpenFault>
@@ -96,7 +96,7 @@ impl<R: RouteStep, L: Lobby> Hub<R, L> {
         Ok(Hub { lobby, lanes })
     }
 
-    /// The number of routes; their indexes are the numbers below it. O(1).
+    /// Returns the number of routes; their indexes are the numbers below it. O(1).
     pub fn routes(&self) -> usize
         ensures routes { result ≡ ⟦<Hub<R, L> as Gateway>⟧.routes self.now }
         ensures number { HasRoutes ⟦<Hub<R, L> as Gateway>⟧.stands self.now L.class R.reply result }
@@ -104,9 +104,9 @@ impl<R: RouteStep, L: Lobby> Hub<R, L> {
         self.lanes.len()
     }
 
-    /// Sorts a datagram and puts it into its route's inbox, if it is for a route. `moment` is in microseconds. Only a
-    /// datagram for a route is copied; that copy is allocated even if the inbox turns out to be full. The only error
-    /// is that its memory is refused, and then nothing has changed. Linear in the length of the datagram.
+    /// Classifies a datagram, and puts it into its route's inbox if it is for a route. `moment` is in microseconds.
+    /// Only a datagram for a route is copied; that copy is allocated even if the inbox turns out to be full. The only
+    /// error is that its allocation fails, and then nothing has changed. Linear in the length of the datagram.
     pub fn arrive(
         &mut self,
         alloc: Global,
@@ -127,7 +127,7 @@ impl<R: RouteStep, L: Lobby> Hub<R, L> {
                 let Ok(item) = copied(alloc, peer, bytes, moment) else {
                     return Err(OutOfMemory);
                 };
-                // The lobby gives no index beyond the routes.
+                // The lobby returns no index beyond the routes.
                 if r >= self.lanes.len() {
                     return Ok(Arrived::Dropped(Cause::UnknownId));
                 }
@@ -136,8 +136,8 @@ impl<R: RouteStep, L: Lobby> Hub<R, L> {
         }
     }
 
-    /// Puts a tick with this moment, in microseconds, into the inbox of route `r`. Returns `Full` and drops the tick if
-    /// the inbox holds its capacity. O(1). Doesn't allocate.
+    /// Puts a tick with this time, in microseconds, into the inbox of route `r`. Returns `Full` and drops the tick if
+    /// the inbox is full. O(1). Doesn't allocate.
     pub fn tick(&mut self, r: usize, moment: u64) -> Ticked
         requires route { r < ⟦<Hub<R, L> as Gateway>⟧.routes self.old }
         requires moment { moment < 2 ^ 62 }
@@ -151,7 +151,7 @@ impl<R: RouteStep, L: Lobby> Hub<R, L> {
         ticked(self.lanes[r].offer(item))
     }
 
-    /// One turn of route `r`: moves the oldest waiting reply to the outbox if there is one, else applies the oldest
+    /// One turn of route `r`: moves the oldest waiting reply to the outbox if there is one, else processes the oldest
     /// item of the inbox. Doesn't allocate.
     pub fn turn(&mut self, r: usize) -> Turned
         requires { r < ⟦<Hub<R, L> as Gateway>⟧.routes self.old }
@@ -162,7 +162,7 @@ impl<R: RouteStep, L: Lobby> Hub<R, L> {
         self.lanes[r].turn()
     }
 
-    /// Takes the oldest reply out of the outbox of route `r` and writes its packet to the front of `out`. Returns its
+    /// Removes the oldest reply from the outbox of route `r` and writes its packet to the front of `out`. Returns its
     /// receiver and its length in bytes; None if the outbox is empty. The rest of `out` doesn't change. Doesn't
     /// allocate.
     pub fn send(&mut self, r: usize, out: &mut [u8; 1472]) -> Option<(Peer, usize)>
@@ -185,8 +185,9 @@ impl<R: RouteStep, L: Doors> Hub<R, L> {
     ghost use Rattle.srt_seq.specs.Entries.{in_limits};
     ghost use Rattle.srt_hub.specs.Calls.{Happened, IsUnchanged, FaultAnswers, OpeningAnswers, ClosingAnswers, wants_memory};
 
-    /// The first reason why a route of this name can't be opened, memory aside, if the numbers of its entry are `within`
-    /// their limits or aren't: `Names` or `Limits`, as `open_route`. Doesn't allocate, not even for a copy of the name.
+    /// Returns the first fault because of which a route of this name can't be opened, memory aside: `Names` or
+    /// `Limits`, as `open_route`. `within` states whether the numbers of its entry are within their limits. Doesn't
+    /// allocate, not even for a copy of the name.
     pub fn opening_fault(&self, name: &[u8], within: bool) -> Option<OpenFault>
         ensures fault { FaultAnswers ⟦<Hub<R, L> as Gateway>⟧.stands self.now L.class R.reply name.now within result }
         // An opening that has a fault changes nothing.
@@ -197,10 +198,10 @@ impl<R: RouteStep, L: Doors> Hub<R, L> {
         self.lobby.fault(name, within)
     }
 
-    /// Opens one more route and shows it. Returns its index, the next one; an index is never used again. Allocates
-    /// all that the route will need, except for copies of datagrams. Errors: `Names` if the name has a wrong
-    /// form or is that of a shown route, else `Limits` if there are 511 routes or a number is outside its limits, else
-    /// `OutOfMemory`. After an error nothing has changed.
+    /// Opens one more route, which is visible. Returns its index, the next one; an index is never used again. Allocates
+    /// everything that the route will need, except for copies of datagrams. Errors: `Names` if the name has a wrong
+    /// form or is that of a visible route, else `Limits` if there are 511 routes or a number is outside its limits,
+    /// else `OutOfMemory`. After an error nothing has changed.
     pub fn open_route(&mut self, alloc: Global, entry: &Entry) -> Result<usize, OpenFault>
         ensures stands { Happened ⟦<Hub<R, L> as Gateway>⟧.stands self.old self.new (Opens (terms_of entry.now) (wants_memory result)) }
         ensures answer { OpeningAnswers ⟦<Hub<R, L> as Gateway>⟧.stands self.old L.class R.reply (terms_of entry.now) result }
@@ -230,9 +231,9 @@ impl<R: RouteStep, L: Doors> Hub<R, L> {
         Ok(r)
     }
 
-    /// Closes route `r` at this moment, in microseconds: puts the item that ends all its sessions into its inbox, and
-    /// hides it. From then on no datagram is for it, and its name may be used again; its ticks, turns and sends go on.
-    /// Returns `Closed` if the route was hidden already, else `Full` if its inbox holds its capacity; both change
+    /// Closes route `r` at this time, in microseconds: puts the item that ends all its sessions into its inbox, and
+    /// hides it. From then on no datagram is for it, and its name may be used again; its ticks, turns and sends
+    /// continue. Returns `Closed` if the route was already hidden, else `Full` if its inbox is full; both change
     /// nothing. O(1). Doesn't allocate.
     pub fn close_route(&mut self, r: usize, moment: u64) -> Closing
         requires route { r < ⟦<Hub<R, L> as Gateway>⟧.routes self.old }

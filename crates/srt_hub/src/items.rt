@@ -10,13 +10,13 @@ use std::alloc::Global;
 /// An item of the inbox.
 #[derive(Drop)]
 pub struct Timely {
-    /// The item; its moment is below 2^62 microseconds.
+    /// The item; its time is below 2^62 microseconds.
     pub item: Item,
     pub ghost timely: { moment_of (told item) < 2 ^ 62 },
 }
 
-/// Makes an item of a datagram, with a copy of all bytes after the first 16. Allocates that copy; the only error
-/// is that it is refused.
+/// Makes an item of a datagram, with a copy of all bytes after the first 16. Allocates that copy; the only error is
+/// that the allocation fails.
 pub fn copied(alloc: Global, peer: Peer, bytes: &[u8], moment: u64) -> Result<Timely, OutOfMemory>
     requires header { 16 ≤ length bytes.now }
     requires timely { moment < 2 ^ 62 }

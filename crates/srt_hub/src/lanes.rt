@@ -12,8 +12,8 @@ use srt_seq::{Entry, OpenFault, Peer, Turned};
 use std::alloc::Global;
 use std::collections::VecDeque;
 
-/// A route with its queues, which have memory for their capacities. Replies are boxed: moving one exchanges boxes. The
-/// number of spare boxes is the free space of the outbox.
+/// A route with its queues, which are allocated for their capacities. Replies are boxed: moving one exchanges boxes.
+/// The number of spare boxes is the free space of the outbox.
 #[derive(Drop)]
 pub struct Lane<R: RouteStep> {
     route: R,
@@ -52,8 +52,8 @@ impl<R: RouteStep> Lane<R> {
     ghost use Rattle.srt_hub.specs.World.{empty, offered, has_room, turned, turn, sent_from};
     ghost use Rattle.srt_hub.specs.Calls.{LaneBecomes, LaneAnswers, datagram_at, first_out};
 
-    /// A route without items, with empty queues. Allocates the route, both queues and `outbox` boxes.
-    /// The only error is `OutOfMemory`.
+    /// Opens a route without items, with empty queues. Allocates the route, both queues and `outbox` boxes. The only
+    /// error is `OutOfMemory`.
     pub fn open(alloc: Global, entry: &Entry, index: usize) -> Result<Lane<R>, OpenFault>
         requires name { is_name (terms_of entry.now).name ≡ true }
         requires limits { in_limits (terms_of entry.now) ≡ true }
@@ -83,8 +83,7 @@ impl<R: RouteStep> Lane<R> {
         })
     }
 
-    /// Appends an item to the inbox. Returns false, and changes nothing, if the inbox holds its capacity. O(1). Doesn't
-    /// allocate.
+    /// Appends an item to the inbox. Returns false, and changes nothing, if the inbox is full. O(1). Doesn't allocate.
     pub fn offer(&mut self, item: Timely) -> bool
         ensures stands { LaneBecomes ⟦<Lane<R> as Standing>⟧.is self.old self.new (λ e r m. offered e (item_in item) m) }
         ensures answer { LaneAnswers ⟦<Lane<R> as Standing>⟧.is self.old has_room result }
@@ -95,7 +94,7 @@ impl<R: RouteStep> Lane<R> {
         self.inbox.push_back(item).is_ok()
     }
 
-    /// Moves the oldest waiting reply to the outbox, if there is one; else applies the oldest item of the inbox.
+    /// Moves the oldest waiting reply to the outbox, if there is one; otherwise processes the oldest item of the inbox.
     /// `Blocked` if the outbox is full, `Idle` if there is nothing to do. Doesn't allocate.
     pub fn turn(&mut self) -> Turned
         ensures stands { LaneBecomes ⟦<Lane<R> as Standing>⟧.is self.old self.new (turned R.reply) }
@@ -116,7 +115,7 @@ impl<R: RouteStep> Lane<R> {
         Turned::Applied
     }
 
-    /// Takes the oldest reply out of the outbox and writes its packet to the front of `out`. Returns its receiver and
+    /// Removes the oldest reply from the outbox and writes its packet to the front of `out`. Returns its receiver and
     /// its length in bytes; None if the outbox is empty.
     pub fn send(&mut self, out: &mut [u8; 1472]) -> Option<(Peer, usize)>
         ensures stands { LaneBecomes ⟦<Lane<R> as Standing>⟧.is self.old self.new (λ e r m. sent_from m) }

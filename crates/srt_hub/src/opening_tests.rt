@@ -85,7 +85,7 @@ fn is_ended(rt: &(impl AllocGlobal + Abort), gateway: &mut SrtGateway) -> Result
     Ok(())
 }
 
-/// A closed route sends SHUTDOWN to its session and has no datagrams. Its name may be used again, its index isn't.
+/// A closed route sends SHUTDOWN to its session and receives no datagrams. Its name may be used again, its index isn't.
 #[test]
 fn a_route_is_closed_and_its_name_opened_again(rt: HostRuntime) -> Result<(), Fail> {
     let mut gateway = opened(rt.alloc())?;
@@ -109,7 +109,7 @@ fn a_route_is_closed_and_its_name_opened_again(rt: HostRuntime) -> Result<(), Fa
     Ok(())
 }
 
-/// The clock of a closed route goes on, and so do its turns and its sends.
+/// The clock of a closed route advances, and its turns and sends continue.
 #[test]
 fn a_closed_route_goes_on(rt: HostRuntime) -> Result<(), Fail> {
     let mut gateway = opened(rt.alloc())?;
@@ -121,7 +121,7 @@ fn a_closed_route_goes_on(rt: HostRuntime) -> Result<(), Fail> {
     Ok(())
 }
 
-/// There are 511 indexes, and those of closed routes count.
+/// There are 511 indexes, including those of closed routes.
 #[test]
 fn there_is_no_512th_index(rt: HostRuntime) -> Result<(), Fail> {
     let alloc = rt.alloc();

@@ -1,5 +1,5 @@
 //! The parts of a gateway, as traits: the lobby and the routes. The hub is proved for every lobby and every kind of
-//! route from the contracts of these traits alone: what a route replies and how arrivals are sorted are ghost members,
+//! route from the contracts of these traits alone: a route's replies and the classes of arrivals are ghost members,
 //! which each implementation defines.
 
 ghost use Rattle.std.specs.Prelude.{◌≡◌, ◌↔◌, ℕ, ◌<◌, ◌≤◌, ◌^◌, ◌∷◌, [], List, length, true, false, None, Some, Err, IfOk, IfErr, OnErr, map};
@@ -23,7 +23,7 @@ use srt_route::Reply;
 use srt_seq::{Entry, Item, OpenFault, Peer};
 use std::alloc::Global;
 
-/// Sorts datagrams: answered, dropped, or for a route.
+/// Classifies datagrams: answered, dropped, or for a route.
 pub trait Lobby: Drop {
     /// The class of a datagram for a lobby with this secret and these names.
     ghost class: { (secret : List ℕ) → (names : List RouteName) → Datagram → (moment : ℕ) → TheClass };
@@ -39,7 +39,7 @@ pub trait Lobby: Drop {
         ensures fault { (fault : TheFault) → fault_of (map terms_of entries.now) ≡ Some fault → result ≡ Err fault }
         ensures memory { fault_of (map terms_of entries.now) ≡ None → IfErr result (λ fault. fault ≡ OpenFault.OutOfMemory) };
 
-    /// Sorts a datagram that came from `peer` at this moment, in microseconds. Doesn't allocate.
+    /// Classifies a datagram that arrived from `peer` at this time, in microseconds. Doesn't allocate.
     fn classify(&self, peer: Peer, bytes: &[u8], moment: u64) -> Class
         requires { moment < 2 ^ 62 }
         ensures class { LobbyAnswers knows self.now class (datagram peer bytes.now) moment result }
@@ -52,20 +52,19 @@ pub trait Lobby: Drop {
 
 /// A lobby whose routes open and close while it runs.
 pub trait Doors: Lobby {
-    /// Whether there is a route with this index, and it is shown. Doesn't allocate.
+    /// Whether there is a route with this index, and it is visible. Doesn't allocate.
     fn shows(&self, r: usize) -> bool
         ensures { (secret : List ℕ) (names : List RouteName) → Self.knows self.now secret names → result ≡ is_shown_at names r };
 
-    /// The first reason why a route of this name can't be added, memory aside, if the numbers of its entry are `within`
-    /// their limits or aren't. Doesn't allocate.
+    /// Returns the first fault because of which a route of this name can't be added, memory aside. `within` states
+    /// whether the numbers of its entry are within their limits. Doesn't allocate.
     fn fault(&self, name: &[u8], within: bool) -> Option<OpenFault>
         ensures fault { (secret : List ℕ) (names : List RouteName) → Self.knows self.now secret names → result ≡ fault_of_name names name.now within }
-        // Whatever the names are, the name and the numbers by themselves have none.
+        // Independently of the names in force, the name and the numbers have no fault.
         ensures formed { result ≡ None → is_name name.now ≡ true }
         ensures limits { result ≡ None → within ≡ true };
 
-    /// Adds the name of a route, which is shown. Allocates copies of the name. After an error the
-    /// names are as before.
+    /// Adds the name of a route, which is visible. Allocates copies of the name. An error leaves the names unchanged.
     fn add(&mut self, alloc: Global, entry: &Entry) -> Result<(), OpenFault>
         ensures added { IfOk result
             (λ _. (secret : List ℕ) (names : List RouteName) → Self.knows self.old secret names
@@ -91,7 +90,7 @@ pub trait RouteStep: Drop {
     /// The replies that wait, the oldest first.
     ghost waiting: { Self → List Datagram };
 
-    /// Opens a route without items. Allocates all that the route will ever need; the only error is a refused
+    /// Opens a route without items. Allocates everything that the route will ever need; the only error is a failed
     /// allocation. `index` is below 511.
     fn open(alloc: Global, entry: &Entry, index: usize) -> Result<Self, OpenFault>
         requires name { is_name (terms_of entry.now).name ≡ true }
@@ -101,7 +100,7 @@ pub trait RouteStep: Drop {
         ensures none_waits { IfOk result (λ route. waiting route ≡ []) }
         ensures memory { IfErr result (λ fault. fault ≡ OpenFault.OutOfMemory) };
 
-    /// Applies one item. Returns the number of replies that now wait. To be called only if no reply waits. Doesn't
+    /// Processes one item. Returns the number of replies that now wait. Must only be called if no reply waits. Doesn't
     /// allocate.
     fn step(&mut self, item: Item) -> usize
         requires none_waits { waiting self.old ≡ [] }
@@ -110,12 +109,12 @@ pub trait RouteStep: Drop {
         ensures stands { (e : Terms) (index : ℕ) (items : List TheItem) → stands self.old e index items → stands self.new e index (told item ∷ items) }
         ensures replies { RouteReplies stands self.old reply (told item) (waiting self.new) };
 
-    /// Whether a reply waits. A turn asks this first: it must know it before it knows whether the outbox has room.
+    /// Whether a reply waits. A turn calls this first: it must know this before it knows whether the outbox has room.
     fn waits(&self) -> bool
         ensures { (result ≡ true) ↔ (0 < length (waiting self.now)) };
 
-    /// Puts the oldest waiting reply into `place`, by an exchange of boxes; the box that was in `place` is kept for a
-    /// later reply. Returns false and changes nothing if none waits. Doesn't allocate.
+    /// Puts the oldest waiting reply into `place`, by exchanging boxes; the box that was in `place` is kept for a later
+    /// reply. Returns false and changes nothing if none waits. Doesn't allocate.
     fn next_reply(&mut self, place: &mut Box<Reply>) -> bool
         ensures first { result ≡ true → waiting self.old ≡ written place.new.value ∷ waiting self.new }
         ensures none { result ≡ false → (waiting self.old ≡ []) × (self.new ≡ self.old) × (place.new ≡ place.old) }

@@ -1,5 +1,4 @@
-//! The hub over a small lobby, which sorts by the first byte, and a small route, which sends two packets for
-//! each item.
+//! The hub over a small lobby, which classifies by the first byte, and a small route, which replies twice to each item.
 
 ghost use Rattle.std.specs.Prelude.{◌≡◌, ℕ, ◌+◌, ◌-◌, ◌≤◌, ◌<◌, [], ◌∷◌, length, drop, replicate, slice_index, if◌then◌else◌, nat_lt, refl};
 ghost use Rattle.srt_packet.specs.declared.writing.Body.TheVariants.{KeepAlive};
@@ -17,7 +16,7 @@ use std::alloc::Global;
 use std::process::Abort;
 use std::test::Fail;
 
-/// Sorts by the first byte.
+/// Classifies by the first byte.
 #[derive(Drop)]
 struct FirstByte {
     routes: usize,
@@ -121,7 +120,7 @@ impl RouteStep for Twice {
     }
 }
 
-/// A live route with the least queues.
+/// A live route with the smallest queues.
 pub(crate) fn live_entry(alloc: Global, name: &str) -> Result<Entry, Fail> {
     Ok(Entry {
         name: String::from_str(alloc, name)?,
@@ -147,7 +146,7 @@ const FIRST: [u8; 16] = [0x80, 1, 0, 0, 0, 0, 0, 0, 0, 0, 0, 1, 0, 0, 0, 5];
 
 const SECOND: [u8; 16] = [0x80, 1, 0, 0, 0, 0, 0, 0, 0, 0, 0, 2, 0, 0, 0, 5];
 
-/// The results of turns of a route with one item: it is applied, its two replies are moved, and nothing is left.
+/// The results of turns of a route with one item: it is processed, its two replies are moved, and nothing is left.
 const TWO_MOVED_AND_IDLE: [Turned; 4] = [
     Turned::Applied,
     Turned::Moved,
@@ -254,7 +253,7 @@ fn arrivals_and_ticks_become_datagrams(rt: HostRuntime) -> Result<(), Fail> {
     Ok(())
 }
 
-/// A flood of one route fills that route's inbox, and the other route goes on as it does without the flood.
+/// A flood of one route fills that route's inbox, and the other route continues as without the flood.
 #[test]
 fn a_flood_stays_in_its_own_inbox(rt: HostRuntime) -> Result<(), Fail> {
     let mut hub = two_routes(rt.alloc())?;
@@ -308,7 +307,7 @@ fn boxes_are_used_again(rt: HostRuntime) -> Result<(), Fail> {
     Ok(())
 }
 
-/// If the memory for the copy is refused, the same datagram can be offered again, and is then taken as if it were the
+/// If the copy can't be allocated, the same datagram can be offered again, and is then accepted as if it were the
 /// first.
 #[test]
 fn a_refused_arrival_may_come_again(rt: HostRuntime) -> Result<(), Fail> {

@@ -58,7 +58,7 @@ pub closing_line : (class : Sorting) (reply : Meaning) (entries : List Terms) (p
 unfolding event_text
 closing_line class reply entries past r moment answer text t a = t ∙ ap (closed_text r) a
 
--- an opening for which there was memory, of an entry with these terms
+-- an opening with enough memory, of an entry with these terms
 pub opened_line : (class : Sorting) (reply : Meaning) (entries : List Terms) (past : List Event) (e terms : Terms) (refused : Bool)
     (answer : Result ℕ OpenFault) (text : List ℕ)
     → e ≡ terms → refused ≡ false → text ≡ opened_text answer → answer ≡ opening (world_after class reply entries past) e refused
@@ -82,7 +82,7 @@ fault_line class reply entries past e fault found text t told is =
     opening_line class reply entries past e (Err fault) text t
     (sym (ap (opening_of (length (world_after class reply entries past).places) false) (sym told ∙ is)))
 
--- what holds after an opening's error holds after want of memory
+-- a fact about an opening's error holds if it ran out of memory
 pub after_want : {P : Type 0} (opened : Result ℕ OpenFault) → wants_memory opened ≡ true → OnErr opened P → P
 after_want (Ok r) wants p = absurd cc
 after_want (Err fault) wants p = p

@@ -38,7 +38,7 @@ took_more old now new before bs after k t e = subst (Took old new) (sym e) (took
 pub inside_more : (before bs after : List ℕ) → NoLf before → NoLf bs → after ≡ before ++ bs → NoLf after
 inside_more before bs after h k e = subst NoLf (sym e) (All-append IsInside before bs h k)
 
--- a line and its LF were taken
+-- a line and its LF were read
 pub line_ended : (old now new : Option (List ℕ)) (before bs after : List ℕ)
     → Took old now before → NoLf before → Took now new (bs ++ 10 ∷ []) → NoLf bs → after ≡ before ++ bs → TookLine old new after
 line_ended old now new before bs after k h t i e xs is =
@@ -46,7 +46,7 @@ line_ended old now new before bs after k h t i e xs is =
     let f : before ++ (bs ++ 10 ∷ []) ++ a.0 ≡ after ++ 10 ∷ a.0 = rw e (simp append_assoc) in
     (a.0, a.1, ap lines_of (a.2 ∙ f) ∙ ended after a.0 (recursion_from_All IsInside after (inside_more before bs after h i e)))
 
--- the bytes ended behind a line
+-- the bytes ended after a line
 pub line_last : (old now new : Option (List ℕ)) (line : List ℕ)
     → Took old now line → NoLf line → 0 < length line → AtEnd now → Took now new [] → TookLine old new line
 line_last old now new line k inside some end t xs e =
@@ -69,7 +69,7 @@ no_line old now line k none end xs e =
     empty [] e = refl
     empty (b ∷ line) e = absurd (omega (arith, e))
 
--- they ended behind this many bytes of a line
+-- the bytes ended after this many bytes of a line
 pub ended_at : (old now new : Option (List ℕ)) (len : ℕ) (buffer : List ℕ) → Took old now (take len buffer) → NoLf (take len buffer)
     → length (take len buffer) ≡ len → len ≤ 4096 → AtEnd now → Took now new [] → (taken : Taken) → (len ≡ 0 → taken ≡ End)
     → (0 < len → taken ≡ Line len)

@@ -1,4 +1,4 @@
--- A letter with no field behind it is no event.
+-- A letter without a field after it isn't an event.
 use Rattle.std.proofs.Common.{◌≡◌, ℕ, Bool, true, false, List, [], ◌∷◌, None, refl, if◌then◌else◌}
 use Rattle.srt_replay.specs.Events.{arrival_in, tick_in, turn_in, send_in, opening_in, closing_in, is_letter, event_in}
 

@@ -1,4 +1,4 @@
--- A replay over a gateway goes on and ends.
+-- A replay over a gateway continues and ends.
 use Rattle.std.proofs.Common.{◌≡◌, ℕ, zero, suc, ◌+◌, Bool, true, false, List, [], ◌∷◌, ◌++◌, length, take, drop, Option, Some, None}
 use Rattle.std.proofs.Common.{Result, Ok, Err, refl, sym, ap, subst, ◌∙◌, append_assoc, arith, length-append}
 use Rattle.std.proofs.lemmas.List.{append-nil, take-append-drop}
@@ -64,7 +64,7 @@ fault_none : (class : Sorting) (reply : Meaning) (entries : List Terms) (past : 
     → event_at (routes_at class reply entries past) n line ≡ None → fault_from class reply entries past n (line ∷ lines) ≡ Some n
 fault_none class reply entries past n line lines is = rw is refl
 
--- the text of some events, and of those that come after them
+-- the text of some events, and of those after them
 text_behind : (class : Sorting) (reply : Meaning) (entries : List Terms) (past xs ys : List Event)
     → text_after class reply entries past (xs ++ ys)
     ≡ text_after class reply entries past xs ++ text_after class reply entries (with_past past xs) ys
@@ -316,7 +316,7 @@ flushed class reply entries r0 w0 w w' (Err OutOfMemory) h k tape e = let a = h 
 flushed class reply entries r0 w0 w w' (Err Read) h k tape e = let a = h tape e in (a.0, wrote_same w0 w w' _ a.1 k)
 flushed class reply entries r0 w0 w w' (Err Write) h k tape e = let a = h tape e in (a.0, a.1, wrote_same w0 w w' _ a.2 k, a.3)
 
--- the text of some first lines is a part of the text
+-- the text of some first lines is a prefix of the text
 front_is_part : (class : Sorting) (reply : Meaning) (entries : List Terms) (past : List Event) (n k : ℕ) (lines : List (List ℕ)) →
     (more : List ℕ) ×
     (text_after class reply entries past (events_from class reply entries past n (take k lines)) ++ more
@@ -345,7 +345,7 @@ front_is_part class reply entries past n (suc k) (line ∷ lines) =
               ∙ ap (λ (xs : List ℕ). t ++ xs) p.1,
         )
 
--- whatever was written is a part of the text
+-- whatever was written is a prefix of the text
 pub is_part : (class : Sorting) (reply : Meaning) (entries : List Terms) (r0 w0 w : Option (List ℕ))
     (answer : Result (Unit {0}) ReplayFault)
     → Replays class reply entries r0 w0 w answer

@@ -1,4 +1,4 @@
--- The lines of what was sent.
+-- The lines of the datagrams that were sent.
 use Rattle.std.proofs.Common.{◌≡◌, ℕ, zero, suc, ◌+◌, ◌/◌, ◌%◌, ◌==◌, ◌&&◌, nat_lt, Bool, true, false, not, is_some, eqb-true, List, []}
 use Rattle.std.proofs.Common.{◌∷◌, ◌++◌, slice_index, map, codes, decimal, Option, None, Some, refl, sym, ap, subst, ◌∙◌, append_assoc}
 use Rattle.std.proofs.Common.{if◌then◌else◌, arith, length, cond, ◌≤◌, rules}
@@ -44,7 +44,7 @@ both : (xs ys : List ℕ) → Inside xs → Inside ys → Inside (xs ++ ys)
 both [] ys h k = k
 both (x ∷ xs) ys h k = (h.0, both xs ys h.1 k)
 
--- digits are no LF
+-- digits aren't LF
 digit : (t : Bool) (d : ℕ) → IsInside (if t then 48 + d else 87 + d)
 digit true d e = omega (arith, e)
 digit false d e = omega (arith, e)
@@ -130,7 +130,7 @@ turn_line Applied = record { line = codes "applied"; text_is = refl; inside = se
 turn_line Blocked = record { line = codes "blocked"; text_is = refl; inside = search rules }
 turn_line Idle = record { line = codes "idle"; text_is = refl; inside = search rules }
 
--- with memory an opening has a line
+-- with enough memory an opening has a line
 opening_line : (next : ℕ) (named limited : Bool)
     → IsLine (opened_text (opening_of next false (if named then (if limited then None else Some faults.Limits) else Some faults.Names)))
 opening_line next true true = route_line (codes "opened ") next (search rules)
@@ -192,12 +192,12 @@ record Told (class : Sorting) (reply : Meaning) (entries : List Terms) (r : ℕ)
   sends : map sent_line (sends_out (step_for class (world_after class reply entries past) r event) (lane_at class reply entries r past))
       ≡ picked (is_send r event && is_sent_line line) line
 
--- what sends nothing if the route is there sends nothing
+-- a step that sends nothing if the route exists sends nothing
 none_sent : (there : Bool) (step : Step) (m : Lane) → sends_out step m ≡ [] → sends_out (cond there step Nothing) m ≡ []
 none_sent true step m h = h
 none_sent false step m h = refl
 
--- a route that isn't there sends nothing, and its outbox is empty
+-- a route that doesn't exist sends nothing, and its outbox is empty
 not_there : (n r : ℕ) → nat_lt r n ≡ false → n ≤ r
 not_there n r h = grind (arith, nat_tests)
 

@@ -3,7 +3,7 @@ use Rattle.std.proofs.Common.{◌≡◌, ℕ, Bool, true, false, cond, eqb, List
 use Rattle.srt_config.specs.Address.{parted, with_front}
 use Rattle.srt_replay.specs.Tape.{fields_of, onto}
 
--- the fields of a text that is parted so at its first space
+-- the fields of a text with this split at its first space
 abbrev pub fields_by : List ℕ → Option (List ℕ × List ℕ) → List (List ℕ)
 fields_by text None = text ∷ []
 fields_by text (Some parts) = parts.0 ∷ fields_of parts.1
@@ -31,13 +31,13 @@ pub has_field : (text : List ℕ) → fields_of text ≡ [] → ⊥
 has_field [] e = cc
 has_field (b ∷ bs) e = field_or (eqb b 32) b (fields_of bs) (fields_of bs) e
 
--- a text that has a field behind its first four has not four
+-- a text with a field after its first four doesn't have four
 pub not_four : (fields : List (List ℕ)) (text p q r s a b c d : List ℕ) → fields ≡ p ∷ q ∷ r ∷ s ∷ fields_of text → fields ≡ a ∷ b ∷ c ∷ d ∷ [] → ⊥
 not_four fields text p q r s a b c d h e =
     let same : fields_of text ≡ [] = cc in
     has_field text same
 
--- nor just one, where one stands behind its first
+-- a text with a field after its first one doesn't have one
 pub not_one : (fields : List (List ℕ)) (text p a : List ℕ) → fields ≡ p ∷ fields_of text → fields ≡ a ∷ [] → ⊥
 not_one fields text p a h e =
     let same : fields_of text ≡ [] = cc in

@@ -1,4 +1,4 @@
--- The bytes that one look at a reader takes.
+-- The bytes that one read of a reader consumes.
 use Rattle.std.proofs.Common.{◌≡◌, ℕ, ◌+◌, ◌<◌, ◌≤◌, true, eqb, List, [], ◌∷◌, ◌++◌, length, take, drop, slice_index, Option, Some, None}
 use Rattle.std.proofs.Common.{refl, sym, ap, ◌∙◌, arith, append_assoc, eq-eqb, eqb-true, length-take-le}
 use Rattle.std.proofs.lemmas.List.{take_more, take-append-drop, get_or-take, get_or_default}

@@ -1,4 +1,4 @@
--- The events of a tape are those for which there is memory.
+-- No event of a tape runs out of memory.
 use Rattle.std.proofs.Common.{◌≡◌, ℕ, ◌+◌, ◌^◌, nat_le, Bool, true, false, List, [], ◌∷◌, length, Option, None, Some, option_and_then, refl}
 use Rattle.std.proofs.Common.{subst, if◌then◌else◌}
 use Rattle.srt_seq.specs.declared.shared.Mode.{Mode}
@@ -13,7 +13,7 @@ use Rattle.srt_replay.specs.Events.{numbers_in, arrival_in, tick_in, turn_in, se
 use Rattle.srt_replay.specs.Events.{event_of}
 use Rattle.srt_replay.specs.Replay.{max_lines, event_at, events_on, events_from}
 
--- no arrival and no opening of a tape is refused
+-- memory suffices for the arrival or opening of a tape
 abbrev pub Unrefused : Event → Type 0
 Unrefused (Arrives d moment refused) = refused ≡ false
 Unrefused (Ticks r moment) = Unit {0}

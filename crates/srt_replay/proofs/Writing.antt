@@ -17,7 +17,7 @@ wrote_more old (Some zs) None bs cs h a ws e = absurd a
 wrote_more old (Some zs) (Some ys) bs cs h a ws e =
     ap (λ (xs : List ℕ). Some xs) (a ∙ ap (λ (xs : List ℕ). xs ++ cs) (own zs (ws ++ bs) (h ws e)) ∙ append_assoc ws bs cs)
 
--- nothing was
+-- nothing was written
 pub wrote_same : (old now new : Option (List ℕ)) (bs : List ℕ) → Wrote old now bs → Keeps now new → Wrote old new bs
 wrote_same old None new bs h a ws e = absurd (none (ws ++ bs) (h ws e))
 wrote_same old (Some zs) None bs h a ws e = absurd a

@@ -1,4 +1,4 @@
--- A reader that counts its reads: the number that is left, and the result of the last one.
+-- A reader that counts its reads: the number of reads left, and the result of the last one.
 use Rattle.std.specs.Prelude.{◌≡◌, ◌≢◌, ℕ, ◌<◌, ◌≤◌, Bool, true, false, List, length, Result, Ok, Err}
 use Rattle.std.specs.IoError.{error_kind}
 use Rattle.std.specs.declared.io.Error.{Error}
@@ -23,19 +23,19 @@ left_in budget = budget.left
 abbrev pub brought_in : ReadBudget → Brought
 brought_in budget = budget.brought
 
--- the reader that is counted
+-- the reader whose reads are counted
 abbrev pub source : {R : Type 0} → CountedReader R → R
 source reader = reader.reader
 
--- the number of reads that are left
+-- the number of reads left
 abbrev pub reads_left : {R : Type 0} → CountedReader R → ℕ
 reads_left reader = left_in reader.budget
 
--- the result of the last one
+-- the result of the last read
 abbrev pub last_brought : {R : Type 0} → CountedReader R → Brought
 last_brought reader = brought_in reader.budget
 
--- the result that is noted for what a read returned
+-- the result that is recorded for the return value of a read
 abbrev pub BroughtBy : Result (Bor (List ℕ)) Error → Brought → Type 0
 BroughtBy (Ok bytes) brought = (length bytes.now ≡ 0 → brought ≡ End) × (0 < length bytes.now → brought ≡ Bytes)
 BroughtBy (Err e) brought = (error_kind e ≡ Interrupted → brought ≡ Nothing) × (error_kind e ≢ Interrupted → brought ≡ Failure)
@@ -48,8 +48,8 @@ MayLook reader = (0 < reads_left reader) × (last_brought reader ≢ Failure)
 abbrev pub WasUnread : (left : ℕ) → Brought → Type 0
 WasUnread left brought = brought ≢ Failure → left ≡ 0
 
--- the reads after one read, after a line, after a line's answer and after a whole replay: unless the result is that the
--- reader failed or has no read left, the last read didn't fail
+-- the state of the reads after one read, after a line, after a line's answer and after a whole replay: unless the
+-- result is that the reader failed or has no read left, the last read didn't fail
 abbrev pub PieceRead : Brought → Result Piece ReadFailed → Type 0
 PieceRead brought (Ok (piece.Part n)) = brought ≢ Failure
 PieceRead brought (Ok (piece.Line n)) = brought ≢ Failure
@@ -71,8 +71,8 @@ TurnRead number left brought (Err OutOfMemory) = brought ≢ Failure
 TurnRead number left brought (Err Read) = WasUnread left brought
 TurnRead number left brought (Err Write) = brought ≢ Failure
 
--- a replay that is done reached the reader's end; one that ended with `Read` had a reader that failed or had no read
--- left; one that ended with `Write` may have found that in the flush after a failed read
+-- the state of the reads after a replay: if it succeeded, the reader was at its end; if it ended with `Read`, the
+-- reader failed or no read was left; if it ended with `Write`, the flush may have failed after a failed read
 abbrev pub ReplayRead : (left : ℕ) → Brought → Result (Unit {0}) ReplayFault → Type 0
 ReplayRead left brought (Ok u) = brought ≡ End
 ReplayRead left brought (Err (Tape line)) = brought ≢ Failure

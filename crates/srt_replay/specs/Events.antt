@@ -34,16 +34,16 @@ closing_of (Some r) (Some moment) = Some (Closes r moment)
 closing_of (Some r) None = None
 closing_of None moment = None
 
--- moments are below 2^62 microseconds
+-- times are below 2^62 microseconds
 abbrev pub moment_in : List ℕ → Option ℕ
 moment_in text = number_in (2 ^ 62) text
 
--- the fields of an arrival: moment, address, port and bytes; ports are below 2^16
+-- the fields of an arrival: time, address, port and bytes; ports are below 2^16
 abbrev pub arrival_in : List (List ℕ) → Option Event
 arrival_in (moment ∷ address ∷ port ∷ bytes ∷ []) = arrival_of (moment_in moment) (address_in address) (number_in (2 ^ 16) port) (bytes_in bytes)
 arrival_in _ = None
 
--- the fields of a tick: route and moment; a route's number is below the number of routes
+-- the fields of a tick: route and time; a route's number is below the number of routes
 abbrev pub tick_in : (routes : ℕ) → List (List ℕ) → Option Event
 tick_in routes (route ∷ moment ∷ []) = tick_of (number_in routes route) (moment_in moment)
 tick_in routes _ = None
@@ -60,7 +60,7 @@ infixl 10 ◌>>=◌
 abbrev ◌>>=◌ : {A B : Type 0} → Option A → (A → Option B) → Option B
 o >>= f = option_and_then f o
 
--- a name is any text in UTF-8, the empty one too; whether it may be a route's is found when the route is opened
+-- a name is any text in UTF-8, including the empty one; its form is checked when the route is opened
 abbrev pub text_in : List ℕ → Option (List ℕ)
 text_in name = if is_utf8 name then Some name else None
 
@@ -80,7 +80,7 @@ unfoldable pub opening_in : List (List ℕ) → Option Event
 opening_in (name ∷ mode ∷ numbers) = text_in name >>= λ n. mode_in mode >>= λ m. numbers_in numbers >>= λ k. Some (Opens (terms_with n m k) false)
 opening_in _ = None
 
--- the fields of a closing: route and moment; the route may be hidden
+-- the fields of a closing: route and time; the route may be hidden
 abbrev pub closing_in : (routes : ℕ) → List (List ℕ) → Option Event
 closing_in routes (route ∷ moment ∷ []) = closing_of (number_in routes route) (moment_in moment)
 closing_in routes _ = None
@@ -103,6 +103,6 @@ event_in routes (letter ∷ fields) =
     if is_letter 79 letter then opening_in fields else
     if is_letter 67 letter then closing_in routes fields else None
 
--- the event of a line; in it there is memory for every arrival and every opening
+-- the event of a line; memory suffices for every arrival and every opening of a tape
 unfoldable pub event_of : (routes : ℕ) → List ℕ → Option Event
 event_of routes line = if nat_le (length line) max_line then event_in routes (fields_of line) else None

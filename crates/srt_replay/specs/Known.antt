@@ -1,4 +1,4 @@
--- Readers and writers whose bytes are known: what was taken from the readers, and written to the writers.
+-- Readers and writers whose bytes are known: what was read from the readers, and written to the writers.
 use Rattle.std.specs.Prelude.{◌≡◌, ◌≢◌, ℕ, ◌+◌, List, [], ◌∷◌, ◌++◌, length, take, All, Option, Some, ◌<◌, ◌≤◌}
 use Rattle.srt_replay.specs.Tape.{lines_of, max_line}
 use Rattle.srt_replay.specs.declared.lines.Taken.{Taken}
@@ -6,7 +6,7 @@ use Rattle.srt_replay.specs.declared.lines.Taken.TheVariants as taken
 use Rattle.srt_replay.specs.declared.reader.Piece.{Piece}
 use Rattle.srt_replay.specs.declared.reader.Piece.TheVariants.{Part, Line, Long, End}
 
--- if the reader's bytes are known, they were these and then the ones that are left
+-- if the reader's bytes are known, they were these followed by the remaining ones
 abbrev pub Took : (old new : Option (List ℕ)) → List ℕ → Type 0
 Took old new bs = (xs : List ℕ) → old ≡ Some xs → (ys : List ℕ) × (new ≡ Some ys) × (xs ≡ bs ++ ys)
 
@@ -14,15 +14,15 @@ Took old new bs = (xs : List ℕ) → old ≡ Some xs → (ys : List ℕ) × (ne
 abbrev pub BeginsWith : Option (List ℕ) → List ℕ → Type 0
 BeginsWith old bs = (xs : List ℕ) → old ≡ Some xs → (ys : List ℕ) × (xs ≡ bs ++ ys)
 
--- if the bytes are known, none is left
+-- if the bytes are known, none remains
 abbrev pub AtEnd : Option (List ℕ) → Type 0
 AtEnd old = (xs : List ℕ) → old ≡ Some xs → xs ≡ []
 
--- if the reader's bytes are known, this line came first, and the others are left
+-- if the reader's bytes are known, this line was the first, and the others remain
 abbrev pub TookLine : (old new : Option (List ℕ)) → List ℕ → Type 0
 TookLine old new line = (xs : List ℕ) → old ≡ Some xs → (ys : List ℕ) × (new ≡ Some ys) × (lines_of xs ≡ line ∷ lines_of ys)
 
--- if the bytes are known, there is no line in them
+-- if the bytes are known, they contain no line
 abbrev pub NoLine : Option (List ℕ) → Type 0
 NoLine old = (xs : List ℕ) → old ≡ Some xs → lines_of xs ≡ []
 
@@ -37,15 +37,14 @@ Wrote old new bs = (ws : List ℕ) → old ≡ Some ws → new ≡ Some (ws ++ b
 abbrev pub NoLf : List ℕ → Type 0
 NoLf bs = All (λ b. b ≢ 10) bs
 
--- the result of one read: the buffer's bytes are those of the line so far, which came before, and those that were taken
--- now
+-- the result of one read: the buffer has the earlier bytes of the line followed by those read now
 abbrev pub TookPiece : (old new : Option (List ℕ)) (before buffer : List ℕ) → Piece → Type 0
 TookPiece old new before buffer (Part n) = (bs : List ℕ) × Took old new bs × (take n buffer ≡ before ++ bs) × NoLf bs × (n ≤ max_line)
 TookPiece old new before buffer (Line n) = (bs : List ℕ) × Took old new (bs ++ 10 ∷ []) × (take n buffer ≡ before ++ bs) × NoLf bs × (n ≤ max_line)
 TookPiece old new before buffer Long = (bs : List ℕ) × BeginsWith old bs × NoLf bs × (max_line < length before + length bs)
 TookPiece old new before buffer End = AtEnd old × Took old new [] × (take (length before) buffer ≡ before)
 
--- the result of taking one line: it is at the front of the buffer, or there is none
+-- the result of reading one line: it is at the front of the buffer, or there is none
 abbrev pub TookOne : (old new : Option (List ℕ)) (buffer : List ℕ) → Taken → Type 0
 TookOne old new buffer (taken.Line n) = TookLine old new (take n buffer) × (n ≤ max_line)
 TookOne old new buffer taken.Long = LongLine old

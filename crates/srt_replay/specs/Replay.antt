@@ -17,7 +17,7 @@ use Rattle.srt_replay.specs.Known.{Wrote}
 abbrev pub max_lines : ℕ
 max_lines = 1_000_000
 
--- the event of the line of this number, counted from 1
+-- the event of the line with this number, counted from 1
 unfoldable pub event_at : (routes number : ℕ) → (line : List ℕ) → Option Event
 event_at routes number line = if nat_le number max_lines then event_of routes line else None
 
@@ -26,8 +26,8 @@ abbrev pub events_on : Option Event → (others : Event → List Event) → List
 events_on None others = []
 events_on (Some event) others = event ∷ others event
 
--- the events of coming lines, the oldest first, up to the first line that isn't an event, after past events, the newest
--- first; the first line has this number. Each line is read for the routes that there are by then
+-- the events of the following lines, the oldest first, up to the first line that isn't an event. The past events have
+-- the newest first, and the first line has this number. Each line is read for the number of routes at that point
 abbrev pub events_from : Sorting → Meaning → List Terms → (past : List Event) (number : ℕ) → List (List ℕ) → List Event
 events_from class reply entries past number [] = []
 events_from class reply entries past number (line ∷ lines) =
@@ -43,7 +43,7 @@ fault_from class reply entries past number [] = None
 fault_from class reply entries past number (line ∷ lines) =
     fault_on number (event_at (routes_at class reply entries past) number line) (λ event. fault_from class reply entries (event ∷ past) (number + 1) lines)
 
--- past events, the newest first, with later ones, which are given the oldest first
+-- past events, the newest first, with later ones added; those are listed with the oldest first
 abbrev pub with_past : (past came : List Event) → List Event
 with_past past [] = past
 with_past past (event ∷ came) = with_past (event ∷ past) came
@@ -52,8 +52,8 @@ with_past past (event ∷ came) = with_past (event ∷ past) came
 abbrev pub past_of : Sorting → Meaning → List Terms → List (List ℕ) → List Event
 past_of class reply entries lines = with_past [] (events_from class reply entries [] 1 lines)
 
--- the text that is written for coming events, the oldest first, after past events, the newest first: the model gives
--- each event's result, and the event then belongs to the past
+-- the text that is written for the following events, the oldest first, after past events, the newest first: the model
+-- yields each event's result, and the event then belongs to the past
 abbrev pub text_after : Sorting → Meaning → List Terms → (past coming : List Event) → List ℕ
 text_after class reply entries past [] = []
 text_after class reply entries past (event ∷ coming) = event_text class reply entries past event ++ text_after class reply entries (event ∷ past) coming
@@ -66,15 +66,15 @@ text_of class reply entries lines = text_after class reply entries [] (events_fr
 abbrev pub tape_text : Sorting → Meaning → List Terms → (tape : List ℕ) → List ℕ
 tape_text class reply entries tape = text_of class reply entries (lines_of tape)
 
--- the text that is written for its first lines
+-- the text that is written for a tape's first lines
 abbrev pub front_text : Sorting → Meaning → List Terms → (tape : List ℕ) (lines : ℕ) → List ℕ
 front_text class reply entries tape lines = text_of class reply entries (take lines (lines_of tape))
 
--- the number of its first line that isn't an event, counted from 1
+-- the number of a tape's first line that isn't an event, counted from 1
 abbrev pub fault_line : Sorting → Meaning → List Terms → (tape : List ℕ) → Option ℕ
 fault_line class reply entries tape = fault_from class reply entries [] 1 (lines_of tape)
 
--- an event for which memory is allocated: with the names in force an arrival is for a route, or an opening has no fault
+-- an event that allocates memory, given the names in force: an arrival for a route, or an opening without a fault
 abbrev pub WantsCopy : Sorting → List RouteName → Event → Type 0
 WantsCopy class names (Arrives d moment refused) = (r : ℕ) × (class names d moment ≡ Route r)
 WantsCopy class names (Ticks r moment) = ⊥
@@ -83,7 +83,7 @@ WantsCopy class names (Sends r) = ⊥
 WantsCopy class names (Opens e refused) = fault_of_adding names e ≡ None
 WantsCopy class names (Closes r moment) = ⊥
 
--- after this number of lines, all events, comes a line with such an event
+-- after this number of lines, all of them events, follows a line with such an event
 pub record WantsMemory (class : Sorting) (reply : Meaning) (entries : List Terms) (tape : List ℕ) (lines : ℕ) : Type 0 where
   pub line : List ℕ
   pub behind : List (List ℕ)
@@ -93,7 +93,7 @@ pub record WantsMemory (class : Sorting) (reply : Meaning) (entries : List Terms
   pub event_is : event_at (routes_at class reply entries (past_of class reply entries (take lines (lines_of tape)))) (lines + 1) line ≡ Some event
   pub wants : WantsCopy class (names_at class reply entries (past_of class reply entries (take lines (lines_of tape)))) event
 
--- the result of a replay, and what the writer then holds, if its bytes are known
+-- the result of a replay, and the bytes that the writer then holds, if they are known
 abbrev pub HasReplayed : Sorting → Meaning → List Terms → (tape : List ℕ) (before after : Option (List ℕ)) → Result (Unit {0}) ReplayFault → Type 0
 -- the whole text
 HasReplayed class reply entries tape before after (Ok u) =
@@ -110,10 +110,10 @@ HasReplayed class reply entries tape before after (Err Read) = (lines : ℕ) × 
 HasReplayed class reply entries tape before after (Err Write) =
     (text more : List ℕ) × Wrote before after text × (text ++ more ≡ tape_text class reply entries tape)
 
--- the same of a reader, if its bytes are known
+-- the same for a reader, if its bytes are known
 abbrev pub Replays : Sorting → Meaning → List Terms → (reader writer after : Option (List ℕ)) → Result (Unit {0}) ReplayFault → Type 0
 Replays class reply entries reader writer after result = (tape : List ℕ) → reader ≡ Some tape → HasReplayed class reply entries tape writer after result
 
--- memory for the gateway was refused, and nothing was read or written
+-- the gateway couldn't be allocated, and nothing was read or written
 abbrev pub WasRefused : {B W : Type 0} → (reader reader' : B) (writer writer' : W) → Result (Unit {0}) ReplayFault → Type 0
 WasRefused reader reader' writer writer' result = (result ≡ Err OutOfMemory) × (reader' ≡ reader) × (writer' ≡ writer)

@@ -1,4 +1,4 @@
--- A replay over a gateway that has no events behind it, and over the gateway of a configuration.
+-- A replay over a gateway without events so far, and over the gateway of a configuration.
 use Rattle.std.specs.Prelude.{ℕ, List, [], Option, Result, map}
 use Rattle.srt_cookie.specs.Cookie.{secret_bytes}
 use Rattle.srt_seq.specs.Terms.{Terms, terms_of}
@@ -14,7 +14,7 @@ use Rattle.srt_replay.specs.Counted.{source}
 use Rattle.srt_replay.specs.Tries.{sink}
 use Rattle.srt_replay.specs.Replay.{Replays}
 
--- over a gateway that was opened with whatever secret and entries, and then saw no event
+-- the replay over a gateway that was opened with any secret and entries, and had no event since
 abbrev pub ReplaysOver : {X B W : Type 0} → (Stands : X → Past) → X → SortingFor → Meaning → (remaining : B → Option (List ℕ))
     → CountedReader B → (contents : W → Option (List ℕ)) → (old new : CountedWriter W) → Result (Unit {0}) ReplayFault
     → Type 0
@@ -22,7 +22,7 @@ ReplaysOver Stands hub class reply remaining reader contents old new result =
     (secret : List ℕ) (entries : List Terms) → Stands hub secret entries [] →
     Replays (class secret) reply entries (remaining (source reader)) (contents (sink old)) (contents (sink new)) result
 
--- over the gateway of this configuration, with the real lobby and the real routes
+-- the replay over the gateway of this configuration, with the real lobby and the real routes
 abbrev pub ReplaysOf : {B W : Type 0} → Config → (remaining : B → Option (List ℕ)) → CountedReader B → (contents : W → Option (List ℕ))
     → (old new : CountedWriter W) → Result (Unit {0}) ReplayFault
     → Type 0

@@ -1,4 +1,4 @@
--- The lines of a replay for what was sent for a route.
+-- The lines of a replay with the datagrams sent for a route.
 use Rattle.std.specs.Prelude.{◌≡◌, ℕ, ◌==◌, ◌&&◌, Bool, false, List, [], ◌∷◌, ◌++◌, take, map, codes, decimal, if◌then◌else◌}
 use Rattle.std.specs.Str.{bytes_eq}
 use Rattle.hex.specs.Hex.{encode_lower}
@@ -17,7 +17,7 @@ events_of class reply entries tape = events_from class reply entries [] 1 (lines
 abbrev pub happened : Sorting → Meaning → List Terms → (tape : List ℕ) → List Event
 happened class reply entries tape = past_of class reply entries (lines_of tape)
 
--- a line `S r`
+-- whether an event is the send of a route, a line `S r`
 abbrev pub is_send : (r : ℕ) → Event → Bool
 is_send r (Sends s) = s == r
 is_send r (Arrives d moment refused) = false
@@ -30,11 +30,11 @@ is_send r (Closes s moment) = false
 abbrev pub sent_line : Datagram → List ℕ
 sent_line d = codes "sent " ++ encode_lower d.peer.ip ++ 32 ∷ decimal d.peer.port ++ 32 ∷ encode_lower d.bytes
 
--- a line that begins with `sent `
+-- whether a line begins with `sent `
 abbrev pub is_sent_line : List ℕ → Bool
 is_sent_line line = bytes_eq (take 5 line) (codes "sent ")
 
--- the `sent` lines at the sends of a route, out of the lines that belong to these events
+-- the `sent` lines at the sends of a route, selected from the lines that belong to these events
 abbrev pub sent_at : (r : ℕ) → List Event → (lines : List (List ℕ)) → List (List ℕ)
 sent_at r [] lines = []
 sent_at r (event ∷ events) [] = []
@@ -50,9 +50,9 @@ SentLinesTell =
     (class : Sorting) (reply : Meaning) (entries : List Terms) (r : ℕ) (tape : List ℕ) →
     sent_lines class reply entries r tape (tape_text class reply entries tape) ≡ map sent_line (sent class reply entries r (happened class reply entries tape))
 
--- two tapes, replayed over gateways with the same secret, after which a route has the same entry, that it was opened with
--- at the start or by a line: if the route accepted the same items and nothing of it waits at the end, these lines are the
--- same, and are those of what the route alone replies
+-- two tapes, replayed over gateways with the same secret, after which a route has the same entry, with which it was
+-- opened at the start or by a line: if the route accepted the same items and nothing of it waits at the end, these
+-- lines are the same, and are those of the route's own replies
 abbrev pub TapesAreIsolated : Type 0
 TapesAreIsolated =
     (class : (secret : List ℕ) → Sorting) (reply : Meaning) (secret : List ℕ) (entries entries' : List Terms) (r : ℕ) (tape tape' : List ℕ) →

@@ -1,4 +1,4 @@
--- The grammar of a tape's text: lines, fields and hexadecimal digits (our choice). Its numbers are those of `srt_config`.
+-- The grammar of a tape's text: lines, fields and hexadecimal digits (our choice). `srt_config` has that of numbers.
 use Rattle.std.specs.Prelude.{ℕ, ◌==◌, List, [], ◌∷◌, Option, if◌then◌else◌}
 use Rattle.std.specs.Result.{result_ok}
 use Rattle.hex.specs.Hex.{decode_of, decode_sized}
@@ -8,7 +8,7 @@ abbrev pub onto : ℕ → List (List ℕ) → List (List ℕ)
 onto b [] = (b ∷ []) ∷ []
 onto b (piece ∷ pieces) = (b ∷ piece) ∷ pieces
 
--- the lines, each ended by LF, which the last one may lack
+-- the lines, each ended by LF, which is optional after the last one
 abbrev pub lines_of : List ℕ → List (List ℕ)
 lines_of [] = []
 lines_of (b ∷ bytes) = if b == 10 then [] ∷ lines_of bytes else onto b (lines_of bytes)

@@ -48,7 +48,7 @@ abbrev pub sent_text : Option Datagram → List ℕ
 sent_text None = codes "none" ++ 10 ∷ []
 sent_text (Some d) = codes "sent " ++ encode_lower d.peer.ip ++ 32 ∷ decimal d.peer.port ++ 32 ∷ encode_lower d.bytes ++ 10 ∷ []
 
--- an opening whose memory was refused has no line
+-- the line of an opening's result; none if it ran out of memory
 abbrev pub opened_text : Result ℕ OpenFault → List ℕ
 opened_text (Ok route) = route_text (codes "opened ") route
 opened_text (Err faults.Names) = codes "open fault 1" ++ 10 ∷ []
@@ -60,7 +60,7 @@ closed_text route closings.Accepted = route_text (codes "closing ") route
 closed_text route closings.Full = route_text (codes "full ") route
 closed_text route closings.Closed = route_text (codes "closed ") route
 
--- an arrival whose memory was refused has no line
+-- the line of an arrival's result; none if it ran out of memory
 abbrev pub arrival_text : Option Arrived → List ℕ
 arrival_text None = []
 arrival_text (Some answer) = arrived_text answer

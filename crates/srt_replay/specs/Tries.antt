@@ -28,21 +28,21 @@ tries_made writer = made_in writer.note
 abbrev pub last_try : {W : Type 0} → CountedWriter W → Tried
 last_try writer = last_in writer.note
 
--- the result that is noted for an error
+-- the result that is recorded for an error
 abbrev pub IsOutcomeOfError : Error → Tried → Type 0
 IsOutcomeOfError e tried = (error_kind e ≡ Interrupted → tried ≡ Nothing) × (error_kind e ≢ Interrupted → tried ≡ Failure)
 
--- the result that is noted for what a write returned
+-- the result that is recorded for the return value of a write
 abbrev pub IsOutcomeOfWrite : Result ℕ Error → Tried → Type 0
 IsOutcomeOfWrite (Ok n) tried = (n ≡ 0 → tried ≡ NoBytes) × (0 < n → tried ≡ Bytes)
 IsOutcomeOfWrite (Err e) tried = IsOutcomeOfError e tried
 
--- and for what a flush returned
+-- the result that is recorded for the return value of a flush
 abbrev pub IsOutcomeOfFlush : Result (Unit {0}) Error → Tried → Type 0
 IsOutcomeOfFlush (Ok u) tried = tried ≡ Flushed
 IsOutcomeOfFlush (Err e) tried = IsOutcomeOfError e tried
 
--- at the last try the writer failed or took nothing, or 2^33 tries were made
+-- at the last try the writer failed or accepted nothing, or 2^33 tries were made
 abbrev pub WasGivenUp : TryNote → Type 0
 WasGivenUp note = (last_in note ≡ NoBytes) ⊎ (last_in note ≡ Failure) ⊎ (made_in note ≡ 2 ^ 33)
 
@@ -57,7 +57,7 @@ HasWriteCause writer (Err OutOfMemory) = Unit {0}
 HasWriteCause writer (Err Read) = Unit {0}
 HasWriteCause writer (Err Write) = IsUnwritten writer
 
--- and with any other result the last flush was done
+-- after any result but `Write` the last try was a successful flush
 abbrev pub ReplayWritten : {W : Type 0} → CountedWriter W → Result (Unit {0}) ReplayFault → Type 0
 ReplayWritten writer (Ok u) = last_try writer ≡ Flushed
 ReplayWritten writer (Err (Tape line)) = last_try writer ≡ Flushed

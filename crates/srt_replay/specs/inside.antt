@@ -1,4 +1,4 @@
--- What proofs and internal functions need: no public contract, law or document rests on it.
+-- Definitions that proofs and internal functions need. No public contract, law or document depends on them.
 pub mod Parts
 pub mod Pieces
 pub mod Said

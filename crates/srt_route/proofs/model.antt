@@ -1,4 +1,5 @@
--- Of the definitions alone: what is found among the sessions, which publisher is active, how many sessions and replies there are.
+-- Lemmas about the definitions alone: searches among the sessions, which publisher is active, how many sessions and
+-- replies there are.
 pub mod Lists
 pub mod Found
 pub mod Changes

@@ -1,4 +1,4 @@
--- Other sequence numbers, other timestamps and later moments: bytes, packets, sessions, whole routes.
+-- Other sequence numbers, other timestamps and later times: bytes, packets, sessions, whole routes.
 pub mod PlacedWords
 pub mod ShiftedWords
 pub mod ShiftedPackets

@@ -1,4 +1,4 @@
--- Worked examples, from the bytes of datagrams to the bytes of replies; the checker computes each.
+-- Computed examples, from the bytes of datagrams to the bytes of replies; the checker evaluates each.
 pub mod Rows
 pub mod ShiftRows
 pub mod Closings

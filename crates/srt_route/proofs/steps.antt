@@ -1,4 +1,4 @@
--- The steps of an event, one after another, and a look: what the code's calls make of a table is what the definitions say.
+-- The steps of an event, and snapshots: the effect of the code's calls on a table is what the definitions state.
 pub mod Aging
 pub mod Slots
 pub mod Telling

@@ -1,4 +1,4 @@
--- How a table stands for its sessions: seats, stored sessions, and the buffers of two publishers.
+-- How a table represents its sessions: seats, stored sessions, and the buffers of two publishers.
 pub mod TwoBuffers
 pub mod Seats
 pub mod Kept

@@ -1,4 +1,4 @@
--- In buffer mode, what a publisher was told to be acknowledged was delivered once its session ends by its own SHUTDOWN.
+-- In buffer mode, everything acknowledged to a publisher has been delivered once its session ends by its own SHUTDOWN.
 use Rattle.std.specs.Prelude.{None, ◌==◌, if◌then◌else◌, ◌≡◌, ℕ, ◌+◌, ◌<◌, ◌≤◌, ⊤, Bool, true, false, Option, Some, List, [], ◌∷◌, ◌++◌, length, map}
 use Rattle.std.specs.Prelude.{find}
 use Rattle.srt_seq.specs.declared.shared.Mode.TheVariants.{Buffer}
@@ -18,25 +18,25 @@ use Rattle.srt_route.specs.Queues.{payload_in, queue_in}
 use Rattle.srt_route.specs.Sessions.{Session, advanced, is_active, is_draining, passed, settled, terms_of, time_in, took}
 use Rattle.srt_route.specs.Route.{Route, after, clock_after, delivered, delivery, drain_of, gives_some, is_for, least_room, room_if, taken_by}
 
--- the acknowledgement point that a packet says: that of a Full or a Light ACK
+-- the acknowledgement point in a report, if it is a Full or a Light ACK
 abbrev pub points_in : Report → List ℕ
 points_in (FullAck index point round_trip variance available rates) = point ∷ []
 points_in (LightAck point) = point ∷ []
 points_in _ = []
 
--- all acknowledgement points that a publisher was told
+-- all acknowledgement points sent to a publisher
 abbrev pub points_told : List Note → List ℕ
 points_told [] = []
 points_told (Came time region put ∷ notes) = points_told notes
 points_told (Sent time report ∷ notes) = points_in report ++ points_told notes
 points_told (Confirmed full sample ∷ notes) = points_told notes
 
--- each of these is this number at most
+-- each of these numbers is at most n
 abbrev pub AreAtMost : List ℕ → ℕ → Type 0
 AreAtMost [] n = ⊤
 AreAtMost (point ∷ points) n = (point ≤ n) × AreAtMost points n
 
--- no point that a publisher was told is past its present acknowledgement point: it never goes back
+-- no acknowledgement point sent to a publisher is past its present one, which never decreases
 abbrev pub IsToldIn : (width : ℕ) → Past → Type 0
 IsToldIn width (Publishes p) = AreAtMost (points_told p.notes) (ack_point width p.receiving)
 IsToldIn width (Subscribes m) = ⊤
@@ -47,7 +47,7 @@ IsTold e s = IsToldIn e.buffer s.past
 abbrev pub PointsStay : Type 0
 PointsStay = (e : Terms) (index : ℕ) (items : List Item) → e.mode ≡ Buffer → Each (IsTold e) (after e index items).sessions
 
--- these packets have the numbers from the front on, one after another, and the front moves behind the last of them
+-- these packets have the numbers from the front on, one after another, and the front moves past the last of them
 abbrev pub number_in : Arrival → ℕ
 number_in a = a.number
 
@@ -55,7 +55,7 @@ pub record IsInOrder (given : List Arrival) (r s : Receiving) : Type 0 where
   pub numbers_are : map number_in given ≡ numbers_from r.front (length given)
   pub front_is : s.front ≡ r.front + length given
 
--- so a publisher delivers, at any time and with any room: no number is left out, and none is delivered again
+-- a publisher delivers in this order at any time and with any room: no number is omitted, and none is delivered again
 abbrev pub DeliversOnIn : publisher.Terms → Past → Type 0
 DeliversOnIn terms (Publishes p) =
     (time : ℕ) (room : Option ℕ)
@@ -70,12 +70,12 @@ DeliversInOrder =
     (e : Terms) (index : ℕ) (items : List Item) (item : Item)
     → e.mode ≡ Buffer → Each (DeliversOn e) (taken_by e index item (after e index items)).sessions
 
--- the session that was opened behind k others
+-- the session that was opened after k others
 abbrev pub opened_as : (k : ℕ) → List Session → Option Session
 opened_as k [] = None
 opened_as k (s ∷ older) = if length older == k then Some s else opened_as k older
 
--- the numbers of the packets that a session delivers in an event, where these are all sessions
+-- the numbers of the packets that a session delivers in an event, where `sessions` are all sessions
 abbrev pub numbers_in : publisher.Terms → (time : ℕ) → (room : Option ℕ) → Past → List ℕ
 numbers_in terms time room (Publishes p) = map number_in (publisher.deliveries terms.mode terms time room p)
 numbers_in terms time room (Subscribes m) = []
@@ -90,13 +90,13 @@ numbers_at true e index item m k = []
 numbers_at false e index item m k =
     let sessions = (taken_by e index item m).sessions in numbers_of e (clock_after item m) sessions (opened_as k sessions)
 
--- the numbers of all packets that it delivered, the first one first
+-- the numbers of all packets that the session opened after k others delivered, the first one first
 abbrev pub numbers_delivered : Terms → (index : ℕ) → List Item → (k : ℕ) → List ℕ
 numbers_delivered e index [] k = []
 numbers_delivered e index (item ∷ items) k =
     let m = after e index items in numbers_delivered e index items k ++ numbers_at m.is_closed e index item m k
 
--- they are all numbers below its front, in order and each once
+-- in buffer mode these are all numbers below its front, in order and each once
 abbrev pub AreAllBelow : (numbers : List ℕ) → Past → Type 0
 AreAllBelow numbers (Publishes p) = numbers ≡ numbers_from 0 p.receiving.front
 AreAllBelow numbers (Subscribes m) = numbers ≡ []
@@ -106,7 +106,7 @@ DeliversAll =
     (e : Terms) (index : ℕ) (items : List Item) (k : ℕ) (s : Session)
     → e.mode ≡ Buffer → opened_as k (after e index items).sessions ≡ Some s → AreAllBelow (numbers_delivered e index items k) s.past
 
--- nobody but the active publisher delivers
+-- in buffer mode only the active publisher delivers
 abbrev pub OneAloneDelivers : Type 0
 OneAloneDelivers =
     (e : Terms) (clock : ℕ) (sessions : List Session) (s : Session)
@@ -126,13 +126,13 @@ IsFed e clock sessions s =
 abbrev pub FeedsAll : Type 0
 FeedsAll = (e : Terms) (clock : ℕ) (sessions : List Session) → e.mode ≡ Buffer → Each (IsFed e clock sessions) sessions
 
--- no packet that comes moves the front
+-- in buffer mode no packet that arrives moves the front
 abbrev pub FrontsStay : Type 0
 FrontsStay =
     (terms : publisher.Terms) (time stamp : ℕ) (heard : Heard) (p : Publishing)
     → terms.mode ≡ Buffer → (publisher.took terms time stamp heard p).receiving.front ≡ p.receiving.front
 
--- every number below each point that the publisher was told is below the front, and all of these were received
+-- every number below each point sent to the publisher is below the front, and all numbers below the front were received
 pub record IsDelivered (p : Publishing) : Type 0 where
   pub points : AreAtMost (points_told p.notes) p.receiving.front
   pub below : (n : ℕ) → n < p.receiving.front → is_received p.receiving n ≡ true
@@ -144,7 +144,7 @@ HasDeliveredIn (Subscribes m) = ⊤
 abbrev pub HasDelivered : Session → Type 0
 HasDelivered s = HasDeliveredIn s.past
 
--- so it is where the active publisher's session ends by its own SHUTDOWN at once
+-- if the active publisher's session ends at once by its own SHUTDOWN, it has delivered everything acknowledged to it
 abbrev pub EndsAtOnce : Type 0
 EndsAtOnce =
     (e : Terms) (index : ℕ) (items : List Item) (item : Item) (peer : Peer) (packet : Packet) (s : Session)
@@ -155,7 +155,7 @@ EndsAtOnce =
     find (is_for index peer packet.dest) sessions ≡ Some s → is_active sessions s ≡ true → is_shutdown packet.body ≡ true
     → (took drains e clock packet.stamp packet.body s).is_open ≡ false → HasDelivered (took drains e clock packet.stamp packet.body s)
 
--- and where a session that drains ends after the deliveries of an event
+-- if a draining session ends after the deliveries of an event, it has delivered everything acknowledged to it
 abbrev pub EndsWithAll : Terms → (given : Bool) → (clock : ℕ) → Session → Type 0
 EndsWithAll e given clock s =
     s.is_open ≡ true → is_draining s ≡ true → (settled e given clock s).is_open ≡ false → HasDelivered (settled e given clock s)

@@ -1,11 +1,11 @@
--- Who is active among a route's publishers, whatever its items are.
+-- The active one of a route's publishers, whatever its items are.
 use Rattle.std.specs.Prelude.{◌≡◌, ℕ, Bool, true, false, Some, List, ◌∷◌, length, map, filter, find, ◌==◌, ◌&&◌, if◌then◌else◌}
 use Rattle.srt_seq.specs.Terms.{Terms}
 use Rattle.srt_seq.specs.Items.{Item}
 use Rattle.srt_route.specs.Sessions.{Session, active, aged, is_active, is_open_in, is_publisher, marked, open_publishers, standby, takes_over}
 use Rattle.srt_route.specs.Route.{after, clock_after, passed_by}
 
--- whether an open session is the active publisher
+-- whether an open session is the active publisher's
 abbrev pub is_active_publisher : List Session → Session → Bool
 is_active_publisher sessions s = is_publisher s && is_active sessions s
 
@@ -16,29 +16,29 @@ OneIsActiveAmong sessions = length (filter (is_active_publisher sessions) sessio
 abbrev pub OneIsActive : Type 0
 OneIsActive = (e : Terms) (index : ℕ) (items : List Item) → OneIsActiveAmong (after e index items).sessions
 
--- and while each event delivers, too
+-- while an event delivers exactly one of the open publishers is active, if any is open
 abbrev pub OneDelivers : Type 0
 OneDelivers = (e : Terms) (index : ℕ) (items : List Item) (item : Item) → OneIsActiveAmong (passed_by e index item (after e index items))
 
--- time ends the active publisher's session, or it stays active, unless another one takes over from it
+-- as time advances the active publisher stays active while its session is open
 abbrev pub StaysActive : Type 0
 StaysActive =
     (e : Terms) (clock : ℕ) (sessions : List Session) (s : Session)
     → active sessions ≡ Some s → (aged e clock s).is_open ≡ true → active (map (aged e clock) sessions) ≡ Some (aged e clock s)
 
--- a take-over makes the publisher active that stood by
+-- a take-over makes the standby active
 abbrev pub StandbyLeads : Type 0
 StandbyLeads =
     (sessions : List Session) (t : Session)
     → standby sessions ≡ Some t → active (map (marked sessions) sessions) ≡ Some (marked sessions t)
 
--- a publisher that opens stands by if one is active
+-- a publisher that opens while one is active becomes the standby
 abbrev pub OpensBehind : Type 0
 OpensBehind =
     (s t : Session) (sessions : List Session) → s.took_over ≡ false → active sessions ≡ Some t → active (s ∷ sessions) ≡ Some t
 
--- so over an event the active publisher stays active while its session is open, if no take-over is due; a session is known
--- by its slot and its generation
+-- over a whole event the active publisher stays active while its session is open, if no take-over is due; a session is
+-- identified by its slot and its generation
 abbrev pub ActiveGoesOn : Type 0
 ActiveGoesOn =
     (e : Terms) (index : ℕ) (items : List Item) (item : Item) (s t : Session)

@@ -9,7 +9,7 @@ use Rattle.srt_route.specs.declared.conclusion.Conclusion.{Conclusion}
 use Rattle.srt_route.specs.Sessions.{Session, receiver_ms, sender_ms, agreed_mtu}
 use Rattle.srt_route.specs.Route.{decision}
 
--- what both sides agree on (sections 4.3.1.2 and 4.4), beside the route's rules
+-- the negotiated parameters (sections 4.3.1.2 and 4.4) and the route's rules
 abbrev pub agreement_of : Terms → Conclusion → Agreement
 agreement_of e c =
     record { mode = e.mode; receiver_ms = receiver_ms e c; sender_ms = sender_ms e c; mtu = agreed_mtu c; rules = e.rules }

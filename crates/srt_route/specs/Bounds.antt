@@ -1,4 +1,4 @@
--- What bounds the open sessions of a route, whatever its terms are and whatever came.
+-- Bounds on the open sessions of a route, whatever its terms are and whatever it receives.
 use Rattle.std.specs.Prelude.{◌≡◌, ℕ, ◌≤◌, List, length, filter}
 use Rattle.srt_seq.specs.declared.shared.Peer.{Peer}
 use Rattle.srt_seq.specs.Terms.{Terms}
@@ -18,12 +18,12 @@ NoMoreThanSlots = (e : Terms) (index : ℕ) (items : List Item) → length (filt
 abbrev pub OneInASlot : Type 0
 OneInASlot = (e : Terms) (index : ℕ) (items : List Item) (slot : ℕ) → length (filter (is_open_in slot) (after e index items).sessions) ≤ 1
 
--- and the slots are 0, 1, .., as many as the route's terms say
+-- no session is open outside the slots 0, 1, .., whose number is in the route's terms
 abbrev pub NoneElsewhere : Type 0
 NoneElsewhere =
     (e : Terms) (index : ℕ) (items : List Item) (slot : ℕ)
     → e.sessions ≤ slot → length (filter (is_open_in slot) (after e index items).sessions) ≡ 0
 
--- a caller, which is a peer and a socket ID there, has at most one open session that doesn't drain
+-- a caller (a peer and its socket ID) has at most one open session that doesn't drain
 abbrev pub OneOfACaller : Type 0
 OneOfACaller = (e : Terms) (index : ℕ) (items : List Item) (peer : Peer) (caller : ℕ) → length (filter (is_of peer caller) (after e index items).sessions) ≤ 1

@@ -1,4 +1,4 @@
--- The sessions that buffers stand for.
+-- The sessions that a route's buffers represent.
 use Rattle.std.specs.Prelude.{◌≡◌, ℕ, ◌-◌, ◌≤◌, true, false, List, map}
 use Rattle.srt_seq.specs.declared.shared.Peer.{Peer}
 use Rattle.srt_seq.specs.Terms.{Terms}
@@ -11,7 +11,7 @@ use Rattle.srt_sub.specs.declared.session.Subscriber.{Subscriber}
 use Rattle.srt_route.specs.Past.{Past, Publishes, Subscribes}
 use Rattle.srt_route.specs.Sessions.{Session, terms_of, publishes, time_in}
 
--- the publisher's buffers, or the subscriber's of the session's seat, stand for its past at this clock; a subscriber
+-- the publisher's buffers, or the subscriber's of the session's seat, represent its past at this clock; a subscriber
 -- has already dropped what is too late by then
 abbrev pub IsPast : Terms → (clock : ℕ) → Publisher → Subscriber → Session → Past → Type 0
 IsPast e clock p x s (Publishes m) =
@@ -26,7 +26,7 @@ pub record IsSeated (e : Terms) (clock : ℕ) (p : Publisher) (x : Subscriber) (
   pub past_is : IsPast e clock p x s s.past
   pub opened : s.opening ≤ clock
 
--- a subscriber's time has advanced to this clock: whatever it stood for, what is too late by then is dropped
+-- a subscriber's time has advanced to this clock: whatever past it represented, what is too late by then is dropped
 abbrev pub ExpiresTo : (clock : ℕ) → (old new : Subscriber) → Type 0
 ExpiresTo clock old new =
     (terms : subscribing.Terms) (initial opening caller last : ℕ) (m : subscribing.Subscribing)

@@ -10,13 +10,13 @@ use Rattle.srt_route.specs.Route.{after, closes, reply}
 abbrev pub ClosesOnce : Type 0
 ClosesOnce = (e : Terms) (index : ℕ) (items : List Item) → (after e index items).is_closed ≡ list_any closes items
 
--- then no session is open
+-- a closed route has no open session
 abbrev pub ClosedHasNoSession : Type 0
 ClosedHasNoSession =
     (e : Terms) (index : ℕ) (items : List Item)
     → (after e index items).is_closed ≡ true → list_any (λ (s : Session). s.is_open) (after e index items).sessions ≡ false
 
--- and whatever comes, nothing is replied and no session changes
+-- a closed route replies to no item, and no item changes its sessions
 abbrev pub ClosedIsQuiet : Type 0
 ClosedIsQuiet =
     (e : Terms) (index : ℕ) (items : List Item) → (after e index items).is_closed ≡ true →

@@ -1,5 +1,5 @@
--- What a route reads from a conclusion (sections 3.2.1 and 4.3.1.2). The cookie, the route's name, and the blocks for
--- which a caller is refused at once were checked before, and aren't read again.
+-- What a route reads from a conclusion (sections 3.2.1 and 4.3.1.2). The lobby has already checked the cookie, the
+-- route's name, and the blocks for which a caller is refused at once, so they aren't read again.
 use Rattle.std.specs.Prelude.{ℕ, ◌/◌, ◌%◌, ◌^◌, Bool, true, false, Option, None, Some, List, Result, Ok, Err, nat_lt, ◌==◌, ◌&&◌, if◌then◌else◌}
 use Rattle.srt_seq.specs.declared.shared.Role.{Role}
 use Rattle.srt_hs.specs.declared.handshake.HsKind.{HsKind}
@@ -32,7 +32,7 @@ with_role hs req role =
       congestion = text_of hs.blocks.congestion;
     }
 
--- the role that a Stream ID asks for, if it can be read (appendix B)
+-- the role that a Stream ID requests, if it can be read (appendix B)
 abbrev pub role_in : Result Ask AskFault → Option Role
 role_in (Ok ask) = Some ask.role
 role_in (Err fault) = None

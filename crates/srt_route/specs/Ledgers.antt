@@ -1,4 +1,4 @@
--- What a route keeps of the sessions that ended, and what it counts.
+-- The ended sessions that a route keeps, and its counts.
 use Rattle.std.specs.Prelude.{◌≡◌, ◌≢◌, ℕ, ◌+◌, ◌-◌, ◌^◌, ◌<◌, ◌≤◌, min, Bool, true, false, Option, None, Some, length, slice_index_or, if◌then◌else◌}
 use Rattle.srt_hs.specs.declared.refusals.RefusalCode.{RefusalCode}
 use Rattle.srt_hs.specs.declared.refusals.RefusalCode.TheVariants as codes
@@ -24,7 +24,7 @@ use Rattle.srt_route.specs.Totals.{SumsGrow, both, with_traffic}
 abbrev pub entry_of : Ledger → (at : ℕ) → Option EndedSession
 entry_of ledger at = slice_index_or ledger.ended at None
 
--- the causes of an end: by a packet, by silence, by a Close
+-- the causes of an end: by a packet, by time, by a Close, after draining, by the end of a file
 abbrev pub cause_of : Option PubEnd → Option EndCause
 cause_of None = None
 cause_of (Some ends.Shutdown) = Some causes.Shutdown
@@ -53,7 +53,7 @@ abbrev pub file_cause : (whole : Bool) → Option EndCause
 file_cause true = Some causes.FileEnded
 file_cause false = None
 
--- a session that a packet ends was heard of at its end
+-- the time at which the peer of an ended session was last heard; if a packet ended the session, the time of its end
 abbrev pub heard_at_end : EndCause → (heard moment : ℕ) → ℕ
 heard_at_end causes.Shutdown heard moment = moment
 heard_at_end causes.WindowLost heard moment = moment
@@ -63,7 +63,7 @@ heard_at_end causes.FileEnded heard moment = heard
 heard_at_end causes.Drained heard moment = heard
 heard_at_end causes.DrainedTooLong heard moment = heard
 
--- this tells the end of a stored session
+-- `x` reports the end of a stored session, its counts aside
 pub record IsEndOf (cause : EndCause) (moment : ℕ) (t : TheSession) (x : EndedSession) : Type 0 where
   pub cause_is : x.cause ≡ cause
   pub moment_is : x.moment ≡ moment
@@ -74,7 +74,7 @@ pub record IsEndOf (cause : EndCause) (moment : ℕ) (t : TheSession) (x : Ended
   pub opened_is : x.view.opened ≡ t.opened
   pub heard_is : x.view.heard ≡ heard_at_end cause t.heard moment
 
--- what a slot's entry becomes if its session ends for this cause, and that it stays if none ends
+-- the change of a slot's entry: it becomes the end of its session if there is a cause, and stays if there is none
 abbrev pub TellsEnd : EndCause → (moment : ℕ) → TheSession → Option EndedSession → Type 0
 TellsEnd cause moment t None = ⊥
 TellsEnd cause moment t (Some x) = IsEndOf cause moment t x
@@ -88,25 +88,25 @@ Tells (Some cause) moment (Some t) old new = TellsEnd cause moment t new
 abbrev pub CountsStay : (old new : Ledger) → Type 0
 CountsStay old new = (new.opened ≡ old.opened) × (new.refusals ≡ old.refusals)
 
--- what the session of a slot counted is added to the sums if its end is told, as it is told
+-- the change of the sums: if the end of a slot's session is recorded, the session's counts are added as recorded
 abbrev pub SumsTold : Option EndCause → Option TheSession → Option EndedSession → (old new : Totals) → Type 0
 SumsTold None o x old new = new ≡ old
 SumsTold (Some cause) None x old new = new ≡ old
 SumsTold (Some cause) (Some t) None old new = ⊥
 SumsTold (Some cause) (Some t) (Some x) old new = new ≡ with_traffic x.view.traffic old
 
--- one slot's end is noted
+-- the end of one slot's session is recorded, if there is a cause
 pub record NotesAt (at : ℕ) (cause : Option EndCause) (moment : ℕ) (o : Option TheSession) (old new : Ledger) : Type 0 where
   pub told : Tells cause moment o (entry_of old at) (entry_of new at)
   pub others : (k : ℕ) → k ≢ at → entry_of new k ≡ entry_of old k
   pub counts : CountsStay old new
   pub sums : SumsTold cause o (entry_of new at) old.totals new.totals
 
--- the end of the session that a table has in this slot
+-- the same of the session that a table has in this slot
 abbrev pub Notes : (at : ℕ) → Option EndCause → (moment : ℕ) → Table → (old new : Ledger) → Type 0
 Notes at cause moment table old new = (d : Seat) → NotesAt at cause moment (slice_index_or table.seats.items at d).session old new
 
--- the end of each session of a table is noted for which there is a cause
+-- the end of each session of a table for which there is a cause is recorded
 pub record NotesEach (cause : Option TheSession → Option EndCause) (moment : ℕ) (table : Table) (old new : Ledger) : Type 0 where
   pub told : (at : ℕ) (d : Seat) → at < length table.seats.items
       → Tells (cause (slice_index_or table.seats.items at d).session) moment (slice_index_or table.seats.items at d).session (entry_of old at) (entry_of new at)
@@ -114,7 +114,7 @@ pub record NotesEach (cause : Option TheSession → Option EndCause) (moment : �
   pub counts : CountsStay old new
   pub sums : SumsGrow old.totals new.totals
 
--- one session more, and one refusal more; each count stops at 2^64 - 1
+-- one more session, and one more refusal; each count saturates at 2^64 - 1
 abbrev pub more : ℕ → ℕ
 more n = min (2 ^ 64 - 1) (n + 1)
 
@@ -132,7 +132,7 @@ refusals_with refusals.MessageApi r = record r { message_api = more r.message_ap
 abbrev pub with_refusal : RefusalCause → Ledger → Ledger
 with_refusal cause ledger = record ledger { refusals = refusals_with cause ledger.refusals }
 
--- how many were refused for this cause, and with this code
+-- the number of conclusions refused for this cause, and with this code
 abbrev pub refused_for : RefusalCause → Refusals → ℕ
 refused_for refusals.Peer r = r.peer
 refused_for refusals.Address r = r.address
@@ -148,7 +148,7 @@ refused_by codes.Rogue r = r.rogue
 refused_by codes.MessageApi r = r.message_api
 refused_by _ r = 0
 
--- what a route keeps and counts
+-- what a route keeps of ended sessions, and its counts
 abbrev pub ended_in : (slot : ℕ) → TheRoute → Option EndedSession
 ended_in slot r = entry_of r.ledger slot
 

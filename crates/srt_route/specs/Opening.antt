@@ -1,10 +1,10 @@
--- Which entry a route can be opened with (our choice).
+-- Entries with which a route can be opened (our choice).
 use Rattle.std.specs.Prelude.{ℕ, Option, None, Some, nat_lt, ◌&&◌, if◌then◌else◌}
 use Rattle.srt_seq.specs.declared.shared.OpenFault.{OpenFault}
 use Rattle.srt_seq.specs.declared.shared.OpenFault.TheVariants.{Names, Limits}
 use Rattle.srt_seq.specs.Terms.{Terms}
 use Rattle.srt_seq.specs.Entries.{is_name, in_limits}
 
--- why a route with this index can't be opened, memory aside; a fault of the name comes first
+-- the fault because of which a route with this index can't be opened, memory aside; a fault of the name comes first
 abbrev pub fault_of : Terms → (index : ℕ) → Option OpenFault
 fault_of e index = if is_name e.name then (if nat_lt index 511 && in_limits e then None else Some Limits) else Some Names

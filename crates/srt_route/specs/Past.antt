@@ -1,4 +1,4 @@
--- The past of a session, and what each part of an event does to it. Times count from the session's opening.
+-- The past of a session, and its changes in each step of an event. Times count from the session's opening.
 use Rattle.std.specs.Prelude.{ℕ, ◌-◌, Bool, true, false, Option, None, Some, List, [], map, min, ◌||◌, if◌then◌else◌}
 use Rattle.srt_seq.specs.declared.shared.Role.{Role}
 use Rattle.srt_seq.specs.declared.shared.Role.TheVariants.{Publish, Request}
@@ -13,7 +13,7 @@ use Rattle.srt_sub.specs.Heard as to_subscriber
 use Rattle.srt_sub.specs.Subscribing as subscriber
 use Rattle.srt_sub.specs.Says as subscriber_text
 
--- all that a publisher or a subscriber received and was sent
+-- everything that a publisher or a subscriber received and was sent
 pub data Past : Type 0 where
   Publishes : publisher.Publishing → Past
   Subscribes : subscriber.Subscribing → Past
@@ -27,22 +27,22 @@ pub record Agreed : Type 0 where
   pub publisher : publisher.Terms
   pub subscriber : subscriber.Terms
 
--- what a session sends
+-- a packet that a session sends
 pub data Report : Type 0 where
   ToPublisher : publisher.Report → Report
   ToSubscriber : subscriber.Report → Report
 
--- its bytes, addressed to the socket with this ID
+-- the bytes of a report, addressed to the socket with ID `caller`
 abbrev pub report_text : (caller initial time : ℕ) → Report → List ℕ
 report_text caller initial time (ToPublisher report) = publisher_text.says caller initial time report
 report_text caller initial time (ToSubscriber report) = subscriber_text.says caller initial time report
 
--- a subscriber drops what is too late (section 4.6)
+-- the past after time advanced: a subscriber drops what is too late (section 4.6)
 abbrev pub expired_past : Agreed → (time : ℕ) → Past → Past
 expired_past terms time (Publishes p) = Publishes p
 expired_past terms time (Subscribes s) = Subscribes (subscriber.expired terms.subscriber time s)
 
--- how long ago an unencrypted data packet came to a publisher's session last; if none came, how long ago its opening was
+-- the time since a publisher's session last received an unencrypted data packet; if it received none, since its opening
 abbrev pub silence_of : (time : ℕ) → Past → ℕ
 silence_of time (Publishes p) = time - publisher.last_came p.notes
 silence_of time (Subscribes s) = 0
@@ -52,12 +52,12 @@ abbrev pub took_past : Agreed → (initial time stamp : ℕ) → Body → Past �
 took_past terms initial time stamp body (Publishes p) = Publishes (publisher.took terms.publisher time stamp (to_publisher.heard_from initial body) p)
 took_past terms initial time stamp body (Subscribes s) = Subscribes (subscriber.took time (to_subscriber.heard_from initial body) s)
 
--- a shutdown ends a session (section 3.2.7)
+-- whether this is a SHUTDOWN, which ends a session (section 3.2.7)
 abbrev pub is_shutdown : Body → Bool
 is_shutdown Shutdown = true
 is_shutdown _ = false
 
--- and a live publisher's session ends if its window is lost (our choice)
+-- whether a live publisher's session ends because its window is lost (our choice)
 abbrev pub loses_window : Agreed → (initial : ℕ) → Body → Past → Bool
 loses_window terms initial body (Publishes p) = publisher.loses_window terms.publisher.mode terms.publisher (to_publisher.heard_from initial body) p
 loses_window terms initial body (Subscribes s) = false
@@ -70,7 +70,7 @@ abbrev pub publisher_end : Agreed → (initial : ℕ) → Body → Past → Opti
 publisher_end terms initial body (Publishes p) = if ends_with terms initial body (Publishes p) then Some (is_shutdown body) else None
 publisher_end terms initial body (Subscribes s) = None
 
--- whether a subscriber acknowledged all that was queued for it
+-- whether a subscriber has acknowledged everything that was queued for it
 abbrev pub has_all : Past → Bool
 has_all (Publishes p) = false
 has_all (Subscribes s) = is_all_acknowledged s.sending
@@ -85,7 +85,7 @@ abbrev pub answers_to : (initial : ℕ) → Body → Past → List Report
 answers_to initial body (Publishes p) = []
 answers_to initial body (Subscribes s) = map ToSubscriber (subscriber.answers (to_subscriber.heard_from initial body))
 
--- the least room of the subscribers so far, with the room of one more
+-- the smallest room of the subscribers so far, with the room of one more
 abbrev pub least : Option ℕ → ℕ → ℕ
 least None room = room
 least (Some other) room = min other room
@@ -112,7 +112,7 @@ abbrev pub reports_of : Agreed → (time : ℕ) → Past → List Report
 reports_of terms time (Publishes p) = map ToPublisher (publisher.reports terms.publisher time p)
 reports_of terms time (Subscribes s) = map ToSubscriber (subscriber.reports terms.subscriber time s)
 
--- a publisher that drains sends nothing
+-- a publisher's past after the end of an event: a draining publisher sends nothing
 abbrev pub reported_if : (draining : Bool) → publisher.Terms → (time : ℕ) → publisher.Publishing → publisher.Publishing
 reported_if true terms time p = p
 reported_if false terms time p = publisher.reported terms time p

@@ -1,4 +1,4 @@
--- What becomes of the payloads that are queued for subscribers.
+-- The payloads that are queued for subscribers.
 use Rattle.std.specs.Prelude.{◌≡◌, ◌⊎◌, ℕ, List, [], ◌∷◌, ◌++◌, map, ⊤}
 use Rattle.srt_seq.specs.Terms.{Terms}
 use Rattle.srt_seq.specs.Items.{Item}
@@ -7,7 +7,7 @@ use Rattle.srt_route.specs.Past.{Past, Publishes, Subscribes}
 use Rattle.srt_route.specs.Sessions.{Session}
 use Rattle.srt_route.specs.Route.{Route, after, clock_after, delivery, least_room, taken_by}
 
--- all payloads that were ever queued for a session; the number of each is its place
+-- all payloads that were ever queued for a session; the number of each is its index
 abbrev pub queue_in : Past → List Queued
 queue_in (Publishes p) = []
 queue_in (Subscribes m) = m.sending.queue
@@ -15,13 +15,13 @@ queue_in (Subscribes m) = m.sending.queue
 abbrev pub payload_in : Queued → List ℕ
 payload_in q = q.payload
 
--- these are some of those, in the same order
+-- a list is a subsequence of another: some of its elements, in the same order
 abbrev pub AreSome : (these those : List (List ℕ)) → Type 0
 AreSome [] those = ⊤
 AreSome (x ∷ these) [] = ⊥
 AreSome (x ∷ these) (y ∷ those) = ((x ≡ y) × AreSome these those) ⊎ AreSome (x ∷ these) those
 
--- a session later: behind what was queued stand some of the delivered payloads
+-- session `t` is a later state of `s`: its queue is that of `s` followed by some of the delivered payloads
 pub record IsContinued (delivered : List (List ℕ)) (s t : Session) : Type 0 where
   pub slot_is : t.slot ≡ s.slot
   pub generation_is : t.generation ≡ s.generation
@@ -35,21 +35,21 @@ AreContinued delivered (s ∷ old) (t ∷ new) = IsContinued delivered s t × Ar
 AreContinued delivered [] (t ∷ new) = ⊥
 AreContinued delivered (s ∷ old) [] = ⊥
 
--- the sessions after an event: those before it, and in front of them the one that opened, if one did
+-- the sessions after an event: later states of those before it, preceded by one that opened
 pub record HasOpened (delivered : List (List ℕ)) (old new : List Session) : Type 0 where
   pub opened : Session
   pub rest : List Session
   pub new_is : new ≡ opened ∷ rest
   pub rest_are : AreContinued delivered old rest
 
--- what the active publisher delivers in an event
+-- the payloads that the active publisher delivers in an event
 abbrev pub delivery_by : Terms → (index : ℕ) → Item → Route → List (List ℕ)
 delivery_by e index item m =
     let sessions = (taken_by e index item m).sessions in
     delivery e (clock_after item m) (least_room e sessions) sessions
 
--- whoever is active: what is queued for a subscriber goes on with what the active publisher delivers, so that no number is
--- left out and none is used again
+-- whichever publisher is active, the queue of a subscriber continues with what it delivers: no number is omitted, and
+-- none is used again
 abbrev pub QueuesGoOn : Type 0
 QueuesGoOn =
     (e : Terms) (index : ℕ) (items : List Item) (item : Item)

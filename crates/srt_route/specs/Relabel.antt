@@ -1,4 +1,4 @@
--- Items with other sequence numbers, other timestamps, or later moments: the replies change only in the numbers.
+-- Items with other sequence numbers, other timestamps, or later times: the replies differ only in the numbers.
 use Rattle.std.specs.Prelude.{◌≡◌, ℕ, List}
 use Rattle.srt_seq.specs.Terms.{Terms}
 use Rattle.srt_seq.specs.Items.{Item}
@@ -14,6 +14,6 @@ Renumbers = (e : Terms) (index by : ℕ) (items : List Item) → solo e index (r
 abbrev pub Restamps : Type 0
 Restamps = (e : Terms) (index by : ℕ) (items : List Item) → solo e index (restamped_items by items) ≡ solo e index items
 
--- if all items come later by the same time, the replies are the same
+-- if all items are later by the same time, the replies are the same
 abbrev pub Moves : Type 0
 Moves = (e : Terms) (index by : ℕ) (items : List Item) → solo e index (moved_items by items) ≡ solo e index items

@@ -1,4 +1,4 @@
--- How much the subscribers of a route are sent again, if the route has a limit.
+-- The bound on retransmissions to the subscribers of a route with a limit on resends.
 use Rattle.std.specs.Prelude.{◌≡◌, ℕ, ◌+◌, ◌-◌, ◌*◌, ◌/◌, ◌≤◌, Some, List, find}
 use Rattle.srt_seq.specs.Terms.{Terms}
 use Rattle.srt_seq.specs.Items.{Item}
@@ -10,8 +10,8 @@ use Rattle.srt_route.specs.Sessions.{Session, is_open_in}
 use Rattle.srt_route.specs.Route.{after}
 use Rattle.srt_route.specs.Stands.{stands}
 
--- at every moment each packet that an open subscriber was sent again is one of the first 64, one of the limit's share of
--- its new packets, or one for each 20 ms since its session's opening
+-- at every time each packet that was sent to an open subscriber again is one of the first 64, one of the limit's share
+-- of its new packets, or one for each 20 ms since its session opened
 abbrev pub ResendsFew : TheRoute → Type 0
 ResendsFew r =
     (e : Terms) (index slot percent : ℕ) (items : List Item) (s : Session) (m : Subscribing)

@@ -31,7 +31,7 @@ use Rattle.srt_route.specs.Sessions.{active, is_active, by_slot, free_slot, free
 use Rattle.srt_route.specs.Sessions.{advanced, took, answered_at_once, payloads}
 use Rattle.srt_route.specs.Sessions.{of_libsrt, with_end, passed, reports_at, reported, is_draining, settled, speaks}
 
--- the clock in microseconds, every session that was ever opened, and whether the route was closed
+-- a route's state: the clock in microseconds, every session that was ever opened, and whether the route was closed
 pub record Route : Type 0 where
   pub clock : ℕ
   pub sessions : List Session
@@ -40,8 +40,8 @@ pub record Route : Type 0 where
 abbrev pub opened : Route
 opened = record { clock = 0; sessions = []; is_closed = false }
 
--- what is sent to the socket with this ID: an answer to its handshake, a report of a session with this initial number,
--- or a SHUTDOWN, which ends the session; `time` is microseconds after the session's opening
+-- what is sent to the socket with ID `caller`: the answer to its handshake, a report of a session with this initial
+-- number, or the SHUTDOWN that ends a session; `time` is in microseconds since the session's opening
 pub data Output : Type 0 where
   Answers : (caller : ℕ) (answer : HsAnswer) → Output
   Says : (caller initial time : ℕ) (report : Report) → Output
@@ -60,7 +60,7 @@ output_text (Ends caller time) = text (record { stamp = time % 2 ^ 32; dest = ca
 abbrev pub sent : Reply → Datagram
 sent r = record { peer = r.peer; bytes = output_text r.packet }
 
--- the sessions after an item, and the answers to it
+-- the result of an item: the sessions after it, and the answers to it
 pub record Taken : Type 0 where
   pub sessions : List Session
   pub answers : List Reply
@@ -72,24 +72,24 @@ nothing_taken sessions = record { sessions = sessions; answers = [] }
 abbrev pub shutdown_to : (clock : ℕ) → Session → Reply
 shutdown_to clock s = record { peer = s.peer; packet = Ends s.conclusion.caller (time_in s clock) }
 
--- where the callers speak libsrt, the peer of a session that ends by silence or by a lost window is told (our choice)
+-- on a route for libsrt callers, a session that ends by silence or by a lost window sends a SHUTDOWN (our choice)
 abbrev pub told_if : Callers → (ends : Bool) → (clock : ℕ) → Session → List Reply
 told_if Draft ends clock s = []
 told_if Libsrt true clock s = shutdown_to clock s ∷ []
 told_if Libsrt false clock s = []
 
--- the SHUTDOWNs of the sessions that end by silence, slots upwards
+-- the SHUTDOWNs of the sessions that end by silence, in ascending order of slots
 abbrev pub idle_told : Terms → (clock : ℕ) → List Session → List Reply
 idle_told e clock sessions = flat_map (λ s. told_if e.rules.callers (is_idle s clock) clock s) (by_slot e sessions)
 
--- the clock never goes back (our choice)
+-- the clock after an item; it never decreases (our choice)
 abbrev pub clock_after : Item → Route → ℕ
 clock_after item route = max route.clock (moment_of item)
 
 abbrev pub answered : Peer → (caller : ℕ) → HsAnswer → List Reply
 answered peer caller answer = record { peer = peer; packet = Answers caller answer } ∷ []
 
--- a conclusion is refused for this reason (section 4.3)
+-- the answer that refuses a conclusion for this reason (section 4.3)
 abbrev pub refusal : Conclusion → RefusalCode → HsAnswer
 refusal c reason = record { initial = c.initial; what = answers.Refusal reason }
 
@@ -110,24 +110,24 @@ code_of causes.Address = codes.Resource
 code_of causes.Resource = codes.Resource
 code_of causes.Reserved = codes.Resource
 
--- the first reason to refuse a conclusion, free slots and limits aside; at most two publishers are open (our choice)
+-- the first cause to refuse a conclusion, free slots and limits aside; at most two publishers are open (our choice)
 abbrev pub refused : Mode → (publishers : ℕ) → Conclusion → Option RefusalCause
 refused mode publishers c =
     if differ c.wants_stream (is_buffer mode) then Some causes.MessageApi
     else if nat_lt c.mtu 76 || c.window == 0 || (not (publishes c.role) && is_buffer mode && nat_lt c.mtu 1500) then Some causes.Rogue
     else if publishes c.role && nat_le 2 publishers then Some causes.Peer else None
 
--- an address has as many open sessions as it may have, if the route has such a limit
+-- whether an address has as many open sessions as it may have, if the route has such a limit
 abbrev pub is_crowded : (limit : Option ℕ) → (sessions : ℕ) → Bool
 is_crowded None sessions = false
 is_crowded (Some limit) sessions = nat_le limit sessions
 
--- the slots that are free are kept for the publishers that aren't open yet, and the caller is none
+-- whether all free slots are reserved for publishers that aren't open yet, and the caller isn't one
 abbrev pub is_reserved : (reserved free publishers : ℕ) → Role → Bool
 is_reserved reserved free publishers role = not (publishes role) && nat_le free (reserved - publishers)
 
--- the slot for a session, or the first cause to refuse it: one in the conclusion itself, the limit of its address, no free
--- slot, and then that the free ones are kept for publishers (our choice)
+-- the slot for a session, or the first cause to refuse it: one in the conclusion itself, the limit of its address, no
+-- free slot, and then that the free slots are reserved for publishers (our choice)
 abbrev pub decided : Option RefusalCause → (crowded : Bool) → (free : Option ℕ) → (reserved : Bool) → Result ℕ RefusalCause
 decided (Some cause) crowded free reserved = Err cause
 decided None true free reserved = Err causes.Address
@@ -160,11 +160,11 @@ session_opened clock peer stamp c slot generation =
 abbrev pub with_session : Terms → (index : ℕ) → Session → List Session → Taken
 with_session e index s sessions = record { sessions = s ∷ sessions; answers = answered s.peer s.conclusion.caller (answer_of e index s) }
 
--- a session opens in the slot
+-- the result of a conclusion whose session opens in the slot
 abbrev pub opens : Terms → (index clock : ℕ) → Peer → (stamp : ℕ) → Conclusion → List Session → (slot : ℕ) → Taken
 opens e index clock peer stamp c sessions slot = with_session e index (session_opened clock peer stamp c slot (generation_of sessions slot)) sessions
 
--- or the conclusion is refused
+-- the result of a conclusion that is refused for a cause, or whose session opens in a slot
 abbrev pub considered : Terms → (index clock : ℕ) → Peer → (stamp : ℕ) → Conclusion → List Session → Result ℕ RefusalCause → Taken
 considered e index clock peer stamp c sessions (Err cause) = record { sessions = sessions; answers = answered peer c.caller (refusal c (code_of cause)) }
 considered e index clock peer stamp c sessions (Ok slot) = opens e index clock peer stamp c sessions slot
@@ -176,25 +176,26 @@ is_of peer caller s = s.is_open && is_same_peer s.peer peer && s.conclusion.call
 abbrev pub heard_if : Bool → (clock : ℕ) → Session → Session
 heard_if mine clock s = if mine then record s { heard = clock } else s
 
--- a conclusion that comes again is answered again, with the same bytes (section 4.3.1.2)
+-- the result of a conclusion: a caller with an open session is sent the same bytes as before (section 4.3.1.2), any
+-- other is admitted or refused
 abbrev pub concluded : Terms → (index clock : ℕ) → Peer → (stamp : ℕ) → Conclusion → List Session → Option Session → Taken
 concluded e index clock peer stamp c sessions (Some s) =
     record { sessions = map (λ t. heard_if (is_of peer c.caller t) clock t) sessions; answers = answered peer c.caller (answer_of e index s) }
 concluded e index clock peer stamp c sessions None = considered e index clock peer stamp c sessions (decision e peer c sessions)
 
--- a packet belongs to the session whose ID is its destination, if that session is open and doesn't drain, and its peer is
--- the sender (section 3)
+-- whether a packet belongs to a session: its destination is the session's ID, the session is open and doesn't drain,
+-- and its peer is the sender (section 3)
 abbrev pub is_for : (index : ℕ) → Peer → (dest : ℕ) → Session → Bool
 is_for index peer dest s = s.is_open && is_same_peer s.peer peer && session_id index s == dest && not (is_draining s)
 
 abbrev pub took_if : (drains : Option ℕ) → Bool → Terms → (clock : ℕ) → Packet → Session → Session
 took_if drains mine e clock packet s = if mine then took drains e clock packet.stamp packet.body s else s
 
--- a session's report
+-- the reply with a session's report
 abbrev pub said_by : (time : ℕ) → Session → Report → Reply
 said_by time s report = record { peer = s.peer; packet = Says s.conclusion.caller s.conclusion.initial time report }
 
--- the SHUTDOWN of a session that loses its window with a packet
+-- the SHUTDOWN of a session whose window is lost with a packet
 abbrev pub lost_told : Terms → (clock : ℕ) → Body → Session → List Reply
 lost_told e clock body s = told_if e.rules.callers (loses_window (terms_of e s) s.conclusion.initial body s.past) clock s
 
@@ -202,8 +203,9 @@ abbrev pub answered_by : Terms → (clock : ℕ) → Body → Option Session →
 answered_by e clock body None = []
 answered_by e clock body (Some s) = lost_told e clock body s ++ map (said_by (time_in s clock) s) (answered_at_once body s)
 
--- where the callers speak libsrt, the active publisher's session drains from its SHUTDOWN on if something is left to
--- deliver (our choice): until then for the delay and five seconds, in buffer mode for five seconds
+-- the time until which a publisher's session drains after a packet, if it drains. On a route for libsrt callers, the
+-- active publisher's session drains from its SHUTDOWN on if something is left to deliver (our choice): for its delay
+-- and five seconds, in buffer mode for five seconds
 abbrev pub drain_if : Callers → (left : Bool) → (until : ℕ) → Option ℕ
 drain_if Draft left until = None
 drain_if Libsrt true until = Some until
@@ -215,13 +217,14 @@ drain_of e clock body sessions (Some s) =
     drain_if e.rules.callers (is_shutdown body && is_active sessions s && has_left (terms_of e s) s.past)
     (clock + (terms_of e s).publisher.delay + 5_000_000)
 
--- whether the packet ends a publisher's session, where the callers speak libsrt
+-- whether a packet ended a publisher's session, and whether by its own SHUTDOWN; None where callers follow the draft
 abbrev pub packet_end : (drains : Option ℕ) → Terms → Body → Option Session → Option Bool
 packet_end (Some until) e body o = None
 packet_end None e body None = None
 packet_end None e body (Some s) = of_libsrt e.rules.callers (publisher_end (terms_of e s) s.conclusion.initial body s.past)
 
--- all sessions after a packet: the one that it is for took it, and each keeps how a publisher's ended, if one did
+-- a session after a packet: the one that the packet is for processes it, and each records how a publisher's session
+-- ended, if one did
 abbrev pub took_packet : (drains : Option ℕ) → (end : Option Bool) → Terms → (index clock : ℕ) → Peer → Packet → Session → Session
 took_packet drains end e index clock peer packet s = with_end end (took_if drains (is_for index peer packet.dest s) e clock packet s)
 
@@ -239,7 +242,7 @@ abbrev pub concludes : Body → Option Conclusion
 concludes (Handshake info) = conclusion_in info
 concludes _ = None
 
--- of the packets with destination 0, only conclusions are taken
+-- the result of a packet with destination 0: only a conclusion is accepted
 abbrev pub without_destination : Terms → (index clock : ℕ) → Peer → (stamp : ℕ) → List Session → Option Conclusion → Taken
 without_destination e index clock peer stamp sessions None = nothing_taken sessions
 without_destination e index clock peer stamp sessions (Some c) = concluded e index clock peer stamp c sessions (find (is_of peer c.caller) sessions)
@@ -250,12 +253,12 @@ packet_taken e index clock peer packet sessions =
     then without_destination e index clock peer packet.stamp sessions (concludes packet.body)
     else arrived e index clock peer packet sessions
 
--- a datagram that isn't a packet changes nothing
+-- the result of a datagram: one that isn't a packet changes nothing
 abbrev pub read_taken : Terms → (index clock : ℕ) → Peer → Result Packet PacketFault → List Session → Taken
 read_taken e index clock peer (Ok packet) sessions = packet_taken e index clock peer packet sessions
 read_taken e index clock peer (Err fault) sessions = nothing_taken sessions
 
--- the route is closed: every open session ends, and its peer is sent a SHUTDOWN, slots upwards (section 3.2.7)
+-- the result of a Close: every open session ends with a SHUTDOWN, in ascending order of slots (section 3.2.7)
 abbrev pub ended : Session → Session
 ended s = record s { is_open = false }
 
@@ -267,11 +270,11 @@ taken e index clock (Received datagram moment) sessions = read_taken e index clo
 taken e index clock (Tick moment) sessions = nothing_taken sessions
 taken e index clock (Close moment) sessions = closed e clock sessions
 
--- the least room of the open subscribers; None if none is open
+-- the smallest room of the open subscribers, in payloads; None if none is open
 abbrev pub least_room : Terms → List Session → Option ℕ
 least_room e sessions = fold (λ found s. least_with e.buffer found s.past) None (by_slot e sessions)
 
--- the payloads that subscribers are fed: what the active publisher delivers (section 4.5)
+-- the payloads that subscribers are fed: those that the active publisher delivers (section 4.5)
 abbrev pub delivery_of : Terms → (clock : ℕ) → (room : Option ℕ) → Option Session → List (List ℕ)
 delivery_of e clock room None = []
 delivery_of e clock room (Some s) = payloads e clock room s
@@ -279,25 +282,26 @@ delivery_of e clock room (Some s) = payloads e clock room s
 abbrev pub delivery : Terms → (clock : ℕ) → (room : Option ℕ) → List Session → List (List ℕ)
 delivery e clock room sessions = delivery_of e clock room (active sessions)
 
--- the room by which a publisher delivers: a publisher that stands by has no subscribers. So in live mode it delivers
--- what is due, to nobody, and in buffer mode it delivers nothing (our choice)
+-- the room with which a publisher delivers. A standby has no subscribers: in live mode it delivers what is due, to
+-- nobody, and in buffer mode it delivers nothing (our choice)
 abbrev pub room_if : (is_active : Bool) → (room : Option ℕ) → Option ℕ
 room_if true room = room
 room_if false room = None
 
--- whether something was delivered
+-- whether any payload is delivered
 abbrev pub is_some_payload : List (List ℕ) → Bool
 is_some_payload [] = false
 is_some_payload (x ∷ xs) = true
 
--- each publisher delivers, and each open subscriber is fed what the active one delivers
+-- the sessions after a delivery: each publisher delivered, and each open subscriber was fed the active one's payloads
 abbrev pub delivered : Terms → (clock : ℕ) → List Session → List Session
 delivered e clock sessions =
     let room = least_room e sessions in
     let fed = delivery e clock room sessions in
     map (λ s. passed e clock (room_if (is_active sessions s) room) fed s) sessions
 
--- then a publisher's session that drains ends if nothing is left, by its own SHUTDOWN
+-- how a draining publisher's session ended, from the number of open publishers before and after: a draining session
+-- that has nothing left ends by its own SHUTDOWN
 abbrev pub drain_end : (before after : ℕ) → Option Bool
 drain_end before after = if nat_lt after before then Some true else None
 
@@ -314,14 +318,15 @@ gives_some e clock sessions = is_some_payload (delivery e clock (least_room e se
 abbrev pub after_delivery : Terms → (clock : ℕ) → List Session → List Session
 after_delivery e clock sessions = settled_by e.rules.callers e clock (gives_some e clock sessions) (delivered e clock sessions)
 
--- the packets that sessions send at the end of an event, slots upwards
+-- the packets that sessions send at the end of an event, in ascending order of slots
 abbrev pub packets_at : Terms → (here : Bool) → (time : ℕ) → Session → List Reply
 packets_at e here time s = map (said_by time s) (reports_at e here time s)
 
 abbrev pub packets_where : Terms → (clock : ℕ) → (Session → Bool) → List Session → List Reply
 packets_where e clock test sessions = flat_map (λ s. packets_at e (test s) (time_in s clock) s) (by_slot e sessions)
 
--- where the callers speak libsrt, in buffer mode, a file is over once no publisher is open
+-- whether a route signals the end of a file: on a route for libsrt callers in buffer mode, where a file is complete
+-- once no publisher is open
 abbrev pub sends_files : Callers → Mode → Bool
 sends_files Draft mode = false
 sends_files Libsrt Live = false
@@ -330,12 +335,13 @@ sends_files Libsrt Buffer = true
 abbrev pub is_file_over : Terms → List Session → Bool
 is_file_over e sessions = sends_files e.rules.callers e.mode && open_publishers sessions == 0
 
--- a subscriber has the whole file if it was open when the last publisher's session ended, by its own SHUTDOWN, and if it
--- acknowledged all that was queued
+-- whether a subscriber has the whole file: it was open when the last publisher's session ended by its own SHUTDOWN, and
+-- it has acknowledged everything that was queued
 abbrev pub has_whole_file : (over : Bool) → Session → Bool
 has_whole_file over s = over && is_subscriber s && s.file_ended && has_all s.past
 
--- then it is sent a SHUTDOWN in place of a KEEPALIVE, and nothing else is due to it; the others are sent their packets
+-- the packets of a session in step 6: a subscriber that has the whole file is sent a SHUTDOWN in place of a KEEPALIVE,
+-- since nothing else is due; the others are sent their packets
 abbrev pub served_at : (whole : Bool) → Terms → (clock : ℕ) → Session → List Reply
 served_at true e clock s = shutdown_to clock s ∷ []
 served_at false e clock s = packets_at e (is_subscriber s) (time_in s clock) s
@@ -343,7 +349,7 @@ served_at false e clock s = packets_at e (is_subscriber s) (time_in s clock) s
 abbrev pub served : Terms → (clock : ℕ) → (over : Bool) → List Session → List Reply
 served e clock over sessions = flat_map (λ s. served_at (has_whole_file over s) e clock s) (by_slot e sessions)
 
--- and its session ends
+-- a session after step 6: one that has the whole file ends
 abbrev pub finished_at : (whole : Bool) → Terms → (clock : ℕ) → Session → Session
 finished_at true e clock s = ended s
 finished_at false e clock s = reported e clock s
@@ -351,17 +357,17 @@ finished_at false e clock s = reported e clock s
 abbrev pub finished : Terms → (clock : ℕ) → (over : Bool) → Session → Session
 finished e clock over s = finished_at (has_whole_file over s) e clock s
 
--- an event of a route that wasn't closed, in this order (our choice): the clock advances, time advances for the sessions,
--- the item is taken
+-- the result of an item, on a route that wasn't closed: first the clock and the sessions' time advance, then the item
+-- is processed (our choice)
 abbrev pub taken_by : Terms → (index : ℕ) → Item → Route → Taken
 taken_by e index item route = let clock = clock_after item route in taken e index clock item (advanced e clock route.sessions)
 
--- then the publishers deliver
+-- the sessions after the publishers' deliveries
 abbrev pub passed_by : Terms → (index : ℕ) → Item → Route → List Session
 passed_by e index item route = after_delivery e (clock_after item route) (taken_by e index item route).sessions
 
--- then the publishers send, and then the subscribers do. What is sent as time advances comes first, the answers to the item
--- come second. A route that was closed replies to nothing
+-- the replies to an item, in this order: the SHUTDOWNs of idle sessions, the answers to the item, the publishers'
+-- packets, the subscribers' packets. A route that was closed replies to nothing
 abbrev pub replies_at : (is_closed : Bool) → Terms → (index : ℕ) → Item → Route → List Reply
 replies_at true e index item route = []
 replies_at false e index item route =
@@ -373,7 +379,7 @@ replies_at false e index item route =
 abbrev pub replies_to : Terms → (index : ℕ) → Item → Route → List Reply
 replies_to e index item route = replies_at route.is_closed e index item route
 
--- the sessions at the end of an event. After a route was closed they stay as they are
+-- the sessions at the end of an event. After a route was closed they no longer change
 abbrev pub sessions_at : (is_closed : Bool) → Terms → (index : ℕ) → Item → Route → List Session
 sessions_at true e index item route = route.sessions
 sessions_at false e index item route =
@@ -385,7 +391,7 @@ closes (Received datagram moment) = false
 closes (Tick moment) = false
 closes (Close moment) = true
 
--- the route after one more item. If it was closed before, only its clock goes on
+-- the route after one more item. If it was closed before, only its clock advances
 abbrev pub told_more : Terms → (index : ℕ) → Item → Route → Route
 told_more e index item route =
     record {
@@ -409,6 +415,6 @@ abbrev pub solo : Terms → (index : ℕ) → List Item → List Datagram
 solo e index [] = []
 solo e index (item ∷ items) = solo e index items ++ reply e index (item ∷ items)
 
--- an item has no more replies than a route's queue holds: 66 for each session and 4 more
+-- an item has at most as many replies as a route's queue holds: 66 for each session and 4 more
 abbrev pub RepliesHavePlaces : Type 0
 RepliesHavePlaces = (e : Terms) (index : ℕ) (items : List Item) → length (reply e index items) ≤ 4 + 66 * e.sessions

@@ -28,17 +28,17 @@ pub record Session : Type 0 where
   -- the timestamp of its conclusion
   pub stamp : ℕ
   pub conclusion : Conclusion
-  -- the moments at which it was opened and at which its peer was last heard of, in microseconds
+  -- the times at which it was opened and at which its peer was last heard, in microseconds
   pub opening : ℕ
   pub heard : ℕ
   pub is_open : Bool
-  -- of a publisher's session that drains, the moment at which it ends if something is left to deliver by then; it drains
-  -- from its SHUTDOWN on
+  -- of a draining publisher's session, the time at which it ends if something is still left to deliver; it drains from
+  -- its SHUTDOWN on
   pub drains : Option ℕ
-  -- whether it took over from another publisher, and none from it since
+  -- whether it took over from another publisher, and none took over from it since
   pub took_over : Bool
-  -- whether a publisher's session ended while it was open, and the last of them by its own SHUTDOWN; where the callers
-  -- speak libsrt
+  -- whether publishers' sessions ended while it was open, the last of them by its own SHUTDOWN; on a route for libsrt
+  -- callers only
   pub file_ended : Bool
   -- what it received and sent
   pub past : Past
@@ -78,9 +78,9 @@ agreed e id c =
 abbrev pub answer_of : Terms → (index : ℕ) → Session → HsAnswer
 answer_of e index s = agreed e (session_id index s) s.conclusion
 
--- the parameters of the session, in microseconds, packets and bytes; of the two delays the first is for data from a
--- publisher, the second for data to a subscriber. The route's rules say whose rules a publisher's session follows, and
--- how much a subscriber's session may send again
+-- the parameters of the session, in microseconds, packets and bytes. The first delay is for data from a publisher, the
+-- second for data to a subscriber. The route's rules determine which rules a publisher's session follows, and how much
+-- a subscriber's session may retransmit
 abbrev pub agreed_terms : Terms → Conclusion → Agreed
 agreed_terms e c =
     record {
@@ -117,17 +117,17 @@ abbrev pub first_opened : List Session → Option Session
 first_opened [] = None
 first_opened (s ∷ older) = option_or (first_opened older) (if is_publisher s then Some s else None)
 
--- an open publisher that took over
+-- whether this is an open publisher that took over
 abbrev pub leads : Session → Bool
 leads s = is_publisher s && s.took_over
 
--- of the open publishers the one that took over is active, and else the one that was opened first; another one stands by
--- (our choice). So the one that was active stays so while it is open: what opens later didn't take over, and was opened
--- last; what ends leaves the marks of the others; and a take-over marks the other one and unmarks the one before.
+-- the active publisher: the open one that took over, otherwise the one that was opened first; the other one is the
+-- standby (our choice). So the active one stays active while it is open: one that opens later didn't take over and was
+-- opened last; one that ends leaves the others' marks; and a take-over marks the standby and unmarks the active one
 abbrev pub active : List Session → Option Session
 active sessions = option_or (find leads sessions) (first_opened sessions)
 
--- whether a session is the active publisher: an open session is known by its slot
+-- whether a session is the active publisher's: an open session is identified by its slot
 abbrev pub has_slot : Option Session → (slot : ℕ) → Bool
 has_slot None slot = false
 has_slot (Some s) slot = s.slot == slot
@@ -135,7 +135,7 @@ has_slot (Some s) slot = s.slot == slot
 abbrev pub is_active : List Session → Session → Bool
 is_active sessions s = has_slot (active sessions) s.slot
 
--- the publisher that stands by
+-- the standby: the open publisher that isn't active
 abbrev pub is_standby : List Session → Session → Bool
 is_standby sessions s = is_publisher s && not (is_active sessions s)
 
@@ -145,7 +145,7 @@ standby sessions = find (is_standby sessions) sessions
 abbrev pub is_open_in : (slot : ℕ) → Session → Bool
 is_open_in slot s = s.is_open && s.slot == slot
 
--- the open sessions, slots upwards
+-- the open sessions, in ascending order of slots
 abbrev pub by_slot : Terms → List Session → List Session
 by_slot e sessions = filter_map (λ slot. find (is_open_in slot) sessions) (numbers_from 0 e.sessions)
 
@@ -163,27 +163,27 @@ is_from ip s = s.is_open && bytes_eq s.peer.ip ip
 abbrev pub sessions_from : (ip : List ℕ) → List Session → ℕ
 sessions_from ip sessions = length (filter (is_from ip) sessions)
 
--- the least free slot
+-- the lowest free slot
 abbrev pub free_slot : Terms → List Session → Option ℕ
 free_slot e sessions = find (is_free sessions) (numbers_from 0 e.sessions)
 
--- the number of sessions that were opened in the slot
+-- the number of sessions that were ever opened in the slot
 abbrev pub generation_of : List Session → (slot : ℕ) → ℕ
 generation_of [] slot = 0
 generation_of (s ∷ sessions) slot = let earlier = generation_of sessions slot in if s.slot == slot then earlier + 1 else earlier
 
--- a session's own time and timestamps
+-- time and timestamps relative to a session's opening and to its conclusion
 abbrev pub time_in : Session → (clock : ℕ) → ℕ
 time_in s clock = clock - s.opening
 
 abbrev pub stamp_in : Session → (stamp : ℕ) → ℕ
 stamp_in s stamp = stamped_from s.stamp stamp
 
--- a session that drains delivers, and takes and sends nothing any more (our choice)
+-- whether a session drains: it delivers, but accepts and sends no packets any more (our choice)
 abbrev pub is_draining : Session → Bool
 is_draining s = is_some s.drains
 
--- the peer sent nothing for 5 s (our choice); of a session that drains nothing is heard
+-- whether the peer sent nothing for 5 s (our choice); never of a draining session, whose packets are ignored
 abbrev pub is_silent_at : (drains : Option ℕ) → (heard clock : ℕ) → Bool
 is_silent_at None heard clock = nat_le 5_000_000 (clock - heard)
 is_silent_at (Some until) heard clock = false
@@ -191,7 +191,7 @@ is_silent_at (Some until) heard clock = false
 abbrev pub is_idle : Session → (clock : ℕ) → Bool
 is_idle s clock = is_silent_at s.drains s.heard clock
 
--- time ends a session whose peer is idle, and one that drains for too long
+-- whether a session has expired: its peer is idle, or it drained for too long
 abbrev pub is_over_at : (drains : Option ℕ) → (heard clock : ℕ) → Bool
 is_over_at None heard clock = nat_le 5_000_000 (clock - heard)
 is_over_at (Some until) heard clock = nat_le until clock
@@ -199,24 +199,24 @@ is_over_at (Some until) heard clock = nat_le until clock
 abbrev pub is_over : Session → (clock : ℕ) → Bool
 is_over s clock = is_over_at s.drains s.heard clock
 
--- time advances: a session ends that is over, and another one drops what is too late
+-- a session after its time has advanced: an expired one ends, any other drops what is too late
 abbrev pub aged_at : Terms → (lives : Bool) → (time : ℕ) → Session → Session
 aged_at e lives time s = if lives then record s { past = expired_past (terms_of e s) time s.past } else record s { is_open = false }
 
 abbrev pub aged : Terms → (clock : ℕ) → Session → Session
 aged e clock s = aged_at e (s.is_open && not (is_over s clock)) (time_in s clock) s
 
--- the time after which a publisher that stands by takes over, in microseconds: in live mode, if the route has one
+-- the time without data after which the standby takes over, in microseconds: in live mode, if the route has one
 abbrev pub takeover_us : Mode → Option ℕ → Option ℕ
 takeover_us Live None = None
 takeover_us Live (Some ms) = Some (1000 * ms)
 takeover_us Buffer takeover_ms = None
 
--- no data came to a publisher's session for this time (our choice)
+-- whether a publisher's session received no data for `limit` microseconds (our choice)
 abbrev pub is_silent : (limit clock : ℕ) → Session → Bool
 is_silent limit clock s = nat_le limit (silence_of (time_in s clock) s.past)
 
--- it takes over if no data came to the active one for this time, and some came to itself
+-- whether the active publisher has failed: it received no data for this time, and the standby received some
 abbrev pub has_failed : (limit clock : ℕ) → (active standby : Option Session) → Bool
 has_failed limit clock (Some s) (Some t) = is_silent limit clock s && not (is_silent limit clock t)
 has_failed limit clock (Some s) None = false
@@ -226,7 +226,7 @@ abbrev pub takes_over_after : Option ℕ → (clock : ℕ) → List Session → 
 takes_over_after None clock sessions = false
 takes_over_after (Some limit) clock sessions = has_failed limit clock (active sessions) (standby sessions)
 
--- nobody takes over while a session drains
+-- whether the standby takes over; never while a session drains
 abbrev pub drains_open : Session → Bool
 drains_open s = s.is_open && is_draining s
 
@@ -240,7 +240,7 @@ takes_over_if false limit clock sessions = takes_over_after limit clock sessions
 abbrev pub takes_over : Terms → (clock : ℕ) → List Session → Bool
 takes_over e clock sessions = takes_over_if (not (number_draining sessions == 0)) (takeover_us e.mode e.rules.takeover_ms) clock sessions
 
--- a take-over marks the publisher that stood by, and unmarks the one that was active
+-- a session after a take-over, which marks the standby and unmarks the publisher that was active
 abbrev pub marked : List Session → Session → Session
 marked sessions s = if is_publisher s then record s { took_over = not (is_active sessions s) } else s
 
@@ -248,30 +248,30 @@ abbrev pub marked_if : (due : Bool) → List Session → List Session
 marked_if true sessions = map (marked sessions) sessions
 marked_if false sessions = sessions
 
--- what is so only where the callers speak libsrt
+-- a value on a route for libsrt callers, None where the callers follow the draft
 abbrev pub of_libsrt : Callers → Option Bool → Option Bool
 of_libsrt Draft o = None
 of_libsrt Libsrt o = o
 
--- a session after a publisher's session ended, by its own SHUTDOWN or not; and as it was if none did
+-- a session after a publisher's session ended, by its own SHUTDOWN or not; unchanged if none ended
 abbrev pub with_end : Option Bool → Session → Session
 with_end None s = s
 with_end (Some by_shutdown) s = record s { file_ended = by_shutdown }
 
--- whether publishers' sessions ended, by their number before and after: by silence, and so not by their own SHUTDOWN
+-- whether publishers' sessions ended by silence, and so not by their own SHUTDOWN, from their number before and after
 abbrev pub silent_end : (before after : ℕ) → Option Bool
 silent_end before after = if nat_lt after before then Some false else None
 
 abbrev pub time_end : Terms → (before after : List Session) → Option Bool
 time_end e before after = of_libsrt e.rules.callers (silent_end (open_publishers before) (open_publishers after))
 
--- time advances for all sessions; after all ends the publisher that stands by takes over if it is due (our choice)
+-- the sessions after step 2: time advances for all, and after all ends the standby takes over if it is due (our choice)
 abbrev pub advanced : Terms → (clock : ℕ) → List Session → List Session
 advanced e clock sessions =
     let later = map (aged e clock) sessions in
     map (with_end (time_end e sessions later)) (marked_if (takes_over e clock later) later)
 
--- a packet doesn't end a session that drains from then on
+-- whether a packet ends a session; not if the session drains from then on
 abbrev pub ends_unless : (drains : Option ℕ) → (ends : Bool) → Bool
 ends_unless None ends = ends
 ends_unless (Some until) ends = false
@@ -289,7 +289,7 @@ took_at drains e clock time stamp body s =
 abbrev pub took : (drains : Option ℕ) → Terms → (clock stamp : ℕ) → Body → Session → Session
 took drains e clock stamp body s = took_at drains e clock (time_in s clock) (stamp_in s stamp) body s
 
--- the packets that answer it at once
+-- the packets that a session sends at once in answer to a packet
 abbrev pub answered_at_once : Body → Session → List Report
 answered_at_once body s = answers_to s.conclusion.initial body s.past
 
@@ -303,8 +303,8 @@ passed_at e here time room delivery s = if here then record s { past = passed_pa
 abbrev pub passed : Terms → (clock : ℕ) → (room : Option ℕ) → List (List ℕ) → Session → Session
 passed e clock room delivery s = passed_at e s.is_open (time_in s clock) room delivery s
 
--- a session after the deliveries of an event: one that drains ends if nothing is left to deliver; in buffer mode it has
--- another five seconds after each delivery
+-- a session after the deliveries of an event: a draining one ends if nothing is left to deliver; in buffer mode each
+-- delivery extends its time to five seconds from then
 abbrev pub renewed : Mode → (delivered : Bool) → (clock until : ℕ) → ℕ
 renewed Live delivered clock until = until
 renewed Buffer true clock until = clock + 5_000_000

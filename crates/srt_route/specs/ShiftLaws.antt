@@ -86,7 +86,7 @@ CountsStay = (by initial word : ℕ) → counted_from (shifted by initial) (shif
 abbrev pub StampsStay : Type 0
 StampsStay = (by first word : ℕ) → stamped_from ((first + by) % 2 ^ 32) ((word + by) % 2 ^ 32) ≡ stamped_from first word
 
--- what a session takes from a packet stays the same
+-- what a session reads from a packet stays the same
 abbrev pub PublishersHearTheSame : Type 0
 PublishersHearTheSame =
     (by initial : ℕ) (body : Body)
@@ -111,7 +111,7 @@ PublishersSayOthers =
     (by caller initial time : ℕ) (report : publisher.Report) → IsPublishersReport report
     → renumbered by (publisher_text.says caller initial time report) ≡ publisher_text.says caller (shifted by initial) time report
 
--- and a payload has 1 to 1456 bytes
+-- the same of a subscriber's output, whose payloads have 1 to 1456 bytes
 abbrev pub IsSubscribersReport : subscriber.Report → Type 0
 IsSubscribersReport (subscriber.Media number again origin payload) = (0 < length payload) × (length payload ≤ 1456)
 IsSubscribersReport _ = ⊤

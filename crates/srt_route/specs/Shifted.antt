@@ -1,4 +1,4 @@
--- Other sequence numbers, other timestamps and later moments, in the bytes of a route's items and replies.
+-- Items and replies of a route with other sequence numbers, other timestamps or later times, as bytes.
 use Rattle.std.specs.Prelude.{ℕ, ◌+◌, ◌*◌, ◌/◌, ◌%◌, ◌^◌, List, [], ◌∷◌, ◌++◌, length, map, take, drop, is_ok, nat_lt, if◌then◌else◌, Result, Ok, Err}
 use Rattle.srt_seq.specs.Words.{word_at}
 use Rattle.srt_seq.specs.Items.{Datagram, Item, Received, Tick, Close}
@@ -24,12 +24,12 @@ with_word at n bytes = take at bytes ++ (four_bytes n ++ drop (at + 4) bytes)
 abbrev pub shifted_at : (by at : ℕ) → List ℕ → List ℕ
 shifted_at by at bytes = with_word at (shifted by (word_at bytes at)) bytes
 
--- the first word shifted, if there are at least four bytes
+-- bytes with the first word shifted, if there are at least four bytes
 abbrev pub shifted_first : (by : ℕ) → List ℕ → List ℕ
 shifted_first by (a ∷ b ∷ c ∷ d ∷ bytes) = four_bytes (shifted by (word_at (a ∷ b ∷ c ∷ d ∷ []) 0)) ++ bytes
 shifted_first by bytes = bytes
 
--- each whole word shifted, as in a loss list (appendix A)
+-- bytes with each whole word shifted, as in a loss list (appendix A)
 abbrev pub shifted_words : (by : ℕ) → List ℕ → List ℕ
 shifted_words by (a ∷ b ∷ c ∷ d ∷ bytes) = four_bytes (shifted by (word_at (a ∷ b ∷ c ∷ d ∷ []) 0)) ++ shifted_words by bytes
 shifted_words by bytes = bytes
@@ -59,7 +59,7 @@ abbrev pub shifted_reading : (by : ℕ) → Result Packet PacketFault → Result
 shifted_reading by (Ok packet) = Ok (shifted_packet by packet)
 shifted_reading by (Err fault) = Err fault
 
--- the 16-byte header of these bytes, and other bytes behind it
+-- the 16-byte header of these bytes, followed by other bytes
 abbrev pub with_rest : (bytes rest : List ℕ) → List ℕ
 with_rest bytes rest = take 16 bytes ++ rest
 

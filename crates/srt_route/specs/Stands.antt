@@ -1,4 +1,4 @@
--- The route that a route's fields stand for.
+-- The abstract route that a route's fields represent.
 use Rattle.std.specs.Prelude.{◌≡◌, ℕ, ◌+◌, ◌*◌, ◌≤◌, List, map}
 use Rattle.srt_seq.specs.Terms.{Terms}
 use Rattle.srt_seq.specs.Items.{Datagram, Item}
@@ -16,13 +16,13 @@ waiting r = map written (replies_of r.waiting)
 abbrev pub places : TheRoute → ℕ
 places r = places_of r.waiting
 
--- the route has these sessions and this clock, the waiting replies aside; its queue holds all replies to an item
+-- route `r` represents `m`, its waiting replies aside; its queue has room for all replies to an item
 pub record IsRoute (e : Terms) (index : ℕ) (r : TheRoute) (m : Route) : Type 0 where
   pub clock_is : r.clock ≡ m.clock
   pub table_is : IsTable e index r.clock r.table m.sessions
   pub room : 4 + 66 * e.sessions ≤ places r
   pub closed_is : m.is_closed ≡ r.closed
 
--- the route's state is the one that its terms, its index and its items determine; the newest item comes first
+-- the state of route `r` is the one that its terms, its index and its items determine; the newest item comes first
 abbrev pub stands : TheRoute → Terms → (index : ℕ) → List Item → Type 0
 stands r e index items = IsRoute e index r (after e index items)

@@ -1,4 +1,4 @@
--- The sessions that a route's table stands for.
+-- The sessions that a route's table represents.
 use Rattle.std.specs.Prelude.{◌≡◌, ℕ, ◌%◌, ◌^◌, ◌<◌, Bool, true, false, Option, None, Some, List, [], ◌∷◌, map, length, find}
 use Rattle.std.specs.Prelude.{slice_index_or, option_map, not, ◌==◌, ◌&&◌, if◌then◌else◌, ⊤}
 use Rattle.std.specs.Option.{is_some, option_to_list}
@@ -24,7 +24,7 @@ use Rattle.srt_route.specs.declared.publisher_buffers.PublisherBuffers.{Publishe
 use Rattle.srt_route.specs.declared.publisher_buffers.PublisherBuffers.TheVariants.{First}
 use Rattle.srt_route.specs.PublisherBuffers.{place_of, is_same}
 
--- the stored session is this one, except that its end and its past aren't stored
+-- the stored session is this one; its end and its past aren't stored in it
 pub record IsSession (e : Terms) (index : ℕ) (t : TheSession) (s : Session) : Type 0 where
   pub peer_is : t.peer ≡ s.peer
   pub caller_is : t.caller ≡ s.conclusion.caller
@@ -42,12 +42,13 @@ IsStored e index (Some t) (Some s) = IsSession e index t s
 IsStored e index None (Some s) = ⊥
 IsStored e index (Some t) None = ⊥
 
--- a test of a stored session
+-- whether a session is stored and passes a test
 abbrev pub session_passes : (TheSession → Bool) → Option TheSession → Bool
 session_passes test None = false
 session_passes test (Some t) = test t
 
--- which of the two publisher buffers of a route a stored session uses, and that of a seat; the first where none is open
+-- which of the route's two publisher buffers a stored session uses, and which a seat's session; the first if none is
+-- open
 abbrev pub buffers_by : Option TheSession → PublisherBuffers
 buffers_by None = First
 buffers_by (Some t) = t.buffers
@@ -55,12 +56,12 @@ buffers_by (Some t) = t.buffers
 abbrev pub used_buffers : Seat → PublisherBuffers
 used_buffers seat = buffers_by seat.session
 
--- the publisher buffers of a seat's session, of the two of a route
+-- the publisher buffers that a seat's session uses, from the route's two
 abbrev pub buffers_of : List Publisher → Seat → (other : Publisher) → Publisher
 buffers_of publishers seat other = slice_index_or publishers (place_of (used_buffers seat)) other
 
--- a seat has the open session of its slot with its buffers, which have the route's width, and the number of sessions
--- that were opened in it, in 16 bits
+-- a seat represents its slot: its session is the slot's open one, its buffers have the route's width, and its
+-- generation is the number of sessions that were opened in it, modulo 2^16
 pub record IsSeat (e : Terms) (index clock at : ℕ) (p : Publisher) (seat : Seat) (sessions : List Session) : Type 0 where
   pub session_is : IsStored e index seat.session (find (is_open_in at) sessions)
   pub count_is : seat.generation ≡ generation_of sessions at % 65536
@@ -72,7 +73,7 @@ AreSeats e index clock publishers seats sessions =
     (at : ℕ) (d : Seat) (p : Publisher) → at < length seats
     → IsSeat e index clock at (buffers_of publishers (slice_index_or seats at d) p) (slice_index_or seats at d) sessions
 
--- an open session has a slot below the bound, and no older session is open in that slot or of the same caller
+-- an open session has a slot below `places`, and no older session is open in that slot or of the same caller
 pub record IsAlone (places : ℕ) (s : Session) (older : List Session) : Type 0 where
   pub inside : s.slot < places
   pub slot_alone : find (is_open_in s.slot) older ≡ None
@@ -82,7 +83,7 @@ abbrev pub AreAlone : (places : ℕ) → List Session → Type 0
 AreAlone places [] = ⊤
 AreAlone places (s ∷ older) = (s.is_open ≡ true → IsAlone places s older) × AreAlone places older
 
--- the open session of this slot publishes
+-- session `s` is open in slot `at` and publishes
 pub record IsPublishing (sessions : List Session) (at : ℕ) (s : Session) : Type 0 where
   pub found : find (is_open_in at) sessions ≡ Some s
   pub publishes : is_publisher s ≡ true
@@ -95,11 +96,11 @@ pub record ArePublishers (leading : PublisherBuffers) (seats : List Seat) (sessi
   pub leading_is_active : (at : ℕ) (d : Seat) (s : Session) → IsPublishing sessions at s
       → used_buffers (slice_index_or seats at d) ≡ leading → active sessions ≡ Some s
 
--- the session of this slot uses these publisher buffers
+-- the session of slot `at` uses these publisher buffers
 abbrev pub Uses : Table → (at : ℕ) → (which : PublisherBuffers) → Type 0
 Uses t at which = (d : Seat) → which ≡ used_buffers (slice_index_or t.seats.items at d)
 
--- the sessions of these seats use the publisher buffers that they used
+-- the seats' sessions use the same publisher buffers as before
 abbrev pub UseSameBuffers : (old new : List Seat) → Type 0
 UseSameBuffers old new = (at : ℕ) (d : Seat) → used_buffers (slice_index_or new at d) ≡ used_buffers (slice_index_or old at d)
 
@@ -110,7 +111,7 @@ UseTheSame old new = UseSameBuffers old.seats.items new.seats.items
 abbrev pub AreWide : (width : ℕ) → List Publisher → Type 0
 AreWide width publishers = (which : PublisherBuffers) (p : Publisher) → publisher.width_of (slice_index_or publishers (place_of which) p) ≡ width
 
--- this is the table of these sessions at this clock
+-- table `t` represents these sessions at this clock
 pub record IsTable (e : Terms) (index clock : ℕ) (t : Table) (sessions : List Session) : Type 0 where
   pub limits : in_limits e ≡ true
   pub early : clock < 2 ^ 62
@@ -129,12 +130,12 @@ pub record IsTable (e : Terms) (index clock : ℕ) (t : Table) (sessions : List 
 abbrev pub written_of : Option TheReply → List Datagram
 written_of r = map written (option_to_list r)
 
--- the table after an item, and the replies to it, are these
+-- the table after an item and the replies to it are those of `taken`
 pub record IsTaken (e : Terms) (index clock : ℕ) (t : Table) (replies : List Datagram) (taken : Taken) : Type 0 where
   pub table_is : IsTable e index clock t taken.sessions
   pub replies_are : replies ≡ map sent taken.answers
 
--- the tests by which a stored session is found
+-- the tests with which a stored session is searched
 abbrev pub is_session_of : Peer → (caller : ℕ) → TheSession → Bool
 is_session_of peer caller t = is_same_peer t.peer peer && t.caller == caller && not (is_some t.drains)
 
@@ -144,14 +145,14 @@ holds peer caller seat = session_passes (is_session_of peer caller) seat.session
 abbrev pub has_publisher : Seat → Bool
 has_publisher seat = session_passes (λ t. publishes t.role) seat.session
 
--- whether it is a publisher's that sends packets, and whether it drains
+-- whether a seat's session is a publisher's that sends packets, and whether it drains
 abbrev pub has_speaker : Seat → Bool
 has_speaker seat = session_passes (λ t. publishes t.role && not (is_some t.drains)) seat.session
 
 abbrev pub has_draining : Seat → Bool
 has_draining seat = session_passes (λ t. is_some t.drains) seat.session
 
--- whether it is a publisher's with these buffers
+-- whether a seat's session is a publisher's with these buffers
 abbrev pub publishes_from : (which : PublisherBuffers) → Seat → Bool
 publishes_from which seat = session_passes (λ t. publishes t.role && is_same t.buffers which) seat.session
 
@@ -173,7 +174,7 @@ is_vacant seat = no_session seat.session
 abbrev pub with_stored : Option TheSession → Seat → Seat
 with_stored session seat = record { generation = seat.generation; session = session; subscriber = seat.subscriber }
 
--- a seat after an event's deliveries: its session ends, or has its time anew if it drains
+-- a seat after an event's deliveries: its session ends, or its time is extended if it drains
 abbrev pub stored_settled : (ends : Bool) → Mode → (delivered : Bool) → (clock : ℕ) → Option TheSession → Option TheSession
 stored_settled ends mode given clock None = None
 stored_settled ends mode given clock (Some t) =
@@ -182,7 +183,7 @@ stored_settled ends mode given clock (Some t) =
 abbrev pub seat_settled : (ends : Bool) → Mode → (delivered : Bool) → (clock : ℕ) → Seat → Seat
 seat_settled ends mode given clock seat = with_stored (stored_settled ends mode given clock seat.session) seat
 
--- a stored session whose peer is heard of at this clock
+-- a stored session whose peer is heard at this clock
 abbrev pub heard_at : (clock : ℕ) → TheSession → TheSession
 heard_at clock t = record t { heard = clock }
 
@@ -207,7 +208,7 @@ stored_end by_shutdown t = record t { file_ended = by_shutdown }
 abbrev pub seat_with_end : (by_shutdown : Bool) → Seat → Seat
 seat_with_end by_shutdown seat = with_stored (option_map (stored_end by_shutdown) seat.session) seat
 
--- time ends the session (our choice), and whether because its peer sent nothing for 5 s
+-- whether a stored session has expired (our choice), and whether because its peer sent nothing for 5 s
 abbrev pub is_stored_over : (clock : ℕ) → TheSession → Bool
 is_stored_over clock t = is_over_at t.drains t.heard clock
 
@@ -219,6 +220,6 @@ abbrev pub stored_aged : (clock : ℕ) → Option TheSession → Option TheSessi
 stored_aged clock None = None
 stored_aged clock (Some t) = if is_stored_over clock t then None else Some t
 
--- whether it is a subscriber's session that isn't over
+-- whether a stored session is a subscriber's that hasn't expired
 abbrev pub is_kept_subscriber : (clock : ℕ) → TheSession → Bool
 is_kept_subscriber clock t = not (is_stored_over clock t) && not (publishes t.role)

@@ -1,4 +1,4 @@
--- The sessions that opened, and the conclusions that were refused.
+-- The counts of sessions opened and of conclusions refused.
 use Rattle.std.specs.Prelude.{◌≡◌, ℕ, Option, None, Some, Result, Ok, Err, List, find, ◌==◌, if◌then◌else◌}
 use Rattle.srt_seq.specs.declared.shared.Peer.{Peer}
 use Rattle.srt_seq.specs.Terms.{Terms}
@@ -32,12 +32,12 @@ tally_of ledger = record { opened = ledger.opened; refusals = ledger.refusals }
 abbrev pub tally_in : TheRoute → Tally
 tally_in r = tally_of r.ledger
 
--- a conclusion is admitted and its session opens, or it is refused
+-- the counts after a conclusion that is admitted or refused
 abbrev pub admitted_tally : Result Admission RefusalCause → Tally → Tally
 admitted_tally (Ok admission) t = record t { opened = more t.opened }
 admitted_tally (Err cause) t = record t { refusals = refusals_with cause t.refusals }
 
--- that of a caller whose session is open is answered again, and nothing is counted
+-- a conclusion of a caller with an open session is answered again, and not counted
 abbrev pub concluded_tally : Terms → Peer → Conclusion → List Session → Option Session → Tally → Tally
 concluded_tally e peer c sessions (Some s) t = t
 concluded_tally e peer c sessions None t = admitted_tally (admitted e peer sessions c) t
@@ -58,11 +58,11 @@ item_tally e (Received datagram moment) sessions t = read_tally e datagram.peer 
 item_tally e (Tick moment) sessions t = t
 item_tally e (Close moment) sessions t = t
 
--- after an item, by the route before it; after a route was closed nothing is counted
+-- the counts after an item, where `route` is the route before it; after a route was closed nothing is counted
 abbrev pub tally_after : Terms → Item → Route → Tally → Tally
 tally_after e item route t = if route.is_closed then t else item_tally e item (advanced e (clock_after item route) route.sessions) t
 
--- the same of the parts of an event, for whatever sessions a table stands for
+-- the counts after a part of an event, for all sessions that a table represents
 abbrev pub Tallies : (clock : ℕ) → (Terms → List Session → Tally → Tally) → Table → (old new : Ledger) → Type 0
 Tallies clock later table old new =
     (e : Terms) (index : ℕ) (sessions : List Session) → IsTable e index clock table sessions → tally_of new ≡ later e sessions (tally_of old)

@@ -1,4 +1,4 @@
--- Sums over sessions of what each counts.
+-- Sums of the counts of sessions.
 use Rattle.std.specs.Prelude.{◌≡◌, ℕ, zero, suc, ◌+◌, ◌-◌, ◌^◌, min, Option, None, Some, List, [], ◌∷◌}
 use Rattle.srt_seq.specs.Terms.{Terms}
 use Rattle.srt_pub.specs.declared.counts.Counts.{Counts as Received}
@@ -12,7 +12,7 @@ use Rattle.srt_route.specs.declared.view.Traffic.TheVariants as of
 use Rattle.srt_route.specs.Sessions.{Session}
 use Rattle.srt_route.specs.Viewing.{ShowsSession}
 
--- a count stops at 2^64 - 1
+-- the sum of two counts, which saturates at 2^64 - 1
 abbrev pub both : ℕ → ℕ → ℕ
 both a b = min (2 ^ 64 - 1) (a + b)
 
@@ -44,12 +44,12 @@ both_queued a b =
 abbrev pub both_sent : Sendings → Sendings → Sendings
 both_sent a b = record { fresh = both a.fresh b.fresh; again = both a.again b.again }
 
--- the totals with what one session more counts
+-- totals with the counts of one more session
 abbrev pub with_traffic : Traffic → Totals → Totals
 with_traffic (of.Received x) t = record { received = both_received t.received x.counts; queued = t.queued; sent = t.sent }
 with_traffic (of.Sent x) t = record { received = t.received; queued = both_queued t.queued x.counts; sent = both_sent t.sent x.sendings }
 
--- sums only grow: to those that were, what some sessions counted was added
+-- the new sums are the old ones with the counts of some sessions added, so sums never decrease
 abbrev pub with_all : List Traffic → Totals → Totals
 with_all [] t = t
 with_all (x ∷ xs) t = with_traffic x (with_all xs t)
@@ -61,11 +61,11 @@ abbrev pub with_shown : Option SessionView → Totals → Totals
 with_shown None t = t
 with_shown (Some v) t = with_traffic v.traffic t
 
--- the sums of what sessions that ended counted
+-- the sums of the counts of ended sessions
 abbrev pub totals_of_ended : TheRoute → Totals
 totals_of_ended r = r.ledger.totals
 
--- totals with those of the open sessions in the slots below a number, each as a look shows it
+-- totals with the counts of the open sessions in the slots below a number, each from its snapshot
 pub record AddsOne (e : Terms) (index slot : ℕ) (sessions : List Session) (Before : Totals → Type 0) (all : Totals) : Type 0 where
   pub before : Totals
   pub shown : Option SessionView

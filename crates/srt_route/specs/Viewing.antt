@@ -1,4 +1,4 @@
--- What a look at a route shows of its open sessions.
+-- Snapshots of a route's open sessions.
 use Rattle.std.specs.Prelude.{◌≡◌, ℕ, ◌<◌, Option, None, Some, List, find, length, slice_index_or, ◌&&◌, ⊤}
 use Rattle.srt_seq.specs.declared.shared.Role.{Role}
 use Rattle.srt_seq.specs.declared.shared.Role.TheVariants.{Publish, Request}
@@ -28,16 +28,16 @@ IsTraffic terms (Subscribes m) (Sent x) = subscriber.AreStatistics terms.subscri
 IsTraffic terms (Publishes m) (Sent x) = ⊥
 IsTraffic terms (Subscribes m) (Received x) = ⊥
 
--- of two delays that of what a publisher sends, or that of what a subscriber is sent
+-- the delay in the direction of the payloads: from the caller for a publisher, to it for a subscriber
 abbrev pub delay_of : Role → (recv_ms send_ms : ℕ) → ℕ
 delay_of Publish recv_ms send_ms = recv_ms
 delay_of Request recv_ms send_ms = send_ms
 
--- the latency of data in the direction of this role, in milliseconds
+-- the latency in the direction of this role's payloads, in milliseconds
 abbrev pub latency_of : Role → Terms → Session → ℕ
 latency_of role e s = delay_of role (receiver_ms e s.conclusion) (sender_ms e s.conclusion)
 
--- this shows a session
+-- `v` is a snapshot of session `s`
 pub record IsView (e : Terms) (index : ℕ) (sessions : List Session) (s : Session) (v : SessionView) : Type 0 where
   pub peer_is : v.peer ≡ s.peer
   pub caller_is : v.caller ≡ s.conclusion.caller
@@ -56,16 +56,16 @@ Shows e index sessions (Some s) (Some v) = IsView e index sessions s v
 Shows e index sessions None (Some v) = ⊥
 Shows e index sessions (Some s) None = ⊥
 
--- this shows the open session of a slot, if one is open there
+-- `shown` is a snapshot of the open session of a slot, or None if none is open there
 abbrev pub ShowsSession : (e : Terms) (index slot : ℕ) (sessions : List Session) → Option SessionView → Type 0
 ShowsSession e index slot sessions shown = Shows e index sessions (find (is_open_in slot) sessions) shown
 
--- the same of whatever sessions a table stands for
+-- the same for all sessions that a table represents
 abbrev pub ShowsSlot : (slot : ℕ) → Table → Option SessionView → Type 0
 ShowsSlot slot table shown =
     (e : Terms) (index clock : ℕ) (sessions : List Session) → IsTable e index clock table sessions → ShowsSession e index slot sessions shown
 
--- this is shown of a stored session, its counts aside
+-- `v` is a snapshot of a stored session, its counts aside
 pub record IsSeen (t : TheSession) (v : SessionView) : Type 0 where
   pub peer_is : v.peer ≡ t.peer
   pub caller_is : v.caller ≡ t.caller
@@ -80,7 +80,7 @@ Sees (Some t) (Some v) = IsSeen t v
 Sees None (Some v) = ⊥
 Sees (Some t) None = ⊥
 
--- and of that of a slot
+-- the same of the stored session of a slot
 abbrev pub SeesSlot : (slot : ℕ) → Table → Option SessionView → Type 0
 SeesSlot slot table shown = (d : Seat) → slot < length table.seats.items → Sees (slice_index_or table.seats.items slot d).session shown
 
@@ -89,7 +89,7 @@ abbrev pub TellsTraffic : Role → Publisher → Subscriber → Traffic → Type
 TellsTraffic role p x traffic =
     (e : Terms) (clock : ℕ) (s : Session) → role ≡ s.conclusion.role → IsSeated e clock p x s → IsTraffic (terms_of e s) s.past traffic
 
--- the latency that an answer to a conclusion tells
+-- the latency in an answer to a conclusion
 abbrev pub latency_by : Role → AnswerKind → ℕ
 latency_by role (ConclusionAnswer mtu window id mode recv_ms send_ms congestion) = delay_of role recv_ms send_ms
 latency_by role _ = 0

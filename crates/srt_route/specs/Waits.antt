@@ -7,6 +7,6 @@ use Rattle.srt_route.specs.declared.reply_queue.ReplyQueue.{ReplyQueue}
 abbrev pub replies_of : ReplyQueue → List Reply
 replies_of w = map (λ b. b.value) w.replies.items
 
--- the number of boxes, those with a reply and spare ones
+-- the number of boxes, with a reply or spare
 abbrev pub places_of : ReplyQueue → ℕ
 places_of w = length w.replies.items + length w.spare.items

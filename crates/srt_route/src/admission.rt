@@ -1,5 +1,5 @@
-//! Step 3 of an event, a conclusion at its route (sections 3.2.1 and 4.3.1.2): every refusal in its order, and how a
-//! session opens.
+//! Step 3 of an event, a conclusion at its route (sections 3.2.1 and 4.3.1.2): every refusal in its order, and the
+//! opening of a session.
 
 ghost use Rattle.std.specs.Prelude.{◌≡◌, ◌<◌, ◌^◌, ◌∷◌, [], Some, count_by, length, IfOk};
 ghost use Rattle.srt_seq.specs.Given.{given};
@@ -25,7 +25,7 @@ use crate::table::Table;
 use srt_seq::limits::{MAX_MTU, MIN_MTU};
 use srt_seq::{Mode, Peer, Role};
 
-/// The slot in which a session opens, and what was agreed.
+/// The slot in which a session opens, and the negotiated parameters.
 #[derive(Clone, Copy)]
 pub struct Admission {
     /// The slot's number, from 0.
@@ -40,9 +40,9 @@ fn is_buffer(mode: Mode) -> bool
     matches!(mode, Mode::Buffer)
 }
 
-/// The first cause to refuse a conclusion, free slots and limits aside. In order: `MessageApi` if the flag STREAM and
-/// the route's mode differ; `Rogue` if the MTU is below 76, the flow window is 0, or a subscriber of buffer mode has an
-/// MTU below 1500; `Peer` if the caller wants to publish while two publishers are open.
+/// Returns the first cause to refuse a conclusion, free slots and limits aside. In order: `MessageApi` if the flag
+/// STREAM doesn't match the route's mode; `Rogue` if the MTU is below 76, the flow window is 0, or a subscriber of
+/// buffer mode has an MTU below 1500; `Peer` if the caller wants to publish while two publishers are open.
 fn refused(mode: Mode, publishers: usize, c: &Conclusion) -> Option<RefusalCause>
     ensures { result ≡ refused mode publishers c.now }
 {
@@ -69,8 +69,8 @@ fn is_crowded(limit: Option<u32>, seats: &[Seat], peer: Peer) -> bool
     }
 }
 
-/// Whether the slots that are free are kept for publishers that aren't open yet, and the caller is none. All numbers
-/// are of slots or of sessions, at most 17.
+/// Whether all free slots are reserved for publishers that aren't open yet, and the caller isn't one. All numbers are
+/// of slots or of sessions, at most 17.
 fn is_reserved(reserved: u32, free: usize, publishers: usize, role: Role) -> bool
     ensures { result ≡ is_reserved reserved free publishers role }
 {
@@ -80,8 +80,8 @@ fn is_reserved(reserved: u32, free: usize, publishers: usize, role: Role) -> boo
     }
 }
 
-/// The least free slot and the agreement, or the first cause to refuse: one in the conclusion itself, then the limit of
-/// the caller's address, no free slot, and that the free ones are kept for publishers.
+/// Returns the lowest free slot and the agreement, or the first cause to refuse: one in the conclusion itself, then the
+/// limit of the caller's address, no free slot, and free slots that are reserved for publishers.
 fn admit(table: &Table, peer: Peer, c: &Conclusion) -> Result<Admission, RefusalCause>
     ensures inside { IfOk result (λ a. a.at < length table.now.seats.items) }
     ensures value { Admits table.now peer c.now result }
@@ -109,8 +109,8 @@ fn admit(table: &Table, peer: Peer, c: &Conclusion) -> Result<Admission, Refusal
     }
 }
 
-/// Opens the session in its slot, in which none is open, and writes the answer into `reply`. A publisher's opens only
-/// if one publisher at most is open, and it takes the buffers that this one doesn't use.
+/// Opens the session in its slot, which is free, and writes the answer into `reply`. A publisher's session opens only
+/// if fewer than two publishers are open, and uses the buffers that the other one doesn't use.
 fn open_session(
     table: &mut Table,
     admission: Admission,
@@ -181,8 +181,8 @@ fn consider(
     }
 }
 
-/// Applies a conclusion. A caller with an open session gets its first answer again; another one is admitted or refused.
-/// Returns true if `reply` has an answer.
+/// Processes a conclusion. A caller with an open session is sent its first answer again; any other is admitted or
+/// refused. Returns true if `reply` has an answer.
 pub fn conclude(
     table: &mut Table,
     ledger: &mut Ledger,

@@ -1,5 +1,5 @@
-//! What both sides of a session agree on (sections 4.3.1.2 and 4.4): the delays in live mode, and the MTU; beside it
-//! the rules of the route.
+//! What both sides of a session agree on (sections 4.3.1.2 and 4.4): the delays in live mode, and the MTU; together
+//! with the rules of the route.
 
 ghost use Rattle.std.specs.Prelude.{◌≡◌};
 ghost use Rattle.srt_seq.specs.Terms.{Terms};
@@ -10,7 +10,7 @@ use crate::conclusion::Conclusion;
 use srt_seq::limits::MAX_MTU;
 use srt_seq::{Mode, Rules};
 
-/// What both sides of a session agree on, and the rules of the route.
+/// The negotiated parameters of a session, and the rules of the route.
 #[derive(Clone, Copy)]
 pub struct Agreement {
     /// The route's mode.
@@ -21,12 +21,12 @@ pub struct Agreement {
     pub sender_ms: u16,
     /// The MTU: the size of the largest packet in bytes, with the headers of IP and UDP, at most 1500.
     pub mtu: u32,
-    /// What the route does beyond the draft.
+    /// The route's rules beyond the draft.
     pub rules: Rules,
 }
 
-/// A session's delay in milliseconds, from what both sides ask for: the greater one in live mode, 0 in buffer mode
-/// (section 4.4).
+/// Returns a session's delay in milliseconds, from the delays that both sides request: the greater one in live mode, 0
+/// in buffer mode (section 4.4).
 fn agreed_ms(mode: Mode, ours: u16, theirs: u16) -> u16
     ensures { result ≡ agreed_ms mode ours theirs }
 {
@@ -36,8 +36,8 @@ fn agreed_ms(mode: Mode, ours: u16, theirs: u16) -> u16
     }
 }
 
-/// What a route and a conclusion agree on: in live mode the greater of both delays in each direction, in buffer mode
-/// none; and the lesser MTU, at most 1500. The route's rules stand beside it.
+/// Returns what a route and a conclusion agree on: in live mode the greater of both delays in each direction, in buffer
+/// mode none; and the smaller MTU, at most 1500. The route's rules are copied.
 pub fn agree(mode: Mode, latency_ms: u16, rules: Rules, c: &Conclusion) -> Agreement
     ensures { (e : Terms) → mode ≡ e.mode → latency_ms ≡ e.latency_ms → rules ≡ e.rules → result ≡ agreement_of e c.now }
 {

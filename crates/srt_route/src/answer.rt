@@ -1,4 +1,4 @@
-//! The answer to a handshake, and how it is written.
+//! Answers to handshakes, and their encoding.
 
 ghost use Rattle.std.specs.Prelude.{◌≡◌};
 ghost use Rattle.srt_seq.specs.Terms.{Terms};
@@ -16,7 +16,7 @@ use srt_hs::{AnswerKind, HsAnswer, RefusalCode, write};
 use srt_packet::{Body, Packet};
 use srt_seq::Peer;
 
-/// The answer that refuses a conclusion for this reason, with the caller's initial sequence number.
+/// Returns the answer that refuses a conclusion for this reason, with the caller's initial sequence number.
 pub fn refusal(initial: u32, reason: RefusalCode) -> HsAnswer
     ensures { (c : TheConclusion) → c.initial ≡ initial → result ≡ refusal c reason }
 {
@@ -26,7 +26,7 @@ pub fn refusal(initial: u32, reason: RefusalCode) -> HsAnswer
     }
 }
 
-/// The answer to a conclusion that opens the session with this socket ID. The window is in packets.
+/// Returns the answer to a conclusion that opens the session with this socket ID. The window is in packets.
 pub fn accepted(agreement: Agreement, window: u32, id: u32, c: Conclusion) -> HsAnswer
     ensures { (e : Terms) → agreement ≡ agreement_of e c → window ≡ e.buffer → result ≡ agreed e id c }
 {

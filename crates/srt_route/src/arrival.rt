@@ -1,4 +1,4 @@
-//! When and from whom a packet came.
+//! Arrival time and sender of a packet.
 
 use srt_seq::Peer;
 

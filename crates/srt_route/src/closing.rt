@@ -1,5 +1,5 @@
-//! SHUTDOWNs to peers: of every open session, when a route is closed; and where the callers speak libsrt, of a session that
-//! ends by silence or by a lost window.
+//! SHUTDOWNs to peers: of every open session when a route is closed; on a route for libsrt callers, also of a session
+//! that ends by silence or by a lost window.
 
 ghost use Rattle.std.specs.Prelude.{◌≡◌, None, [], ◌∷◌, map};
 ghost use Rattle.srt_packet.specs.Encoded.{bytes_of};
@@ -42,7 +42,7 @@ fn queue_shutdown(session: &Session, clock: u64, hand: &mut Box<Reply>, waiting:
     waiting.put_to(session.peer, hand);
 }
 
-/// Queues the SHUTDOWN of the session in this seat, if one is open that `ends` and the callers speak libsrt.
+/// Queues the SHUTDOWN of the session in this seat, if one is open, it `ends`, and the route is for libsrt callers.
 pub fn tell_end(
     seat: &Seat,
     callers: Callers,
@@ -96,8 +96,8 @@ fn write_shutdown_of(seat: &Seat, clock: u64, reply: &mut Reply) -> bool
     }
 }
 
-/// Writes the SHUTDOWN of the session in this seat, which ends so, into `reply`, if its window was lost and the callers
-/// speak libsrt. Returns false if none is sent.
+/// Writes the SHUTDOWN of the session in this seat into `reply`, if the session ends by a lost window and the route is
+/// for libsrt callers. Returns false if none is sent.
 pub fn tell_lost(
     seat: &Seat,
     callers: Callers,
@@ -128,7 +128,7 @@ pub fn close_seat(seat: &mut Seat, clock: u64, hand: &mut Box<Reply>, waiting: &
     seat.session = None;
 }
 
-/// Ends every open session, and queues its SHUTDOWN, slots upwards.
+/// Ends every open session and queues its SHUTDOWN, in ascending order of slots.
 pub fn close_seats(table: &mut Table, clock: u64, hand: &mut Box<Reply>, waiting: &mut ReplyQueue)
     ensures table { TableBecomes clock table.old table.new (λ e. map ended) }
     ensures said { Transmits clock table.old waiting.old waiting.new (λ e sessions. map (shutdown_to clock) (by_slot e sessions)) }

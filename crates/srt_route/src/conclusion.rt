@@ -7,7 +7,7 @@ ghost use Rattle.srt_route.specs.Conclusions.{conclusion_in, conclusion_of, is_c
 use srt_hs::{CongestionText, HsKind, HsRef, congestion, read, stream_id};
 use srt_seq::Role;
 
-/// What a route reads of a conclusion.
+/// The values that a route reads from a conclusion.
 #[derive(Drop)]
 pub struct Conclusion {
     /// The initial packet sequence number: below 2^31.
@@ -26,7 +26,7 @@ pub struct Conclusion {
     pub sender_ms: u16,
     /// Whether the caller wants to publish or to subscribe.
     pub role: Role,
-    /// The words of the congestion control block as they came, 1 to 4.
+    /// The words of the congestion control block as received, 1 to 4.
     pub congestion: Option<CongestionText>,
 }
 
@@ -36,7 +36,7 @@ fn is_conclusion(kind: HsKind) -> bool
     matches!(kind, HsKind::Conclusion)
 }
 
-/// The role that a handshake's Stream ID asks for (appendix B). None if there is no Stream ID, or one with a fault.
+/// Returns the role that a handshake's Stream ID requests (appendix B). None without a Stream ID, or if it has a fault.
 fn role_asked(hs: &HsRef<'_>) -> Option<Role>
     ensures { result ≡ role_asked (handshake_of hs.now).blocks.stream_id }
 {

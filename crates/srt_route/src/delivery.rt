@@ -1,5 +1,5 @@
-//! Step 4 of an event, delivery (sections 4.2, 4.5 and 4.6): the active publisher's payloads go to every open subscriber,
-//! and those of a publisher that stands by go to nobody (`standby.rt`).
+//! Step 4 of an event, delivery (sections 4.2, 4.5 and 4.6): the active publisher's payloads are queued for every open
+//! subscriber, those of the standby for none (`standby.rt`).
 
 ghost use Rattle.std.specs.Prelude.{◌≡◌, ℕ, ◌<◌, ◌≤◌, ◌^◌, true, false, None, List, is_some, length};
 ghost use Rattle.srt_seq.specs.Terms.{Terms};
@@ -20,8 +20,7 @@ use srt_pub::Publisher;
 use srt_seq::Mode;
 use srt_seq::limits::MAX_PAYLOADS;
 
-/// The number of payloads that fit into the subscriber's send buffer; None if no subscriber's session is open in the
-/// seat.
+/// Returns the number of payloads that fit into the subscriber's send buffer; None if the seat has no open subscriber.
 fn room_of(seat: &Seat) -> Option<u32>
     ensures none { has_subscriber seat.now ≡ false → result ≡ None }
     ensures some { has_subscriber seat.now ≡ true → IsRoomOf seat.now.subscriber result }
@@ -45,7 +44,7 @@ fn lesser(found: Option<u32>, room: Option<u32>) -> Option<u32>
     }
 }
 
-/// The smallest free space of the open subscribers' send buffers, in payloads; None if no subscriber is open.
+/// Returns the smallest free space of the open subscribers' send buffers, in payloads; None if no subscriber is open.
 fn least_room(table: &Table) -> Option<u32>
     ensures { (e : Terms) (index clock : ℕ) (sessions : List Session) → IsTable e index clock table.now sessions → result ≡ least_room e sessions }
 {
@@ -82,7 +81,7 @@ pub fn feed(seats: &mut [Seat], clock: u64, payload: &[u8])
     }
 }
 
-/// The room that is left after a payload: one less in buffer mode, unchanged in live mode, which has no such limit.
+/// Returns the room after a payload: one less in buffer mode, unchanged in live mode, which has no such limit.
 fn room_after(mode: Mode, room: u32) -> u32
     ensures { result ≡ room_after mode room }
 {
@@ -92,7 +91,7 @@ fn room_after(mode: Mode, room: u32) -> u32
     }
 }
 
-/// Lends the publisher's next payload to each open subscriber, who copies it, and notes that it was delivered. Returns
+/// Passes the publisher's next payload to each open subscriber, which copies it, and records it as delivered. Returns
 /// false if none is due.
 fn pass_on(publisher: &mut Publisher, seats: &mut [Seat], clock: u64, room: u32) -> bool
     requires { clock < 2 ^ 62 }
@@ -109,7 +108,7 @@ fn pass_on(publisher: &mut Publisher, seats: &mut [Seat], clock: u64, room: u32)
     publisher.note_delivered(clock, room)
 }
 
-/// Queues the next payload of the publisher with these buffers for each open subscriber. Returns false if none is due.
+/// Queues the next payload of the publisher with the buffers `which` for each open subscriber. False if none is due.
 fn deliver_next(table: &mut Table, which: PublisherBuffers, clock: u64, room: u32) -> bool
     requires { clock < 2 ^ 62 }
     ensures given { GivesNext which clock room table.old result }
@@ -120,7 +119,7 @@ fn deliver_next(table: &mut Table, which: PublisherBuffers, clock: u64, room: u3
     pass_on(publisher, &mut table.seats, clock, room)
 }
 
-/// Queues the due payloads of the publisher with these buffers for each open subscriber, one by one: at most 64.
+/// Queues the due payloads of the publisher with the buffers `which` for each open subscriber, one by one: at most 64.
 fn deliver_each(table: &mut Table, which: PublisherBuffers, clock: u64, room: u32)
     requires { clock < 2 ^ 62 }
     ensures table { PassesOn which clock room table.old table.new }
@@ -135,8 +134,8 @@ fn deliver_each(table: &mut Table, which: PublisherBuffers, clock: u64, room: u3
     }
 }
 
-/// The number of payloads that fit into the send buffer of every open subscriber in buffer mode, 0 if none is open. In
-/// live mode, where the room doesn't count, no seat is looked at.
+/// Returns the number of payloads that fit into the send buffer of every open subscriber in buffer mode, 0 if none is
+/// open. In live mode, where the room is ignored, no seat is read.
 pub fn room_of_all(table: &Table) -> u32
     ensures { IsRoomOfAll table.now result }
 {
@@ -146,8 +145,8 @@ pub fn room_of_all(table: &Table) -> u32
     }
 }
 
-/// Delivers the payloads that are due, at most 64 of each publisher, each by one copy for each open subscriber. In buffer
-/// mode a payload is delivered only if every open subscriber has room for it and at least one is open.
+/// Delivers the payloads that are due, at most 64 of each publisher, with one copy for each open subscriber. In buffer
+/// mode a payload is delivered only if at least one subscriber is open and every open one has room for it.
 pub fn deliver(table: &mut Table, clock: u64)
     requires early { clock < 2 ^ 62 }
     ensures { TableBecomes clock table.old table.new (λ e. delivered e clock) }

@@ -1,5 +1,5 @@
-//! Step 3 of an event: a datagram is for an open session, or is a conclusion; what is neither changes nothing. A Close
-//! ends every session.
+//! Step 3 of an event: a datagram belongs to an open session or is a conclusion; any other datagram changes nothing. A
+//! Close ends every session.
 
 ghost use Rattle.std.specs.Prelude.{◌≡◌, ◌<◌, ◌^◌, ◌++◌};
 ghost use Rattle.srt_seq.specs.Given.{given};
@@ -34,7 +34,7 @@ use srt_pub::{PubEnd, Publisher};
 use srt_seq::{Item, Peer};
 use srt_sub::Took;
 
-/// Applies a packet to a publisher's buffers. Returns why it ends the session, if it does.
+/// Processes a packet in a publisher's buffers. Returns the cause if it ends the session.
 fn hear_publisher(publisher: &mut Publisher, clock: u64, packet: &PacketRef<'_>) -> Option<PubEnd>
     requires { clock < 2 ^ 62 }
     ensures publisher { PublisherTook clock (packet_of packet.now) publisher.old publisher.new }
@@ -49,7 +49,7 @@ fn is_ended(took: Took) -> bool
     matches!(took, Took::Ended)
 }
 
-/// Writes a subscriber's answer into `reply`, addressed to its peer. Returns false if there is none.
+/// Addresses a subscriber's answer in `reply` to its peer. Returns false if there is none.
 fn answer_of(peer: Peer, took: Took, reply: &mut Reply) -> bool
     ensures { written_of (given result reply.new) ≡ datagrams_to peer (texts_of took reply.old.packet) }
 {
@@ -63,8 +63,8 @@ fn answer_of(peer: Peer, took: Took, reply: &mut Reply) -> bool
     }
 }
 
-/// Applies a packet to the subscriber in this seat: its session is heard of, or ends. Returns true if `reply` has an
-/// answer.
+/// Processes a packet of the subscriber in this seat: its session's time of last reception is updated, or it ends.
+/// Returns true if `reply` has an answer.
 fn hear_subscriber(
     seat: &mut Seat,
     arrival: Arrival,
@@ -84,8 +84,9 @@ fn hear_subscriber(
     answer_of(arrival.peer, took, reply)
 }
 
-/// Applies a packet with a destination to the open session with this ID, if the sender is that session's peer. Returns
-/// true if `reply` has an answer: a subscriber's, or the SHUTDOWN of a publisher's session that ends by a lost window.
+/// Processes a packet whose destination is the socket ID of an open session, if the sender is that session's peer.
+/// Returns true if `reply` has an answer: a subscriber's, or the SHUTDOWN of a publisher's session that ends by a lost
+/// window.
 fn to_session(
     table: &mut Table,
     ledger: &mut Ledger,
@@ -127,8 +128,8 @@ fn to_session(
     hear_subscriber(&mut table.seats[at], arrival, packet, reply)
 }
 
-/// Applies a packet. If its destination is 0, only a conclusion is taken; otherwise it is for a session. Returns true
-/// if `reply` has an answer.
+/// Processes a packet. With destination 0 only a conclusion is accepted; any other destination names a session. Returns
+/// true if `reply` has an answer.
 fn to_destination(
     table: &mut Table,
     ledger: &mut Ledger,
@@ -156,8 +157,8 @@ fn to_destination(
     conclude(table, ledger, arrival, c, reply)
 }
 
-/// Applies a datagram with this header and these bytes after it. Returns true if `reply` has an answer. A datagram that
-/// isn't a packet changes nothing.
+/// Processes a datagram with this header and these bytes after it. Returns true if `reply` has an answer. A datagram
+/// that isn't a packet changes nothing.
 fn take_datagram(
     table: &mut Table,
     ledger: &mut Ledger,
@@ -186,7 +187,7 @@ fn take_datagram(
     }
 }
 
-/// Applies an item at this clock in microseconds, and queues the replies to it. A tick changes nothing here.
+/// Processes an item at this clock, in microseconds, and queues the replies to it. A tick changes nothing here.
 pub fn dispatch(
     table: &mut Table,
     ledger: &mut Ledger,

@@ -1,5 +1,6 @@
-//! Draining, where the callers speak libsrt: a publisher's session that its peer ends goes on while something of it is left
-//! to deliver. It takes and sends nothing any more, stays active, and ends once nothing is left, or when its time is over.
+//! Draining, on a route for libsrt callers: a publisher's session that its peer ended continues while something of it
+//! is left to deliver. It accepts and sends no packets any more, stays active, and ends once nothing is left or its
+//! time has expired.
 
 ghost use Rattle.std.specs.Prelude.{◌≡◌, ◌<◌, ◌^◌, length};
 ghost use Rattle.srt_packet.specs.View.{body_of};
@@ -23,8 +24,9 @@ use srt_pub::PubEnd;
 use srt_seq::limits::PEER_IDLE_TIMEOUT_US;
 use srt_seq::{Callers, Mode, Role};
 
-/// Until when the session of this slot, a publisher's, drains after a packet; None if it doesn't. It does after a SHUTDOWN
-/// if it is the active one and something is left to deliver, for its delay and five seconds.
+/// Returns the time until which the publisher's session of this slot drains after a packet, in microseconds; None if it
+/// doesn't drain. It drains after a SHUTDOWN if it is the active one and something is left to deliver, for its delay
+/// and five seconds.
 pub fn drains_after(table: &Table, at: usize, kind: &Kind<'_>, clock: u64) -> Option<u64>
     requires early { clock < 2 ^ 62 }
     requires inside { at < length table.now.seats.items }
@@ -36,7 +38,7 @@ pub fn drains_after(table: &Table, at: usize, kind: &Kind<'_>, clock: u64) -> Op
     }
 }
 
-/// The same where the callers speak libsrt.
+/// The same on a route for libsrt callers.
 fn drains_from(table: &Table, at: usize, kind: &Kind<'_>, clock: u64) -> Option<u64>
     requires early { clock < 2 ^ 62 }
     requires inside { at < length table.now.seats.items }
@@ -61,7 +63,7 @@ fn drains_from(table: &Table, at: usize, kind: &Kind<'_>, clock: u64) -> Option<
     }
 }
 
-/// Whether something is left to deliver of the session that is open in this slot: a subscriber's has nothing.
+/// Whether something is left to deliver of the session that is open in this slot: never of a subscriber's.
 fn has_left(table: &Table, at: usize) -> bool
     requires { at < length table.now.seats.items }
     ensures { HasLeft at table.now result }
@@ -77,7 +79,7 @@ fn has_left(table: &Table, at: usize) -> bool
     }
 }
 
-/// The end of a publisher's session by a packet, unless it drains from then on.
+/// Returns the cause for which a packet ends a publisher's session, unless the session drains from then on.
 pub fn end_unless(drains: Option<u64>, end: Option<PubEnd>) -> Option<PubEnd>
     ensures { result ≡ end_unless drains end }
 {
@@ -87,7 +89,7 @@ pub fn end_unless(drains: Option<u64>, end: Option<PubEnd>) -> Option<PubEnd>
     }
 }
 
-/// Whether the active publisher delivers something now.
+/// Whether the active publisher has a payload to deliver now.
 fn gives_some(table: &Table, clock: u64) -> bool
     requires { clock < 2 ^ 62 }
     ensures { GivesSome clock table.now result }
@@ -103,7 +105,7 @@ fn gives_some(table: &Table, clock: u64) -> bool
     }
 }
 
-/// Whether a session drains in this slot, and nothing of it is left to deliver.
+/// Whether a session drains in this slot with nothing left to deliver.
 fn is_drained(table: &Table, at: usize) -> bool
     requires { at < length table.now.seats.items }
     ensures { IsDrained at table.now result }
@@ -117,7 +119,8 @@ fn is_drained(table: &Table, at: usize) -> bool
     }
 }
 
-/// The moment until which a session drains after an event's deliveries: in buffer mode five seconds from each one.
+/// Returns the time until which a session drains after an event's deliveries: in buffer mode, each delivery extends it
+/// to five seconds from then.
 fn renewed(mode: Mode, delivered: bool, clock: u64, until: u64) -> u64
     requires { clock < 2 ^ 62 }
     ensures { result ≡ renewed mode delivered clock until }
@@ -135,7 +138,7 @@ fn renewed(mode: Mode, delivered: bool, clock: u64, until: u64) -> u64
 }
 
 impl Seat {
-    /// After an event's deliveries: the session here ends if it `ends`; else, if it drains, it has its time anew.
+    /// After an event's deliveries: ends the session here if it `ends`; otherwise, if it drains, extends its time.
     fn settle(&mut self, ends: bool, mode: Mode, delivered: bool, clock: u64)
         requires { clock < 2 ^ 62 }
         ensures { self.new ≡ seat_settled ends mode delivered clock self.old }
@@ -152,14 +155,15 @@ impl Seat {
     }
 }
 
-/// Whether a publisher's session ended that drained, by the number of open ones before and after: by its own SHUTDOWN.
+/// Whether a draining session ended, from the number of open publishers before and after: `Some(true)`, since its own
+/// SHUTDOWN ended it.
 fn drain_end(before: usize, after: usize) -> Option<bool>
     ensures { result ≡ drain_end before after }
 {
     if after < before { Some(true) } else { None }
 }
 
-/// After an event's deliveries: each session ends that drains and has nothing left.
+/// After an event's deliveries: ends each draining session that has nothing left.
 fn settle_each(table: &mut Table, ledger: &mut Ledger, delivered: bool, clock: u64)
     requires { clock < 2 ^ 62 }
     ensures table { SettlesTo clock delivered table.old table.new }
@@ -175,7 +179,7 @@ fn settle_each(table: &mut Table, ledger: &mut Ledger, delivered: bool, clock: u
     }
 }
 
-/// Step 4: the publishers deliver, and each session ends that drains and has nothing left.
+/// Step 4: the publishers deliver, and each draining session that has nothing left ends.
 pub fn deliver_and_settle(table: &mut Table, ledger: &mut Ledger, clock: u64)
     requires { clock < 2 ^ 62 }
     ensures table { DeliversAndSettles clock table.old table.new }

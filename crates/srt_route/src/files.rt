@@ -1,5 +1,5 @@
-//! The end of a file, where the callers speak libsrt: how a publisher's session ended, and which subscribers have all that
-//! it sent in buffer mode.
+//! The end of a file, on a route for libsrt callers: how a publisher's session ended, and which subscribers have
+//! everything that it sent in buffer mode.
 
 ghost use Rattle.std.specs.Prelude.{◌≡◌, ℕ, Some, map};
 ghost use Rattle.srt_route.specs.Sessions.{of_libsrt, silent_end, with_end};
@@ -13,7 +13,7 @@ use crate::table::Table;
 use srt_pub::PubEnd;
 use srt_seq::{Callers, Mode};
 
-/// What is so only where the callers speak libsrt.
+/// Returns `end` on a route for libsrt callers, and None where the callers follow the draft.
 pub fn of_libsrt(callers: Callers, end: Option<bool>) -> Option<bool>
     ensures { result ≡ of_libsrt callers end }
 {
@@ -23,8 +23,8 @@ pub fn of_libsrt(callers: Callers, end: Option<bool>) -> Option<bool>
     }
 }
 
-/// Whether publishers' sessions ended by silence, by their number before and after: `Some(false)`, since none ended by its
-/// own SHUTDOWN.
+/// Whether publishers' sessions ended by silence, from their number before and after: `Some(false)`, since no SHUTDOWN
+/// of their own ended them.
 pub fn silent_end(before: usize, after: usize) -> Option<bool>
     ensures { result ≡ silent_end before after }
 {
@@ -43,7 +43,7 @@ pub fn shutdown_end(end: Option<PubEnd>) -> Option<bool>
 }
 
 impl Seat {
-    /// Keeps how a publisher's session ended in the session that is open here, if one is.
+    /// Records how a publisher's session ended, in the session that is open here, if one is.
     fn note_end(&mut self, by_shutdown: bool)
         ensures { self.new ≡ seat_with_end by_shutdown self.old }
     {
@@ -52,8 +52,8 @@ impl Seat {
         }
     }
 
-    /// Whether a subscriber's session is open here that has the whole file, if files are `over`: it was open when the last
-    /// publisher's session ended, by its own SHUTDOWN, and it acknowledged all that was queued.
+    /// Whether a subscriber's session is open here that has the whole file, if no publisher is open (`over`): it was
+    /// open when the last publisher's session ended by its own SHUTDOWN, and has acknowledged all that was queued.
     pub fn has_whole_file(&self, over: bool) -> bool
         ensures { HasWhole over self.now result }
     {
@@ -75,7 +75,7 @@ impl Seat {
     }
 }
 
-/// Keeps how a publisher's session ended in each open session.
+/// Records how a publisher's session ended, in each open session.
 fn note_each(table: &mut Table, by_shutdown: bool)
     ensures { (clock : ℕ) → TableBecomes clock table.old table.new (λ e. map (with_end (Some by_shutdown))) }
 {
@@ -84,7 +84,7 @@ fn note_each(table: &mut Table, by_shutdown: bool)
     }
 }
 
-/// Keeps how a publisher's session ended in each open session, if one ended.
+/// Records how a publisher's session ended, if one ended, in each open session.
 pub fn note_end(table: &mut Table, end: Option<bool>)
     ensures { (clock : ℕ) → TableBecomes clock table.old table.new (λ e. map (with_end end)) }
 {
@@ -94,7 +94,7 @@ pub fn note_end(table: &mut Table, end: Option<bool>)
     }
 }
 
-/// Whether a route with these callers, in this mode, tells the end of a file.
+/// Whether a route for these callers, in this mode, signals the end of a file.
 fn sends_files(callers: Callers, mode: Mode) -> bool
     ensures { result ≡ sends_files callers mode }
 {
@@ -107,7 +107,7 @@ fn sends_files(callers: Callers, mode: Mode) -> bool
     }
 }
 
-/// Whether files are over: no publisher is open any more, in buffer mode, where the callers speak libsrt.
+/// Whether the file is complete: no publisher is open any more, in buffer mode, on a route for libsrt callers.
 pub fn is_file_over(table: &Table) -> bool
     ensures { IsOver table.now result }
 {

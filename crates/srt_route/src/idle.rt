@@ -1,5 +1,5 @@
-//! Step 2 of an event: sessions whose peer is idle end, and are told if the callers speak libsrt; subscribers drop what is
-//! too late to send (sections 4.5 and 4.6); and a publisher that stands by takes over if it is due.
+//! Step 2 of an event: sessions whose peer is idle end, with a SHUTDOWN on a route for libsrt callers; subscribers drop
+//! what is too late to send (sections 4.5 and 4.6); and the standby takes over if it is due.
 
 ghost use Rattle.std.specs.Prelude.{◌≡◌, ◌<◌, ◌^◌, true, false};
 ghost use Rattle.srt_route.specs.Buffers.{ExpiresTo};
@@ -20,7 +20,7 @@ use crate::table::Table;
 use srt_seq::Callers;
 use srt_seq::limits::PEER_IDLE_TIMEOUT_US;
 
-/// Whether time ends the session: its peer sent nothing for five seconds, or it drains and its time is over.
+/// Whether the session has expired: its peer sent nothing for five seconds, or it drains and its time has expired.
 fn is_over(session: &Session, clock: u64) -> bool
     ensures { result ≡ is_stored_over clock session.now }
 {
@@ -30,7 +30,7 @@ fn is_over(session: &Session, clock: u64) -> bool
     }
 }
 
-/// The cause of an end by time.
+/// Returns the cause of an end by time.
 fn time_cause(drains: Option<u64>) -> EndCause
     ensures { result ≡ time_cause drains }
 {
@@ -41,7 +41,7 @@ fn time_cause(drains: Option<u64>) -> EndCause
 }
 
 impl Seat {
-    /// Whether the session's peer sent nothing for five seconds; nothing is heard of a session that drains.
+    /// Whether the session's peer sent nothing for five seconds; false for a session that drains.
     fn peer_idle(&self, clock: u64) -> bool
         ensures { result ≡ session_passes (peer_idle clock) self.now.session }
     {
@@ -54,7 +54,7 @@ impl Seat {
         }
     }
 
-    /// Why time ends the session, if it does: its peer sent nothing for five seconds, or it drains for too long.
+    /// Returns the cause if the session has expired: its peer was silent for five seconds, or it drained for too long.
     pub fn end_by_time(&self, clock: u64) -> Option<EndCause>
         ensures { result ≡ idle_cause clock self.now.session }
     {
@@ -70,7 +70,7 @@ impl Seat {
         }
     }
 
-    /// Closes the session if it is over.
+    /// Ends the session if it has expired.
     fn end_if_over(&mut self, clock: u64)
         ensures { self.new ≡ with_stored (stored_aged clock self.old.session) self.old }
     {
@@ -88,7 +88,7 @@ impl Seat {
         }
     }
 
-    /// Whether a subscriber's session is open here and isn't over.
+    /// Whether a subscriber's session is open here and hasn't expired.
     fn is_kept_subscriber(&self, clock: u64) -> bool
         ensures { result ≡ session_passes (is_kept_subscriber clock) self.now.session }
     {
@@ -99,7 +99,7 @@ impl Seat {
     }
 }
 
-/// Advances the time of one seat. Queues the SHUTDOWN of a session that ends, if the callers speak libsrt.
+/// Advances the time of one seat. Queues the SHUTDOWN of a session that ends, on a route for libsrt callers.
 fn pass_time(
     seat: &mut Seat,
     clock: u64,
@@ -123,8 +123,8 @@ fn pass_time(
     seat.end_if_over(clock);
 }
 
-/// Advances the time to this clock, in microseconds: closes sessions whose peer sent nothing for five seconds, slots
-/// upwards, and lets the other subscribers drop what is too late.
+/// Advances the time to this clock, in microseconds: ends expired sessions, in ascending order of slots, and lets the
+/// other subscribers drop what is too late.
 fn end_idle(table: &mut Table, clock: u64, hand: &mut Box<Reply>, waiting: &mut ReplyQueue)
     requires early { clock < 2 ^ 62 }
     ensures table { AgesTo clock table.old table.new }
@@ -139,9 +139,9 @@ fn end_idle(table: &mut Table, clock: u64, hand: &mut Box<Reply>, waiting: &mut 
     }
 }
 
-/// Advances the time to this clock, in microseconds: ends idle sessions, lets the other subscribers drop what is too
-/// late, and after all ends lets the publisher that stands by take over, if it is due. Where the callers speak libsrt, the
-/// others keep it if a publisher's session ended.
+/// Advances the time to this clock, in microseconds: ends expired sessions, lets the other subscribers drop what is too
+/// late, and after all ends lets the standby take over, if it is due. On a route for libsrt callers, the remaining
+/// sessions record that a publisher's session ended.
 pub fn advance(table: &mut Table, clock: u64, hand: &mut Box<Reply>, waiting: &mut ReplyQueue)
     requires early { clock < 2 ^ 62 }
     ensures table { AdvancesTo clock table.old table.new }

@@ -1,4 +1,4 @@
-//! Laws of the definitions.
+//! Theorems about the definitions.
 
 ghost use Rattle.srt_route.specs.Acknowledged.{DeliversAll, DeliversInOrder, EndsAtOnce, EndsDrained, FeedsAll, FrontsStay, OneAloneDelivers, PointsStay};
 ghost use Rattle.srt_route.specs.Activity.{ActiveGoesOn, OneIsActive, OneDelivers, OpensBehind, StandbyLeads, StaysActive};
@@ -18,13 +18,13 @@ ghost use Rattle.srt_route.specs.ShiftLaws.{ConclusionsHaveFewWords};
 
 use crate::route::Route;
 
-/// A subscriber of a route with a limit on resends is sent few packets again: at every moment a hundred times these
-/// packets are at most 6400, the limit times its new packets, and a hundred for each 20 ms since its session's opening.
+/// A subscriber of a route with a limit on resends is sent few packets again. At every time a hundred times their
+/// number is at most 6400, plus the limit times its new packets, plus 100 for each 20 ms since its session opened.
 pub fn resends(route: &Route)
     ensures { ResendsFew route.now }
 {}
 
-/// An item has no more replies than the queue of waiting replies holds.
+/// An item has at most as many replies as the queue of waiting replies holds.
 pub fn replies_have_places()
     ensures { RepliesHavePlaces }
 {}
@@ -38,9 +38,9 @@ pub fn replies_are_packets()
     ensures answers { AnswersArePackets }
 {}
 
-/// Whatever a route's terms are and whatever came, at most two of its open sessions publish. No more sessions are open
-/// than it has slots, at most one in each slot and none elsewhere; and of each caller at most one is open that doesn't
-/// drain.
+/// Whatever a route's terms are and whatever it receives, at most two of its open sessions publish. No more sessions
+/// are open than it has slots, at most one in each slot and none elsewhere. Of each caller at most one session is open
+/// that doesn't drain.
 pub fn open_sessions()
     ensures publishers { TwoPublish }
     ensures sessions { NoMoreThanSlots }
@@ -49,20 +49,20 @@ pub fn open_sessions()
     ensures callers { OneOfACaller }
 {}
 
-/// Where a route's callers follow the draft no session ever drains, whatever its items are: each publisher's ends by its
-/// own SHUTDOWN at once.
+/// Where a route's callers follow the draft, no session ever drains, whatever its items are: a publisher's own SHUTDOWN
+/// ends its session at once.
 pub fn draft()
     ensures { NoneDrains }
 {}
 
-/// In buffer mode, whatever a route's items are, no acknowledgement point that an ACK told a publisher, a Full or a
-/// Light one, is past its present point (`points`). A publisher delivers the numbers from its front on, one after
-/// another, and the front moves behind the last of them (`order`), and with no packet that comes (`fronts`); so all
-/// that it ever delivered are the numbers below its front, in order and each once (`all`). Nobody but the active
-/// publisher delivers (`one`), and each subscriber that is open while an event delivers gets all payloads that it
-/// delivers, in order (`fed`). Where the callers speak libsrt and the active publisher's session ends by its own
-/// SHUTDOWN, at once (`at_once`) or after it drained and not by time (`drained`), each point that it was told is at
-/// most its front: every number below the point was received and delivered.
+/// In buffer mode, whatever a route's items are, no acknowledgement point sent to a publisher in a Full or Light ACK is
+/// past its present point (`points`). A publisher delivers the numbers from its front on, one after another; its front
+/// moves past the last of them (`order`) and is moved by no packet (`fronts`). So all that it ever delivered are the
+/// numbers below its front, in order and each once (`all`). Only the active publisher delivers (`one`), and each
+/// subscriber that is open while an event delivers gets all payloads that it delivers, in order (`fed`). On a route for
+/// libsrt callers, if the active publisher's session ends by its own SHUTDOWN, at once (`at_once`) or after it drained
+/// and not by time (`drained`), each point sent to it is at most its front: every number below the point was received
+/// and delivered.
 pub fn acknowledged()
     ensures points { PointsStay }
     ensures order { DeliversInOrder }
@@ -75,8 +75,8 @@ pub fn acknowledged()
 {}
 
 /// A route keeps its limits, whatever its items are. The free slots and the open publishers are together at least as
-/// many as the slots that are kept for publishers; so while fewer publishers are open, no publisher is refused because
-/// no slot is free, and none ever because the free ones are kept. No IP address has more open sessions than one may
+/// many as the slots reserved for publishers. So while fewer publishers are open, no publisher is refused because no
+/// slot is free, and none ever because the free ones are reserved. No IP address has more open sessions than it may
 /// have.
 pub fn limits()
     ensures slots { KeepsSlots }
@@ -87,9 +87,9 @@ pub fn limits()
 
 /// Whatever a route's items are, exactly one of its open publishers is active, if any is open: after each item, and
 /// while an event delivers. As time advances the active one stays active while it is open; a take-over makes the other
-/// one active; and a publisher that opens while one is active stands by. So over a whole event the active one stays
-/// active while its session is open, if no take-over is due. Whoever is active, what is queued for a
-/// subscriber goes on with what the active one delivers, in order: no number is left out, and none is used again.
+/// one active; and a publisher that opens while one is active becomes the standby. So over a whole event the active one
+/// stays active while its session is open, if no take-over is due. Whichever is active, a subscriber's queue continues
+/// with what the active one delivers, in order: no number is omitted, and none is used again.
 pub fn activity()
     ensures one { OneIsActive }
     ensures delivers { OneDelivers }
@@ -100,17 +100,17 @@ pub fn activity()
     ensures queues { QueuesGoOn }
 {}
 
-/// A route with a Close among its items is closed. It has no open session; and whatever comes, it replies to nothing
-/// and no session opens.
+/// A route with a Close among its items is closed. It has no open session, and whatever arrives later, it replies to
+/// nothing and opens no session.
 pub fn closed_routes()
     ensures closes { ClosesOnce }
     ensures ended { ClosedHasNoSession }
     ensures quiet { ClosedIsQuiet }
 {}
 
-/// Nothing depends on the values at which sequence numbers, timestamps and moments begin. If all sequence numbers are
-/// shifted, modulo 2^31, the replies are the same with their numbers shifted; if all timestamps are shifted, or all
-/// moments are later, the replies are the same byte for byte.
+/// The result doesn't depend on the values at which sequence numbers, timestamps and times begin. If all sequence
+/// numbers are shifted, modulo 2^31, the replies are the same with their numbers shifted. If all timestamps are
+/// shifted, or all times are later, the replies are the same byte for byte.
 pub fn renumbering()
     ensures numbers { Renumbers }
     ensures stamps { Restamps }

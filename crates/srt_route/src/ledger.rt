@@ -1,6 +1,6 @@
-//! What a route keeps of what is over: the session that ended last in each slot, the sums of what sessions that ended
-//! counted, and how many sessions opened and conclusions were refused. It is kept beside the sessions, so that nothing
-//! else that an event does can change it, and it is written only when a session opens or ends or a conclusion is refused.
+//! What a route keeps of the past: the session that ended last in each slot, the sums of the counts of ended sessions,
+//! and how many sessions opened and conclusions were refused. It is kept apart from the sessions, so that nothing else
+//! that an event does can change it. It is written only when a session opens or ends or a conclusion is refused.
 
 ghost use Rattle.std.specs.Prelude.{◌≡◌, ◌<◌, ℕ, None, Some, length, slice_set};
 ghost use Rattle.srt_packet.specs.View.{body_of};
@@ -27,30 +27,30 @@ pub enum EndCause {
     Shutdown,
     /// Its peer sent nothing for five seconds.
     Silence,
-    /// A publisher's in live mode: its numbers went on past a window that held nothing more to deliver.
+    /// A publisher's in live mode: its sequence numbers ran past a window that had nothing more to deliver.
     WindowLost,
     /// Its route was closed.
     Closed,
-    /// A subscriber's in buffer mode, where the callers speak libsrt: the file is over, and it acknowledged all of it.
+    /// A subscriber's in buffer mode, on a route for libsrt callers: it acknowledged the whole of a complete file.
     FileEnded,
-    /// A publisher's where the callers speak libsrt: its peer sent a SHUTDOWN, and then all that had come was delivered.
+    /// A publisher's on a route for libsrt callers: its peer sent a SHUTDOWN, and all that was received was delivered.
     Drained,
-    /// A publisher's where the callers speak libsrt: its peer sent a SHUTDOWN, and what had come wasn't delivered in time.
+    /// A publisher's on a route for libsrt callers: its peer sent a SHUTDOWN, and not all was delivered in time.
     DrainedTooLong,
 }
 
 /// A session that ended.
 #[derive(Clone, Copy, Debug)]
 pub struct EndedSession {
-    /// The session as it was at its end, with the packet that ended it.
+    /// A snapshot of the session at its end, including the packet that ended it.
     pub view: SessionView,
     /// Why it ended.
     pub cause: EndCause,
-    /// The moment of its end, in microseconds of the route's clock.
+    /// The time of its end, in microseconds of the route's clock.
     pub moment: u64,
 }
 
-/// Conclusions that a route refused, by cause. Each count stops at 2^64 - 1.
+/// Conclusions that a route refused, by cause. Each count saturates at 2^64 - 1.
 #[derive(Clone, Copy)]
 pub(crate) struct Refusals {
     /// 1002: a third publisher.
@@ -59,28 +59,28 @@ pub(crate) struct Refusals {
     pub resource: u64,
     /// 1004: the MTU or the flow window.
     pub rogue: u64,
-    /// 1012: the flag STREAM and the route's mode differ.
+    /// 1012: the flag STREAM doesn't match the route's mode.
     pub message_api: u64,
     /// 1003: the address has as many open sessions as it may have.
     pub address: u64,
-    /// 1003: the free slots are kept for publishers.
+    /// 1003: the free slots are reserved for publishers.
     pub reserved: u64,
 }
 
-/// What a route keeps of what is over.
+/// What a route keeps of ended sessions and of refusals.
 #[derive(Drop)]
 pub(crate) struct Ledger {
     /// The session that ended last in each slot.
     pub ended: [Option<EndedSession>; SLOTS],
-    /// The sums of what sessions that ended counted.
+    /// The sums of the counts of ended sessions.
     pub totals: Totals,
-    /// Sessions that opened: at most 2^64 - 1.
+    /// Sessions that opened: saturates at 2^64 - 1.
     pub opened: u64,
     /// Conclusions that were refused.
     pub refusals: Refusals,
 }
 
-/// The cause of a publisher's end by a packet, if it ended.
+/// Returns the cause for which a packet ended a publisher's session, if it did.
 pub(crate) fn cause_of(end: Option<PubEnd>) -> Option<EndCause>
     ensures { result ≡ cause_of end }
 {
@@ -91,7 +91,7 @@ pub(crate) fn cause_of(end: Option<PubEnd>) -> Option<EndCause>
     }
 }
 
-/// The cause of a subscriber's end by a packet of this kind, if that ends it.
+/// Returns the cause for which a packet of this kind ends a subscriber's session, if it does.
 pub(crate) fn shutdown_cause(kind: &Kind<'_>) -> Option<EndCause>
     ensures { result ≡ shutdown_cause (body_of kind.now) }
 {
@@ -101,7 +101,7 @@ pub(crate) fn shutdown_cause(kind: &Kind<'_>) -> Option<EndCause>
     }
 }
 
-/// The cause of a subscriber's end if it has the whole file.
+/// Returns the cause of a subscriber's end if it has the whole file.
 pub(crate) fn file_cause(whole: bool) -> Option<EndCause>
     ensures { result ≡ file_cause whole }
 {
@@ -112,14 +112,14 @@ pub(crate) fn file_cause(whole: bool) -> Option<EndCause>
     }
 }
 
-/// The cause of a draining session's end if nothing is left.
+/// Returns the cause of a draining session's end if nothing is left.
 pub(crate) fn drained_cause(ends: bool) -> Option<EndCause>
     ensures { result ≡ drained_cause ends }
 {
     if ends { Some(EndCause::Drained) } else { None }
 }
 
-/// When the peer of a session was last heard of: a session that ends by a packet was heard of at its end.
+/// Returns when the peer of an ended session was last heard: if a packet ended the session, the time of its end.
 fn heard_at_end(cause: EndCause, heard: u64, moment: u64) -> u64
     ensures { result ≡ heard_at_end cause heard moment }
 {
@@ -135,7 +135,7 @@ fn heard_at_end(cause: EndCause, heard: u64, moment: u64) -> u64
 }
 
 impl Ledger {
-    /// Nothing ended yet, and nothing is counted.
+    /// Returns a ledger without ended sessions, with all counts 0.
     pub fn new() -> Ledger
         ensures ended { (at : ℕ) → entry_of result at ≡ None }
         ensures tally { tally_of result ≡ no_tally }
@@ -179,7 +179,7 @@ impl Ledger {
         }
     }
 
-    /// The conclusions that were refused for this cause.
+    /// Returns the number of conclusions refused for this cause.
     pub fn refused_for(&self, cause: RefusalCause) -> u64
         ensures { result ≡ refused_for cause self.now.refusals }
     {
@@ -193,7 +193,7 @@ impl Ledger {
         }
     }
 
-    /// The conclusions that were refused with this code; 0 for one that a route never gives.
+    /// Returns the number of conclusions refused with this code; 0 for a code that a route never sends.
     pub fn refused(&self, code: RefusalCode) -> u64
         ensures { result ≡ refused_by code self.now.refusals }
     {
@@ -213,7 +213,7 @@ impl Ledger {
         }
     }
 
-    /// Keeps a session that ended as the last one of its slot, and adds what it counted to the sums.
+    /// Keeps an ended session as the last one of its slot, and adds its counts to the sums.
     fn put(&mut self, at: usize, session: EndedSession)
         requires { at < 17 }
         ensures { self.new
@@ -228,7 +228,7 @@ impl Ledger {
         self.ended[at] = Some(session);
     }
 
-    /// Keeps the session of this slot as one that ends now for this cause, and adds what it counts to the sums.
+    /// Keeps the session of this slot as one that ends now for this cause, and adds its counts to the sums.
     #[inline(never)]
     fn keep(&mut self, table: &Table, at: usize, cause: EndCause, moment: u64)
         requires { at < length table.now.seats.items }
@@ -249,7 +249,7 @@ impl Ledger {
         );
     }
 
-    /// Notes that the session of this slot ends now, if there is a cause.
+    /// Records that the session of this slot ends now, if there is a cause.
     #[inline(always)]
     pub fn note(&mut self, table: &Table, at: usize, cause: Option<EndCause>, moment: u64)
         requires { at < length table.now.seats.items }
@@ -260,7 +260,7 @@ impl Ledger {
         }
     }
 
-    /// Notes the end of each session that time ends at this clock, before any of them ends.
+    /// Records the end of each session that has expired at this clock, before any of them ends.
     pub fn note_idle(&mut self, table: &Table, clock: u64)
         ensures { NotesEach (idle_cause clock) clock table.now self.old self.new }
     {
@@ -269,7 +269,7 @@ impl Ledger {
         }
     }
 
-    /// Notes the end of every open session of a route that is closed now, before any of them ends.
+    /// Records the end of every open session of a route that is closed now, before any of them ends.
     pub fn note_closed(&mut self, table: &Table, clock: u64)
         ensures { NotesEach closed_cause clock table.now self.old self.new }
     {

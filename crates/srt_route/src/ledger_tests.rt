@@ -1,5 +1,4 @@
-//! What a route tells of sessions that ended: each cause, in slots that are used again and where a publisher stands by;
-//! and what it counts.
+//! What a route reports of ended sessions: each cause, in slots that are used again and with a standby; and its counts.
 
 use crate::tests::{FIRST, PUBLISHES, PUBLISHES_A_STREAM, REQUESTS, SECOND, peer, studio};
 use crate::{EndCause, EndedSession, Reply, Route, SessionView, Traffic};
@@ -23,7 +22,7 @@ fn media<'a>(number: u32) -> Sample<'a> {
     data_packet(number).stamp(1_000).to(SLOT_0).payload(b"hi")
 }
 
-/// Takes all replies that wait, up to a hundred.
+/// Fetches all waiting replies, up to a hundred.
 fn drain(rt: &(impl AllocGlobal + Abort), route: &mut Route) -> Result<(), Fail> {
     let mut place = Box::new(rt.alloc(), Reply::blank())?;
     for _ in 0..100 {
@@ -32,7 +31,7 @@ fn drain(rt: &(impl AllocGlobal + Abort), route: &mut Route) -> Result<(), Fail>
     Ok(())
 }
 
-/// Gives a route this item, which comes early, and drops its replies.
+/// Offers a route this item, whose time is early, and drops its replies.
 pub(crate) fn give(
     rt: &(impl AllocGlobal + Abort),
     route: &mut Route,
@@ -55,7 +54,7 @@ pub(crate) fn give(
     drain(rt, route)
 }
 
-/// Gives a route these bytes of a peer at this moment.
+/// Offers a route these bytes from a peer at this time.
 pub(crate) fn tell(
     rt: &(impl AllocGlobal + Abort),
     route: &mut Route,
@@ -78,7 +77,7 @@ pub(crate) fn tell(
     give(rt, route, &item)
 }
 
-/// Opens a session of the caller 1 at this port, one second after the route's opening.
+/// Opens a session of caller 1 at this port, one second after the route's opening.
 pub(crate) fn open(
     rt: &(impl AllocGlobal + Abort),
     route: &mut Route,
@@ -88,7 +87,7 @@ pub(crate) fn open(
     tell(rt, route, 1_000_000, peer(port), conclusion(FIRST, wants))
 }
 
-/// Asserts the end of a session that opened at one second: its port, socket ID, cause and moment.
+/// Asserts the end of a session that opened at one second: its port, socket ID, cause and time.
 fn assert_ended(
     rt: &(impl AllocGlobal + Abort),
     ended: Option<EndedSession>,
@@ -188,7 +187,7 @@ fn a_lost_window_is_told(rt: HostRuntime) -> Result<(), Fail> {
     Ok(())
 }
 
-/// An encoder asks to receive, and sends all the same.
+/// An encoder requests to receive, and sends data anyway.
 #[test]
 fn data_packets_that_come_to_a_subscriber_are_counted(rt: HostRuntime) -> Result<(), Fail> {
     let mut route = studio(rt.alloc())?;
@@ -235,7 +234,7 @@ fn a_close_is_told_of_each_session(rt: HostRuntime) -> Result<(), Fail> {
     assert!(rt; !standby.is_active);
     let end = route.ended(2);
     let _ = assert_ended(&rt, end, 5002, 0x10_0002, EndCause::Shutdown, 1_100_000)?;
-    // After a Close nothing more is told.
+    // After a Close nothing more is reported.
     give(&rt, &mut route, &Item::Close { moment: 9_000_000 })?;
     let end = route.ended(0);
     let _ = assert_ended(&rt, end, 5000, 0x10_0000, EndCause::Closed, 2_000_000)?;
@@ -357,7 +356,7 @@ fn a_conclusion_that_comes_again_opens_nothing(rt: HostRuntime) -> Result<(), Fa
     let mut route = studio(alloc)?;
     open(&rt, &mut route, 5000, &PUBLISHES)?;
     open(&rt, &mut route, 5000, &PUBLISHES)?;
-    // The same caller wants something that would be refused: it gets its first answer.
+    // The same caller requests what would be refused: it gets its first answer.
     let stream = conclusion(FIRST, &PUBLISHES_A_STREAM);
     tell(&rt, &mut route, 1_000_000, peer(5000), stream)?;
     assert_eq!(rt; route.opened(), 1);

@@ -1,27 +1,34 @@
-//! A route: its sessions open and close, and payloads go from its active publisher to its subscribers. A second
-//! publisher stands by, and takes over when the active one ends. When the route is closed, every session ends.
+//! A route: sessions open and close, and the active publisher's payloads are forwarded to the subscribers. A second
+//! publisher is the standby, and takes over when the active one ends or, if so configured, falls silent. Closing the
+//! route ends every session.
 //!
-//! It reads no clock and no socket: a datagram, a tick or a Close comes in as an item, and replies wait to be taken. It doesn't
-//! choose the route of a datagram and checks no cookie (`srt_lobby` does), and what a session does by itself is in
-//! `srt_pub` and `srt_sub`.
+//! A route reads neither a clock nor a socket: each datagram, tick or Close arrives as an item, and replies wait in a
+//! queue. It doesn't choose the route of a datagram and checks no cookie (`srt_lobby` does both). The behaviour of a
+//! single session is in `srt_pub` and `srt_sub`.
 //!
-//! Types: `Route`; in it `Table`, the seats of its slots and the publishers' buffers, and `ReplyQueue`. A `Seat` has a
-//! session and its buffers. A `Reply` is a packet and its receiver. A `SessionView` shows an open session and its counts, an
-//! `EndedSession` one that ended. `Ledger` keeps what is over: the last end in each slot, and what is counted.
+//! Types: a `Route` contains a `Table`, with the seats of its slots and the publishers' buffers, and a `ReplyQueue`. A
+//! `Seat` has a session and its buffers. A `Reply` is a packet and its receiver. A `SessionView` is a snapshot of an
+//! open session with its counts, an `EndedSession` one of a session that ended. A `Ledger` keeps the last ended session
+//! of each slot, and the route's counts.
 //!
 //! Calls: `Route::open`; then `step` for each item, and `next_reply` until it returns false, before the next `step`.
-//! `session` looks at a slot at any time, and changes nothing (`view.rt`); so do `ended`, `opened`, `refused`,
-//! `refused_for` and `totals`.
+//! `session` returns a snapshot of a slot at any time and changes nothing (`view.rt`), as do `ended`, `opened`,
+//! `refused`, `refused_for` and `totals`.
 //!
-//! An event's six steps, as `step` in `route.rt` calls them: the clock; `idle.rt`, idle peers, what is too late, and a
-//! take-over; `dispatch.rt`, a packet for a session or a conclusion (`conclusion.rt` reads it, `admission.rt` has each
-//! refusal and `refusals.rt` the causes, `agreement.rt` what both sides agree on, `answer.rt` the answer) or a Close (`closing.rt`); `delivery.rt`;
-//! `transmit.rt`, the publishers' packets and then the subscribers'.
+//! `step` in `route.rt` processes an event in six steps:
 //!
-//! What a file's end is, and who has it whole, is in `files.rt`. Which of two publishers is active, and what becomes of
-//! the other, is in `standby.rt`. Socket IDs are in `socket_ids.rt`, waiting replies in `reply_queue.rt`, what is kept of
-//! sessions that ended in `ledger.rt` and `totals.rt`, the definition of all of it in `specs/Route.antt`, and that of ends
-//! and counts in `specs/Ends.antt` and `specs/Tallies.antt`.
+//! - 1: the clock.
+//! - 2: `idle.rt` ends idle sessions, drops what is too late, and lets the standby take over.
+//! - 3: `dispatch.rt` processes a packet of a session, a conclusion or a Close (`closing.rt`). For conclusions,
+//!   `conclusion.rt` reads them, `admission.rt` checks for each refusal, `refusals.rt` has the causes, `agreement.rt`
+//!   the negotiated values and `answer.rt` the answer.
+//! - 4: `delivery.rt` delivers payloads, and `draining.rt` ends sessions that have drained.
+//! - 5 and 6: `transmit.rt` sends the publishers' packets and then the subscribers'.
+//!
+//! Other modules: `files.rt` has the end of a file, and which subscribers have all of it; `standby.rt`, which of two
+//! publishers is active; `socket_ids.rt`, the socket IDs; `reply_queue.rt`, the waiting replies; `ledger.rt` and
+//! `totals.rt`, what is kept of ended sessions. The definition of a route is in `specs/Route.antt`, those of ends and
+//! counts in `specs/Ends.antt` and `specs/Tallies.antt`.
 #![tactic(auto)]
 
 mod admission;

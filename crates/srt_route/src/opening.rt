@@ -1,4 +1,4 @@
-//! Which entry a route can be opened with.
+//! Checks of an entry with which a route is opened.
 
 ghost use Rattle.std.specs.Prelude.{◌≡◌};
 ghost use Rattle.std.specs.Result.{result_err};

@@ -13,7 +13,7 @@ pub enum PublisherBuffers {
 }
 
 impl PublisherBuffers {
-    /// The place of these buffers in a route's table.
+    /// Returns the index of these buffers in a route's table.
     pub fn place(self) -> usize
         ensures value { result ≡ place_of self }
         ensures below { result < 2 }
@@ -24,7 +24,7 @@ impl PublisherBuffers {
         }
     }
 
-    /// The buffers that these are not.
+    /// Returns the other buffers.
     pub fn other(self) -> PublisherBuffers
         ensures { result ≡ other_buffers self }
     {
@@ -34,7 +34,7 @@ impl PublisherBuffers {
         }
     }
 
-    /// Whether these and those are the same buffers.
+    /// Whether both are the same buffers.
     pub fn same_as(self, those: PublisherBuffers) -> bool
         ensures { result ≡ is_same self those }
     {

@@ -1,29 +1,30 @@
-//! Why a route refuses a conclusion.
+//! Causes for which a route refuses a conclusion.
 
 ghost use Rattle.std.specs.Prelude.{◌≡◌};
 ghost use Rattle.srt_route.specs.Route.{code_of};
 
 use srt_hs::RefusalCode;
 
-/// Why a route refuses a conclusion, in the order in which the causes are looked for.
+/// The cause for which a route refuses a conclusion. The variants are in the order in which they are checked.
 #[derive(Clone, Copy, Debug, PartialEq, Eq)]
 pub enum RefusalCause {
-    /// The flag STREAM and the route's mode differ: 1012 (SRT_REJ_MESSAGEAPI).
+    /// The flag STREAM doesn't match the route's mode: 1012 (SRT_REJ_MESSAGEAPI).
     MessageApi,
-    /// The MTU or the flow window: 1004 (SRT_REJ_ROGUE).
+    /// The MTU or the flow window is out of range: 1004 (SRT_REJ_ROGUE).
     Rogue,
-    /// A third publisher: 1002 (SRT_REJ_PEER).
+    /// It would be a third publisher: 1002 (SRT_REJ_PEER).
     Peer,
-    /// The caller's address has as many open sessions as the route allows to one: 1003 (SRT_REJ_RESOURCE).
+    /// The caller's address already has as many open sessions as the route allows for one address: 1003
+    /// (SRT_REJ_RESOURCE).
     Address,
     /// No slot is free: 1003.
     Resource,
-    /// A subscriber, and the free slots are kept for publishers: 1003.
+    /// A subscriber, while the free slots are reserved for publishers: 1003.
     Reserved,
 }
 
 impl RefusalCause {
-    /// The code with which a conclusion is refused for this cause (section 4.3).
+    /// Returns the rejection code that is sent for this cause (section 4.3).
     pub fn code(self) -> RefusalCode
         ensures { result ≡ code_of self }
     {

@@ -13,12 +13,12 @@ use std::alloc::{AllocError, Global};
 pub struct Reply {
     /// The address to which it is sent.
     pub peer: Peer,
-    /// The packet, encoded where it stays until it is sent.
+    /// The packet, encoded in the place from which it is sent.
     pub packet: EncodedPacket,
 }
 
 impl Reply {
-    /// A blank reply, to be written over: no bytes to no address.
+    /// Returns a blank reply, to be overwritten: no bytes, to no address.
     pub fn blank() -> Reply
         ensures { bytes_of result.packet ≡ [] }
     {
@@ -32,8 +32,7 @@ impl Reply {
     }
 }
 
-/// `count` boxes with blank replies, in a vector with capacity for all of them. Allocates them; an error keeps none
-/// of them.
+/// Allocates `count` boxes with blank replies, in a vector with capacity for all of them. An error keeps none of them.
 pub fn blank_boxes(alloc: Global, count: usize) -> Result<Vec<Box<Reply>>, AllocError>
     ensures count { IfOk result (λ boxes. length boxes.items ≡ count) }
     ensures room { IfOk result (λ boxes. count ≤ vec_capacity boxes) }

@@ -1,4 +1,4 @@
-//! Replies that wait to be sent, boxes for more, and the boxes that an event writes into.
+//! Replies that wait to be sent, spare boxes, and the boxes into which an event writes.
 
 ghost use Rattle.std.specs.Prelude.{◌≡◌, ◌↔◌, ◌+◌, ◌<◌, ◌≤◌, ◌++◌, ◌∷◌, [], length, true, false, IfOk};
 ghost use Rattle.std.specs.Vec.{vec_capacity};
@@ -10,8 +10,8 @@ use std::alloc::{AllocError, Global};
 use std::collections::VecDeque;
 use std::mem;
 
-/// Replies that wait, the oldest first, each in a box, and spare boxes. There are always as many boxes as at the
-/// opening: a box that is queued or taken is exchanged for another, so that no reply is moved.
+/// Waiting replies, the oldest first, each in a box, and spare boxes. The number of boxes never changes after the
+/// opening: a box that is queued or fetched is exchanged for another, so that no reply is copied.
 #[derive(Drop)]
 pub struct ReplyQueue {
     replies: VecDeque<Box<Reply>>,
@@ -20,7 +20,7 @@ pub struct ReplyQueue {
     ghost rests: { length replies.items + length spare.items ≤ vec_capacity spare },
 }
 
-/// Scratch boxes, which an event writes packets into. One that is queued is exchanged for a spare box.
+/// Scratch boxes, into which an event writes its packets. One that is queued is exchanged for a spare box.
 #[derive(Drop)]
 pub struct ScratchBoxes {
     /// For an answer, for SHUTDOWNs, and for a subscriber's packets.
@@ -34,7 +34,7 @@ pub struct ScratchBoxes {
 }
 
 impl ScratchBoxes {
-    /// Four blank boxes. The only call that takes memory.
+    /// Allocates four blank boxes.
     pub fn open(alloc: Global) -> Result<ScratchBoxes, AllocError> {
         Ok(ScratchBoxes {
             reply: Box::new(alloc, Reply::blank())?,
@@ -54,7 +54,7 @@ impl ReplyQueue {
     ghost use Rattle.srt_route.specs.Tables.{written_of};
     ghost use Rattle.srt_route.specs.Waits.{replies_of, places_of};
 
-    /// An empty queue with a capacity of `places` replies. The only call that takes memory.
+    /// Allocates an empty queue with a capacity of `places` replies. No other call allocates.
     pub fn open(alloc: Global, places: usize) -> Result<ReplyQueue, AllocError>
         ensures empty { IfOk result (λ w. replies_of w ≡ []) }
         ensures room { IfOk result (λ w. places_of w ≡ places) }
@@ -64,8 +64,8 @@ impl ReplyQueue {
         Ok(ReplyQueue { replies, spare })
     }
 
-    /// Queues the reply in this box behind those before, and replaces the box with a spare one. Does nothing if there
-    /// is no spare box.
+    /// Queues the reply in this box after the others, and replaces the box with a spare one. Does nothing if there is
+    /// no spare box.
     pub fn put(&mut self, place: &mut Box<Reply>)
         ensures places { places_of self.new ≡ places_of self.old }
         ensures put { length (replies_of self.old) < places_of self.old → replies_of self.new ≡ replies_of self.old ++ (place.old.value ∷ []) }
@@ -102,7 +102,7 @@ impl ReplyQueue {
         }
     }
 
-    /// Exchanges this box for that of the oldest reply that waits, and keeps it as a spare one. Returns false if none
+    /// Exchanges this box for that of the oldest waiting reply, and keeps it as a spare one. Returns false if none
     /// waits.
     pub fn next(&mut self, place: &mut Box<Reply>) -> bool
         ensures places { places_of self.new ≡ places_of self.old }
@@ -119,7 +119,7 @@ impl ReplyQueue {
         true
     }
 
-    /// The number of replies that wait.
+    /// Returns the number of waiting replies.
     pub fn len(&self) -> usize
         ensures { result ≡ length (replies_of self.now) }
     {

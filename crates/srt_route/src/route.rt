@@ -1,4 +1,4 @@
-//! A route's state, and an event of it in six steps; docs/PROTOCOL.md, "A route", has them in words.
+//! A route's state, and the six steps of an event, which docs/PROTOCOL.md describes in its section "A route".
 
 ghost use Rattle.std.specs.Prelude.{◌≡◌, ◌<◌, ◌^◌, max};
 ghost use Rattle.srt_seq.specs.Items.{told, moment_of};
@@ -17,33 +17,33 @@ use crate::transmit::{transmit_publishers, transmit_subscribers};
 use srt_seq::{Entry, Item, OpenFault};
 use std::alloc::Global;
 
-/// A route: its sessions and their buffers, and the replies that wait. It takes no memory after `open`. What every event
-/// reads stands first and together, in a few cache lines.
+/// A route: its sessions and their buffers, and the replies that wait. It allocates nothing after `open`. The fields
+/// that every event reads are first and together, in a few cache lines.
 #[derive(Drop)]
 pub struct Route {
-    /// The greatest moment of any item so far, in microseconds.
+    /// The greatest time of any item so far, in microseconds.
     pub(crate) clock: u64,
-    /// Whether the route was closed. Then no session is open, and only the clock goes on.
+    /// Whether the route was closed. A closed route has no open session, and only its clock advances.
     pub(crate) closed: bool,
     /// The replies that wait to be sent.
     pub(crate) waiting: ReplyQueue,
     /// The sessions and their buffers.
     pub(crate) table: Table,
-    /// The boxes that an event writes its packets into.
+    /// The boxes into which an event writes its packets.
     pub(crate) scratch: ScratchBoxes,
-    /// What is kept of sessions that ended, and what is counted.
+    /// The ended sessions that are kept, and the route's counts.
     pub(crate) ledger: Ledger,
     pub(crate) ghost early: { clock < 2 ^ 62 },
 }
 
-/// The later of two moments.
+/// Returns the later of two times.
 fn later(clock: u64, moment: u64) -> u64
     ensures { result ≡ max clock moment }
 {
     clock.max(moment)
 }
 
-/// An item's moment, in microseconds.
+/// Returns an item's time, in microseconds.
 fn moment(item: &Item) -> u64
     ensures { result ≡ moment_of (told item.now) }
 {
@@ -81,10 +81,10 @@ impl Route {
     ghost use Rattle.srt_route.specs.Tallies.{no_tally, tally_after, tally_in};
     ghost use Rattle.srt_route.specs.Stands.{stands, waiting, places};
 
-    /// A route without sessions, at clock 0. `index` is the route's position in the configuration, below 511. Takes all
-    /// memory that the route will ever need: the buffers of its sessions, 66 replies for each session and 4 more, and 4
-    /// scratch boxes. Errors: `Names` if the name has a wrong form, else `Limits` if the index or a number is outside
-    /// its limits, else `OutOfMemory`.
+    /// Opens a route without sessions, at clock 0. `index` is the route's position in the configuration, below 511.
+    /// Allocates all memory that the route will ever need: the buffers of its sessions, 66 replies for each session and
+    /// 4 more, and 4 scratch boxes. Errors: `Names` if the name has a wrong form, else `Limits` if the index or a
+    /// number is outside its limits, else `OutOfMemory`.
     pub fn open(alloc: Global, entry: &Entry, index: usize) -> Result<Route, OpenFault>
         ensures stands { IfOk result (λ route. stands route (terms_of entry.now) index []) }
         ensures none_waits { IfOk result (λ route. waiting route ≡ []) }
@@ -114,9 +114,9 @@ impl Route {
         })
     }
 
-    /// One event: applies one item, a datagram, a tick or a Close, whose moment is in microseconds. Returns the number
-    /// of replies that now wait: at most 66 for each session that the entry allows, and 4 more; none if the route was
-    /// closed before. Take them all with `next_reply` before the next call. Takes no memory.
+    /// Processes one event: a datagram, a tick or a Close, whose time is in microseconds. Returns the number of replies
+    /// that now wait: at most 66 for each session that the entry allows, and 4 more; none if the route was closed
+    /// before. Fetch them all with `next_reply` before the next call. Allocates nothing.
     pub fn step(&mut self, item: &Item) -> usize
         requires none_waits { waiting self.old ≡ [] }
         requires timely { moment_of (told item.now) < 2 ^ 62 }
@@ -130,13 +130,13 @@ impl Route {
             stands self.old e index items → tally_in self.new ≡ tally_after e (told item.now) (after e index items) (tally_in self.old) }
         ensures sums { SumsGrow (totals_of_ended self.old) (totals_of_ended self.new) }
     {
-        // 1: the clock never goes back. After a Close nothing else goes on.
+        // 1: the clock is monotonic. After a Close nothing else happens.
         self.clock = later(self.clock, moment(item));
         if self.closed {
             return 0;
         }
         self.closed = closes(item);
-        // 2: idle sessions end, what is too late is dropped, and the publisher that stands by takes over if it is due.
+        // 2: idle sessions end, what is too late is dropped, and the standby takes over if it is due.
         self.ledger.note_idle(&self.table, self.clock);
         advance(
             &mut self.table,
@@ -144,7 +144,7 @@ impl Route {
             &mut self.scratch.reply,
             &mut self.waiting,
         );
-        // 3: a datagram is for a session, or is a conclusion; a Close ends every session.
+        // 3: a datagram belongs to a session or is a conclusion; a Close ends every session.
         dispatch(
             &mut self.table,
             &mut self.ledger,
@@ -153,7 +153,7 @@ impl Route {
             &mut self.scratch.reply,
             &mut self.waiting,
         );
-        // 4: payloads go from the active publisher to the subscribers; one that drains ends once nothing is left.
+        // 4: the active publisher's payloads go to the subscribers; a draining session ends once nothing is left.
         deliver_and_settle(&mut self.table, &mut self.ledger, self.clock);
         // 5: the publishers' packets.
         transmit_publishers(
@@ -162,7 +162,7 @@ impl Route {
             &mut self.scratch,
             &mut self.waiting,
         );
-        // 6: the subscribers' packets, or the end of a session that has a whole file.
+        // 6: the subscribers' packets, or the end of a session whose subscriber has the whole file.
         transmit_subscribers(
             &mut self.table,
             &mut self.ledger,
@@ -173,7 +173,7 @@ impl Route {
         self.waiting.len()
     }
 
-    /// The greatest moment of any item so far, in microseconds; 0 before the first item.
+    /// Returns the greatest time of any item so far, in microseconds; 0 before the first item.
     pub fn clock(&self) -> u64
         ensures { (e : Terms) (index : ℕ) (items : List TheItem) → stands self.now e index items → result ≡ (after e index items).clock }
     {
@@ -181,7 +181,7 @@ impl Route {
         *clock
     }
 
-    /// The number of open publishers, 2 at most (`laws::open_sessions`). Looks at each seat.
+    /// Returns the number of open publishers, at most 2 (`laws::open_sessions`). Linear in the seats.
     pub fn publishers(&self) -> usize
         ensures { (e : Terms) (index : ℕ) (items : List TheItem) → stands self.now e index items → result ≡ open_publishers (after e index items).sessions }
     {
@@ -195,8 +195,8 @@ impl Route {
         self.waiting.len() > 0
     }
 
-    /// Puts the oldest reply that waits into `place`, by an exchange of boxes; the box that was in `place` is kept for
-    /// a later reply. Returns false and changes nothing if none waits. O(1). Takes no memory.
+    /// Puts the oldest waiting reply into `place` by exchanging boxes; the box that was in `place` is kept for a later
+    /// reply. Returns false and changes nothing if none waits. O(1). Allocates nothing.
     pub fn next_reply(&mut self, place: &mut Box<Reply>) -> bool
         ensures first { result ≡ true → waiting self.old ≡ written place.new.value ∷ waiting self.new }
         ensures none { result ≡ false → (waiting self.old ≡ []) × (self.new ≡ self.old) × (place.new ≡ place.old) }

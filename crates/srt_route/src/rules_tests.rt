@@ -1,6 +1,5 @@
-//! What a route does beyond the draft if its entry asks for it: limits of the sessions of an address and of what
-//! subscribers get, a take-over by the publisher that stands by, a limit of what is sent again, and what callers of libsrt
-//! are told.
+//! What a route does beyond the draft if its entry states so: limits of the sessions of an address and of the slots for
+//! subscribers, a take-over by the standby, a limit on retransmissions, and packets to libsrt callers only.
 
 use crate::ledger_tests::{SLOT_0, SLOT_1, SLOT_2, give, open, tell};
 use crate::tests::{FIRST, PUBLISHES, PUBLISHES_FILES, REQUESTS, REQUESTS_FILES, entry, peer};
@@ -36,8 +35,8 @@ fn neighbour(port: u16) -> Peer {
     other
 }
 
-/// Asserts how many sessions opened, and how many conclusions were refused because a third publisher called, an address
-/// had its sessions, no slot was free, and the free ones were kept.
+/// Asserts how many sessions opened, and how many conclusions were refused because of a third publisher, an address
+/// with all its sessions, no free slot, and reserved slots.
 fn assert_admitted(rt: &(impl AllocGlobal + Abort), route: &Route, opened: u64, refused: [u64; 4]) {
     assert_eq!(rt; route.opened(), opened);
     let told = [
@@ -65,17 +64,17 @@ fn an_address_has_no_more_sessions_than_it_may(rt: HostRuntime) -> Result<(), Fa
     assert_admitted(&rt, &route, 2, [0, 0, 0, 0]);
     open(&rt, &mut route, 5002, &REQUESTS)?;
     assert_admitted(&rt, &route, 2, [0, 1, 0, 0]);
-    // A conclusion that comes again is answered, and another address has its own two sessions.
+    // A repeated conclusion is answered, and another address has a limit of its own.
     open(&rt, &mut route, 5001, &REQUESTS)?;
     let wants = conclusion(FIRST, &REQUESTS);
     tell(&rt, &mut route, 1_000_000, neighbour(5002), wants)?;
     assert_admitted(&rt, &route, 3, [0, 1, 0, 0]);
-    // A session that ended doesn't count.
+    // An ended session isn't counted.
     let end = shutdown().to(SLOT_1);
     tell(&rt, &mut route, 1_000_000, peer(5001), end)?;
     open(&rt, &mut route, 5002, &PUBLISHES)?;
     assert_admitted(&rt, &route, 4, [0, 1, 0, 0]);
-    // A third publisher is refused as one, though its address has its sessions.
+    // A third publisher is refused as one, though its address has all its sessions.
     open(&rt, &mut route, 5003, &PUBLISHES)?;
     assert_admitted(&rt, &route, 4, [1, 1, 0, 0]);
     Ok(())
@@ -95,7 +94,7 @@ fn slots_are_kept_for_publishers(rt: HostRuntime) -> Result<(), Fail> {
     assert_admitted(&rt, &route, 2, [0, 0, 0, 1]);
     open(&rt, &mut route, 5003, &PUBLISHES)?;
     assert_admitted(&rt, &route, 3, [0, 0, 0, 1]);
-    // One publisher is open, and one slot free: it is kept for another publisher.
+    // One publisher is open, and one slot is free: it is reserved for another publisher.
     open(&rt, &mut route, 5004, &REQUESTS)?;
     assert_admitted(&rt, &route, 3, [0, 0, 0, 2]);
     open(&rt, &mut route, 5005, &PUBLISHES)?;
@@ -111,7 +110,7 @@ fn media<'a>(id: u32, number: u32, stamp: u32) -> Sample<'a> {
     data_packet(number).stamp(stamp).to(id).payload(b"hi")
 }
 
-/// Asserts which of the publishers in slots 0 and 1 are active after a tick at this moment.
+/// Asserts which of the publishers in slots 0 and 1 are active after a tick at this time.
 fn assert_active(
     rt: &(impl AllocGlobal + Abort),
     route: &mut Route,
@@ -143,7 +142,7 @@ fn the_standby_takes_over_and_back(rt: HostRuntime) -> Result<(), Fail> {
         media(SLOT_1, 5, 50_000),
     )?;
     assert_active(&rt, &mut route, 1_099_999, (true, false))?;
-    // Data of the active one comes too late after exactly a tenth of a second.
+    // Data of the active one arrives too late after exactly a tenth of a second.
     tell(
         &rt,
         &mut route,
@@ -154,9 +153,9 @@ fn the_standby_takes_over_and_back(rt: HostRuntime) -> Result<(), Fail> {
     assert_active(&rt, &mut route, 1_100_000, (false, true))?;
     assert_active(&rt, &mut route, 1_149_999, (false, true))?;
     assert_active(&rt, &mut route, 1_150_000, (true, false))?;
-    // Both are silent: the active one stays so.
+    // Both are silent: the active one stays active.
     assert_active(&rt, &mut route, 1_300_000, (true, false))?;
-    // Data of the one that stands by counts from the next event on.
+    // Data of the standby counts from the next event on.
     tell(
         &rt,
         &mut route,
@@ -167,7 +166,7 @@ fn the_standby_takes_over_and_back(rt: HostRuntime) -> Result<(), Fail> {
     let second = route.session(1).ok_or("a session in slot 1")?;
     assert!(rt; !second.is_active);
     assert_active(&rt, &mut route, 1_310_000, (false, true))?;
-    // The one that was opened first is alone, and then a new one stands by.
+    // The publisher that was opened first is alone, and then a new one is the standby.
     tell(
         &rt,
         &mut route,
@@ -210,8 +209,8 @@ fn in_buffer_mode_nobody_takes_over(rt: HostRuntime) -> Result<(), Fail> {
     assert_active(&rt, &mut route, 4_000_000, (true, false))
 }
 
-/// The payloads that were queued for the subscriber in slot 2, and the data packets that it was sent for the first time
-/// and again.
+/// Returns the number of payloads queued for the subscriber in slot 2, and of the data packets sent to it for the first
+/// time and again.
 fn sendings(route: &Route) -> Result<(u64, u64, u64), Fail> {
     let view = route.session(2).ok_or("a session in slot 2")?;
     match view.traffic {
@@ -260,7 +259,7 @@ fn what_falls_due_at_a_standby_goes_to_nobody(rt: HostRuntime) -> Result<(), Fai
 /// All numbers of 65 packets from 5 on.
 const ALL_65: [Loss; 1] = [Loss::Range(5, 69)];
 
-/// 65 packets bring 5 hundredths each to the 6400 at first: in all 67 may be sent again, and one more after 20 ms.
+/// 65 packets add 5 hundredths each to the initial 6400: in all 67 may be retransmitted, and one more after 20 ms.
 #[test]
 fn a_subscriber_is_sent_few_packets_again(rt: HostRuntime) -> Result<(), Fail> {
     let rules = Rules {
@@ -311,7 +310,7 @@ const OF_LIBSRT: Rules = Rules {
     ..Rules::DRAFT
 };
 
-/// Gives a route these bytes of a peer at this moment, and leaves its replies.
+/// Offers a route these bytes from a peer at this time, and leaves its replies.
 fn send(
     rt: &(impl AllocGlobal + Abort),
     route: &mut Route,
@@ -335,7 +334,7 @@ fn send(
     Ok(())
 }
 
-/// Asserts what waits: a SHUTDOWN with this timestamp to the caller 1 at each of these ports, and nothing else.
+/// Asserts the waiting replies: a SHUTDOWN with this timestamp to caller 1 at each of these ports, and nothing else.
 fn assert_told(
     rt: &(impl AllocGlobal + Abort),
     route: &mut Route,
@@ -406,7 +405,7 @@ fn an_own_shutdown_is_not_answered(rt: HostRuntime) -> Result<(), Fail> {
     assert_told(&rt, &mut route, 400_000, &[])
 }
 
-/// A publisher of files in slot 0 and a subscriber in slot 1, who was sent one packet at 1.001 s.
+/// A publisher of files in slot 0 and a subscriber in slot 1 that was sent one packet at 1.001 s.
 fn fed_file(rt: &(impl AllocGlobal + Abort), rules: Rules) -> Result<Route, Fail> {
     let mut route = ruled(rt.alloc(), Mode::Buffer, 5, rules)?;
     open(rt, &mut route, 5000, &PUBLISHES_FILES)?;
@@ -421,7 +420,7 @@ fn fed_file(rt: &(impl AllocGlobal + Abort), rules: Rules) -> Result<Route, Fail
     Ok(route)
 }
 
-/// An ACK of everything up to the number 6, whose session is that in slot 1.
+/// An ACK of everything up to the number 6, from the session in slot 1.
 fn acknowledged<'a>() -> Sample<'a> {
     ack(0, &[6]).to(SLOT_1)
 }
@@ -539,7 +538,7 @@ fn by_the_draft_a_publisher_leaves_at_once(rt: HostRuntime) -> Result<(), Fail> 
     Ok(())
 }
 
-/// In buffer mode libsrt's callers are told rates: at least 1000 packets and 1456000 bytes a second, and a link of
+/// In buffer mode ACKs to libsrt callers have rates: at least 1000 packets and 1456000 bytes a second, and a link of
 /// 100000 packets. The route has one packet of 32 by then.
 #[test]
 fn callers_of_libsrt_are_told_rates(rt: HostRuntime) -> Result<(), Fail> {

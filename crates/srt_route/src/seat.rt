@@ -1,4 +1,4 @@
-//! Seats: what a route keeps for each slot, a session and its buffers.
+//! Seats: each slot's session and buffers.
 
 ghost use Rattle.std.specs.Prelude.{◌≡◌, ℕ, ◌+◌, ◌*◌, ◌%◌, ◌^◌, ◌<◌, ◌≤◌, true, false, None, Some, position, length, option_map, count_by, if◌then◌else◌};
 ghost use Rattle.std.specs.List.{list_any};
@@ -27,29 +27,29 @@ pub struct Session {
     pub role: Role,
     /// Which of the route's two publisher buffers a publisher's session uses; without meaning for a subscriber.
     pub buffers: PublisherBuffers,
-    /// The moment at which it was opened, in microseconds: its packets' timestamps count from it.
+    /// The time at which it was opened, in microseconds: its packets' timestamps count from it.
     pub opened: u64,
-    /// The moment of the last packet or conclusion from the peer, in microseconds.
+    /// The time of the last packet or conclusion from the peer, in microseconds.
     pub heard: u64,
-    /// Of a publisher's session that drains the moment at which it ends if something is left to deliver by then, in
-    /// microseconds; it drains from its SHUTDOWN on.
+    /// Of a draining publisher's session, the time at which it ends if something is still left to deliver, in
+    /// microseconds. It drains from its SHUTDOWN on.
     pub drains: Option<u64>,
-    /// Whether a publisher's session ended while this one was open, and the last of them by its own SHUTDOWN; where the
-    /// callers speak libsrt.
+    /// Whether publishers' sessions ended while this one was open, the last of them by its own SHUTDOWN; on a route for
+    /// libsrt callers only.
     pub file_ended: bool,
     /// The answer to its conclusion, kept to answer a repeated conclusion with the same bytes (section 4.3.1.2).
     pub answer: HsAnswer,
 }
 
-/// The seat of a slot. Whether a session is open stands before its buffers: what looks for open sessions reads no more
-/// of a seat without one.
+/// The seat of a slot. `session` precedes its buffers, so that a search for open sessions reads no more of an empty
+/// seat.
 #[derive(Drop)]
 pub struct Seat {
     /// The number of sessions that were ever opened in this seat, modulo 2^16.
     pub generation: u16,
     /// The open session, if any.
     pub session: Option<Session>,
-    /// A subscriber's buffers; meaningless while no subscriber's session is open here.
+    /// A subscriber's buffers; without meaning while no subscriber's session is open here.
     pub subscriber: Subscriber,
 }
 
@@ -91,7 +91,7 @@ impl Seat {
         }
     }
 
-    /// The number of publishers' sessions that are open here: 1 or 0.
+    /// Returns the number of publishers' sessions that are open here: 1 or 0.
     fn publishers(&self) -> usize
         ensures value { result ≡ (if has_publisher self.now then 1 else 0) }
         ensures small { result ≤ 1 }
@@ -99,7 +99,7 @@ impl Seat {
         if self.has_publisher() { 1 } else { 0 }
     }
 
-    /// The number of sessions of this address that are open here, whatever the port: 1 or 0.
+    /// Returns the number of sessions of this address that are open here, whatever the port: 1 or 0.
     fn sessions_from(&self, peer: Peer) -> usize
         ensures value { result ≡ (if has_address peer.ip self.now then 1 else 0) }
         ensures small { result ≤ 1 }
@@ -117,7 +117,7 @@ impl Seat {
         }
     }
 
-    /// The number of sessions that are missing here: 1 or 0.
+    /// Returns 1 if no session is open here, otherwise 0.
     fn vacancies(&self) -> usize
         ensures value { result ≡ (if is_vacant self.now then 1 else 0) }
         ensures small { result ≤ 1 }
@@ -135,7 +135,7 @@ impl Seat {
         }
     }
 
-    /// The publisher buffers that the session here uses; the first if none is open.
+    /// Returns the publisher buffers that the session here uses; the first if none is open.
     pub fn used_buffers(&self) -> PublisherBuffers
         ensures { result ≡ used_buffers self.now }
     {
@@ -161,7 +161,7 @@ impl Seat {
         self.session.is_none()
     }
 
-    /// A seat with these buffers in which no session was opened yet.
+    /// Returns a seat with these buffers in which no session was opened yet.
     pub fn vacant(subscriber: Subscriber) -> Seat
         ensures { result ≡ record { generation = 0; session = None; subscriber = subscriber } }
     {
@@ -172,7 +172,7 @@ impl Seat {
         }
     }
 
-    /// Opens a session in this seat, whose buffers have begun; the generation goes up by one, modulo 2^16.
+    /// Opens a session in this seat, whose buffers have been started. The generation increases by one, modulo 2^16.
     pub fn fill(&mut self, session: Session)
         ensures { self.new ≡ record { generation = (self.old.generation + 1) % 65536; session = Some session; subscriber = self.old.subscriber } }
     {
@@ -180,8 +180,8 @@ impl Seat {
         self.session = Some(session);
     }
 
-    /// Handles a repeated conclusion: updates the time at which the session was last heard of, and writes the first
-    /// answer again into `reply`. Returns false if no session is open here.
+    /// Handles a repeated conclusion: updates the time at which the peer was last heard, and writes the first answer
+    /// again into `reply`. Returns false if no session is open here.
     pub fn again(&mut self, clock: u64, peer: Peer, reply: &mut Reply) -> bool
         ensures seat { self.new ≡ with_stored (option_map (heard_at clock) self.old.session) self.old }
         ensures answer { written_of (given result reply.new) ≡ again_of peer self.old.session }
@@ -208,8 +208,8 @@ impl Seat {
         }
     }
 
-    /// After a packet for the session: closes it if `ends`, else updates the time at which it was last heard of; it drains
-    /// from then on if there is a moment until which it does.
+    /// After a packet for the session: closes it if `ends`, else updates the time at which the peer was last heard. If
+    /// `drains` is a time, the session drains until then.
     pub fn keep_or_end(&mut self, clock: u64, ends: bool, drains: Option<u64>)
         ensures { self.new ≡ with_stored (stored_after ends drains clock self.old.session) self.old }
     {
@@ -223,7 +223,7 @@ impl Seat {
         }
     }
 
-    /// Whether a publisher's session is open here that sends packets: one that drains sends none.
+    /// Whether a publisher's session is open here that sends packets: a draining one sends none.
     pub fn speaks(&self) -> bool
         ensures { result ≡ has_speaker self.now }
     {
@@ -233,7 +233,7 @@ impl Seat {
         }
     }
 
-    /// The number of sessions that drain here: 1 or 0.
+    /// Returns the number of sessions that drain here: 1 or 0.
     fn draining(&self) -> usize
         ensures value { result ≡ (if has_draining self.now then 1 else 0) }
         ensures small { result ≤ 1 }
@@ -245,14 +245,14 @@ impl Seat {
     }
 }
 
-/// The first slot with an open session of this caller (address and socket ID). Linear in the seats, at most 17.
+/// Returns the first slot with an open session of this caller (address and socket ID). Linear in the seats, at most 17.
 pub fn slot_of(seats: &[Seat], peer: Peer, caller: u32) -> Option<usize>
     ensures { result ≡ position (holds peer caller) seats.now }
 {
     seats.iter().position(|seat| seat.holds(peer, caller))
 }
 
-/// The number of open publishers.
+/// Returns the number of open publishers.
 pub fn count_publishers(seats: &[Seat]) -> usize
     ensures { result ≡ count_by has_publisher seats.now }
 {
@@ -263,7 +263,7 @@ pub fn count_publishers(seats: &[Seat]) -> usize
     count
 }
 
-/// The number of open sessions of this address, whatever their ports.
+/// Returns the number of open sessions of this address, whatever their ports.
 pub fn count_from(seats: &[Seat], peer: Peer) -> usize
     ensures { result ≡ count_by (has_address peer.ip) seats.now }
 {
@@ -274,7 +274,7 @@ pub fn count_from(seats: &[Seat], peer: Peer) -> usize
     count
 }
 
-/// The number of open sessions that drain.
+/// Returns the number of open sessions that drain.
 pub fn count_draining(seats: &[Seat]) -> usize
     ensures { result ≡ count_by has_draining seats.now }
 {
@@ -285,7 +285,7 @@ pub fn count_draining(seats: &[Seat]) -> usize
     count
 }
 
-/// The number of free slots.
+/// Returns the number of free slots.
 pub fn count_vacant(seats: &[Seat]) -> usize
     ensures { result ≡ count_by is_vacant seats.now }
 {
@@ -303,7 +303,7 @@ pub fn have_publisher(seats: &[Seat], which: PublisherBuffers) -> bool
     seats.iter().any(|seat| seat.publishes_from(which))
 }
 
-/// The first slot without a session.
+/// Returns the first slot without a session.
 pub fn free_slot(seats: &[Seat]) -> Option<usize>
     ensures { result ≡ position is_vacant seats.now }
 {

@@ -1,10 +1,10 @@
-//! The socket IDs of a route's sessions: how one is made, and which slot one names.
+//! The socket IDs of a route's sessions: how one is composed, and the slot that one names.
 
 ghost use Rattle.std.specs.Prelude.{◌≡◌, ℕ, ◌%◌, ◌<◌};
 ghost use Rattle.srt_route.specs.Sessions.{id_of};
 
-/// The socket ID of a session (our choice): index + 1 at bit 20, the generation modulo 4096 at bit 8, and the slot in
-/// the low 8 bits.
+/// Returns the socket ID of a session (our choice): index + 1 at bit 20, the generation modulo 4096 at bit 8, and the
+/// slot in the low 8 bits.
 pub fn id_at(index: u32, generation: u16, at: usize) -> u32
     requires index { index < 511 }
     requires slot { at < 17 }
@@ -13,7 +13,7 @@ pub fn id_at(index: u32, generation: u16, at: usize) -> u32
     (index + 1) * (1 << 20) + u32::from(generation % 4096) * 256 + at as u32
 }
 
-/// The slot that a session's socket ID names: its low 8 bits.
+/// Returns the slot that a session's socket ID names: its low 8 bits.
 pub fn slot_in(id: u32) -> usize
     ensures { result ≡ id % 256 }
 {

@@ -1,6 +1,6 @@
-//! Two publishers of a route: the one that was opened first is active, and the other stands by. A publisher that is
-//! open alone is active; so if the active one ends, the other takes over by that alone. A route may have a time without
-//! data of the active one after which the other takes over too; then the one that took over is active.
+//! The two publishers of a route. The one that was opened first is active, and the other is the standby. A publisher
+//! that is open alone is active, so the standby takes over when the active one ends. A route may also have a time
+//! without data from the active publisher after which the standby takes over and becomes active.
 
 ghost use Rattle.std.specs.Prelude.{◌≡◌, ◌<◌, ◌^◌, Some, None};
 ghost use Rattle.srt_route.specs.Sessions.{marked_if, takeover_us, takes_over};
@@ -16,7 +16,8 @@ use srt_pub::Publisher;
 use srt_seq::limits::MAX_PAYLOADS;
 use srt_seq::{Mode, Role};
 
-/// The buffers of a publisher that opens, while one is open at most: those that this one doesn't use, else the first.
+/// Returns the buffers for a publisher that opens while at most one is open: those that the open one doesn't use,
+/// otherwise the first.
 pub fn unused_buffers(seats: &[Seat]) -> PublisherBuffers
     ensures { result ≡ unused_buffers seats.now }
 {
@@ -27,8 +28,8 @@ pub fn unused_buffers(seats: &[Seat]) -> PublisherBuffers
     }
 }
 
-/// The buffers of the active one of two open publishers after a session has opened: of a publisher that opens, those
-/// that it doesn't use. A subscriber changes nothing.
+/// Returns which buffers the active one of two open publishers uses after a session opened. A publisher that opens
+/// leaves the lead to the other buffers; a subscriber changes nothing.
 pub fn leading_after(
     leading: PublisherBuffers,
     role: Role,
@@ -42,8 +43,8 @@ pub fn leading_after(
     }
 }
 
-/// The time without data after which the publisher that stands by takes over, in microseconds: in live mode, if the
-/// route has one. It is given in milliseconds, at most 5000.
+/// Returns the time without data after which the standby takes over, in microseconds: in live mode, if the route has
+/// one. `takeover_ms` is in milliseconds, at most 5000.
 fn takeover_us(mode: Mode, takeover_ms: Option<u32>) -> Option<u64>
     ensures { result ≡ takeover_us mode takeover_ms }
 {
@@ -56,8 +57,8 @@ fn takeover_us(mode: Mode, takeover_ms: Option<u32>) -> Option<u64>
     }
 }
 
-/// Whether the active one of two open publishers has failed at this clock: no data came to it for this time, in
-/// microseconds, and some came to the other.
+/// Whether the active one of two open publishers has failed at this clock: for `limit` microseconds it received no
+/// data, and the standby received some.
 fn has_failed(table: &Table, limit: u64, clock: u64) -> bool
     ensures { HasFailed limit clock table.now result }
 {
@@ -75,7 +76,7 @@ fn has_failed(table: &Table, limit: u64, clock: u64) -> bool
     table.publishers[other.place()].silent_for(clock) < limit
 }
 
-/// Whether the publisher that stands by takes over at this clock: nobody does while a session drains.
+/// Whether the standby takes over at this clock. It never does while a session drains.
 fn is_takeover_due(table: &Table, clock: u64) -> bool
     ensures { IsDue clock table.now result }
 {
@@ -90,7 +91,7 @@ fn is_takeover_due(table: &Table, clock: u64) -> bool
     }
 }
 
-/// The publisher that stands by takes over, if it is due.
+/// Lets the standby take over, if that is due.
 pub fn take_over(table: &mut Table, clock: u64)
     ensures { TableBecomes clock table.old table.new (λ e sessions. marked_if (takes_over e clock sessions) sessions) }
 {
@@ -99,8 +100,8 @@ pub fn take_over(table: &mut Table, clock: u64)
     }
 }
 
-/// The buffers of the active publisher; None if no publisher is open. Of two open ones the leading one is active, else
-/// the only one.
+/// Returns the buffers of the active publisher; None if no publisher is open. Of two open publishers the leading one is
+/// active, otherwise the only one.
 pub fn active_buffers(table: &Table) -> Option<PublisherBuffers>
     ensures none { result ≡ None → HasNone table.now }
     ensures some { (which : TheBuffers) → result ≡ Some which → IsActiveOf table.now which }
@@ -116,7 +117,7 @@ pub fn active_buffers(table: &Table) -> Option<PublisherBuffers>
     None
 }
 
-/// Whether a session is the active publisher, where the active one uses these buffers; None if no publisher is open.
+/// Whether a session is the active publisher's, given the active one's buffers (None if no publisher is open).
 pub fn is_active_by(active: Option<PublisherBuffers>, session: &Session) -> bool
     ensures { result ≡ is_active_by active session.now }
 {
@@ -126,9 +127,9 @@ pub fn is_active_by(active: Option<PublisherBuffers>, session: &Session) -> bool
     }
 }
 
-/// Passes over the due payloads of a publisher that stands by, at most 64: they are noted as delivered and lent to nobody.
-/// It has no subscribers, so its room is 0: in buffer mode nothing is delivered, and in live mode, where the room doesn't
-/// count, what is due.
+/// Skips the due payloads of a standby, at most 64: they are recorded as delivered and passed to no subscriber. The
+/// standby has no subscribers, so its room is 0. In buffer mode nothing is delivered; in live mode, where the room is
+/// ignored, everything that is due.
 fn stand_by(publisher: &mut Publisher, clock: u64)
     requires { clock < 2 ^ 62 }
     ensures { PublisherStoodBy clock publisher.old publisher.new }
@@ -140,7 +141,7 @@ fn stand_by(publisher: &mut Publisher, clock: u64)
     }
 }
 
-/// Passes over the due payloads of the publisher that stands by while the one with these buffers is active.
+/// Skips the due payloads of the standby while the publisher with the buffers `active` is active.
 pub fn deliver_standby(table: &mut Table, active: PublisherBuffers, clock: u64)
     requires { clock < 2 ^ 62 }
     ensures { StandsBy active clock table.old table.new }

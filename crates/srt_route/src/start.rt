@@ -1,4 +1,4 @@
-//! How the buffers of a session begin.
+//! Starting the buffers of a session.
 
 ghost use Rattle.std.specs.Prelude.{◌<◌, ◌^◌};
 ghost use Rattle.srt_seq.specs.Window.{word_of};
@@ -12,7 +12,7 @@ use srt_pub::Publisher;
 use srt_seq::{Role, Seq31, Stamp32};
 use srt_sub::Subscriber;
 
-/// A publisher's session opens, with the delay that was agreed and the rules of the route.
+/// Starts a publisher's session, with the agreed delay and the route's rules.
 fn start_publisher(
     publisher: &mut Publisher,
     arrival: Arrival,
@@ -34,7 +34,7 @@ fn start_publisher(
     });
 }
 
-/// A subscriber's session opens, with what was agreed and the rules of the route.
+/// Starts a subscriber's session, with the agreed parameters and the route's rules.
 fn start_subscriber(
     subscriber: &mut Subscriber,
     clock: u64,
@@ -57,7 +57,7 @@ fn start_subscriber(
     });
 }
 
-/// The buffers of a session that opens in this seat begin: the publisher's, or those of the seat.
+/// Starts the buffers of a session that opens in this seat: the publisher's, or the subscriber's of the seat.
 pub fn start_buffers(
     seat: &mut Seat,
     publisher: &mut Publisher,

@@ -1,4 +1,4 @@
-//! The sessions of a route and their buffers.
+//! A route's sessions and their buffers.
 
 ghost use Rattle.std.specs.Prelude.{◌≡◌, ◌<◌, ◌≤◌, [], None, length, IfOk, IfErr};
 
@@ -9,25 +9,25 @@ use srt_seq::{Entry, Mode, OpenFault, Rules};
 use srt_sub::Subscriber;
 use std::alloc::{AllocError, Global};
 
-/// The seats of a route with their sessions, the publishers' buffers, and the values of its entry that are needed to
-/// answer conclusions.
+/// A route's seats with their sessions, the publishers' buffers, and the entry's values that answers to conclusions
+/// need.
 #[derive(Drop)]
 pub struct Table {
     /// The route's index: below 511.
     pub index: u32,
-    /// Live mode (by time, with a delay) or buffer mode (in order, without loss).
+    /// Live mode (timed delivery, with a delay) or buffer mode (in order, without loss).
     pub mode: Mode,
-    /// The least delay of a live session, in milliseconds.
+    /// The minimum delay of a live session, in milliseconds.
     pub latency_ms: u16,
     /// The size of each session's window, in packets: 32 to 8192.
     pub buffer: u32,
-    /// What the route does beyond the draft.
+    /// The route's rules beyond the draft.
     pub rules: Rules,
-    /// A seat for each slot: at most 17.
+    /// One seat for each slot: at most 17.
     pub seats: Vec<Seat>,
-    /// The buffers of two publishers' sessions, the first and the second; meaningless while no session uses them.
+    /// The first and the second publisher buffers; their content has no meaning while no session uses them.
     pub publishers: Vec<Publisher>,
-    /// The buffers of the active one of two open publishers: see `standby.rt`.
+    /// The buffers of the active publisher if two publishers are open: see `standby.rt`.
     pub leading: PublisherBuffers,
     pub ghost index_below: { index < 511 },
     pub ghost few: { length seats.items ≤ 17 },
@@ -39,7 +39,7 @@ impl Table {
     ghost use Rattle.srt_route.specs.Opening.{fault_of};
     ghost use Rattle.srt_route.specs.Tables.{IsTable, AreWide};
 
-    /// The buffers of two publishers, each with a window of this number of packets.
+    /// Allocates the buffers of two publishers, each with a window of `buffer` packets.
     fn open_publishers(alloc: Global, buffer: u32) -> Result<Vec<Publisher>, AllocError>
         requires least { 32 ≤ buffer }
         requires most { buffer ≤ 8192 }
@@ -52,7 +52,7 @@ impl Table {
         Ok(publishers)
     }
 
-    /// The table of a route without sessions, at clock 0. Takes the memory of all buffers.
+    /// Opens the table of a route without sessions, at clock 0. Allocates all buffers.
     pub fn open(alloc: Global, entry: &Entry, index: usize) -> Result<Table, OpenFault>
         requires { fault_of (terms_of entry.now) index ≡ None }
         ensures empty { IfOk result (λ table. IsTable (terms_of entry.now) index 0 table []) }

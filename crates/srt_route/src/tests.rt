@@ -90,7 +90,7 @@ pub(crate) fn studio(alloc: Global) -> Result<Route, Fail> {
     }
 }
 
-/// Asserts that the route replies this to a datagram.
+/// Asserts that this is the route's reply to a datagram.
 fn assert_answered(
     rt: &(impl AllocGlobal + Abort),
     route: &mut Route,
@@ -102,7 +102,7 @@ fn assert_answered(
     assert_replied(rt, route, from, sample, &wanted)
 }
 
-/// Asserts that the route replies nothing to a datagram.
+/// Asserts that the route doesn't reply to a datagram.
 fn assert_unanswered(
     rt: &(impl AllocGlobal + Abort),
     route: &mut Route,
@@ -112,7 +112,7 @@ fn assert_unanswered(
     assert_replied(rt, route, from, sample, &[])
 }
 
-/// Asserts the bytes that the route replies to a datagram, none if there is no reply.
+/// Asserts the bytes of the route's reply to a datagram, none if there is no reply.
 fn assert_replied(
     rt: &(impl AllocGlobal + Abort),
     route: &mut Route,
@@ -148,7 +148,7 @@ fn assert_replied(
     Ok(())
 }
 
-/// Asserts what a route that is closed at this moment sends: a SHUTDOWN to each of these ports and socket IDs, with the
+/// Asserts what a route sends that is closed at this time: a SHUTDOWN to each of these ports and socket IDs, with the
 /// timestamp of half a second.
 fn assert_closed(
     rt: &(impl AllocGlobal + Abort),
@@ -240,7 +240,7 @@ fn a_publisher_is_answered_again_and_ends(rt: HostRuntime) -> Result<(), Fail> {
     let answer = agreed(FIRST, SLOT_0, &RESPONSE);
     assert_answered(&rt, &mut route, peer(5000), first, answer)?;
     assert_answered(&rt, &mut route, peer(5000), first, answer)?;
-    // Another publisher, which stands by, and a shutdown of another peer.
+    // Another publisher, which is the standby, and a shutdown from another peer.
     let second = conclusion(SECOND, &PUBLISHES);
     assert_answered(
         &rt,
@@ -319,7 +319,7 @@ fn refusals_come_in_their_order(rt: HostRuntime) -> Result<(), Fail> {
     let answer = agreed(FIRST, ids[0], &RESPONSE);
     assert_answered(&rt, &mut route, peer(5000), first, answer)?;
     let request = conclusion(FIRST, &REQUESTS);
-    // A publisher that stands by, and three subscribers.
+    // A standby, and three subscribers.
     for k in 1..5 {
         let sample = if k == 1 { first } else { request };
         let answer = agreed(FIRST, ids[k], &RESPONSE);
@@ -331,7 +331,7 @@ fn refusals_come_in_their_order(rt: HostRuntime) -> Result<(), Fail> {
     assert_answered(&rt, &mut route, peer(5005), request, refused)
 }
 
-/// What HSREQ and HSRSP say in buffer mode.
+/// The content of HSREQ and HSRSP in buffer mode.
 const FILE_OFFER: Offer = Offer {
     version: 0x1_0500,
     flags: 0x74,
@@ -406,7 +406,7 @@ fn what_opens_nothing_is_not_answered(rt: HostRuntime) -> Result<(), Fail> {
         conclusion(high, &PUBLISHES),
         conclusion(FIRST, &PUBLISHES[1..]),
         no_name,
-        // The type of a block, and nothing behind it.
+        // The type of a block without anything after it.
         no_name.payload(&[0, 5]),
         data_packet(0),
         keep_alive(),
@@ -448,7 +448,7 @@ fn a_closed_route_sends_shutdowns_and_nothing_more(rt: HostRuntime) -> Result<()
     assert_answered(&rt, &mut route, peer(5000), first, answer)?;
     assert_closed(&rt, &mut route, 1_500_000, &[(5000, FIRST.id)])?;
     assert_closed(&rt, &mut route, 1_600_000, &[])?;
-    // Its conclusion again, that of another caller, and a data packet.
+    // Its repeated conclusion, that of another caller, and a data packet.
     let request = conclusion(SECOND, &REQUESTS);
     assert_unanswered(&rt, &mut route, peer(5000), first)?;
     assert_unanswered(&rt, &mut route, peer(5001), request)?;
@@ -475,7 +475,7 @@ fn shutdowns_come_slots_upwards(rt: HostRuntime) -> Result<(), Fail> {
         second,
         agreed(SECOND, 0x10_0001, &RESPONSE),
     )?;
-    // The first caller leaves and comes back: it opens last, in slot 0.
+    // The first caller leaves and reconnects: it opens last, in slot 0.
     let end = shutdown().to(SLOT_0);
     assert_unanswered(&rt, &mut route, peer(5000), end)?;
     let next = agreed(FIRST, 0x10_0100, &RESPONSE);
@@ -494,7 +494,7 @@ fn an_idle_session_gets_no_shutdown(rt: HostRuntime) -> Result<(), Fail> {
     assert_closed(&rt, &mut route, 6_000_000, &[])
 }
 
-/// Asserts a session's port, role, socket ID and whether it is active, of one that opened at one second.
+/// Asserts a session's port, role, socket ID and whether it is active, of a session that opened at one second.
 fn assert_shown(
     rt: &(impl AllocGlobal + Abort),
     shown: Option<SessionView>,
@@ -548,7 +548,7 @@ fn a_look_shows_the_open_sessions(rt: HostRuntime) -> Result<(), Fail> {
         Traffic::Received(_) => return Err(Fail::from("a subscriber's counts")),
     }
     assert!(rt; route.session(3).is_none() && route.session(17).is_none());
-    // The active publisher leaves: nothing is shown of it, and the other one is active.
+    // The active publisher leaves: its slot is empty, and the other one is active.
     let end = shutdown().to(SLOT_0);
     assert_unanswered(&rt, &mut route, peer(5000), end)?;
     assert!(rt; route.session(0).is_none());

@@ -1,23 +1,23 @@
-//! Sums over sessions of what each counts.
+//! Sums of the counts of sessions.
 
 ghost use Rattle.std.specs.Prelude.{◌≡◌};
 ghost use Rattle.srt_route.specs.Totals.{both_received, both_queued, both_sent, with_traffic};
 
 use crate::view::Traffic;
 
-/// What the sessions of a route counted, those that ended and those that are open. Each count stops at 2^64 - 1.
+/// The counts of all sessions of a route, ended and open. Each count saturates at 2^64 - 1.
 #[derive(Clone, Copy, Debug, PartialEq, Eq)]
 pub struct Totals {
-    /// Of all publishers' sessions: what came, was received, was delivered or passed over, and was given up; NAKs and
-    /// Full ACKs of a full window.
+    /// Of all publishers' sessions: packets that arrived, were received, were delivered or skipped, and were given up;
+    /// NAKs, and Full ACKs of a full window.
     pub received: srt_pub::Counts,
-    /// Of all subscribers' sessions: what was queued, asked for, and given up, and data packets that came.
+    /// Of all subscribers' sessions: payloads queued, reported lost, and given up, and data packets that arrived.
     pub queued: srt_sub::Counts,
-    /// Of all subscribers' sessions: the data packets that were sent, and sent again.
+    /// Of all subscribers' sessions: data packets sent for the first time, and retransmitted.
     pub sent: srt_sub::Sendings,
 }
 
-/// The sums of two publishers' counts.
+/// Adds two publishers' counts.
 fn both_received(a: srt_pub::Counts, b: srt_pub::Counts) -> srt_pub::Counts
     ensures { result ≡ both_received a b }
 {
@@ -35,7 +35,7 @@ fn both_received(a: srt_pub::Counts, b: srt_pub::Counts) -> srt_pub::Counts
     }
 }
 
-/// The sums of two subscribers' counts of payloads and loss lists.
+/// Adds two subscribers' counts of payloads and loss lists.
 fn both_queued(a: srt_sub::Counts, b: srt_sub::Counts) -> srt_sub::Counts
     ensures { result ≡ both_queued a b }
 {
@@ -48,7 +48,7 @@ fn both_queued(a: srt_sub::Counts, b: srt_sub::Counts) -> srt_sub::Counts
     }
 }
 
-/// The sums of two subscribers' counts of data packets.
+/// Adds two subscribers' counts of data packets.
 fn both_sent(a: srt_sub::Sendings, b: srt_sub::Sendings) -> srt_sub::Sendings
     ensures { result ≡ both_sent a b }
 {
@@ -59,7 +59,7 @@ fn both_sent(a: srt_sub::Sendings, b: srt_sub::Sendings) -> srt_sub::Sendings
 }
 
 impl Totals {
-    /// The totals of no session.
+    /// Returns the totals of no session.
     pub(crate) fn none() -> Totals {
         Totals {
             received: srt_pub::Counts {
@@ -85,7 +85,7 @@ impl Totals {
         }
     }
 
-    /// These totals and what one session more counts.
+    /// Returns these totals with the counts of one more session.
     pub(crate) fn with(&self, traffic: &Traffic) -> Totals
         ensures { result ≡ with_traffic traffic.now self.now }
     {

@@ -1,5 +1,5 @@
-//! Steps 5 and 6 of an event, what sessions send at its end: each publisher's packets, then each subscriber's, slots
-//! upwards, or the SHUTDOWN that ends one at the end of a file.
+//! Steps 5 and 6 of an event, what sessions send at its end: each publisher's packets, then each subscriber's, in
+//! ascending order of slots, or the SHUTDOWN that ends a subscriber's session at the end of a file.
 
 ghost use Rattle.std.specs.Prelude.{◌≡◌, ◌<◌, ◌^◌, [], true, false, map, length};
 ghost use Rattle.srt_route.specs.Sessions.{speaks};
@@ -24,7 +24,7 @@ use srt_pub::Publisher;
 use srt_seq::Peer;
 use srt_sub::Subscriber;
 
-/// One more than the number of packets that a subscriber is sent at most at the end of an event.
+/// One more than the most packets that a subscriber is sent at the end of an event.
 const MAX_CALLS: u32 = 66;
 
 /// Queues a publisher's ACK, NAK and KEEPALIVE, in this order, each if it is due (sections 3.2.3 to 3.2.5).
@@ -79,7 +79,7 @@ fn transmit_publisher(
     );
 }
 
-/// Step 5: queues the packets of the open publishers, slots upwards.
+/// Step 5: queues the packets of the open publishers, in ascending order of slots.
 pub fn transmit_publishers(
     table: &mut Table,
     clock: u64,
@@ -133,7 +133,8 @@ fn transmit_seat(seat: &mut Seat, clock: u64, hand: &mut Box<Reply>, waiting: &m
     }
 }
 
-/// Queues the packets of a seat's subscriber, if one is open. If it has the `whole` file, it ends instead, with a SHUTDOWN.
+/// Queues the packets of a seat's subscriber, if one is open. If it has the `whole` file, its session ends instead,
+/// with a SHUTDOWN.
 fn serve_seat(
     seat: &mut Seat,
     whole: bool,
@@ -152,8 +153,8 @@ fn serve_seat(
     transmit_seat(seat, clock, hand, waiting);
 }
 
-/// Step 6: queues the packets of the open subscribers, slots upwards. Where a file is over, the sessions of those that
-/// have all of it end, with a SHUTDOWN.
+/// Step 6: queues the packets of the open subscribers, in ascending order of slots. If a file is complete, the sessions
+/// of the subscribers that have all of it end, with a SHUTDOWN.
 pub fn transmit_subscribers(
     table: &mut Table,
     ledger: &mut Ledger,

@@ -1,4 +1,4 @@
-//! What a look at a route shows: its open sessions, and what each counts. A look changes nothing.
+//! Snapshots of a route: its open sessions and their counts. A snapshot changes nothing.
 
 ghost use Rattle.std.specs.Prelude.{◌≡◌, ℕ, List};
 ghost use Rattle.srt_seq.specs.Terms.{Terms};
@@ -23,13 +23,13 @@ use srt_sub::Subscriber;
 /// The state of a session's buffers and its counts, by its role.
 #[derive(Clone, Copy, Debug, PartialEq, Eq)]
 pub enum Traffic {
-    /// Of a publisher's session: what came and what was delivered.
+    /// Of a publisher's session: what was received and what was delivered.
     Received(srt_pub::Statistics),
     /// Of a subscriber's session: what was queued and what was sent.
     Sent(srt_sub::Statistics),
 }
 
-/// An open session as a look shows it.
+/// A snapshot of an open session.
 #[derive(Clone, Copy, Debug)]
 pub struct SessionView {
     /// The caller's address.
@@ -40,21 +40,21 @@ pub struct SessionView {
     pub id: u32,
     /// Whether the caller publishes or subscribes.
     pub role: Role,
-    /// Whether it is the active publisher. Another publisher stands by; a subscriber is never active.
+    /// Whether it is the active publisher's. A second publisher is the standby; a subscriber is never active.
     pub is_active: bool,
     /// Whether it is a publisher's session that drains: its peer sent a SHUTDOWN, and something is left to deliver.
     pub is_draining: bool,
-    /// The moment at which it was opened, in microseconds of the route's clock.
+    /// The time at which it was opened, in microseconds of the route's clock.
     pub opened: u64,
-    /// The moment of the last packet or conclusion from the peer, in microseconds of the route's clock.
+    /// The time of the last packet or conclusion from the peer, in microseconds of the route's clock.
     pub heard: u64,
-    /// The agreed latency in milliseconds, of what the caller sends or of what it is sent; 0 in buffer mode.
+    /// The agreed latency in milliseconds, in the direction of the payloads; 0 in buffer mode.
     pub latency_ms: u16,
-    /// What the session counts.
+    /// The session's counts.
     pub traffic: Traffic,
 }
 
-/// Of two delays that of what a publisher sends, or that of what a subscriber is sent.
+/// Returns the delay in the direction of the payloads: from the caller for a publisher, to it for a subscriber.
 fn delay_of(role: Role, recv_ms: u16, send_ms: u16) -> u16
     ensures { result ≡ delay_of role recv_ms send_ms }
 {
@@ -64,7 +64,7 @@ fn delay_of(role: Role, recv_ms: u16, send_ms: u16) -> u16
     }
 }
 
-/// The agreed latency of data in the direction of this role, in milliseconds, from the answer to the conclusion.
+/// Returns the agreed latency in the direction of this role's payloads, in milliseconds, from a conclusion's answer.
 pub fn latency_in(role: Role, answer: &HsAnswer) -> u16
     ensures { result ≡ latency_in role answer.now }
 {
@@ -83,7 +83,7 @@ pub fn latency_in(role: Role, answer: &HsAnswer) -> u16
     }
 }
 
-/// What a session counts that has these buffers, of which its role says the one that it uses.
+/// Returns a session's counts: from the publisher's or the subscriber's buffers, by its role.
 fn traffic_of(role: Role, publisher: &Publisher, subscriber: &Subscriber) -> Traffic
     ensures { TellsTraffic role publisher.now subscriber.now result }
 {
@@ -94,7 +94,7 @@ fn traffic_of(role: Role, publisher: &Publisher, subscriber: &Subscriber) -> Tra
 }
 
 impl Table {
-    /// The open session of a slot; None if none is open there, or if there is no such slot.
+    /// Returns a snapshot of the open session of a slot; None if none is open there, or if there is no such slot.
     pub fn look(&self, slot: usize) -> Option<SessionView>
         ensures shows { ShowsSlot slot self.now result }
         ensures stored { SeesSlot slot self.now result }
@@ -126,7 +126,7 @@ impl Table {
     }
 }
 
-/// These totals and what is shown of one slot more.
+/// Returns these totals with the counts of one slot's snapshot added.
 fn with_shown(totals: Totals, shown: Option<SessionView>) -> Totals
     ensures { result ≡ with_shown shown totals }
 {
@@ -137,8 +137,8 @@ fn with_shown(totals: Totals, shown: Option<SessionView>) -> Totals
 }
 
 impl Route {
-    /// The open session of a slot, from 0; None if none is open there, or if the slot isn't below the number of sessions
-    /// that the route's terms allow. Takes no memory. Linear in the seats, at most 17.
+    /// Returns a snapshot of the open session of a slot, from 0; None if none is open there, or if the slot isn't below
+    /// the number of sessions that the route's terms allow. Allocates nothing. Linear in the seats, at most 17.
     pub fn session(&self, slot: usize) -> Option<SessionView>
         ensures { (e : Terms) (index : ℕ) (items : List TheItem) →
             stands self.now e index items → ShowsSession e index slot (after e index items).sessions result }
@@ -146,7 +146,7 @@ impl Route {
         self.table.look(slot)
     }
 
-    /// The session that ended last in a slot, from 0, with the cause and the moment; None if none ended there.
+    /// Returns the session that ended last in a slot, from 0, with its cause and time; None if none ended there.
     pub fn ended(&self, slot: usize) -> Option<EndedSession>
         ensures { result ≡ ended_in slot self.now }
     {
@@ -156,30 +156,31 @@ impl Route {
         self.ledger.ended[slot]
     }
 
-    /// The sessions that opened so far. A conclusion that comes again opens none. Stops at 2^64 - 1.
+    /// Returns the number of sessions opened so far. A repeated conclusion opens none. Saturates at 2^64 - 1.
     pub fn opened(&self) -> u64
         ensures { result ≡ opened_in self.now }
     {
         self.ledger.opened
     }
 
-    /// The conclusions that this route refused so far with this code, each copy of one. What `srt_lobby` refuses comes
-    /// to no route. Stops at 2^64 - 1.
+    /// Returns the number of conclusions that this route refused so far with this code, repeats included. What
+    /// `srt_lobby` refuses reaches no route. Saturates at 2^64 - 1.
     pub fn refused(&self, code: RefusalCode) -> u64
         ensures { result ≡ refused_in code self.now }
     {
         self.ledger.refused(code)
     }
 
-    /// The conclusions that this route refused so far for this cause, each copy of one. Stops at 2^64 - 1.
+    /// Returns the number of conclusions that this route refused so far for this cause, repeats included. Saturates at
+    /// 2^64 - 1.
     pub fn refused_for(&self, cause: RefusalCause) -> u64
         ensures { result ≡ refused_of cause self.now }
     {
         self.ledger.refused_for(cause)
     }
 
-    /// What all sessions of the route counted so far, those that ended and those that are open. When a session ends, its
-    /// counts stay in the sums. Takes no memory. Linear in the square of the seats.
+    /// Returns the counts of all sessions of the route so far, ended and open. When a session ends, its counts stay in
+    /// the sums. Allocates nothing. Quadratic in the seats.
     pub fn totals(&self) -> Totals
         ensures { (e : Terms) (index : ℕ) (items : List TheItem) →
             stands self.now e index items → AddUp e index (after e index items).sessions e.sessions (totals_of_ended self.now) result }

@@ -1,4 +1,4 @@
--- A lane's fields, and the lane of the model that they are.
+-- The lane of the model that a lane's fields represent.
 use Rattle.std.specs.Prelude.{◌≡◌, ℕ, List}
 use Rattle.srt_seq.specs.Items.{Datagram, Item}
 use Rattle.srt_seq.specs.Terms.{Terms}

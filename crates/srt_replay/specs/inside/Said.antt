@@ -1,4 +1,4 @@
--- The event that was read, as the model has it.
+-- The event that was read, as an event of the model.
 use Rattle.std.specs.Prelude.{ℕ, ◌^◌, ◌<◌, ◌≤◌, List, take, false}
 use Rattle.srt_replay.specs.declared.events.Said.{Said}
 use Rattle.srt_replay.specs.declared.events.Said.TheVariants as said
@@ -27,7 +27,7 @@ event_said buffer (said.Send route) = Sends route
 event_said buffer (said.Opens opening) = Opens (terms_said opening) false
 event_said buffer (said.Closes route moment) = Closes route moment
 
--- the datagram is within the buffer, the route exists, and the moment is below its limit
+-- the datagram is within the buffer, the route exists, and the time is below its limit
 abbrev pub IsSound : (routes : ℕ) → Said → Type 0
 IsSound routes (said.Arrival peer moment len) = (len ≤ 2048) × (moment < 2 ^ 62)
 IsSound routes (said.Tick route moment) = (route < routes) × (moment < 2 ^ 62)

@@ -21,13 +21,12 @@ History = List Event → Type 0
 abbrev pub WasAnswered : Sorting → Meaning → List Terms → (past : List Event) (event : Event) (text : List ℕ) → History → Type 0
 WasAnswered class reply entries past event text After = (text ≡ event_text class reply entries past event) × After (event ∷ past)
 
--- an event's answer is at the front of a buffer, or memory for it was refused, and nothing happened
+-- an event's answer is at the front of a buffer, or there was no memory and nothing happened
 abbrev pub EventAnswered : Sorting → Meaning → List Terms → (past : List Event) (event : Event) (buffer : List ℕ) → History → Result ℕ NoMemory → Type 0
 EventAnswered class reply entries past event buffer After (Ok n) = WasAnswered class reply entries past event (take n buffer) After
 EventAnswered class reply entries past event buffer After (Err fault) = WantsCopy class (names_at class reply entries past) event × After past
 
--- a line's answer is at the front of a buffer, or the line isn't an event, or memory for its event was refused, and
--- nothing happened
+-- a line's answer is at the front of a buffer, or the line isn't an event, or there was no memory and nothing happened
 abbrev pub LineAnswered : Sorting → Meaning → List Terms → (past : List Event) (line buffer : List ℕ) → History → Result (Option ℕ) NoMemory → Type 0
 LineAnswered class reply entries past line buffer After (Ok (Some n)) =
     (event : Event) × (event_of (routes_at class reply entries past) line ≡ Some event) ×
@@ -43,7 +42,7 @@ NoEvent old routes number =
     (xs : List ℕ)
     → old ≡ Some xs → (line : List ℕ) × (lines : List (List ℕ)) × (lines_of xs ≡ line ∷ lines) × (event_at routes number line ≡ None)
 
--- a line with this event was taken
+-- a line with this event was read
 pub record TookEvent (old new : Option (List ℕ)) (routes number : ℕ) (event : Event) : Type 0 where
   pub line : List ℕ
   pub took : TookLine old new line
@@ -67,25 +66,25 @@ Answered class reply entries past After old new held holds number (Err Write) =
     (event : Event) × TookEvent old new (routes_at class reply entries past) number event ×
     ((n : ℕ) × Wrote held holds (take n (event_text class reply entries past event)))
 
--- the same four over a gateway, whatever it has behind it: an event's answer,
+-- `WasAnswered` for a gateway with any history: an event's answer
 abbrev pub Answers : {X : Type 0} → (Stands : X → Past) → (old new : X) → SortingFor → Meaning → Event → (text : List ℕ) → Type 0
 Answers Stands old new class reply event text =
     (secret : List ℕ) (entries : List Terms) (past : List Event) → Stands old secret entries past →
     WasAnswered (class secret) reply entries past event text (Stands new secret entries)
 
--- an event's answer, or none if memory was refused,
+-- `EventAnswered` for a gateway with any history: an event's answer, or none if it ran out of memory
 abbrev pub Tries : {X : Type 0} → (Stands : X → Past) → (old new : X) → SortingFor → Meaning → Event → (buffer : List ℕ) → Result ℕ NoMemory → Type 0
 Tries Stands old new class reply event buffer result =
     (secret : List ℕ) (entries : List Terms) (past : List Event) → Stands old secret entries past →
     EventAnswered (class secret) reply entries past event buffer (Stands new secret entries) result
 
--- a line's answer,
+-- `LineAnswered` for a gateway with any history: a line's answer
 abbrev pub TriesLine : {X : Type 0} → (Stands : X → Past) → (old new : X) → SortingFor → Meaning → (line buffer : List ℕ) → Result (Option ℕ) NoMemory → Type 0
 TriesLine Stands old new class reply line buffer result =
     (secret : List ℕ) (entries : List Terms) (past : List Event) → Stands old secret entries past →
     LineAnswered (class secret) reply entries past line buffer (Stands new secret entries) result
 
--- and the result of one line, from what is left in a reader to what a writer holds
+-- `Answered` for a gateway with any history: the result of one line, from a reader's bytes to a writer's
 abbrev pub TriesNext : {X : Type 0} → (Stands : X → Past) → (old new : X) → SortingFor → Meaning → (left left' held holds : Option (List ℕ))
     → (number : ℕ) → Result Bool ReplayFault
     → Type 0
@@ -96,7 +95,7 @@ TriesNext Stands old new class reply left left' held holds number result =
 -- a replay before the line with this number; the text is known only if the writer's bytes are
 pub record Replayed (class : Sorting) (reply : Meaning) (entries : List Terms) (Now : History) (tape : List ℕ)
     (held reader writer : Option (List ℕ)) (number : ℕ) : Type 0 where
-  -- the lines that were answered, and the bytes that are left
+  -- the lines that were answered, and the bytes that remain
   pub lines : List (List ℕ)
   pub left : List ℕ
   pub lines_are : lines_of tape ≡ lines ++ lines_of left

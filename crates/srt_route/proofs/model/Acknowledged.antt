@@ -1,4 +1,5 @@
--- In buffer mode, where an active publisher's session ends by its own SHUTDOWN all that it was told to be acknowledged was delivered.
+-- In buffer mode, an active publisher's session that ends by its own SHUTDOWN has delivered everything acknowledged to
+-- it.
 use Rattle.std.proofs.Common.{ap, ◌∙◌, ◌++◌, append_assoc, ◌≡◌, ℕ, ◌+◌, ◌==◌, ◌&&◌, not, Bool, true, false, cond, Option, None, Some, List, [], ◌∷◌}
 use Rattle.std.proofs.Common.{map, refl, sym, subst, Result, Ok, Err}
 use Rattle.std.proofs.lemmas.List.{append-nil, map-append}
@@ -46,7 +47,7 @@ KeptIn width (Subscribes m) = ⊤
 abbrev pub Kept : Terms → Session → Type 0
 Kept e s = KeptIn e.buffer s.past
 
--- of the pasts
+-- the invariant for a past
 past_expired : (terms : Agreed) (width time : ℕ) (past : Past) → KeptIn width past → KeptIn width (expired_past terms time past)
 past_expired terms width time (Publishes p) h = h
 past_expired terms width time (Subscribes m) h = tt
@@ -71,7 +72,7 @@ past_first : (width : ℕ) (role : Role) → KeptIn width (past_of role)
 past_first width Publish = kept_first width
 past_first width Request = tt
 
--- of the sessions, step by step
+-- the invariant for a session, step by step
 end_keeps : (e : Terms) (end : Option Bool) (s : Session) → Kept e s → Kept e (with_end end s)
 end_keeps e None s h = h
 end_keeps e (Some b) s h = h
@@ -216,12 +217,12 @@ taken_all_keep e index items item mode =
     let clock = clock_after item m in
     taken_keep e index clock item (advanced e clock m.sessions) mode (advanced_keep e clock m.sessions (all_keep e index items mode))
 
--- a list of which each is so
+-- a property of each element of a list
 each_so : (P Q : Session → Type 0) → ((s : Session) → P s → Q s) → (ss : List Session) → Each P ss → lists.Each Q ss
 each_so P Q so [] h = tt
 each_so P Q so (s ∷ ss) h = (so s h.0, each_so P Q so ss h.1)
 
--- what a publisher was told
+-- the acknowledgement points sent to a publisher
 told_in : (width : ℕ) (past : Past) → KeptIn width past → IsToldIn width past
 told_in width (Publishes p) h = h.told
 told_in width (Subscribes m) h = tt
@@ -229,7 +230,7 @@ told_in width (Subscribes m) h = tt
 pub points_stay : PointsStay
 points_stay e index items mode = each_so (Kept e) (IsTold e) (λ s k. told_in e.buffer s.past k) (after e index items).sessions (all_keep e index items mode)
 
--- what it delivers
+-- the numbers that a publisher delivers
 order_in : (terms : publisher.Terms) (past : Past) → terms.mode ≡ Buffer → KeptIn terms.width past → DeliversOnIn terms past
 order_in terms (Publishes p) mode h = λ time room. (kept_delivered terms time room p mode h).order
 order_in terms (Subscribes m) mode h = tt
@@ -239,7 +240,7 @@ delivers_in_order e index items item mode =
     each_so (Kept e) (DeliversOn e) (λ s k. order_in (terms_of e s).publisher s.past mode k) (taken_by e index item (after e index items)).sessions
     (taken_all_keep e index items item mode)
 
--- where nothing is left to deliver
+-- a session with nothing left to deliver
 none_left : (terms : Agreed) (past : Past)
     → terms.publisher.mode ≡ Buffer → KeptIn terms.publisher.width past → has_left terms past ≡ false → HasDeliveredIn past
 none_left terms (Publishes p) mode h left = all_delivered terms.publisher.mode terms.publisher.width p mode h left
@@ -261,7 +262,7 @@ shutdown_left terms initial time stamp (body.DropRequest message first last) (Pu
 shutdown_left terms initial time stamp body.PeerError (Publishes p) is h = cc
 shutdown_left terms initial time stamp body.UserDefined (Publishes p) is h = cc
 
--- a session that has something left doesn't end at once
+-- a session that has something left to deliver doesn't end at once
 goes_on : (callers : Callers) (shut here left : Bool) (until : ℕ) (ends : Bool) → callers ≡ Libsrt → shut ≡ true → here ≡ true
     → not (ends_unless (drain_if callers (shut && here && left) until) ends) ≡ false → left ≡ false
 goes_on Draft shut here left until ends callers is active over = absurd (let bad : Draft ≡ Libsrt = callers in cc)
@@ -284,7 +285,7 @@ at_once e index items item peer packet s mode callers found here is over =
     (ends_with terms s.conclusion.initial packet.body s.past) callers is here over in
     shutdown_left terms s.conclusion.initial (time_in s clock) (stamp_in s packet.stamp) packet.body s.past is (none_left terms s.past mode kept left)
 
--- and one that drains ends if nothing is left
+-- a draining session ends if nothing is left
 left_none : (lives left : Bool) → lives ≡ true → (lives && left) ≡ false → left ≡ false
 left_none true left is over = over
 left_none false left is over = cc
@@ -306,7 +307,7 @@ drained e index items item mode =
     each_so (Kept e) (EndsWithAll e (gives_some e clock sessions) clock) (λ s k. ends_with_all e (gives_some e clock sessions) clock s mode k)
     (delivered e clock sessions) (delivered_keep e clock sessions mode (taken_all_keep e index items item mode))
 
--- a subscriber gets all that it is fed
+-- a subscriber gets everything that it is fed
 one_queued : (mode : Mode) (terms : subscriber.Terms) (time : ℕ) (x : List ℕ) (m : subscriber.Subscribing) → mode ≡ Buffer
     → map payload_in (cond (subscriber.fits mode terms x m.sending) (record m { sending = queued time x m.sending }) m).sending.queue
     ≡ map payload_in m.sending.queue ++ x ∷ []

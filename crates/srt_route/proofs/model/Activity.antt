@@ -1,4 +1,4 @@
--- Who is active among a route's publishers.
+-- The active one of a route's publishers.
 use Rattle.std.proofs.Common.{◌≡◌, ◌≢◌, ℕ, ◌<◌, ◌≤◌, ◌==◌, ◌&&◌, Bool, true, false, cond, Option, None, Some, List, [], ◌∷◌, find}
 use Rattle.std.proofs.Common.{refl, sym, ap, ◌∙◌, arith}
 use Rattle.std.proofs.lemmas.Bool.{and_from, and_parts, eq-eqb, eqb-true, ne_eqb}
@@ -14,7 +14,7 @@ use Rattle.srt_route.proofs.model.Alone.{advanced_alone, are_alone, after_delive
 use Rattle.srt_route.proofs.stored.Stored.{alone_apart}
 use Rattle.srt_route.proofs.steps.Aging.{ages, ages_marks}
 
--- what is found and passes is there
+-- an element that is found and passes a test is counted
 some_there : {A : Type 0} (p q : A → Bool) (xs : List A) (x : A) → find q xs ≡ Some x → p x ≡ true → 0 < how_many p xs
 some_there p q [] x h passes = absurd (let bad : None ≡ Some x = h in cc)
 some_there {A} p q (y ∷ ys) x h passes = by (λ k. some_there p q ys x k passes) (q y) refl h (p y) refl
@@ -25,7 +25,7 @@ some_there {A} p q (y ∷ ys) x h passes = by (λ k. some_there p q ys x k passe
     by rest true found k false is = absurd (let same : y ≡ x = cc in let bad : true ≡ false = sym passes ∙ (ap p (sym same) ∙ is) in cc)
     by rest false found k false is = omega (arith, one_more p y ys false is, rest k)
 
--- what passes one test passes another
+-- a narrower test passes at most as many
 narrower : {A : Type 0} (p q : A → Bool) (xs : List A) → ((x : A) → p x ≡ true → q x ≡ true) → how_many p xs ≤ how_many q xs
 narrower p q [] passes = omega arith
 narrower p q (x ∷ xs) passes = by (narrower p q xs passes) (p x) refl (q x) refl
@@ -36,7 +36,7 @@ narrower p q (x ∷ xs) passes = by (narrower p q xs passes) (p x) refl (q x) re
     by rest false is true was = omega (arith, one_more p x xs false is, one_more q x xs true was, rest)
     by rest false is false was = omega (arith, one_more p x xs false is, one_more q x xs false was, rest)
 
--- of open sessions that stand alone one is active, if one publishes
+-- of open sessions that are alone in their slots exactly one is active, if one publishes
 one_among : (places : ℕ) (ss : List Session) → AreAlone places ss → OneIsActiveAmong ss
 one_among places ss alone = by (active ss) refl
   where

@@ -1,4 +1,4 @@
--- The open sessions of a route stand alone: each in its slot, and each of its caller.
+-- The open sessions of a route are unique: each in its slot, and each of its caller.
 use Rattle.std.proofs.Common.{◌≡◌, ℕ, zero, suc, ◌+◌, ◌<◌, ◌≤◌, ◌==◌, ◌&&◌, Bool, true, false, cond, Option, None, Some, List, [], ◌∷◌, map}
 use Rattle.std.proofs.Common.{find, Result, Ok, Err, refl, subst, ◌∙◌, ◌⊎◌, inl, inr, arith}
 use Rattle.std.specs.Prelude.{nat_lt}
@@ -34,7 +34,7 @@ use Rattle.srt_route.proofs.model.Marking.{marks}
 use Rattle.srt_route.proofs.model.Ending.{ends}
 use Rattle.srt_route.proofs.model.Changes.{keeps_changed}
 
--- a number that is found among so many is one of them
+-- a number found among `count` numbers is one of them
 found_number : (p : ℕ → Bool) (from count at : ℕ) → find p (numbers_from from count) ≡ Some at → at < from + count
 found_number p from zero at h = absurd (let bad : None ≡ Some at = h in cc)
 found_number p from (suc count) at h = at_head (λ k. found_number p (from + 1) count at k) (p from) h
@@ -44,7 +44,7 @@ found_number p from (suc count) at h = at_head (λ k. found_number p (from + 1) 
     at_head later true k = let same : from ≡ at = cc in omega (arith, same)
     at_head later false k = omega (arith, later k)
 
--- what an event does to the sessions keeps them alone
+-- an event's changes keep the sessions unique
 pub passes : (e : Terms) (clock : ℕ) (ss : List Session)
     → Keeps (λ s. passed e clock (room_if (is_active ss s) (least_room e ss)) (delivery e clock (least_room e ss) ss) s)
 passes e clock ss =
@@ -149,7 +149,7 @@ pub at_least : {A : Type 0} (p : A → Bool) (x : A) (xs : List A) (b : Bool) �
 at_least p x xs true is = omega (arith, one_more p x xs true is)
 at_least p x xs false is = omega (arith, one_more p x xs false is)
 
--- what isn't found isn't there
+-- if nothing is found, none passes
 pub none_there : {A : Type 0} (p : A → Bool) (xs : List A) → find p xs ≡ None → how_many p xs ≡ 0
 none_there p [] h = refl
 none_there p (x ∷ xs) h = by (λ k. none_there p xs k) (p x) refl h
@@ -166,7 +166,7 @@ none_pass p (x ∷ xs) never = by (none_pass p xs never) (p x) refl
     by rest true is = absurd (never x is)
     by rest false is = one_more p x xs false is ∙ rest
 
--- what passes one test passes one of two others
+-- at most as many pass a test as pass one of two others that cover it
 pub split : {A : Type 0} (p q r : A → Bool) (xs : List A) → ((x : A) → p x ≡ true → (q x ≡ true) ⊎ (r x ≡ true)) → how_many p xs ≤ how_many q xs + how_many r xs
 split p q r [] either = omega arith
 split p q r (x ∷ xs) either = by (split p q r xs either) (p x) refl (q x) refl (r x) refl
@@ -181,7 +181,7 @@ split p q r (x ∷ xs) either = by (split p q r xs either) (p x) refl (q x) refl
       | inr other ↦ absurd (let bad : r x ≡ true = other in cc)
     ]
 
--- a slot has one open session, and a caller too
+-- a slot has at most one open session, and so has a caller
 pub one_in_slot : (places : ℕ) (ss : List Session) → AreAlone places ss → (slot : ℕ) → how_many (is_open_in slot) ss ≤ 1
 one_in_slot places [] alone slot = omega arith
 one_in_slot places (s ∷ ss) alone slot = by (one_in_slot places ss alone.1 slot) (is_open_in slot s) refl

@@ -1,4 +1,4 @@
--- Sessions whose past alone changes, while they are open.
+-- Sessions of which only the past changes, while they are open.
 use Rattle.std.proofs.Common.{◌≡◌, ℕ, Bool, true, false, cond, Option, None, Some, List, map, find, refl, sym, ◌∙◌}
 use Rattle.std.specs.Option.{option_map}
 use Rattle.srt_route.specs.Past.{Past}

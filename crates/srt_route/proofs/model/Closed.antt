@@ -1,4 +1,4 @@
--- A route after it was closed has no open session, and replies to nothing.
+-- A closed route has no open session, and replies to nothing.
 use Rattle.std.proofs.Common.{◌≡◌, ℕ, Bool, true, false, ◌||◌, ◌&&◌, Option, None, Some, List, [], ◌∷◌, map, refl, ap, ◌∙◌}
 use Rattle.std.specs.List.{list_any}
 use Rattle.srt_seq.specs.declared.shared.Callers.{Callers}
@@ -19,7 +19,7 @@ pub each_ended : (ss : List Session) → none_open (map ended ss) ≡ false
 each_ended [] = refl
 each_ended (s ∷ ss) = each_ended ss
 
--- sessions that stay as open as they are
+-- a change that keeps which sessions are open
 all_stay : (f : Session → Session) → ((s : Session) → (f s).is_open ≡ s.is_open) → (ss : List Session) → none_open (map f ss) ≡ none_open ss
 all_stay f same [] = refl
 all_stay f same (s ∷ ss) = ap (λ b. b || none_open (map f ss)) (same s) ∙ ap (λ b. s.is_open || b) (all_stay f same ss)
@@ -37,7 +37,7 @@ finished_stays : (whole : Bool) (e : Terms) (clock : ℕ) (s : Session) → s.is
 finished_stays true e clock s h = refl
 finished_stays false e clock s h = reported_stays e s.is_open (time_in s clock) s ∙ h
 
--- where none is open none is opened by what opens none
+-- if no session is open, a change that opens none leaves none open
 still_none : (f : Session → Session) → ((s : Session) → s.is_open ≡ false → (f s).is_open ≡ false) → (ss : List Session)
     → none_open ss ≡ false → none_open (map f ss) ≡ false
 still_none f same [] h = refl
@@ -72,7 +72,7 @@ settled_none Libsrt e clock given ss h =
     still_none (with_end end) (λ s none. end_stays end s none) later
     (still_none (settled e given clock) (λ s none. settled_stays s.drains e given clock s none) ss h)
 
--- none is opened by the deliveries of an event
+-- the deliveries of an event open no session
 pub after_delivery_none : (e : Terms) (clock : ℕ) (ss : List Session) → none_open ss ≡ false → none_open (after_delivery e clock ss) ≡ false
 after_delivery_none e clock ss h =
     settled_none e.rules.callers e clock (gives_some e clock ss) (delivered e clock ss) (delivered_stay e clock ss ∙ h)

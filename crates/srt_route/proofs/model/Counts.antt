@@ -1,4 +1,4 @@
--- How many replies an item has at most.
+-- The most replies to one item.
 use Rattle.srt_sub.proofs.Credits.{resends_few}
 use Rattle.std.proofs.Common.{◌≡◌, ℕ, zero, suc, ◌+◌, ◌-◌, ◌*◌, ◌≤◌, ◌==◌, ◌&&◌, not, Bool, true, false, cond, Option, None, Some, List, []}
 use Rattle.std.proofs.Common.{◌∷◌, ◌++◌, ◌||◌, map, length, find, Result, Ok, Err, refl, ap, ◌∙◌, arith}
@@ -30,7 +30,7 @@ use Rattle.srt_route.specs.Route.{after_delivery, ended, has_whole_file, idle_to
 use Rattle.srt_route.proofs.model.FileEnds.{whole_subscribes}
 use Rattle.srt_route.proofs.model.Closed.{after_delivery_none, each_ended, none_open}
 
--- a publisher is sent an ACK and a NAK at most, and a keep-alive only without them
+-- a publisher is sent at most an ACK and a NAK, and a KEEPALIVE only without them
 acks_few : (full light : Bool) (x y : publisher.Report) → length (publisher.ack_of full light x y) ≤ 1
 acks_few true light x y = omega arith
 acks_few false true x y = omega arith
@@ -60,7 +60,7 @@ publisher_few terms time p =
     let few_naks : length naks ≤ 1 = naks_few (publisher.is_nak_due terms.callers time p.notes) terms.width p.seen p.receiving in
     kept_few time (acks ++ naks) p.notes (omega (arith, length-append acks naks, few_acks, few_naks))
 
--- a subscriber is sent a drop request and 64 data packets at most, and a keep-alive only without them
+-- a subscriber is sent at most a drop request and 64 data packets, and a KEEPALIVE only without them
 drops_few : (o : Option Run) → length (subscriber.drops_of o) ≤ 1
 drops_few None = omega arith
 drops_few (Some run) = omega arith
@@ -147,7 +147,7 @@ either true false false = omega arith
 either false true draining = omega arith
 either false false draining = omega arith
 
--- and where it has the whole file, a SHUTDOWN in their place
+-- a session that has the whole file is sent a SHUTDOWN instead
 served_few : (e : Terms) (clock : ℕ) (over : Bool) (s : Session) → length (served_at (has_whole_file over s) e clock s) ≤ cond (is_subscriber s) 65 0
 served_few e clock over s = by (has_whole_file over s) refl
   where
@@ -195,7 +195,7 @@ picked_few {A} {B} f (x ∷ xs) = with_one (f x) (picked_few f xs)
 few_by_slot : (e : Terms) (ss : List Session) → length (by_slot e ss) ≤ e.sessions
 few_by_slot e ss = omega (arith, picked_few (λ slot. find (is_open_in slot) ss) (numbers_from 0 e.sessions), many_numbers 0 e.sessions)
 
--- a datagram is answered once at most
+-- a datagram is answered at most once
 abbrev IsBrief : Taken → Type 0
 IsBrief t = length t.answers ≤ 1
 
@@ -221,7 +221,7 @@ answers_brief initial body (Subscribes s) =
       heard_brief (to_subscriber.heard_from initial body),
     )
 
--- a session that ends is told once at most, and a publisher's is sent nothing else
+-- a session that ends is sent at most one SHUTDOWN, and a publisher's nothing else
 told_few : (callers : Callers) (ends : Bool) (clock : ℕ) (s : Session) → length (told_if callers ends clock s) ≤ 1
 told_few Draft ends clock s = omega arith
 told_few Libsrt true clock s = omega arith
@@ -280,7 +280,7 @@ read_brief : (e : Terms) (index clock : ℕ) (peer : Peer) (packet : Result Pack
 read_brief e index clock peer (Ok packet) ss = packet_brief e index clock peer packet ss
 read_brief e index clock peer (Err fault) ss = omega arith
 
--- each session that ends as time advances is told once
+-- each session that ends as time advances is sent at most one SHUTDOWN
 idle_few : (e : Terms) (clock : ℕ) (ss : List Session) → length (flat_map (λ s. told_if e.rules.callers (is_idle s clock) clock s) ss) ≤ length ss
 idle_few e clock [] = omega arith
 idle_few e clock (s ∷ ss) =
@@ -292,7 +292,7 @@ idle_few e clock (s ∷ ss) =
       length-append one (flat_map (λ s. told_if e.rules.callers (is_idle s clock) clock s) ss),
     )
 
--- and where the route is closed, each open session gets a SHUTDOWN
+-- if the route is closed, each open session is sent a SHUTDOWN
 abbrev packets_after : Terms → (clock : ℕ) → List Session → ℕ
 packets_after e clock ss = length (packets_where e clock speaks ss) + length (served e clock (is_file_over e ss) ss)
 
@@ -311,7 +311,7 @@ none_picked ss (at ∷ places) h =
     ap (λ (o : Option Session). length (cons_option o (filter_map (λ slot. find (is_open_in slot) ss) places))) (vacant ss at h)
     ∙ none_picked ss places h
 
--- the answers to an item, and what is sent after it
+-- the answers to an item, and the packets after it
 taken_few : (e : Terms) (index clock : ℕ) (item : Item) (ss : List Session)
     → length (taken e index clock item ss).answers + packets_after e clock (after_delivery e clock (taken e index clock item ss).sessions)
     ≤ 1 + 65 * e.sessions

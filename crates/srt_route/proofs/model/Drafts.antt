@@ -1,4 +1,4 @@
--- Where the callers follow the draft, no session drains.
+-- If the callers follow the draft, no session drains.
 use Rattle.std.proofs.Common.{◌≡◌, ℕ, ◌+◌, ◌==◌, ◌&&◌, not, Bool, true, false, cond, Option, None, Some, List, [], ◌∷◌, map, refl, ap, ◌∙◌, Result, Ok, Err}
 use Rattle.std.specs.Prelude.{filter, find}
 use Rattle.std.specs.Option.{is_some}
@@ -48,7 +48,7 @@ advanced_stay e clock ss h =
     (marked_stay (takes_over e clock later) later
     (each_mapped Stays Stays (aged e clock) (λ s k. aged_stays e (s.is_open && not (is_over s clock)) (time_in s clock) s k) ss h))
 
--- no packet lets one drain
+-- no packet makes a session drain
 never : (callers : Callers) (left : Bool) (until : ℕ) → callers ≡ Draft → drain_if callers left until ≡ None
 never Draft left until h = refl
 never Libsrt left until h = absurd (let bad : Libsrt ≡ Draft = h in cc)

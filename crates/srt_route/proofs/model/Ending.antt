@@ -60,11 +60,11 @@ ended_becomes e index clock at p x y ss is h =
     by None = tt
     by (Some s) = tt
 
--- the SHUTDOWNs of slots
+-- the SHUTDOWNs of a range of slots
 abbrev pub ended_from : (clock : ℕ) → List Session → (from count : ℕ) → List Datagram
 ended_from clock ss from count = map sent (map (shutdown_to clock) (from_places ss from count))
 
--- what the slots below this one were sent, and what the others will be sent, is what all are sent
+-- the SHUTDOWNs sent to the slots below `at` with those of the remaining slots are the SHUTDOWNs of all
 pub record IsEnding (e : Terms) (clock at : ℕ) (ss : List Session) (before now : List Reply) (places more : ℕ) : Type 0 where
   pub told : List Datagram
   pub said : AreSaid before now places more told
@@ -75,7 +75,7 @@ pub stored_shutdown : (e : Terms) (index clock : ℕ) (t : TheSession) (s : Sess
     → IsSession e index t s → shutdowns_to clock (Some t) ≡ map sent (shutdown_to clock s ∷ [])
 stored_shutdown e index clock t s is = rw (is.peer_is, is.caller_is, is.opened_is) refl
 
--- and so is the one that it is sent only where the callers speak libsrt
+-- the same of a SHUTDOWN that is sent only on a route for libsrt callers
 pub told_alike : (e : Terms) (index clock : ℕ) (callers : Callers) (over : Bool) (t : TheSession) (s : Session)
     → IsSession e index t s → shutdowns_if callers over clock (Some t) ≡ map sent (told_if callers over clock s)
 told_alike e index clock Draft over t s is = refl
@@ -93,7 +93,7 @@ next_shutdown e index clock ss at count (Some t) (Some s) found is =
     ap (λ (g : Option Session). map sent (map (shutdown_to clock) (cons_option g (from_places ss (at + 1) count)))) found
     ∙ ap (λ (ds : List Datagram). ds ++ ended_from clock ss (at + 1) count) (sym (stored_shutdown e index clock t s is))
 
--- one slot more
+-- one more slot
 pub end_slot : (e : Terms) (index clock : ℕ) (p : Publisher) (ss : List Session) (at : ℕ) (x : Seat) (before now then_ : List Reply)
     (places more most : ℕ)
     → at < e.sessions → IsSeat e index clock at p x ss → AreSaid now then_ more most (shutdowns_to clock x.session)
@@ -120,7 +120,7 @@ all_ended e clock at ss before now places more all h =
     let none : e.sessions - at ≡ 0 = omega (arith, all) in
     same_said (sym (append-nil h.told) ∙ (sym (ap (λ (n : ℕ). h.told ++ ended_from clock ss at n) none) ∙ h.whole)) h.said
 
--- the sessions of a route that was closed have ended
+-- the sessions of a closed route have ended
 abbrev pub HasEnded : Session → Type 0
 HasEnded s = s.is_open ≡ false
 
@@ -190,7 +190,7 @@ none_open : (at : ℕ) (ss : List Session) → Each HasEnded ss → find (is_ope
 none_open at [] h = refl
 none_open at (s ∷ ss) h = rw (h.0) (none_open at ss h.1)
 
--- and time changes nothing of them
+-- time doesn't change ended sessions
 pub ended_table : (e : Terms) (index before clock : ℕ) (table : Table) (ss : List Session)
     → IsTable e index before table ss → clock < 2 ^ 62 → Each HasEnded ss → IsTable e index clock table ss
 ended_table e index before clock table ss is early h =

@@ -1,4 +1,4 @@
--- What a session keeps of the last publisher's end, and the sessions that end with a file.
+-- What a session records of the last publisher's end, and the sessions that end with a file.
 use Rattle.std.proofs.Common.{◌≡◌, ℕ, ◌==◌, Bool, true, false, cond, ◌&&◌, Option, None, Some, List, map, refl, ap}
 use Rattle.std.proofs.lemmas.Bool.{and_parts}
 use Rattle.srt_seq.specs.declared.shared.Peer.{Peer}
@@ -14,7 +14,7 @@ use Rattle.srt_route.proofs.model.Changes.{keeps_changed}
 use Rattle.srt_route.proofs.model.Standbys.{publishers_through}
 use Rattle.srt_route.proofs.stored.Stored.{takes, takes_marks}
 
--- what it keeps of it changes nothing else
+-- recording a publisher's end changes nothing else
 pub keeps_end : (end : Option Bool) → Keeps (with_end end)
 keeps_end None = record { slot = λ s. refl; peer = λ s. refl; conclusion = λ s. refl; opens_none = λ s h. h; drains_on = λ s h. h }
 keeps_end (Some b) = record { slot = λ s. refl; peer = λ s. refl; conclusion = λ s. refl; opens_none = λ s h. h; drains_on = λ s h. h }
@@ -23,7 +23,7 @@ pub end_marks : (end : Option Bool) → KeepsMarks (with_end end)
 end_marks None s = refl
 end_marks (Some b) s = refl
 
--- a packet, with it
+-- a packet, with the record of the end
 pub takes_packet : (drains : Option ℕ) (end : Option Bool) (e : Terms) (index clock : ℕ) (peer : Peer) (packet : Packet)
     → Keeps (took_packet drains end e index clock peer packet)
 takes_packet drains None e index clock peer packet = takes drains e index clock peer packet
@@ -36,7 +36,7 @@ pub takes_packet_marks : (drains : Option ℕ) (end : Option Bool) (e : Terms) (
 takes_packet_marks drains None e index clock peer packet s = takes_marks drains e index clock peer packet s
 takes_packet_marks drains (Some b) e index clock peer packet s = takes_marks drains e index clock peer packet s
 
--- what becomes of the sessions after the deliveries
+-- the sessions after the deliveries
 pub settles : (e : Terms) (given : Bool) (clock : ℕ) → Keeps (settled e given clock)
 settles e given clock =
     record {
@@ -119,13 +119,13 @@ finishes_marks e clock over s = by (has_whole_file over s)
     by true = refl
     by false = mark_of s.is_open
 
--- what has the whole file is a subscriber's session that is open
+-- a session that has the whole file is an open subscriber's
 pub whole_subscribes : (over : Bool) (s : Session) → has_whole_file over s ≡ true → is_subscriber s ≡ true
 whole_subscribes over s h =
     (and_parts over (is_subscriber s)
     (and_parts (over && is_subscriber s) s.file_ended (and_parts (over && is_subscriber s && s.file_ended) (has_all s.past) h).0).0).1
 
--- what the publishers send changes nothing of it
+-- the publishers' packets change nothing of it
 abbrev pub gone : Terms → (clock : ℕ) → Session → Session
 gone e clock s = changed (after_publisher e clock) s
 

@@ -41,7 +41,7 @@ record Calm (f : Session → Session) : Type 0 where
   marks : KeepsMarks f
   generation : (s : Session) → (f s).generation ≡ s.generation
 
--- the generation of a session is the number of the older ones of its slot
+-- the generation of a session is the number of older sessions of its slot
 abbrev AreNumbered : List Session → Type 0
 AreNumbered [] = ⊤
 AreNumbered (s ∷ older) = (s.generation ≡ generation_of older s.slot) × AreNumbered older
@@ -54,7 +54,7 @@ numbered_on f keeps same (s ∷ ss) h = (
   numbered_on f keeps same ss h.1,
 )
 
--- so it is below that of the next one
+-- so it is below the generation of the slot's next session
 earlier : (ss : List Session) (at : ℕ) (s : Session) → AreNumbered ss → find (is_open_in at) ss ≡ Some s → s.generation < generation_of ss at
 earlier [] at s h found = absurd (let bad : None ≡ Some s = found in cc)
 earlier (t ∷ ts) at s h found = by (λ k. earlier ts at s h.1 k) (is_open_in at t) refl found (t.slot == at) refl
@@ -72,7 +72,7 @@ earlier (t ∷ ts) at s h found = by (λ k. earlier ts at s h.1 k) (is_open_in a
     by rest false is k true there = omega (arith, rest k)
     by rest false is k false there = rest k
 
--- an item changes the sessions calmly, or one more opens
+-- an item changes the sessions by a calm change, or opens one more
 record Opened (ss new : List Session) : Type 0 where
   session : Session
   new_is : new ≡ session ∷ ss
@@ -184,7 +184,7 @@ passes_calmly e clock ss =
     number_of s true room fed = refl
     number_of s false room fed = refl
 
--- what becomes of them after it, one change as one
+-- the steps after the item, as one change
 abbrev settling : (c : Callers) → (end : Option Bool) → Terms → (given : Bool) → (clock : ℕ) → Session → Session
 settling Draft end e given clock s = s
 settling Libsrt end e given clock s = with_end end (settled e given clock s)
@@ -299,7 +299,7 @@ over_item places ss new s t (inr opening) alone numbered is found generation =
     by false place k =
         opens_behind opening.session ss t unmarked (is ∙ ap (λ (u : Session). Some u) (one_there ss s.slot s t mine k))
 
--- a session with the number of an older one was open before the item
+-- a session with the generation of an older one was open before the item
 record StillThere (ss : List Session) (at : ℕ) : Type 0 where
   session : Session
   found : find (is_open_in at) ss ≡ Some session
@@ -321,7 +321,7 @@ still_there places ss new at t (inr opening) alone found number =
         absurd (omega (arith, same_number, number))
     by false place k = record { session = t; found = k }
 
--- numbers after each event
+-- generations after each event
 numbered_taken : (ss new : List Session) → TakesOn ss new → AreNumbered ss → AreNumbered new
 numbered_taken ss new (inl change) h =
     subst AreNumbered (sym change.new_is) (numbered_on change.by change.calm.keeps change.calm.generation ss h)

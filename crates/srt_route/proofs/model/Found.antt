@@ -1,4 +1,4 @@
--- What is found among the sessions, and what stays so if each of them is changed.
+-- Searches among the sessions, and which results stay if each session is changed.
 use Rattle.std.proofs.Common.{◌≡◌, ℕ, ◌<◌, ◌==◌, Bool, true, false, not, ◌&&◌, ◌||◌, cond, Option, None, Some, List, []}
 use Rattle.std.proofs.Common.{◌∷◌, map, find, refl, sym, ap, subst, ◌∙◌}
 use Rattle.std.specs.Option.{is_some}
@@ -10,7 +10,7 @@ use Rattle.srt_route.specs.Sessions.{Session, is_draining, is_same_peer, is_open
 use Rattle.srt_route.specs.Route.{is_of, is_for}
 use Rattle.srt_route.specs.Tables.{IsAlone, AreAlone}
 
--- what is found passes
+-- an element that is found passes
 pub found_passes : {A : Type 0} (p : A → Bool) (xs : List A) (x : A) → find p xs ≡ Some x → p x ≡ true
 found_passes p [] x h = absurd (let bad : None ≡ Some x = h in cc)
 found_passes p (y ∷ ys) x h = at_head (p y) refl (λ later. found_passes p ys x later) h
@@ -19,7 +19,7 @@ found_passes p (y ∷ ys) x h = at_head (p y) refl (λ later. found_passes p ys 
     at_head true e rest h = let same : y ≡ x = cc in rw (← same) e
     at_head false e rest h = rest h
 
--- something passes if something is found
+-- some element passes exactly if one is found
 pub any_is : {A : Type 0} (p : A → Bool) (xs : List A) → list_any p xs ≡ is_some (find p xs)
 any_is p [] = refl
 any_is p (y ∷ ys) = at_head (p y) (any_is p ys)
@@ -28,7 +28,7 @@ any_is p (y ∷ ys) = at_head (p y) (any_is p ys)
     at_head true rest = refl
     at_head false rest = rest
 
--- nothing is found among the changed ones, if a changed one passes only if it did before
+-- nothing is found among the changed elements, if a changed element passes only if it did before
 pub none_kept : {A : Type 0} (p : A → Bool) (f : A → A) → ((x : A) → p (f x) ≡ true → p x ≡ true) → (xs : List A) → find p xs ≡ None → find p (map f xs) ≡ None
 none_kept p f keeps [] h = refl
 none_kept p f keeps (y ∷ ys) h = at_head (p y) refl (p (f y)) refl (λ later. none_kept p f keeps ys later) h
@@ -92,7 +92,7 @@ found_in_place test opens places (s ∷ ss) alone t h = at_head (test s) refl (�
         let later = rest h in
         (later.0, goes_on (is_open_in t.slot s) refl later)
 
--- the session of a slot that is of this caller is the one that is found for the caller
+-- the session of a slot that is this caller's is the one found for the caller
 pub found_of_caller : (peer : Peer) (caller at places : ℕ) (ss : List Session) → AreAlone places ss → (t : Session)
     → find (is_open_in at) ss ≡ Some t → is_of peer caller t ≡ true
     → find (is_of peer caller) ss ≡ Some t
@@ -115,7 +115,7 @@ found_of_caller peer caller at places (s ∷ ss) alone t h mine =
     at_head true e rest h = let same : s ≡ t = cc in rw (same, mine) refl
     at_head false e rest h = goes_on (is_of peer caller s) refl (rest h)
 
--- what a packet is for is open, doesn't drain, and is the sender's
+-- a session that a packet is for is open, doesn't drain, and has the sender as its peer
 pub for_parts : (index : ℕ) (peer : Peer) (dest : ℕ) (s : Session) → is_for index peer dest s ≡ true
     → (s.is_open ≡ true) × (is_same_peer s.peer peer ≡ true) × (session_id index s ≡ dest) × (is_draining s ≡ false)
 for_parts index peer dest s h =
@@ -127,7 +127,7 @@ for_parts index peer dest s h =
 pub for_open : (index : ℕ) (peer : Peer) (dest : ℕ) (s : Session) → is_for index peer dest s ≡ true → s.is_open ≡ true
 for_open index peer dest s h = (for_parts index peer dest s h).0
 
--- what one test finds is what a narrower one finds, if it passes that too
+-- the element found by a test is the one found by a narrower test, if it passes that too
 pub found_narrower : (p q : Session → Bool) → ((u : Session) → q u ≡ true → u.is_open ≡ true) → (places : ℕ)
     → ((u : Session) → q u ≡ true → u.slot < places → p u ≡ true) → (ss : List Session) → AreAlone places ss → (t : Session)
     → find p ss ≡ Some t → q t ≡ true
@@ -143,7 +143,7 @@ found_narrower p q opens places inside (s ∷ ss) alone t h mine =
     at_head false a true b rest h = absurd (let passes : p s ≡ true = inside s b (alone.0 (opens s b)).inside in cc)
     at_head false a false b rest h = rest h
 
--- a change that keeps a session's slot and caller, and opens none; one that drains goes on to do so
+-- a change that keeps a session's slot and caller, and opens none; a draining session continues to drain
 pub record Keeps (f : Session → Session) : Type 0 where
   pub drains_on : (s : Session) → is_draining (f s) ≡ false → is_draining s ≡ false
   pub slot : (s : Session) → (f s).slot ≡ s.slot

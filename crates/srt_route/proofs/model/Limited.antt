@@ -1,4 +1,4 @@
--- A bound on the open sessions that pass a test is kept, if every opening keeps it.
+-- A bound on the open sessions that pass a test holds if every opening keeps it.
 use Rattle.std.proofs.Common.{◌≡◌, ℕ, zero, suc, ◌+◌, ◌-◌, ◌<◌, ◌≤◌, ◌==◌, ◌&&◌, ◌||◌, not, nat_le, nat_lt, Bool, true, false, cond, Option, None, Some}
 use Rattle.std.proofs.Common.{List, [], ◌∷◌, map, find, Result, Ok, Err, refl, sym, ap, ◌∙◌, arith}
 use Rattle.std.specs.Option.{is_some}
@@ -39,7 +39,7 @@ use Rattle.srt_route.proofs.stored.Stored.{alone_apart, hears}
 use Rattle.srt_route.proofs.steps.Aging.{ages}
 use Rattle.srt_route.proofs.steps.Starting.{limits_hold}
 
--- what a change of the sessions keeps makes no session pass that didn't
+-- a change that keeps the sessions makes no session pass that didn't
 abbrev pub Stays : (Session → Bool) → Type 0
 Stays test = (f : Session → Session) → Keeps f → (s : Session) → test (f s) ≡ true → test s ≡ true
 
@@ -187,7 +187,7 @@ free_and_taken e ss alone =
     let apart = alone_apart e.sessions ss alone in
     omega (arith, slots_are ss 0 e.sessions, counted_slots is_here (λ s h. h) e.sessions ss apart.0 apart.1)
 
--- of the open sessions some publish, and the others subscribe
+-- each open session publishes or subscribes
 by_role : (ss : List Session) → how_many is_here ss ≡ open_publishers ss + how_many is_subscriber ss
 by_role [] = refl
 by_role (s ∷ ss) = by (by_role ss) s.is_open refl (publishes s.conclusion.role) refl
@@ -218,7 +218,7 @@ addresses_stay ip f keeps s h =
     let parts = and_parts (f s).is_open (bytes_eq (f s).peer.ip ip) h in
     and_from s.is_open (bytes_eq s.peer.ip ip) (keeps.opens_none s parts.0) (rw (← keeps.peer s) parts.1)
 
--- a subscriber opens only while more slots are free than are kept
+-- a subscriber's session opens only while more slots are free than are reserved
 kept_open : (e : Terms) → OpensWithin e is_subscriber (e.sessions - e.rules.reserved)
 kept_open e clock peer stamp c ss slot alone is few = by (publishes c.role) refl
   where

@@ -1,4 +1,4 @@
--- Lists that a change goes through.
+-- Changes of every element of a list.
 use Rattle.std.proofs.Common.{◌≡◌, ℕ, zero, suc, Bool, true, false, cond, Option, None, Some, List, [], ◌∷◌, ◌++◌, map, length, refl, sym, ap, ◌∙◌}
 use Rattle.std.specs.Prelude.{⊤, IfSome, filter, find, filter_map, option_map, fold, take, take_while, slice_get, ◌||◌}
 use Rattle.std.specs.List.{prefix_len, list_any, flat_map, cons_option}
@@ -77,7 +77,7 @@ pub filter_same : {A : Type 0} → (p q : A → Bool) → ((x : A) → p x ≡ q
 filter_same p q e [] = refl
 filter_same p q e (x ∷ xs) = ap (λ b. cond b (x ∷ filter p xs) (filter p xs)) (e x) ∙ ap (λ ys. cond (q x) (x ∷ ys) ys) (filter_same p q e xs)
 
--- how many pass a test
+-- the number of elements that pass a test
 abbrev pub how_many : {A : Type 0} → (A → Bool) → List A → ℕ
 how_many p xs = length (filter p xs)
 
@@ -85,7 +85,7 @@ pub one_more : {A : Type 0} (p : A → Bool) (x : A) (xs : List A) (b : Bool) �
 one_more p x xs true is = ap (λ (b : Bool). length (cond b (x ∷ filter p xs) (filter p xs))) is
 one_more p x xs false is = ap (λ (b : Bool). length (cond b (x ∷ filter p xs) (filter p xs))) is
 
--- each of the list is so
+-- each element of the list has a property
 abbrev pub Each : {A : Type 0} → (A → Type 0) → List A → Type 0
 Each P [] = ⊤
 Each P (x ∷ xs) = P x × Each P xs

@@ -1,4 +1,4 @@
--- A take-over changes marks, and nothing else.
+-- A take-over changes only the marks.
 use Rattle.std.proofs.Common.{◌≡◌, ℕ, ◌==◌, Bool, true, false, ◌&&◌, not, cond, Option, None, Some, List, map, refl, sym, ap, ◌∙◌}
 use Rattle.std.specs.Option.{option_map, option_or}
 use Rattle.srt_seq.specs.Terms.{Terms}
@@ -51,7 +51,7 @@ marked_open ss s = open_of (is_publisher s) (not (is_active ss s)) s
 pub marked_publishes : (ss : List Session) (s : Session) → is_publisher (marked ss s) ≡ is_publisher s
 marked_publishes ss s = publisher_of (is_publisher s) (not (is_active ss s)) s
 
--- who is marked leads, and only they
+-- exactly the marked sessions lead
 marked_leads : (ss : List Session) (s : Session) → leads (marked ss s) ≡ is_standby ss s
 marked_leads ss s = by (is_publisher s) refl
   where
@@ -59,7 +59,7 @@ marked_leads ss s = by (is_publisher s) refl
     by true is = refl
     by false is = ap (λ (x : Bool). x && s.took_over) is ∙ sym (ap (λ (x : Bool). x && not (is_active ss s)) is)
 
--- after a take-over the one that stood by is active
+-- after a take-over the former standby is active
 pub standby_leads : (ss : List Session) (t : Session) → standby ss ≡ Some t → active (map (marked ss) ss) ≡ Some (marked ss t)
 standby_leads ss t is =
     ap (λ (o : Option Session). option_or o (first_opened (map (marked ss) ss)))

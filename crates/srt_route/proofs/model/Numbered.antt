@@ -1,4 +1,4 @@
--- In buffer mode a publisher delivered all numbers below its front, in order and each once.
+-- In buffer mode a publisher has delivered all numbers below its front, in order and each once.
 use Rattle.std.proofs.Common.{ap, ◌∙◌, ◌++◌, ◌≤◌, zero, suc, length, arith, ◌≡◌, ℕ, ◌+◌, ◌==◌, ◌&&◌, not, Bool, true, false, cond, Option, None, Some}
 use Rattle.std.proofs.Common.{List, [], ◌∷◌, map, refl, sym, subst, Result, Ok, Err}
 use Rattle.std.specs.Prelude.{option_map, IfSome, find}
@@ -38,7 +38,7 @@ use Rattle.srt_route.proofs.model.Lists.{Each}
 abbrev Story : (numbers : List ℕ) → Session → Type 0
 Story numbers s = AreAllBelow numbers s.past
 
--- of one session among all; none has delivered anything before it was opened
+-- the invariant for one session among all; a session has delivered nothing before it was opened
 abbrev Told : (numbers : List ℕ) → Option Session → Type 0
 Told numbers None = numbers ≡ []
 Told numbers (Some s) = Story numbers s
@@ -71,7 +71,7 @@ at_mapped numbers k f keeps ss h =
     let P : Option Session → Type 0 = Told numbers in
     subst P (sym (opened_mapped f k ss)) (told_mapped numbers f keeps (opened_as k ss) h)
 
--- behind all there is none yet
+-- no session was opened after more sessions than there are
 none_behind : (ss : List Session) (k : ℕ) → length ss ≤ k → opened_as k ss ≡ None
 none_behind [] k le = refl
 none_behind (s ∷ ss) k le =
@@ -93,7 +93,7 @@ at_opened numbers k s role ss is h = by (length ss == k) refl
         subst Q (sym is) (story_first numbers role none)
     by false e = h
 
--- of the pasts
+-- the invariant for a past
 past_expired : (numbers : List ℕ) (terms : Agreed) (time : ℕ) (past : Past)
     → AreAllBelow numbers past → AreAllBelow numbers (expired_past terms time past)
 past_expired numbers terms time (Publishes p) h = h
@@ -136,7 +136,7 @@ past_passed numbers terms time room fed (Publishes p) mode kept h =
     ∙ numbers_both 0 front (length given) ∙ ap (λ (n : ℕ). numbers_from 0 n) (sym order.front_is)
 past_passed numbers terms time room fed (Subscribes m) mode kept h = append-nil numbers ∙ h
 
--- of the sessions, step by step
+-- the invariant for a session, step by step
 end_keeps : (numbers : List ℕ) (place : ℕ) (e : Terms) (end : Option Bool) (s : Session) → Story numbers s → Story numbers (with_end end s)
 end_keeps numbers place e None s h = h
 end_keeps numbers place e (Some b) s h = h
@@ -314,7 +314,7 @@ pub delivers_all : DeliversAll
 delivers_all e index items place s mode is =
     let P : Option Session → Type 0 = Told (numbers_delivered e index items place) in subst P is (all_told e index items place mode)
 
--- a publisher that stands by delivers nothing
+-- a standby delivers nothing
 none_by : (terms : publisher.Terms) (time : ℕ) (past : Past) → terms.mode ≡ Buffer → numbers_in terms time None past ≡ []
 none_by terms time (Publishes p) mode = ap (λ (xs : List Arrival). map number_in xs) (nothing_given terms time p mode)
 none_by terms time (Subscribes m) mode = refl

@@ -1,4 +1,4 @@
--- What is queued for subscribers goes on from event to event.
+-- The subscribers' queues continue from event to event.
 use Rattle.std.proofs.Common.{◌≡◌, ◌⊎◌, inl, inr, ℕ, Bool, true, false, cond, ◌==◌, ◌&&◌, not, Option, None, Some, List, [], ◌∷◌, ◌++◌, map, find}
 use Rattle.std.proofs.Common.{Result, Ok, Err, refl, sym, ap, ◌∙◌, append_assoc}
 use Rattle.std.proofs.lemmas.List.{append-nil}
@@ -33,7 +33,7 @@ same : (given : List (List ℕ)) (s t : Session) → t.slot ≡ s.slot → t.gen
 same given s t slot generation queue =
     record { slot_is = slot; generation_is = generation; added = []; queue_is = queue ∙ sym (append-nil (queue_in s.past)); added_are = tt }
 
--- some of these and then none, or none and then some
+-- some payloads and then none, or none and then some
 none_and : (given : List (List ℕ)) (s t u : Session) → queue_in t.past ≡ queue_in s.past → t.slot ≡ s.slot → t.generation ≡ s.generation
     → IsContinued given t u → IsContinued given s u
 none_and given s t u queue slot generation h =
@@ -314,7 +314,7 @@ settles_queues e given clock =
     queue_of s None = refl
     queue_of s (Some until) = refl
 
--- sessions that go on, with one more in front or without
+-- sessions that continue, with or without one more at the front
 abbrev GoOn : (given : List (List ℕ)) → (old new : List Session) → Type 0
 GoOn given old new = AreContinued given old new ⊎ HasOpened given old new
 

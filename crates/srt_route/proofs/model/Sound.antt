@@ -1,4 +1,4 @@
--- Whatever its items are, all replies of a route can be sent and read: payloads have their lengths, loss lists have
+-- Whatever its items are, all replies of a route can be sent and read: payloads have valid lengths, loss lists have
 -- runs, and congestion control blocks have few words.
 use Rattle.std.proofs.Common.{◌≡◌, ℕ, ◌-◌, ◌^◌, ◌<◌, ◌≤◌, ◌==◌, ◌&&◌, not, Bool, true, false, cond, Option, None, Some, List, [], ◌∷◌, ◌++◌}
 use Rattle.std.proofs.Common.{map, length, min, Result, Ok, Err, refl, ap, subst, arith}
@@ -171,7 +171,7 @@ past_took terms initial time stamp body (Publishes p) one h =
     publisher_took terms.publisher time stamp (to_publisher.heard_from initial body) p (heard_read initial body one) h
 past_took terms initial time stamp body (Subscribes s) one h = subscriber_took time (to_subscriber.heard_from initial body) s h
 
--- what is answered at once
+-- the answers sent at once
 acked_said : (mark : ℕ) → Each IsSubscribersReport (subscriber.ack_reports mark)
 acked_said mark = by (mark == 0)
   where
@@ -228,7 +228,7 @@ past_passed : (terms : Agreed) (time : ℕ) (room : Option ℕ) (xs : List (List
 past_passed terms time room xs (Publishes p) all h = h
 past_passed terms time room xs (Subscribes s) all h = all_fed terms.subscriber time xs s all h
 
--- what a publisher is sent
+-- the packets sent to a publisher
 nak_said : (all : Bool) (rs : List Run) → length rs ≤ 32 → Each IsPublishersReport (publisher.nak_with all rs)
 nak_said all [] few = tt
 nak_said true (r ∷ rs) few = ((omega arith, omega (arith, few)), tt)
@@ -263,7 +263,7 @@ publisher_said terms time p =
     each_append IsPublishersReport (acks ++ naks) (publisher.keep_alives time (acks ++ naks) p.notes)
     (each_append IsPublishersReport acks naks acks_are naks_are) (keep_alives_said time (acks ++ naks) p.notes)
 
--- what a subscriber is sent
+-- the packets sent to a subscriber
 drops_said : (o : Option Run) → Each IsSubscribersReport (subscriber.drops_of o)
 drops_said None = tt
 drops_said (Some run) = (tt, tt)
@@ -479,7 +479,7 @@ packet_sound e index clock peer p ss one h = by (p.dest == 0)
     by true = without_sound e index clock peer p.stamp ss (concludes p.body) (concludes_few p.body) h
     by false = arrived_sound e index clock peer p ss one h
 
--- what is read is spelled, so a payload has its length
+-- what is read is spelled, so a payload has a valid length
 read_is_spelled : (bytes : List ℕ) (p : Packet) → packet_in bytes ≡ Ok p → Spells bytes p
 read_is_spelled bytes p e = subst (λ (r : Result Packet PacketFault). IfOk r (λ packet. Spells bytes packet)) e (packet_found bytes)
 
@@ -503,7 +503,7 @@ read_sound : (e : Terms) (index clock : ℕ) (peer : Peer) (bytes : List ℕ) (r
 read_sound e index clock peer bytes (Ok p) is ss h = packet_sound e index clock peer p ss (body_read bytes p p.body refl (read_is_spelled bytes p is)) h
 read_sound e index clock peer bytes (Err fault) is ss h = record { sessions = h; answers = tt }
 
--- a SHUTDOWN is as it should be, whatever the session is
+-- a SHUTDOWN can be sent, whatever the session is
 each_shutdown : (clock : ℕ) (ss : List Session) → Each IsSaidReply (map (shutdown_to clock) ss)
 each_shutdown clock [] = tt
 each_shutdown clock (s ∷ ss) = (tt, each_shutdown clock ss)
@@ -546,7 +546,7 @@ settled_sound Libsrt e clock given ss h =
     each_mapped IsSound IsSound (with_end end) (λ s sound. end_sound end s sound) later
     (each_mapped IsSound IsSound (session_settled e given clock) (λ s sound. settled_at_sound s.drains e given clock s sound) ss h)
 
--- what is sent as time advances
+-- the packets sent as time advances
 silence_said : (e : Terms) (clock : ℕ) (ss : List Session) → Each IsSaidReply (flat_map (λ s. told_if e.rules.callers (is_idle s clock) clock s) ss)
 silence_said e clock [] = tt
 silence_said e clock (s ∷ ss) =

@@ -1,4 +1,4 @@
--- Which publisher is active after sessions ended or opened, and that there are two open publishers at most.
+-- Which publisher is active after sessions ended or opened, and that at most two publishers are open.
 use Rattle.std.proofs.Common.{◌≡◌, ℕ, zero, suc, ◌+◌, ◌<◌, ◌≤◌, ◌==◌, ◌&&◌, Bool, true, false, cond, Option, None, Some, List, [], ◌∷◌, map}
 use Rattle.std.proofs.Common.{length, find, Result, Ok, Err, refl, sym, ap, subst, ◌∙◌, ◌≢◌, ◌⊎◌, inl, inr, arith}
 use Rattle.std.specs.List.{cons_option}
@@ -42,7 +42,7 @@ abbrev pub AreApart : List Session → Type 0
 AreApart [] = ⊤
 AreApart (s ∷ older) = (s.is_open ≡ true → find (is_open_in s.slot) older ≡ None) × AreApart older
 
--- the sessions are changed, and no publisher opens
+-- a change of the sessions that opens no publisher
 abbrev pub OpensNone : (Session → Session) → Type 0
 OpensNone f = (s : Session) → is_publisher (f s) ≡ true → is_publisher s ≡ true
 
@@ -50,7 +50,7 @@ unfoldable pub one_if : Bool → ℕ
 one_if true = 1
 one_if false = 0
 
--- one session more
+-- one more session
 pub count_more : (s : Session) (ss : List Session)
     → (b : Bool) → is_publisher s ≡ b → open_publishers (s ∷ ss) ≡ cond b (suc (open_publishers ss)) (open_publishers ss)
 count_more s ss true is = ap (λ (b : Bool). length (cond b (s ∷ filter is_publisher ss) (filter is_publisher ss))) is
@@ -71,7 +71,7 @@ active_more s ss is =
 pub follows : (s : Session) → is_publisher s ≡ false → leads s ≡ false
 follows s is = ap (λ (b : Bool). b && s.took_over) is
 
--- a session that opens is active if no publisher is
+-- a session that opens becomes active only if no publisher is active
 pub opens_behind : (s : Session) (ss : List Session) (t : Session) → leads s ≡ false → active ss ≡ Some t → active (s ∷ ss) ≡ Some t
 opens_behind s ss t none is = active_more s ss none ∙ ap (λ (o : Option Session). option_or o (cond (is_publisher s) (Some s) None)) is
 
@@ -89,7 +89,7 @@ opens_none s ss none is =
     active_more s ss (follows s is) ∙ ap (λ (o : Option Session). option_or o (cond (is_publisher s) (Some s) None)) none
     ∙ ap (λ (b : Bool). cond b (Some s) None) is
 
--- how the newest session stands to the active one: it leads, one before it is active, it is the first publisher, or none is
+-- the newest session leads, or an older one is active, or the newest is the first publisher, or none is active
 pub by_newest : {P : Type 0} → (s : Session) (ss : List Session) → (leads s ≡ true → P)
     → (leads s ≡ false → (x : Session) → active ss ≡ Some x → P)
     → (active ss ≡ None → is_publisher s ≡ true → P)
@@ -117,7 +117,7 @@ active_publishes (t ∷ ts) s h =
     (λ was is. subst (λ (x : Session). is_publisher x ≡ true) (the_newest t s ts (opens_active t ts was is) h) is)
     (λ was is. absurd (let bad : None ≡ Some s = sym (opens_none t ts was is) ∙ h in cc))
 
--- none is active only without an open publisher
+-- none is active only if no publisher is open
 pub none_active : (ss : List Session) → active ss ≡ None → open_publishers ss ≡ 0
 none_active [] h = refl
 none_active (t ∷ ts) h =
@@ -159,7 +159,7 @@ active_in_slot (t ∷ ts) s apart h =
         let place : is_open_in s.slot t ≡ true = and_from t.is_open (t.slot == s.slot) opens (eq-eqb t.slot s.slot (ap (λ (x : Session). x.slot) one)) in
         ap (λ (b : Bool). cond b (Some t) (find (is_open_in s.slot) ts)) place ∙ ap (λ (x : Session). Some x) one
 
--- the test by slots tells the active publisher from the other open sessions
+-- the test by slots distinguishes the active publisher from the other open sessions
 pub is_active_is : (ss : List Session) (at : ℕ) (s : Session)
     → AreApart ss → find (is_open_in at) ss ≡ Some s → s.slot ≡ at → is_active ss s ≡ true → active ss ≡ Some s
 is_active_is ss at s apart found place is = by (active ss) refl is
@@ -226,7 +226,7 @@ stays_active f none marks (t ∷ ts) s h lives =
     still : t ≡ s → is_publisher (f t) ≡ true
     still one = subst (λ (x : Session). is_publisher (f x) ≡ true) (sym one) lives
 
--- if it ends, there is one open publisher less
+-- if it ends, one publisher fewer is open
 pub one_less : (f : Session → Session) → OpensNone f → (ss : List Session) (s : Session) → active ss ≡ Some s → is_publisher (f s) ≡ false
     → open_publishers (map f ss) < open_publishers ss
 one_less f none [] s h ends = absurd (let bad : None ≡ Some s = h in cc)
@@ -276,13 +276,13 @@ only_one (t ∷ ts) at s few h is = by (λ less g. only_one ts at s less g is) (
     by rest false g true p = absurd (omega (arith, few, count_more t ts true p, some_publisher ts at s g is))
     by rest false g false p = opens_behind t ts s (follows t p) (rest (omega (arith, few, count_more t ts false p)) g)
 
--- of two publishers the one that stands by takes over when the active one ends
+-- of two publishers the standby takes over when the active one ends
 pub takes_over_at_end : (f : Session → Session) → OpensNone f → (ss : List Session) (s : Session) (at : ℕ) (t : Session) → open_publishers ss ≤ 2
     → active ss ≡ Some s → is_publisher (f s) ≡ false → find (is_open_in at) (map f ss) ≡ Some t → is_publisher t ≡ true
     → active (map f ss) ≡ Some t
 takes_over_at_end f none ss s at t few was ends found is = only_one (map f ss) at t (omega (arith, few, one_less f none ss s was ends)) found is
 
--- beside the active publisher one other is open at most
+-- at most one other publisher is open besides the active one
 closed_in : (slot : ℕ) → Session → Session
 closed_in slot s = cond (s.slot == slot) (record s { is_open = false }) s
 
@@ -345,7 +345,7 @@ one_stands_by ss s at k t u few was left right at_is k_is here there first secon
         by true = refl
         by false = refl
 
--- a publisher that stands by: in buffer mode nothing of it changes, and in live mode it delivers as if it were active
+-- a standby: in buffer mode nothing of it changes, and in live mode it delivers as if it were active
 pub buffer_waits : (terms : publisher.Terms) (time : ℕ) (p : publisher.Publishing)
     → terms.mode ≡ Buffer → p.receiving.requests ≡ [] → publisher.delivered terms time None p ≡ p
 unfolding publisher.deliveries
@@ -370,7 +370,7 @@ live_goes_on terms time room p mode =
     ap (λ (m : Mode). record p { receiving = passed_over terms.width (publisher.deliveries m terms time None p) p.receiving }) mode
     ∙ sym (ap (λ (m : Mode). record p { receiving = passed_over terms.width (publisher.deliveries m terms time (Some room) p) p.receiving }) mode)
 
--- the sessions that pass a test counted slots upwards, if it passes open sessions alone
+-- the number of sessions that pass a test, counted by ascending slots, if only open sessions pass
 unfoldable pub count_at : (test : Session → Bool) (g : ℕ → Option Session) (from places : ℕ) → ℕ
 count_at test g from places = length (filter test (filter_map g (numbers_from from places)))
 
@@ -394,7 +394,7 @@ count_next test g from places = by (g from)
     by None = omega arith
     by (Some s) = more (test s) s
 
--- one place has another session, and the others have the same
+-- one slot has another session, and the others have the same
 count_same : (test : Session → Bool) (g h : ℕ → Option Session) (from places : ℕ) → ((k : ℕ) → from ≤ k → g k ≡ h k)
     → count_at test g from places ≡ count_at test h from places
 unfolding count_at
@@ -485,7 +485,7 @@ unfolding count_at
 publishers_by_slot e ss apart inside =
     counted_slots is_publisher (λ s h. (and_parts s.is_open (publishes s.conclusion.role) h).0) e.sessions ss apart inside
 
--- what an event does opens no publisher, but for a conclusion
+-- an event opens no publisher, except by a conclusion
 and_keeps : (a b d : Bool) → (a ≡ true → b ≡ true) → a && d ≡ true → b && d ≡ true
 and_keeps a b d keeps h = let parts = and_parts a d h in and_from b d (keeps parts.0) parts.1
 
@@ -540,7 +540,7 @@ reported_marks : (e : Terms) (here : Bool) (time : ℕ) (s : Session) → (repor
 reported_marks e true time s = refl
 reported_marks e false time s = refl
 
--- a delivery and the end of an event change neither their number nor which one is active
+-- a delivery and the end of an event change neither the number of open publishers nor which one is active
 pub active_delivered : (e : Terms) (clock : ℕ) (ss : List Session)
     → active (delivered e clock ss)
     ≡ option_map (λ s. passed e clock (room_if (is_active ss s) (least_room e ss)) (delivery e clock (least_room e ss) ss) s) (active ss)
@@ -555,7 +555,7 @@ pub active_reported : (e : Terms) (clock : ℕ) (ss : List Session) → active (
 active_reported e clock ss =
     active_through (reported e clock) (λ s. reported_keeps e s.is_open (time_in s clock) s) (λ s. reported_marks e s.is_open (time_in s clock) s) ss
 
--- a publisher opens only while one is open at most
+-- a publisher opens only while at most one is open
 reason_left : (a b d : Bool) (x y z : RefusalCause) → cond a (Some x) (cond b (Some y) (cond d (Some z) None)) ≡ None → d ≡ false
 reason_left true b d x y z h = absurd (let bad : Some x ≡ None = h in cc)
 reason_left false true d x y z h = absurd (let bad : Some y ≡ None = h in cc)
@@ -593,7 +593,7 @@ decided_slot e peer c ss slot is =
     by None false (Some at) true h = absurd (let bad : Err causes.Reserved ≡ Ok slot = h in cc)
     by None false (Some at) false h = (refl, refl, (let same : at ≡ slot = cc in ap (λ (n : ℕ). Some n) same), refl)
 
--- two publishers at most
+-- at most two publishers
 abbrev pub AreFew : List Session → Type 0
 AreFew ss = open_publishers ss ≤ 2
 

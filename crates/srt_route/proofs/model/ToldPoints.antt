@@ -1,4 +1,4 @@
--- A publisher's past in buffer mode: its acknowledgement point never goes back, and it delivers in order.
+-- A publisher's past in buffer mode: its acknowledgement point never decreases, and it delivers in order.
 use Rattle.std.proofs.Common.{◌≡◌, inl, inr, ℕ, zero, suc, ◌+◌, ◌-◌, ◌<◌, ◌≤◌, ◌==◌, min, ℤ, Bool, true, false, cond, not, ◌&&◌, ◌||◌, Option, None}
 use Rattle.std.proofs.Common.{Some, List, [], ◌∷◌, ◌++◌, map, take, length, refl, sym, ap, subst, ◌∙◌, arith}
 use Rattle.std.specs.Prelude.{filter_map, is_some}
@@ -29,7 +29,7 @@ at_most_both : (xs ys : List ℕ) (n : ℕ) → AreAtMost xs n → AreAtMost ys 
 at_most_both [] ys n h k = k
 at_most_both (x ∷ xs) ys n h k = (h.0, at_most_both xs ys n h.1 k)
 
--- the point of a window that moved on isn't below the one before
+-- the point of a window that advanced isn't below the earlier one
 point_on : (width : ℕ) (r s : Receiving) → r.front ≤ s.front
     → ((n : ℕ) → is_missing width r n ≡ false → is_missing width s n ≡ false)
     → ack_point width r ≤ ack_point width s
@@ -44,7 +44,7 @@ point_on width r s on kept =
       | inr ge ↦ ge
     ]
 
--- what holds of a publisher's past in buffer mode
+-- the invariant of a publisher's past in buffer mode
 pub record IsKept (width : ℕ) (p : Publishing) : Type 0 where
   pub none : p.receiving.requests ≡ []
   pub told : AreAtMost (points_told p.notes) (ack_point width p.receiving)
@@ -105,7 +105,7 @@ kept_more width p q m same h =
       below = λ n lt. m.still n (h.below n (omega (arith, lt, m.front_is)));
     }
 
--- a packet comes
+-- a packet arrives
 data_more : (terms : Terms) (time stamp number : ℕ) (payload : List ℕ) (p : Publishing)
     → IsMore terms.width p.receiving (with_data terms time stamp number payload p).receiving
 data_more terms time stamp number payload p =
@@ -163,7 +163,7 @@ passed_is width xs r none =
     let s = moved_to (next_after r.front xs) r in
     settled_already width s (not_dropped (is_requested width r.requests s.front) _ (none_requested width s.front r.requests none))
 
--- consecutive packets, this many at most
+-- at most this many consecutive packets
 record IsRun (xs : List Arrival) (from most : ℕ) : Type 0 where
   numbers_are : map number_in xs ≡ numbers_from from (length xs)
   few : length xs ≤ most
@@ -254,7 +254,7 @@ pub nothing_given : (terms : Terms) (time : ℕ) (p : Publishing) → terms.mode
 unfolding deliveries
 nothing_given terms time p b = ap (λ (m : Mode). deliveries m terms time None p) b
 
--- an event's end: each ACK says the present point
+-- an event's end: each ACK has the present point
 abbrev SaysAtMost : ℕ → Report → Type 0
 SaysAtMost n r = AreAtMost (points_in r) n
 

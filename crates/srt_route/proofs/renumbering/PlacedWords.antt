@@ -72,7 +72,7 @@ rest_after at n m bytes h l =
     ext_get_or 0 (drop m (with_word at n bytes)) (drop m bytes) (omega (arith, same, length-drop m (with_word at n bytes), length-drop m bytes)) (λ i below.
     get_or-drop m (with_word at n bytes) i 0 ∙ byte_after at n (m + i) bytes (omega (arith, h)) (omega (arith, l)) ∙ sym (get_or-drop m bytes i 0))
 
--- a word of the bytes behind an offset
+-- a word of the bytes after an offset
 byte_behind : (m i j : ℕ) (bytes : List ℕ) → j ≡ m + i → get_or (drop m bytes) i 0 ≡ get_or bytes j 0
 byte_behind m i j bytes e = get_or-drop m bytes i 0 ∙ ap (λ k. get_or bytes k 0) (sym e)
 
@@ -86,7 +86,7 @@ word_behind m i bytes =
     )
     refl
 
--- a header with other bytes behind it
+-- a header followed by other bytes
 pub length_rest : (bytes rest : List ℕ) → 16 ≤ length bytes → length (with_rest bytes rest) ≡ 16 + length rest
 length_rest bytes rest h = omega (arith, length-append (take 16 bytes) rest, length-take-le 16 bytes h)
 

@@ -1,4 +1,4 @@
--- A route with the same items, with other sequence numbers, other timestamps or later moments.
+-- A route with the same items, but other sequence numbers, other timestamps or later times.
 use Rattle.std.proofs.Common.{◌≡◌, ℕ, ◌+◌, ◌-◌, Bool, true, false, cond, ◌&&◌, ◌||◌, not, Option, None, Some, List, [], ◌∷◌, ◌++◌, map, max}
 use Rattle.std.proofs.Common.{Result, Ok, Err, refl, sym, ap, ◌∙◌, ◌≤◌, arith}
 use Rattle.std.specs.Prelude.{⊤, find, filter, option_map, nat_le, fold, length, ◌==◌}
@@ -46,7 +46,7 @@ use Rattle.srt_route.proofs.model.Standbys.{publishers_through, active_through, 
 use Rattle.srt_route.proofs.model.Lists.{map_through, any_through, filter_same, filter_through, find_through, find_same, flat_through, picked_through}
 use Rattle.srt_route.proofs.model.Lists.{fold_through}
 
--- what is written otherwise: timestamps, initial numbers, moments. A timestamp counted from another stays
+-- the values that change: timestamps, initial numbers, times. The distance of two timestamps stays
 pub record Change : Type 0 where
   pub stamp : ℕ → ℕ
   pub initial : ℕ → ℕ
@@ -56,7 +56,7 @@ pub record Change : Type 0 where
 abbrev pub changed_conclusion : Change → Conclusion → Conclusion
 changed_conclusion r c = record c { initial = r.initial c.initial }
 
--- the moment of a session that drains is later too
+-- the time until which a session drains is later too
 abbrev pub shifted : (later : ℕ) → Option ℕ → Option ℕ
 shifted later None = None
 shifted later (Some until) = Some (until + later)
@@ -118,7 +118,7 @@ AreChanged r (j ∷ js) (i ∷ is) = IsChangedItem r j i × AreChanged r js is
 AreChanged r [] (i ∷ is) = ⊥
 AreChanged r (j ∷ js) [] = ⊥
 
--- time goes on the same
+-- time advances the same
 time_same : (opening clock later : ℕ) → (clock + later) - (opening + later) ≡ clock - opening
 time_same opening clock later = omega arith
 
@@ -175,7 +175,7 @@ aged_same e r clock s =
     ∙ ap (λ t. aged_at e (s.is_open && not (is_over s clock)) t (changed_session r s)) (own_time r clock s)
     ∙ aged_at_same e r (s.is_open && not (is_over s clock)) (time_in s clock) s
 
--- and another publisher takes over the same
+-- the standby takes over the same
 silent_same : (r : Change) (limit clock : ℕ) (s : Session) → is_silent limit (clock + r.later) (changed_session r s) ≡ is_silent limit clock s
 silent_same r limit clock s = ap (λ t. nat_le limit (silence_of t s.past)) (own_time r clock s)
 
@@ -258,7 +258,7 @@ advanced_same e r clock ss =
     ∙ ap (map (with_end end)) (marked_if_same r (takes_over e clock later) later)
     ∙ map_through (changed_session r) (with_end end) (with_end end) (changed_session r) (with_end_same r end) (marked_if (takes_over e clock later) later)
 
--- it takes a packet the same
+-- a session processes a packet the same
 ends_same : (r : Change) (terms : Agreed) (initial : ℕ) (q p : Packet)
     → IsChangedPacket r q p → (past : Past) → ends_with terms (r.initial initial) q.body past ≡ ends_with terms initial p.body past
 ends_same r terms initial q p h (Publishes x) =
@@ -299,7 +299,7 @@ took_same e r clock drains q p h s =
     ∙ ap (λ past. ended_so d (clock + r.later) (ends_unless drains (ends_with (terms_of e s) i p.body s.past)) past t)
     (past_same r (terms_of e s) i time stamp q p h s.past)
 
--- and sends the same, with its own numbers
+-- a session sends the same, with its own numbers
 map_replies : (r : Change) (time : ℕ) (s : Session) (xs : List Report)
     → map (said_by time (changed_session r s)) xs ≡ map (changed_reply r) (map (said_by time s) xs)
 map_replies r time s [] = refl
@@ -310,7 +310,7 @@ answers_same : (r : Change) (initial : ℕ) (q p : Packet)
 answers_same r initial q p h (Publishes x) = refl
 answers_same r initial q p h (Subscribes x) = ap (λ heard. map ToSubscriber (subscriber.answers heard)) (h.subscriber_hears initial)
 
--- and whom it tells that a session ends
+-- the same sessions are sent a SHUTDOWN when they end
 shutdown_same : (r : Change) (clock : ℕ) (s : Session) → shutdown_to (clock + r.later) (changed_session r s) ≡ changed_reply r (shutdown_to clock s)
 shutdown_same r clock s = ap (λ t. record { peer = s.peer; packet = Ends s.conclusion.caller t }) (own_time r clock s)
 
@@ -349,7 +349,7 @@ took_if_same : (e : Terms) (r : Change) (clock : ℕ) (drains : Option ℕ) (q p
 took_if_same e r clock drains q p h s true = took_same e r clock drains q p h s
 took_if_same e r clock drains q p h s false = refl
 
--- and the same sessions are found that don't drain
+-- the same sessions that don't drain are found
 of_same : (r : Change) (peer : Peer) (caller : ℕ) (s : Session) → is_of peer caller (changed_session r s) ≡ is_of peer caller s
 of_same r peer caller s = ap (λ b. s.is_open && is_same_peer s.peer peer && s.conclusion.caller == caller && not b) (draining_same r s)
 
@@ -361,7 +361,7 @@ heard_if_same : (r : Change) (clock : ℕ) (s : Session) (mine : Bool)
 heard_if_same r clock s true = refl
 heard_if_same r clock s false = refl
 
--- the same slots are taken
+-- the same slots are in use
 free_slot_same : (e : Terms) (r : Change) (ss : List Session) → free_slot e (map (changed_session r) ss) ≡ free_slot e ss
 free_slot_same e r ss =
     find_same (is_free (map (changed_session r) ss)) (is_free ss)
@@ -376,7 +376,7 @@ generation_same : (r : Change) (ss : List Session) (slot : ℕ) → generation_o
 generation_same r [] slot = refl
 generation_same r (s ∷ ss) slot = ap (λ n. cond (s.slot == slot) (n + 1) n) (generation_same r ss slot)
 
--- what a datagram does
+-- the effect of a datagram
 abbrev changed_taken : Change → Taken → Taken
 changed_taken r t = record { sessions = map (changed_session r) t.sessions; answers = map (changed_reply r) t.answers }
 
@@ -397,7 +397,7 @@ packet_end_same e r None q p h None = refl
 packet_end_same e r None q p h (Some s) =
     ap (of_libsrt e.rules.callers) (publisher_end_same r (terms_of e s) s.conclusion.initial q p h s.past)
 
--- and one drains the same
+-- a session drains the same
 drain_if_same : (callers : Callers) (left : Bool) (later clock delay : ℕ)
     → drain_if callers left (clock + later + delay + 5_000_000) ≡ shifted later (drain_if callers left (clock + delay + 5_000_000))
 drain_if_same Draft left later clock delay = refl
@@ -419,7 +419,7 @@ drain_same e r clock q p h ss (Some s) =
     ∙ drain_if_same e.rules.callers (is_shutdown p.body && is_active ss s && has_left (terms_of e s) s.past) r.later clock
     (terms_of e s).publisher.delay
 
--- what a packet does, by the session that it is for
+-- the effect of a packet, by the session that it is for
 abbrev arrived_at : (e : Terms) (index clock : ℕ) → Peer → Packet → (dest : ℕ) → (drains : Option ℕ) → (end : Option Bool) → Option Session
     → List Session → Taken
 arrived_at e index clock peer packet dest drains end o ss =
@@ -472,7 +472,7 @@ considered_same : (e : Terms) (index : ℕ) (r : Change) (clock : ℕ) (peer : P
 considered_same e index r clock peer stamp x ss (Err cause) = refl
 considered_same e index r clock peer stamp x ss (Ok slot) = opens_same e index r clock peer stamp x ss slot
 
--- the same answer is given to a conclusion
+-- a conclusion is answered the same
 free_slots_same : (e : Terms) (r : Change) (ss : List Session) → free_slots e (map (changed_session r) ss) ≡ free_slots e ss
 free_slots_same e r ss =
     ap length
@@ -562,7 +562,7 @@ read_same e index r clock peer (Err f) (Err g) h ss = refl
 read_same e index r clock peer (Ok q) (Err g) h ss = absurd h
 read_same e index r clock peer (Err f) (Ok p) h ss = absurd h
 
--- what a Close does
+-- the effect of a Close
 closed_same : (e : Terms) (r : Change) (clock : ℕ) (ss : List Session)
     → closed e (clock + r.later) (map (changed_session r) ss) ≡ changed_taken r (closed e clock ss)
 closed_same e r clock ss =
@@ -630,7 +630,7 @@ delivered_same e r clock ss =
     (is_active_through (changed_session r) (λ t. refl) (λ t. refl) (λ t. refl) ss s)
     ∙ passed_same e r clock (room_if (is_active ss s) room) fed s) ss
 
--- and what becomes of the sessions after them
+-- the sessions after the deliveries
 renewed_same : (mode : Mode) (given : Bool) (clock until later : ℕ)
     → renewed mode given (clock + later) (until + later) ≡ renewed mode given clock until + later
 renewed_same Live given clock until later = refl
@@ -703,7 +703,7 @@ packets_same e r clock test same ss =
 speaks_same : (r : Change) (s : Session) → speaks (changed_session r s) ≡ speaks s
 speaks_same r s = ap (λ b. is_publisher s && not b) (draining_same r s)
 
--- a file that is over
+-- a complete file
 over_same : (e : Terms) (r : Change) (ss : List Session) → is_file_over e (map (changed_session r) ss) ≡ is_file_over e ss
 over_same e r ss = ap (λ n. sends_files e.rules.callers e.mode && n == 0) (publishers_through (changed_session r) (λ s. refl) ss)
 
@@ -725,7 +725,7 @@ finished_here : (e : Terms) (r : Change) (clock : ℕ) (whole : Bool) (s : Sessi
 finished_here e r clock true s = refl
 finished_here e r clock false s = reported_same e r clock s
 
--- what is sent as time advances
+-- the packets sent as time advances
 idle_told_same : (e : Terms) (r : Change) (clock : ℕ) (ss : List Session)
     → idle_told e (clock + r.later) (map (changed_session r) ss) ≡ map (changed_reply r) (idle_told e clock ss)
 idle_told_same e r clock ss =
@@ -872,7 +872,7 @@ after_same e index r (j ∷ js) (i ∷ is) h = told_same e index r j i (after e 
 after_same e index r [] (i ∷ is) h = absurd h
 after_same e index r (j ∷ js) [] h = absurd h
 
--- all that a route ever replied, not yet as bytes
+-- all replies of a route so far, before their encoding
 abbrev pub all_replies : Terms → (index : ℕ) → List Item → List Reply
 all_replies e index [] = []
 all_replies e index (item ∷ items) = all_replies e index items ++ replies_to e index item (after e index items)

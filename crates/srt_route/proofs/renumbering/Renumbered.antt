@@ -1,4 +1,4 @@
--- A route with other items: other sequence numbers, other timestamps, or later moments.
+-- A route with other items: other sequence numbers, other timestamps, or later times.
 use Rattle.std.proofs.Common.{◌≡◌, ℕ, ◌+◌, ◌%◌, ◌^◌, Option, None, Some, List, [], ◌∷◌, ◌++◌, map, Result, Ok, Err, refl, sym, ap, subst, ◌∙◌, arith}
 use Rattle.std.specs.Prelude.{option_map}
 use Rattle.std.proofs.lemmas.List.{map-append}
@@ -29,7 +29,7 @@ use Rattle.srt_route.proofs.renumbering.Relabelled.{changed_output, changed_repl
 use Rattle.srt_route.proofs.model.Lists.{Each}
 use Rattle.srt_route.proofs.model.Sound.{IsSaid, all_said}
 
--- what was replied, as bytes
+-- the replies as bytes
 solo_is : (e : Terms) (index : ℕ) (items : List Item) → solo e index items ≡ map sent (all_replies e index items)
 solo_is e index [] = refl
 solo_is e index (item ∷ items) =
@@ -49,7 +49,7 @@ not_later n = omega arith
 abbrev restamp : (by : ℕ) → Change
 restamp by = record { stamp = λ w. (w + by) % 2 ^ 32; initial = same; later = 0; stamps_stay = stamps_stay by }
 
--- all later
+-- all times later
 abbrev move : (by : ℕ) → Change
 move by = record { stamp = same; initial = same; later = by; stamps_stay = same_stamp }
 
@@ -196,7 +196,7 @@ shutdown_says : (by stamp dest : ℕ)
 unfolding renumbered
 shutdown_says by stamp dest = refl
 
--- what is said with other numbers is the same bytes with those
+-- an output with other numbers is the same bytes with those numbers
 output_shifts : (by : ℕ) (x : Output) → IsSaid x → output_text (changed_output (renumber by) x) ≡ renumbered by (output_text x)
 output_shifts by (Answers caller a) h = sym (answers_say by caller a h)
 output_shifts by (Says caller initial time (ToPublisher report)) h = sym (publishers_say by caller initial time report h)

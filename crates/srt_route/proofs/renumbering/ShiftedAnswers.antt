@@ -74,7 +74,7 @@ answer_reads initial (Conclusion mtu window id mode recv_ms send_ms (Some text))
           found.0 (omega arith) found.1,
     )
 
--- and its initial number stands in its third word
+-- its initial number is in its third word
 initial_shifts : (by initial : ℕ) (what : AnswerKind)
     → shifted_at by 8 (kind_text initial what ++ blocks_text what) ≡ kind_text (shifted by initial) what ++ blocks_text what
 initial_shifts by initial (Induction cookie) =

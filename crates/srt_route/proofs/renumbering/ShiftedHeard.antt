@@ -1,4 +1,4 @@
--- What sessions hear of packets with other numbers.
+-- What sessions read from packets with other numbers.
 use Rattle.std.proofs.Common.{◌≡◌, ℕ, List, [], ◌∷◌, Some, length, map, nat_le, cond, Result, Ok, Err, refl, ap, ◌∙◌}
 use Rattle.srt_seq.specs.Words.{word_at}
 use Rattle.srt_seq.specs.Window.{counted_from}

@@ -1,4 +1,4 @@
--- What is sent, with other numbers.
+-- The output with other numbers.
 use Rattle.std.proofs.Common.{◌≡◌, ℕ, ◌+◌, ◌*◌, ◌/◌, ◌%◌, ◌^◌, ◌<◌, ◌≤◌, cond, List, [], ◌∷◌, ◌++◌, length, map, Ok, refl, sym, ap, ◌∙◌, arith}
 use Rattle.std.proofs.lemmas.Bool.Decides.{nat_tests}
 use Rattle.std.proofs.lemmas.List.{length-append, map-append}
@@ -33,7 +33,7 @@ read_low n = omega arith
 shifted_low : (by n : ℕ) → shifted by (n % 2 ^ 32) ≡ shifted by n % 2 ^ 32
 shifted_low by n = omega arith
 
--- the word that a shifted word is written as
+-- the word as which a shifted word is written
 pub word_shifts : (by n : ℕ) → four_bytes (shifted by (word_at (word n) 0)) ≡ word (shifted by n)
 word_shifts by n = ap (λ m. four_bytes (shifted by m)) (read_low n) ∙ ap four_bytes (shifted_low by n) ∙ four_low (shifted by n)
 

@@ -15,7 +15,7 @@ use Rattle.srt_route.proofs.renumbering.PlacedWords.{rest_after, word_behind, le
 use Rattle.srt_route.proofs.renumbering.ShiftedWords.{length_first, length_shifted}
 use Rattle.srt_route.proofs.renumbering.ShiftedHandshakes.{length_shifted_handshake}
 
--- a control packet with the same header, and this body made of other bytes behind it
+-- a control packet with the same header, followed by the bytes of this body
 behind : (bytes rest : List ℕ) (p q : Packet) → Spells bytes p → q.stamp ≡ p.stamp → q.dest ≡ p.dest → length rest ≡ length (drop 16 bytes)
     → SpellsBody (word_at bytes 0) (word_at bytes 4) rest q.body
     → Spells (with_rest bytes rest) q

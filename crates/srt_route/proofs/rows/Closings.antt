@@ -1,4 +1,4 @@
--- What a route that is closed replies, worked out from bytes to bytes.
+-- Replies of a route that is closed, computed from bytes to bytes.
 use Rattle.std.proofs.Common.{◌≡◌, ℕ, false, Bool, List, [], ◌∷◌, map, refl}
 use Rattle.srt_seq.specs.declared.shared.Mode.TheVariants.{Live}
 use Rattle.srt_seq.specs.Access.{anyone}
@@ -38,7 +38,7 @@ publisher_opens moment = Received (from 5000 (conclusion 1 5 (0x50006 ∷ 0x3a3a
 abbrev subscriber_opens : (moment : ℕ) → Item
 subscriber_opens moment = Received (from 5001 (conclusion 2 9 (0x50003 ∷ 0x3a3a2123 ∷ 0x74733d72 ∷ 0x6f696475 ∷ []))) moment
 
--- 500 ms after a publisher's session opened, the route is closed: the session ends, and its peer gets a SHUTDOWN
+-- 500 ms after a publisher's session opened, the route is closed: the session ends, and its peer is sent a SHUTDOWN
 abbrev is_closed : List Item
 is_closed = Close 1_500_000 ∷ publisher_opens 1_000_000 ∷ []
 
@@ -50,7 +50,7 @@ unfolding handshake_in blocks_in with_first with_block answer_text ask_in list_i
     in_window lift confirmed_by is_full_due acks_at naks reports deliveries says body_bytes
 publisher_is_told = (refl, refl)
 
--- then only the clock goes on: no conclusion is answered, no SHUTDOWN is sent again, nothing opens
+-- afterwards only the clock advances: no conclusion is answered, no SHUTDOWN is sent again, nothing opens
 abbrev later : List Item
 later = Close 1_600_000 ∷ subscriber_opens 1_580_000 ∷ publisher_opens 1_570_000 ∷ Tick 1_560_000 ∷ is_closed
 
@@ -66,14 +66,14 @@ unfolding handshake_in blocks_in with_first with_block answer_text ask_in list_i
     in_window lift confirmed_by is_full_due acks_at naks reports deliveries says body_bytes
 at_the_clock = refl
 
--- a session that is idle at the clock of the Close has ended before it, and gets no SHUTDOWN
+-- a session that is idle at the clock of the Close has ended before it, and is sent no SHUTDOWN
 idle_one_is_not_told : (reply studio 0 (Close 6_000_000 ∷ publisher_opens 1_000_000 ∷ []) ≡ []) ×
     (reply studio 0 (Close 5_999_999 ∷ publisher_opens 1_000_000 ∷ []) ≡ from 5000 (words (0x80050000 ∷ 0 ∷ 0x4c4b3f ∷ 1 ∷ [])) ∷ [])
 unfolding handshake_in blocks_in with_first with_block answer_text ask_in list_in with_part conclusion_in conclusion_of is_utf8 chars encode
     in_window lift confirmed_by is_full_due acks_at naks reports deliveries says body_bytes
 idle_one_is_not_told = (refl, refl)
 
--- slots upwards: the subscriber, which opened first, has slot 0
+-- ascending slots: the subscriber, which opened first, has slot 0
 slots_upwards : reply studio 0 (Close 1_500_000 ∷ publisher_opens 1_400_000 ∷ subscriber_opens 1_000_000 ∷ [])
     ≡ from 5001 (words (0x80050000 ∷ 0 ∷ 0x7a120 ∷ 2 ∷ [])) ∷ from 5000 (words (0x80050000 ∷ 0 ∷ 0x186a0 ∷ 1 ∷ [])) ∷ []
 unfolding handshake_in blocks_in with_first with_block answer_text ask_in list_in with_part conclusion_in conclusion_of is_utf8 chars encode

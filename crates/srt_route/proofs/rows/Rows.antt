@@ -1,4 +1,4 @@
--- What routes reply, worked out from bytes to bytes.
+-- Replies of routes, computed from bytes to bytes.
 use Rattle.std.proofs.Common.{◌≡◌, ℕ, zero, suc, ◌+◌, Bool, true, false, List, [], ◌∷◌, ◌++◌, map, refl}
 use Rattle.srt_seq.specs.declared.shared.Peer.{Peer}
 use Rattle.srt_seq.specs.declared.shared.Mode.TheVariants.{Live, Buffer}
@@ -67,7 +67,7 @@ unfolding handshake_in blocks_in with_first with_block answer_text ask_in list_i
     in_window lift confirmed_by is_full_due acks_at naks reports deliveries says body_bytes
 first_answer = refl
 
--- a second publisher stands by in the session 00100001
+-- a second publisher is the standby, with the session 00100001
 abbrev standby_opens : (moment : ℕ) → Item
 standby_opens moment = came 5001 moment (conclusion 2 9 0x2000 0xbf 0x780078 publish_studio)
 
@@ -99,7 +99,7 @@ unfolding handshake_in blocks_in with_first with_block answer_text ask_in list_i
     in_window lift confirmed_by is_full_due acks_at naks reports deliveries says body_bytes
 next_answer = refl
 
--- a packet goes from the publisher to a subscriber that opens before it is due
+-- a packet is forwarded from the publisher to a subscriber that opens before it is due
 abbrev packet_comes : List Item
 packet_comes = came 5000 1_002_000 (words (5 ∷ 0xe0000001 ∷ 0x3e8 ∷ 0x100000 ∷ []) ++ 0x68 ∷ 0x69 ∷ []) ∷ publisher_opens ∷ []
 
@@ -125,7 +125,7 @@ unfolding handshake_in blocks_in with_first with_block answer_text ask_in list_i
     in_window lift confirmed_by is_full_due acks_at naks reports deliveries says body_bytes
 packet_is_delivered = refl
 
--- the same with numbers that go round their end
+-- the same with numbers that wrap
 abbrev numbers_end : List Item
 numbers_end = came 5000 1_002_000 (words (0x7fffffff ∷ 0xe0000001 ∷ 0x3e8 ∷ 0x100000 ∷ []) ++ 0x68 ∷ 0x69 ∷ []) ∷ opens_publisher 1_000_000 0x7fffffff ∷ []
 
@@ -146,18 +146,18 @@ unfolding handshake_in blocks_in with_first with_block answer_text ask_in list_i
     in_window lift confirmed_by is_full_due acks_at naks reports deliveries says body_bytes
 delivered_round_the_end = refl
 
--- and it is the same tape with 7ffffffa added to its numbers
+-- the same tape with 7ffffffa added to its numbers
 numbers_are_shifted : renumbered_items 0x7ffffffa subscriber_comes ≡ subscriber_at_the_end
 unfolding handshake_in blocks_in with_first with_block renumbered shifted_handshake
 numbers_are_shifted = refl
 
--- the clock never goes back
+-- the clock never decreases
 clock_stays : (after studio 0 (Tick 4_990_000 ∷ came 5001 5_000_000 (words (0x80010000 ∷ 0 ∷ 0 ∷ 0x100000 ∷ [])) ∷ [])).clock ≡ 5_000_000
 unfolding handshake_in blocks_in with_first with_block answer_text ask_in list_in with_part conclusion_in conclusion_of is_utf8 chars encode
     in_window lift confirmed_by is_full_due acks_at naks reports deliveries says body_bytes
 clock_stays = refl
 
--- numbers 7 and 9 come; 8 is reported lost, and given up when 9 is due
+-- numbers 7 and 9 arrive; 8 is reported lost, and given up when 9 is due
 abbrev gap_opens : List Item
 gap_opens =
     came 5000 1_002_000 (words (9 ∷ 0xe0000001 ∷ 0x7d0 ∷ 0x100000 ∷ []) ++ 0x39 ∷ [])
@@ -205,7 +205,7 @@ unfolding handshake_in blocks_in with_first with_block answer_text ask_in list_i
     in_window lift confirmed_by is_full_due acks_at naks reports deliveries says body_bytes
 is_gone = refl
 
--- with a delay of 2 s it is kept for 2.5 s
+-- with a delay of 2 s the payload is kept for 2.5 s
 is_kept : reply studio 0 (asks_again 7_500_000 ∷ fed 0x7d00078)
     ≡ from 5000 (words (0x80020000 ∷ 2 ∷ 0x3567e0 ∷ 1 ∷ 6 ∷ 0x186a0 ∷ 0xc350 ∷ 0x400 ∷ 0 ∷ 0 ∷ 0 ∷ []))
     ∷ from 5001 (words (9 ∷ 0xe4000001 ∷ 0xf4240 ∷ 2 ∷ []) ++ 0x61 ∷ []) ∷ []
@@ -235,7 +235,7 @@ unfolding handshake_in blocks_in with_first with_block answer_text ask_in list_i
     in_window lift confirmed_by is_full_due acks_at naks reports deliveries says body_bytes
 sixty_four_packets = refl
 
--- a packet is in flight since 1000000, and no acknowledgement comes
+-- a packet is in flight since 1000000, and no acknowledgement arrives
 abbrev in_flight : List Item
 in_flight =
     came 5000 1_000_000 (words (5 ∷ 0xe0000001 ∷ 0x13880 ∷ 0x100000 ∷ []) ++ 0x61 ∷ []) ∷ opens_subscriber 900_000 9 0x780078
@@ -259,7 +259,7 @@ unfolding handshake_in blocks_in with_first with_block answer_text ask_in list_i
     in_window lift confirmed_by is_full_due acks_at naks reports deliveries says body_bytes
 presumed_lost = refl
 
--- a subscriber of which nothing is heard
+-- a subscriber that sends nothing
 abbrev alone : List Item
 alone = Tick 2_000_000 ∷ opens_subscriber 1_000_000 9 0x780078 ∷ []
 
@@ -299,7 +299,7 @@ unfolding handshake_in blocks_in with_first with_block answer_text ask_in list_i
     in_window lift confirmed_by is_full_due acks_at naks reports deliveries says body_bytes
 congestion_is_repeated = refl
 
--- 32 packets come before there is a subscriber
+-- 32 packets arrive before there is a subscriber
 abbrev filled : (count : ℕ) → List Item
 filled zero = came 5000 1_000_000 (conclusion 1 100 0x6400 0x74 0 publish_files) ∷ []
 filled (suc n) = came 5000 1_001_000 (words ((100 + n) ∷ 0xe0000001 ∷ 0 ∷ 0x200000 ∷ []) ++ n ∷ []) ∷ filled n
@@ -363,7 +363,7 @@ unfolding handshake_in blocks_in with_first with_block answer_text ask_in list_i
     in_window lift confirmed_by is_full_due acks_at naks reports deliveries says body_bytes
 greeted = (refl, refl)
 
--- a publisher stands by for another one, and acknowledges what it receives
+-- a publisher is the standby of another one, and acknowledges what it receives
 abbrev viewer_opens : (moment delays : ℕ) → Item
 viewer_opens moment delays = came 5002 moment (conclusion 3 20 0x2000 0xbf delays request_studio)
 
@@ -394,7 +394,7 @@ unfolding handshake_in blocks_in with_first with_block answer_text ask_in list_i
     in_window lift confirmed_by is_full_due acks_at naks reports deliveries says body_bytes
 standby_takes_over = refl
 
--- it is active in the event in which the other one ends
+-- the standby is active in the event in which the other one ends
 takes_over_at_once : reply studio 0 (shuts_down 1_131_000 ∷ stands_by)
     ≡ from 5001 (words (0x80020000 ∷ 2 ∷ 0x1d8a8 ∷ 2 ∷ 0xa ∷ 0x186a0 ∷ 0xc350 ∷ 0x400 ∷ 0 ∷ 0 ∷ 0 ∷ []))
     ∷ from 5002 (words (0x14 ∷ 0xe0000001 ∷ 0x1b198 ∷ 3 ∷ []) ++ 0x68 ∷ 0x69 ∷ []) ∷ []
@@ -402,7 +402,7 @@ unfolding handshake_in blocks_in with_first with_block answer_text ask_in list_i
     in_window lift confirmed_by is_full_due acks_at naks reports deliveries says body_bytes
 takes_over_at_once = refl
 
--- a packet that was due before goes to nobody
+-- a packet that was due before is delivered to nobody
 standby_delivers_to_nobody : reply studio 0 (Tick 1_131_000 ∷ stands_by)
     ≡ from 5001 (words (0x80020000 ∷ 2 ∷ 0x1d8a8 ∷ 2 ∷ 0xa ∷ 0x186a0 ∷ 0xc350 ∷ 0x400 ∷ 0 ∷ 0 ∷ 0 ∷ [])) ∷ []
 unfolding handshake_in blocks_in with_first with_block answer_text ask_in list_in with_part conclusion_in conclusion_of is_utf8 chars encode
@@ -415,7 +415,7 @@ unfolding handshake_in blocks_in with_first with_block answer_text ask_in list_i
     in_window lift confirmed_by is_full_due acks_at naks reports deliveries says body_bytes
 nothing_is_left = refl
 
--- a publisher that comes back stands by, whatever its slot is
+-- a publisher that reconnects is the standby, whatever its slot is
 abbrev comes_back : List Item
 comes_back = came 5000 1_024_000 (words (5 ∷ 0xe0000001 ∷ 0 ∷ 0x100100 ∷ []) ++ 0x61 ∷ []) ∷ opens_publisher 1_023_000 5 ∷ shuts_down 1_022_000 ∷ stands_by
 
@@ -434,7 +434,7 @@ unfolding handshake_in blocks_in with_first with_block answer_text ask_in list_i
     in_window lift confirmed_by is_full_due acks_at naks reports deliveries says body_bytes
 that_one_stands_by = refl
 
--- an active publisher of which nothing is heard ends, and the standby takes over, also if a third one opens then
+-- an active publisher that sends nothing ends, and the standby takes over, also if a third one opens then
 abbrev goes_silent : List Item
 goes_silent =
     came 5001 5_900_000 (words (9 ∷ 0xe0000001 ∷ 0x4a4f70 ∷ 0x100001 ∷ []) ++ 0x68 ∷ 0x69 ∷ []) ∷ viewer_opens 1_020_000 0x780078

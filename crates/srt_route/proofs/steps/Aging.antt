@@ -1,4 +1,4 @@
--- The seats, as time goes on.
+-- The seats as time advances.
 use Rattle.std.proofs.Common.{◌≡◌, ℕ, ◌≤◌, Bool, true, false, not, ◌&&◌, cond, Option, None, Some, List, find, refl, sym, ap, subst, ◌∙◌, inl, inr}
 use Rattle.std.proofs.lemmas.Bool.{cases_Bool, and_parts}
 use Rattle.srt_seq.specs.Terms.{Terms}
@@ -57,12 +57,12 @@ ages_marks e clock s = by (s.is_open && not (is_over s clock))
     by true = refl
     by false = refl
 
--- an idle session is a stale one of its slot
+-- a session has expired exactly if its stored session has
 pub stale_is : (e : Terms) (index clock : ℕ) (t : TheSession) (s : Session) → IsSession e index t s → is_over s clock ≡ is_stored_over clock t
 stale_is e index clock t s is =
     ap (λ (d : Option ℕ). is_over_at d s.heard clock) (sym is.drains_is) ∙ ap (λ (n : ℕ). is_over_at t.drains n clock) (sym is.heard_is)
 
--- what is left of a stored session
+-- a stored session after time advanced
 aged_stored : (e : Terms) (index clock : ℕ) (o : Option TheSession) (g : Option Session) → ((s : Session) → g ≡ Some s → s.is_open ≡ true)
     → IsStored e index o g
     → IsStored e index (stored_aged clock o) (changed (aged e clock) g)
@@ -81,7 +81,7 @@ aged_stored e index clock (Some t) (Some s) opens is = by (is_stored_over clock 
     by true idle same = rw (same, o) tt
     by false idle same = rw (same, o) (still_stored e index t s _ _ is)
 
--- a session that stays open isn't stale in its slot
+-- a session that stays open hasn't expired in its slot
 pub kept_is : (e : Terms) (index clock : ℕ) (o : Option TheSession) (s : Session) → s.is_open ≡ true → IsStored e index o (Some s)
     → (aged e clock s).is_open ≡ true → publishes s.conclusion.role ≡ false
     → session_passes (is_kept_subscriber clock) o ≡ true
@@ -93,7 +93,7 @@ kept_is e index clock (Some t) s o is h role = by (is_over s clock) (stale_is e 
     by true same k = absurd (let closed : (aged_at e (s.is_open && not true) (time_in s clock) s).is_open ≡ false = rw (o) refl in cc)
     by false same k = rw (← same, is.role_is, role) refl
 
--- what time does to the buffers of a seat
+-- the effect of time on the buffers of a seat
 abbrev pub HasAged : (clock : ℕ) → Option TheSession → (old new : Subscriber) → Type 0
 HasAged clock o x y = (session_passes (is_kept_subscriber clock) o ≡ true → ExpiresTo clock x y) × (session_passes (is_kept_subscriber clock) o ≡ false → y ≡ x)
 
@@ -141,7 +141,7 @@ aged_becomes e index before clock at p x y ss later is h =
         let role : publishes t.role ≡ false = not_true (publishes t.role) (and_parts (not (is_stored_over clock t)) (not (publishes t.role)) kept).1 in
         expired_wide e before clock p x.subscriber y.subscriber s later expires (ap publishes (sym stored.role_is) ∙ role) (is.seated s there)
 
--- a subscriber's session that isn't idle stays
+-- a subscriber's session that hasn't expired stays
 pub kept_stays : (clock : ℕ) (o : Option TheSession) → session_passes (is_kept_subscriber clock) o ≡ true → o ≡ stored_aged clock o
 kept_stays clock None h = refl
 kept_stays clock (Some t) h = by (is_stored_over clock t) h

@@ -1,4 +1,4 @@
--- What the active publisher delivers, and one that stands by.
+-- The deliveries of the active publisher and of a standby.
 use Rattle.std.proofs.Common.{◌≡◌, ◌≢◌, ℕ, ◌==◌, Bool, true, false, cond, Option, None, Some, List, [], map, find, get_or, unwrap_or}
 use Rattle.std.proofs.Common.{inl, inr, refl, sym, ap, subst, ◌∙◌}
 use Rattle.std.specs.Prelude.{◌&&◌, filter_map}
@@ -40,11 +40,11 @@ use Rattle.srt_route.proofs.model.TakeOver.{active_in_slot, active_publishes}
 use Rattle.srt_route.proofs.steps.Passing.{IsTurned, same_everywhere, compose_all, publisher_is, publishing_at, seat_of, unchanged, the_one}
 use Rattle.srt_route.proofs.steps.Passing.{slot_is, slot_is_not, amid_here, amid_elsewhere, gone_on}
 
--- the sessions of slots
+-- the sessions of a range of slots
 abbrev pub from_places : List Session → (from count : ℕ) → List Session
 from_places ss from count = filter_map (λ slot. find (is_open_in slot) ss) (numbers_from from count)
 
--- the room counts in buffer mode, and without a subscriber nothing is delivered there
+-- the room matters in buffer mode only, and without a subscriber nothing is delivered there
 same_deliveries : (mode : Mode) (terms : publishing.Terms) (time places : ℕ) (found : Option ℕ) (q : Publishing)
     → (mode ≡ Buffer → places ≡ unwrap_or found 0) → deliveries mode terms time (Some places) q ≡ deliveries mode terms time found q
 unfolding deliveries
@@ -65,7 +65,7 @@ pub one_by_one : (terms : publishing.Terms) (initial opening stamp caller : ℕ)
 one_by_one terms initial opening stamp caller p q h =
     delivers terms q (record { orderly = h.orderly; beyond = beyond terms.width initial opening p.buffer q.receiving h.buffer })
 
--- the sessions once all is given
+-- the sessions once everything is delivered
 pub passed_on_is : (e : Terms) (index clock : ℕ) (table : Table) (ss : List Session) (at : ℕ) (s : Session) (q : Publishing) (which : PublisherBuffers)
     (places : ℕ)
     → IsPublisherOf e index clock table ss at s q which
@@ -133,7 +133,7 @@ has_past e index clock table ss k t body here = let seat = seat_of e index clock
         let yes : publishes t.conclusion.role ≡ true = (and_parts t.is_open (publishes t.conclusion.role) here.publishes).1 in
         absurd (let bad : true ≡ false = sym yes ∙ h.0 in cc)
 
--- the one that stands by has gone on
+-- the standby has delivered
 pub standby_gone : (e : Terms) (index clock : ℕ) (table later : Table) (ss : List Session) (at k : ℕ) (s t : Session) (q m : Publishing)
     (active which : PublisherBuffers) (p : Publisher)
     → which ≡ other_buffers active → IsPublisherOf e index clock table ss at s q active → IsPublisherOf e index clock table ss k t m which
@@ -179,7 +179,7 @@ standby_gone e index clock table later ss at k s t q m active which p which_is i
           amid_elsewhere e clock k r u (slot_is_not ss k j u is elsewhere) ∙ (past ∙ sym (stays u true (slot_is ss at j u is place) (Publishes n) past))
     ]
 
--- no publisher stands by
+-- there is no standby
 pub none_stands_by : (e : Terms) (index clock : ℕ) (table : Table) (ss : List Session) (at : ℕ) (s : Session) (q : Publishing)
     (active : PublisherBuffers)
     → IsPublisherOf e index clock table ss at s q active

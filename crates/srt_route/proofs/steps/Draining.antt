@@ -50,7 +50,7 @@ use Rattle.srt_route.proofs.steps.Views.{active_is as active_by_buffers}
 use Rattle.srt_route.proofs.model.TakeOver.{active_in_slot, active_publishes}
 use Rattle.srt_route.proofs.stored.Stored.{alone_apart}
 
--- what is no SHUTDOWN
+-- packets that aren't a SHUTDOWN
 pub no_shutdown : (kind : Kind) → (kind ≡ kinds.Shutdown → ⊥) → is_shutdown (body_of kind) ≡ false
 no_shutdown (kinds.Data number encryption payload) other = refl
 no_shutdown (kinds.Handshake info) other = refl
@@ -64,7 +64,7 @@ no_shutdown (kinds.DropRequest message first last) other = refl
 no_shutdown kinds.PeerError other = refl
 no_shutdown kinds.UserDefined other = refl
 
--- what is left of the session of a seat: of none, of a subscriber's, and of a publisher's
+-- what the session of a seat has left: no session, a subscriber's, and a publisher's
 pub none_left : (publishers : List Publisher) (x : Seat) → x.session ≡ None → TellsOf publishers x (λ e o. false ≡ left_in e o)
 none_left publishers x none e index clock at p ss is =
     by (find (is_open_in at) ss) (subst (λ (o : Option TheSession). IsStored e index o (find (is_open_in at) ss)) none is.session_is)
@@ -336,7 +336,7 @@ all_settled e index clock at given old new ss is h all =
     (subst (λ (m : Mode). Settles old.publishers.items m given clock (get_or old.seats.items k d) (get_or new.seats.items k d)) is.mode_is
     (h.seats.done k d (omega (arith, below, all)) below))))
 
--- and the ends that are noted: those of the slots below this one are
+-- the ends of the slots below `at` are recorded
 pub record EndsUpTo (clock at : ℕ) (table : Table) (old new : Ledger) : Type 0 where
   pub done : (e : Terms) (index : ℕ) (ss : List Session) → IsTable e index clock table ss → (k : ℕ) → k < at
       → EndsIn index (drained_end e) clock (find (is_open_in k) ss) (entry_of old k) (entry_of new k)

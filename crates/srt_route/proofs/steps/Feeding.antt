@@ -1,4 +1,4 @@
--- What a slot's subscriber has room for, and what it is fed.
+-- The room of a slot's subscriber, and what it is fed.
 use Rattle.std.proofs.Common.{◌≡◌, ℕ, suc, ◌+◌, ◌-◌, ◌<◌, ◌≤◌, Bool, true, false, not, cond, Option, None, Some, List, length, find, get_or}
 use Rattle.std.proofs.Common.{refl, sym, ap, subst, ◌∙◌, arith}
 use Rattle.std.specs.Prelude.{filter_map, fold}
@@ -29,7 +29,7 @@ subscribes o = session_passes (λ t. not (publishes t.role)) o
 pub changed_is : (s : Session) (g : Session → Past) (past : Past) → s.is_open ≡ true → g s ≡ past → changed g s ≡ record s { past = past }
 changed_is s g past o is = ap (λ (b : Bool). cond b (record s { past = g s }) s) o ∙ ap (λ (p : Past). record s { past = p }) is
 
--- the buffers stand for a changed session if they stand for its new past
+-- the buffers represent a changed session if they represent its new past
 pub seated_with : (e : Terms) (clock : ℕ) (p : Publisher) (y : Subscriber) (s : Session) (g : Session → Past) (past : Past)
     → s.is_open ≡ true → g s ≡ past → IsPast e clock p y s past → s.opening ≤ clock → IsSeated e clock p y (changed g s)
 seated_with e clock p y s g past o is h opened =
@@ -43,7 +43,7 @@ pub subscriber_subscribes : (e : Terms) (index : ℕ) (t : TheSession) (s : Sess
     → IsSession e index t s → publishes s.conclusion.role ≡ false → subscribes (Some t) ≡ true
 subscriber_subscribes e index t s is h = rw (is.role_is, h) refl
 
--- what a call does to a slot's subscriber
+-- the effect of a call on a slot's subscriber
 abbrev pub Stays : Option TheSession → (x y : Subscriber) → Type 0
 Stays o x y = subscribes o ≡ false → y ≡ x
 
@@ -122,7 +122,7 @@ vacant_subscribes e index (Some t) is = absurd is
 pub stays_vacant : (e : Terms) (index : ℕ) (o : Option TheSession) (x y : Subscriber) → IsStored e index o None → Stays o x y → y ≡ x
 stays_vacant e index o x y is stays = stays (vacant_subscribes e index o is)
 
--- one slot more of those whose least room is looked for
+-- the smallest room of a range of slots, starting from that found before
 abbrev pub least_from : Terms → List Session → (found : Option ℕ) → (from count : ℕ) → Option ℕ
 least_from e ss found from count =
     fold (λ found (s : Session). least_with e.buffer found s.past) found
@@ -135,7 +135,7 @@ pub least_more : (e : Terms) (ss : List Session) (found result : Option ℕ) (fr
 least_more e ss found result from count None is none some = let r = none refl in rw (is, r) refl
 least_more e ss found result from count (Some s) is none some = rw (is) (ap (λ (d : Option ℕ). least_from e ss d (from + 1) count) (some s refl))
 
--- a slot of those whose least room is looked for
+-- one more slot in the search for the smallest room
 pub least_step : (e : Terms) (index clock : ℕ) (table : Table) (ss : List Session) (found result total : Option ℕ) (at : ℕ) (x : Seat)
     → IsTable e index clock table ss → at < length table.seats.items → x ≡ get_or table.seats.items at x
     → (has_subscriber x ≡ false → result ≡ None) → Tells x.session x.subscriber result → least_from e ss found at (e.sessions - at) ≡ total
@@ -173,7 +173,7 @@ past_becomes g e index clock at p q x y ss is count stored wide seated =
       seated = λ s found o. seated s found;
     }
 
--- if a subscriber's session is open in the seat its buffers have changed as Q says, and nothing else has changed
+-- if a subscriber's session is open in the seat, its buffers have changed as Q states; nothing else has changed
 pub record Changes (Q : Option TheSession → Subscriber → Subscriber → Type 0) (x y : Seat) : Type 0 where
   pub count_is : y.generation ≡ x.generation
   pub session_is : y.session ≡ x.session

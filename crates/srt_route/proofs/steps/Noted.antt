@@ -1,4 +1,4 @@
--- What sessions keep of a publisher's end, and which have the whole file.
+-- What sessions record of a publisher's end, and which have the whole file.
 use Rattle.std.proofs.Common.{◌≡◌, ℕ, Bool, true, false, ◌&&◌, not, cond, Option, None, Some, List, [], ◌∷◌, map, find, refl, sym, ap, subst, ◌∙◌}
 use Rattle.std.specs.Option.{option_map}
 use Rattle.srt_seq.specs.Terms.{Terms}
@@ -18,7 +18,7 @@ use Rattle.srt_route.proofs.model.Changes.{is_there}
 use Rattle.srt_route.proofs.model.Found.{changed as becomes}
 use Rattle.srt_route.proofs.stored.Kept.{Becomes, KeepsBuffers}
 
--- a seat that keeps it
+-- a seat that has recorded it
 abbrev pub IsNoted : (by_shutdown : Bool) → (x y : Seat) → Type 0
 IsNoted by_shutdown x y = y ≡ seat_with_end by_shutdown x
 
@@ -70,7 +70,7 @@ noted_becomes e index clock at b p x y ss is h =
     keeps None = tt
     keeps (Some t) = refl
 
--- nothing is kept if none ended
+-- nothing is recorded if none ended
 all_stay : (ss : List Session) → map (with_end None) ss ≡ ss
 all_stay [] = refl
 all_stay (s ∷ ss) = ap (λ (ts : List Session). s ∷ ts) (all_stay ss)

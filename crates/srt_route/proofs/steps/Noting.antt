@@ -1,4 +1,4 @@
--- The ends of a table's sessions are noted one slot after another.
+-- The ends of a table's sessions are recorded one slot after another.
 use Rattle.std.proofs.Common.{◌≡◌, ℕ, ◌+◌, ◌<◌, ◌≤◌, Option, None, Some, List, [], ◌∷◌, ◌++◌, length, get_or, refl, sym, ap, subst, ◌∙◌, inl, inr, arith}
 use Rattle.std.proofs.lemmas.Bool.{cases_eq}
 use Rattle.std.proofs.lemmas.List.{get_or_default}
@@ -13,7 +13,7 @@ use Rattle.srt_route.specs.declared.view.Traffic.{Traffic}
 use Rattle.srt_route.specs.Totals.{SumsGrow, with_all, with_traffic}
 use Rattle.srt_route.specs.Ledgers.{CountsStay, Notes, NotesAt, NotesEach, SumsTold, Tells, entry_of}
 
--- sums that grow, and grow again
+-- two increases of the sums are one
 both_added : (xs ys : List Traffic) (t : Totals) → with_all (ys ++ xs) t ≡ with_all ys (with_all xs t)
 both_added xs [] t = refl
 both_added xs (y ∷ ys) t = ap (with_traffic y) (both_added xs ys t)
@@ -30,7 +30,7 @@ sums_told (Some cause) None x old new h = ([], h)
 sums_told (Some cause) (Some t) None old new h = absurd h
 sums_told (Some cause) (Some t) (Some x) old new h = (x.view.traffic ∷ [], h)
 
--- those of the slots below this one are
+-- the ends of the slots below `at` are recorded
 pub record NotedUpTo (cause : Option TheSession → Option EndCause) (moment at : ℕ) (table : Table) (old new : Ledger) : Type 0 where
   pub done : (k : ℕ) (d : Seat) → k < at → k < length table.seats.items
       → Tells (cause (get_or table.seats.items k d).session) moment (get_or table.seats.items k d).session (entry_of old k) (entry_of new k)
@@ -42,7 +42,7 @@ pub none_noted : (cause : Option TheSession → Option EndCause) (moment : ℕ) 
 none_noted cause moment table ledger =
     record { done = λ k d lt inside. absurd (omega (arith, lt)); ahead = λ k le. refl; counts = (refl, refl); sums = ([], refl) }
 
--- what is told doesn't depend on what was kept before, unless nothing is told
+-- what is recorded doesn't depend on what was kept before, unless nothing is recorded
 pub tells_after : (cause : Option EndCause) (moment : ℕ) (o : Option TheSession) (first old new : Option EndedSession)
     → old ≡ first → Tells cause moment o old new → Tells cause moment o first new
 tells_after cause moment o first old new same h = subst (λ (x : Option EndedSession). Tells cause moment o x new) same h

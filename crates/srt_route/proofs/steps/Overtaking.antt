@@ -1,4 +1,4 @@
--- A publisher that stands by takes over from the active one.
+-- A standby takes over from the active publisher.
 use Rattle.std.proofs.Common.{◌≡◌, ℕ, ◌-◌, ◌<◌, ◌≤◌, Bool, true, false, not, ◌&&◌, cond, Option, None, Some, List, length, map, find, get_or, nat_le, nat_lt}
 use Rattle.std.proofs.Common.{refl, sym, ap, subst, ◌∙◌, arith}
 use Rattle.std.specs.Option.{is_some}
@@ -36,7 +36,7 @@ not_false : (b : Bool) → not b ≡ true → b ≡ false
 not_false true h = absurd (let bad : false ≡ true = h in cc)
 not_false false h = refl
 
--- the publisher that stands by, in its slot
+-- the standby, in its slot
 pub record StandsThere (ss : List Session) (t : Session) : Type 0 where
   pub here : IsPublishing ss t.slot t
   pub not_active : is_active ss t ≡ false
@@ -64,13 +64,13 @@ a_seat : (e : Terms) (index clock : ℕ) (table : Table) (ss : List Session) (at
     → IsTable e index clock table ss → find (is_open_in at) ss ≡ Some s → Seat
 a_seat e index clock table ss at s is here = some_item table.seats.items at (below_seats e index clock table ss at s is here)
 
--- the session of a slot is one
+-- a slot has one session
 one_there : (ss : List Session) (at k : ℕ) (s t : Session) → find (is_open_in at) ss ≡ Some s → find (is_open_in k) ss ≡ Some t → at ≡ k → s ≡ t
 one_there ss at k s t first second same =
     let both : Some s ≡ Some t = sym first ∙ (ap (λ (n : ℕ). find (is_open_in n) ss) same ∙ second) in
     cc
 
--- of two open publishers the one with the leading buffers is active, and the other stands by
+-- of two open publishers the one with the leading buffers is active, and the other is the standby
 pub record AreBoth (ss : List Session) (s t : Session) : Type 0 where
   pub active_is : active ss ≡ Some s
   pub standby_is : standby ss ≡ Some t
@@ -138,7 +138,7 @@ none_failed e index clock limit table ss b is none = by (active ss) refl (standb
     by (Some s) first None second = refl
     by None first p second = refl
 
--- how long ago data came to a publisher's session
+-- the time since a publisher's session last received data
 pub silent_is : (e : Terms) (index clock : ℕ) (table : Table) (ss : List Session) (at : ℕ) (s : Session) (b : PublisherBuffers) (place : ℕ)
     (p : Publisher) (silence : ℕ)
     → IsTable e index clock table ss → IsPublishing ss at s → Uses table at b → place ≡ place_of b → p ≡ get_or table.publishers.items place p
@@ -150,7 +150,7 @@ silent_is e index clock table ss at s b place p silence is here uses place_is th
     holds (terms_of e s).publisher s.conclusion.initial s.opening s.stamp s.conclusion.caller (time_in s clock) past.0 it.moment it.stands
     ∙ sym (ap (silence_of (time_in s clock)) past.1.past_is)
 
--- the answer of the code
+-- the result of the code
 pub failed_is : (limit clock a b : ℕ) (ss : List Session) (s t : Session) → AreBoth ss s t
     → a ≡ silence_of (time_in s clock) s.past → b ≡ silence_of (time_in t clock) t.past
     → (nat_le limit a && not (nat_le limit b)) ≡ has_failed limit clock (active ss) (standby ss)
@@ -173,7 +173,7 @@ other_in_time limit a b h = by (nat_le limit a) refl (nat_le limit b) refl (nat_
     by true x_is false y_is true z_is = refl
     by true x_is false y_is false z_is = absurd (grind (arith, nat_tests, y_is, z_is))
 
--- a mark is stored nowhere
+-- a mark isn't stored
 mark_stored : (e : Terms) (index : ℕ) (b mark : Bool) (t : TheSession) (s : Session)
     → IsSession e index t s → IsSession e index t (cond b (record s { took_over = mark }) s)
 mark_stored e index false mark t s is = is

@@ -53,7 +53,7 @@ compose_all f g h same (s ∷ ss) =
     ap (λ (t : Session). t ∷ map (changed f) (map (changed g) ss)) (compose f g h s (λ o. same s))
     ∙ ap (λ (ts : List Session). changed h s ∷ ts) (compose_all f g h same ss)
 
--- a slot of an open session is one of the slots
+-- the slot of an open session is below the number of slots
 pub inside : (e : Terms) (index clock : ℕ) (table : Table) (ss : List Session)
     → IsTable e index clock table ss → (at : ℕ) (s : Session) → find (is_open_in at) ss ≡ Some s → at < e.sessions
 inside e index clock table ss body at s is =
@@ -70,7 +70,7 @@ seat_of e index clock table ss body at s is =
     let p = some_buffers table in
     (buffers_of table.publishers.items (get_or table.seats.items at x) p, (get_or table.seats.items at x).subscriber, (body.seats_are at x p below).seated s is)
 
--- the publisher stands for its session
+-- the publisher's buffers represent its session
 pub record Publishing_is (e : Terms) (clock : ℕ) (p : Publisher) (s : Session) (q : Publishing) : Type 0 where
   pub stands : PublisherStands e p s q
   pub opened : s.opening ≤ clock
@@ -91,7 +91,7 @@ publisher_is e index clock table ss at s q which p its there =
     subst (λ (o : Past). IsPast e clock p (get_or table.seats.items at d).subscriber s o) its.here.past_is seat.past_is in
     record { stands = past.1; opened = seat.opened; moment = omega (arith, seat.opened) }
 
--- the same of the place of its buffers
+-- the same by the index of its buffers
 pub publisher_at : (e : Terms) (index clock : ℕ) (table : Table) (ss : List Session) (at : ℕ) (s : Session) (q : Publishing) (which : PublisherBuffers)
     (place : ℕ) (p : Publisher)
     → IsPublisherOf e index clock table ss at s q which → place ≡ place_of which
@@ -103,7 +103,7 @@ publisher_at e index clock table ss at s q which place p its place_is there =
 pub publishing_at : (ss : List Session) (at : ℕ) (s : Session) (q : Publishing) → IsPublisherAt ss at s q → IsPublishing ss at s
 publishing_at ss at s q here = record { found = here.found; publishes = here.publishes }
 
--- the session of a slot is the one of that slot, and no other
+-- a slot has one session
 pub the_one : (ss : List Session) (at k : ℕ) (s t : Session) → find (is_open_in at) ss ≡ Some s → find (is_open_in k) ss ≡ Some t → k ≡ at → t ≡ s
 the_one ss at k s t here is place = let both : Some t ≡ Some s = sym is ∙ (ap (λ (n : ℕ). find (is_open_in n) ss) place ∙ here) in cc
 
@@ -113,7 +113,7 @@ slot_is ss at k t is place = eq-eqb t.slot at ((is_there k ss t is).1 ∙ place)
 pub slot_is_not : (ss : List Session) (at k : ℕ) (t : Session) → find (is_open_in k) ss ≡ Some t → k ≢ at → t.slot == at ≡ false
 slot_is_not ss at k t is apart = false_from_ne_true (t.slot == at) (λ h. absurd (apart (sym (is_there k ss t is).1 ∙ eqb-true t.slot at h)))
 
--- a publisher's past in the middle, in its slot and elsewhere
+-- a publisher's past amid a delivery, in its slot and elsewhere
 pub amid_here : (e : Terms) (clock at : ℕ) (r q : Publishing) (xs : List (List ℕ)) (t : Session)
     → t.slot == at ≡ true → t.past ≡ Publishes q → amid e clock at r xs t ≡ Publishes r
 amid_here e clock at r q xs t test past =
@@ -127,7 +127,7 @@ amid_elsewhere e clock at r t test =
     by terms time (Publishes p) = refl
     by terms time (Subscribes m) = refl
 
--- one publisher has gone on
+-- one publisher has delivered
 pub record IsTurned (table later : Table) (which : PublisherBuffers) (p : Publisher) : Type 0 where
   pub alike : Alike table later
   pub seats_are : later.seats.items ≡ table.seats.items
@@ -183,7 +183,7 @@ gone_on e index clock table later ss at s q r which p its turned stands =
           t g t.past (is_there k ss t is).0 (amid_elsewhere e clock at r t (slot_is_not ss at k t is apart)) stays.past_is stays.opened
     ]
 
--- the publisher's session once all its payloads are passed on
+-- the publisher's session once all its payloads are delivered
 pub publisher_passed : (e : Terms) (clock : ℕ) (ss : List Session) (at : ℕ) (s : Session) (q : Publishing) (room : Option ℕ)
     → IsPublisherAt ss at s q
     → IsPublisherAt
@@ -244,7 +244,7 @@ gone_and_fed e clock at r x ss =
     compose_all (fed e clock x) (amid e clock at r []) (amid e clock at r (x ∷ []))
     (λ s. fed_once (terms_of e s) (time_in s clock) (s.slot == at) r x s.past) ss
 
--- there is room for less
+-- room for more is room for less
 pub less_room : (e : Terms) (more less : ℕ) (ss : List Session) → (e.mode ≡ Buffer → less ≤ more) → HaveRoom e more ss → HaveRoom e less ss
 less_room e more less ss le has at s is = by s.past (has at s is)
   where
@@ -267,7 +267,7 @@ room_before e clock at_slot places r ss has at t is =
     by terms time mine (Publishes p) h = tt
     by terms time mine (Subscribes m) h = h
 
--- of sessions that are changed alike
+-- two changes that agree on the open sessions
 pub same_everywhere : (f g : Session → Past) (places : ℕ) (ss : List Session)
     → AreAlone places ss → ((at : ℕ) (t : Session) → find (is_open_in at) ss ≡ Some t → f t ≡ g t) → map (changed f) ss ≡ map (changed g) ss
 same_everywhere f g places [] alone same = refl
@@ -298,7 +298,7 @@ unchanged (s ∷ ss) = ap (λ (t : Session). t ∷ map (changed (λ s. s.past)) 
     by true = refl
     by false = refl
 
--- nothing has gone on
+-- nothing has been delivered
 pub nothing_amid : (e : Terms) (index clock : ℕ) (table : Table) (ss : List Session) (at : ℕ) (s : Session) (q : Publishing)
     → IsTable e index clock table ss → IsPublisherAt ss at s q → map (changed (amid e clock at q [])) ss ≡ ss
 nothing_amid e index clock table ss at s q body here =
@@ -312,7 +312,7 @@ nothing_amid e index clock table ss at s q body here =
       | inr apart ↦ amid_elsewhere e clock at q t (slot_is_not ss at k t is apart)
     ]
 
--- what is due, and what isn't
+-- a payload that is due, and none
 pub one_due : (x : List ℕ) (n : Option Arrival) → Some x ≡ option_map (λ (a : Arrival). a.payload) n → (a : Arrival) × (n ≡ Some a) × (x ≡ a.payload)
 one_due x None same = absurd (let bad : Some x ≡ None = same in cc)
 one_due x (Some a) same = (a, refl, let e : Some x ≡ Some a.payload = same in cc)
@@ -325,7 +325,7 @@ pub given_if : (n : Option Arrival) → is_some n ≡ is_given n
 given_if None = refl
 given_if (Some a) = refl
 
--- what was passed over, and what wasn't
+-- a payload that was skipped, and none
 pub passed_one : (b : Bool) (n : Option Arrival) → b ≡ is_some n → b ≡ true → (a : Arrival) × (n ≡ Some a)
 passed_one b None same is = absurd (let bad : false ≡ true = sym same ∙ is in cc)
 passed_one b (Some a) same is = (a, refl)
@@ -334,7 +334,7 @@ pub none_passed : (b : Bool) (n : Option Arrival) → b ≡ is_some n → b ≡ 
 none_passed b None same is = refl
 none_passed b (Some a) same is = absurd (let bad : true ≡ false = sym same ∙ is in cc)
 
--- a turn that gives a payload
+-- a step that delivers a payload
 pub turn_given : (e : Terms) (index clock : ℕ) (table first later : Table) (ss : List Session) (at : ℕ) (s : Session) (q : Publishing)
     (which : PublisherBuffers) (p : Publisher) (places : ℕ) (next : Option Arrival) (payload : List ℕ) (a : Arrival)
     → next ≡ next_delivery (terms_of e s).publisher (time_in s clock) places q → next ≡ Some a → payload ≡ a.payload
@@ -357,7 +357,7 @@ turn_given e index clock table first later ss at s q which p places next payload
     ∙ sym (ap (λ (o : Option Arrival). turned e clock at o r ss) is)))
     now
 
--- a turn that gives none
+-- a step that delivers none
 pub turn_over : (e : Terms) (index clock : ℕ) (table later : Table) (ss : List Session) (at : ℕ) (s : Session) (q : Publishing)
     (which : PublisherBuffers) (p : Publisher) (next : Option Arrival)
     → next ≡ None → IsPublisherOf e index clock table ss at s q which → IsTurned table later which p
@@ -375,7 +375,7 @@ turn_over e index clock table later ss at s q which p next is its turned_is stan
     (subst (λ (ts : List Session). IsTable e index clock later ts) (nothing_amid e index clock table ss at s q its.body its.here)
     (gone_on e index clock table later ss at s q q which p its turned_is still))
 
--- the seats that are fed, as changes of each
+-- the fed seats, as a change of each
 pub each_fed : (clock : ℕ) (payload : List ℕ) (old new : List Seat)
     → AreFed clock payload old new → EachUpTo (Changes (Feeds clock payload)) (length old) old new
 each_fed clock payload old new h =
@@ -430,7 +430,7 @@ with_publishers old new = record {
   two = new.two;
 }
 
--- a turn: the publisher has gone on, and the seats were given what it delivered
+-- a step: the publisher has delivered, and the seats were fed its payload
 pub turn_taken : (e : Terms) (index clock : ℕ) (table later : Table) (ss : List Session) (at : ℕ) (s : Session) (q : Publishing)
     (which : PublisherBuffers) (p : Publisher) (places : ℕ) (next : Option Arrival)
     → next ≡ next_delivery (terms_of e s).publisher (time_in s clock) places q → IsPublisherOf e index clock table ss at s q which

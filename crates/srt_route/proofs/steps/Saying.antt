@@ -1,4 +1,4 @@
--- What is sent at the end of an event.
+-- The output at the end of an event.
 use Rattle.std.proofs.Common.{◌≡◌, ◌≢◌, ℕ, zero, suc, ◌+◌, ◌-◌, ◌<◌, ◌≤◌, ◌==◌, nat_lt, Bool, true, false, not, cond, Option, None, Some}
 use Rattle.std.proofs.Common.{List, [], ◌∷◌, ◌++◌, length, map, find, get_or, inl, inr, refl, sym, ap, subst, ◌∙◌, append_assoc, append-nil}
 use Rattle.std.proofs.Common.{arith}
@@ -89,7 +89,7 @@ three_said a b c d p q r s peer xs ys zs all is h k l =
     (said_then a b d p q s (datagrams_to peer (texts xs)) (datagrams_to peer (texts ys) ++ datagrams_to peer (texts zs)) h
     (said_then b c d q r s (datagrams_to peer (texts ys)) (datagrams_to peer (texts zs)) k l))
 
--- packets of slots
+-- packets of a range of slots
 abbrev pub said_from : Terms → (clock : ℕ) → (Session → Bool) → List Session → (from count : ℕ) → List Datagram
 said_from e clock test ss from count = map sent (flat_map (λ s. packets_at e (test s) (time_in s clock) s) (from_places ss from count))
 
@@ -106,7 +106,7 @@ said_vacant : (e : Terms) (clock : ℕ) (test : Session → Bool) (ss : List Ses
 said_vacant e clock test ss from count is =
     ap (λ (o : Option Session). map sent (flat_map (λ s. packets_at e (test s) (time_in s clock) s) (cons_option o (from_places ss (from + 1) count)))) is
 
--- the publisher's
+-- the publisher's packets
 publisher_bytes : (clock : ℕ) (s : Session) (rs : List publishing.Report)
     → datagrams_to s.peer (map (publisher_text.says s.conclusion.caller s.conclusion.initial (time_in s clock)) rs)
     ≡ map sent (map (said_by (time_in s clock) s) (map ToPublisher rs))
@@ -137,7 +137,7 @@ seat_session e index clock table ss at x s body there found =
 pub some_same : {A : Type 0} (a b : A) → Some a ≡ Some b → a ≡ b
 some_same a b e = cc
 
--- the publisher of a slot has said what it says
+-- the publisher of a slot has sent its packets
 in_slot : (e : Terms) (clock at : ℕ) (t : Session) (mine : Bool)
     → t.slot == at ≡ mine → after_publisher_in e clock at t ≡ reported_in (is_draining t) (terms_of e t) (time_in t clock) mine t.past
 in_slot e clock at t mine test = ap (λ (b : Bool). reported_in (is_draining t) (terms_of e t) (time_in t clock) b t.past) test
@@ -171,7 +171,7 @@ publisher_gone e index clock table later ss at s q which p its speaking turned s
       | inr apart ↦ let test = slot_is_not ss at k t is apart in amid_elsewhere e clock at r t test ∙ sym (in_slot e clock at t false test)
     ]
 
--- a publisher that says nothing drains
+-- a publisher that sends nothing drains
 quiet_drains : (publishing draining : Bool) → publishing ≡ true → (publishing && not draining) ≡ false → draining ≡ true
 quiet_drains true true p h = refl
 quiet_drains true false p h = absurd (let bad : true ≡ false = h in cc)
@@ -239,7 +239,7 @@ no_publisher_says e clock ss at none = by (find (is_open_in at) ss) refl
     by None is = refl
     by (Some s) is = ap (λ (b : Bool). map sent (packets_at e b (time_in s clock) s)) (none s is)
 
--- what the seat of a slot says of its session
+-- the packets of a seat, by its session
 pub seat_without : (e : Terms) (index clock : ℕ) (table : Table) (ss : List Session) (at : ℕ) (x : Seat) → IsTable e index clock table ss
     → x ≡ get_or table.seats.items at x → has_speaker x ≡ false → (s : Session) → find (is_open_in at) ss ≡ Some s
     → speaks s ≡ false
@@ -309,7 +309,7 @@ has_none x y same none some =
     let bad : false ≡ true =
     sym (ap (session_passes (λ (t : TheSession). publishes t.role && not (is_some t.drains))) none) ∙ (ap has_speaker same ∙ some) in cc
 
--- the publishers of the slots below this one have said what they say
+-- the publishers of the slots below `at` have sent their packets
 abbrev pub below_told : Terms → (clock at : ℕ) → Session → Past
 below_told e clock at s = reported_in (is_draining s) (terms_of e s) (time_in s clock) (nat_lt s.slot at) s.past
 
@@ -370,7 +370,7 @@ all_below e index clock at table ss body all =
     let test : nat_lt t.slot at ≡ true = grind (arith, nat_tests, low) in
     ap (λ (b : Bool). reported_in (is_draining t) (terms_of e t) (time_in t clock) b t.past) test)
 
--- the packets of a slot that hasn't said them are those of before
+-- the packets of a slot that hasn't sent any yet are those of before
 pub same_in_slot : (e : Terms) (clock at : ℕ) (ss : List Session)
     → packets_in e clock speaks at (map (changed (below_told e clock at)) ss) ≡ packets_in e clock speaks at ss
 same_in_slot e clock at ss = ap (packets_of e clock speaks) (find_changed (below_told e clock at) at ss) ∙ by (find (is_open_in at) ss) refl
@@ -385,7 +385,7 @@ same_in_slot e clock at ss = ap (packets_of e clock speaks) (find_changed (below
         (changed_is t (below_told e clock at) t.past there.0
         (ap (λ (b : Bool). reported_in (is_draining t) (terms_of e t) (time_in t clock) b t.past) test))
 
--- what is sent marks numbers alone, so nothing more is too old
+-- sending only adds marks of numbers, so nothing more is too old
 marks_alone : (ns : List ℕ) (s : Sending) → (marks : List Mark) × (subscribing.sent_each ns s ≡ record s { marks = marks })
 marks_alone [] s = (s.marks, refl)
 marks_alone (n ∷ ns) s = let later = marks_alone ns (marked_sent n s) in (later.0, later.1)
@@ -421,7 +421,7 @@ reported_fresh terms time m e1 =
     ap (λ (x : Sending). record (subscribing.reported terms time m) { sending = x })
     (ap (subscribing.expired_in terms.mode terms time) is.1 ∙ (fresh ∙ sym is.1))
 
--- what a call does to a slot's subscriber at the end of an event
+-- the effect of a call on a slot's subscriber at the end of an event
 abbrev pub Tells : (clock : ℕ) → Option TheSession → (x y : Subscriber) → Type 0
 Tells clock o x y =
     subscribes o ≡ true → (terms : subscribing.Terms) (initial opening caller : ℕ) (m : subscribing.Subscribing)
@@ -507,13 +507,13 @@ told_becomes e index clock at p x y ss is h =
     seat_becomes (Tells clock) (after_subscriber e clock) e index clock at p x y ss is h
     (λ s found opens stored. told_seat e index clock p x.subscriber y.subscriber x.session s stored (is.seated s found) opens is.wide h.stays h.changes)
 
--- what the slots below this one sent and the others will send is what all send
+-- the packets that the slots below `at` sent with those of the remaining slots are the packets of all
 pub record IsTold (e : Terms) (clock : ℕ) (test : Session → Bool) (at : ℕ) (ss : List Session) (before now : List Reply) (places more : ℕ) : Type 0 where
   pub told : List Datagram
   pub said : AreSaid before now places more told
   pub whole : told ++ said_from e clock test ss at (e.sessions - at) ≡ map sent (packets_where e clock test ss)
 
--- one slot more
+-- one more slot
 pub tell_slot : (e : Terms) (clock : ℕ) (test : Session → Bool) (ss : List Session) (at : ℕ) (before now then_ : List Reply)
     (places more most : ℕ)
     → at < e.sessions → AreSaid now then_ more most (map sent (packets_in e clock test at ss))
@@ -553,7 +553,7 @@ tell_step e index clock p ss at x before now then_ places more most below is sil
     place (Some s) found = place_said e index clock p x.subscriber x.session s now then_ more most (stored (Some s) found)
         (is.seated s found) (is_there at ss s found).0 silent says
 
--- `turn` packets of a subscriber were queued, and these are left
+-- `turn` packets of a subscriber were queued, and these remain
 pub record IsTelling (terms : subscribing.Terms) (initial opening caller clock : ℕ) (peer : Peer) (x : Subscriber)
     (m : subscribing.Subscribing) (before now : List Reply) (places more turn : ℕ) : Type 0 where
   pub gone : List subscribing.Report
@@ -620,13 +620,13 @@ never_so_many terms initial opening caller clock peer x m before now places more
     let all : length (h.gone ++ h.left) ≤ 65 = omega (arith, ap length h.whole, subscriber_few terms (clock - opening) m) in
     absurd (omega (arith, all, length-append h.gone h.left, h.count, many))
 
--- the publisher's packets, and then the subscribers'
+-- the publishers' packets, and then the subscribers'
 pub both_reported : (draining : Bool) (terms : Agreed) (time : ℕ) (past : Past)
     → subscriber_reported terms time (publisher_reported draining terms time past) ≡ reported_past draining terms time past
 both_reported draining terms time (Publishes p) = refl
 both_reported draining terms time (Subscribes m) = refl
 
--- what the publisher sends changes nothing of what the subscribers are sent
+-- the publishers' packets don't change what the subscribers are sent
 abbrev pub told_of : Terms → (clock : ℕ) → Session → List Answer
 told_of e clock s = packets_at e (is_subscriber s) (time_in s clock) s
 

@@ -1,4 +1,4 @@
--- Step 6: what subscribers are sent, and the sessions that end with a file.
+-- Step 6: the subscribers' packets, and the sessions that end with a file.
 use Rattle.std.proofs.Common.{◌≡◌, ℕ, ◌+◌, ◌<◌, ◌≤◌, ◌&&◌, Bool, true, false, cond, Option, None, Some, List, [], ◌∷◌, map, find, length, refl}
 use Rattle.std.proofs.Common.{sym, ap, subst, ◌∙◌, inl, inr, arith}
 use Rattle.std.proofs.lemmas.Bool.{cases_lt, cases_eq}
@@ -39,7 +39,7 @@ use Rattle.srt_route.proofs.steps.Saying.{Tells, both_reported, later_packets, p
 use Rattle.srt_route.proofs.steps.Slots.{IsSaying, said_of, saying_more}
 use Rattle.srt_route.proofs.steps.Told.{end_for}
 
--- what a session is sent
+-- the packets of a session
 abbrev pub serving : Terms → (clock : ℕ) → (over : Bool) → Session → List Answer
 serving e clock over s = served_at (has_whole_file over s) e clock s
 
@@ -221,7 +221,7 @@ served_becomes e index clock over at p x y ss is h = by h.whole (h.whole_is e in
 pub stays_served : (clock : ℕ) (x y : Seat) (before later : ReplyQueue) → SeatServed clock x y before later → Changes (Tells clock) x y
 stays_served clock x y before later h = record { count_is = h.generation; session_is = h.session; stays = h.none; changes = h.stands }
 
--- what its slot is sent
+-- the packets of its slot
 pub serve_slot : (e : Terms) (index clock : ℕ) (over : Bool) (p : Publisher) (ss : List Session) (at : ℕ) (x y : Seat) (whole : Bool)
     (before : List Reply) (places : ℕ) (now then_ : ReplyQueue)
     → at < e.sessions → IsSeat e index clock at p x ss → HasWhole over x whole → (whole ≡ true → SeatEnds clock x y now then_)
@@ -255,7 +255,7 @@ serve_slot e index clock over p ss at x y whole before places now then_ below is
         (stored (Some s) found) (is.seated s found) (is_there at ss s found).0 k.silent
         (λ b t terms initial opening caller m is. k.said b t is terms initial opening caller m))
 
--- the ends that are noted
+-- the ends that are recorded
 pub record EndsUpTo (index : ℕ) (over : Bool) (moment at : ℕ) (ss : List Session) (old new : (slot : ℕ) → Option EndedSession) : Type 0 where
   pub done : (k : ℕ) → k < at → EndsIn index (file_end over) moment (find (is_open_in k) ss) (old k) (new k)
   pub ahead : (k : ℕ) → at ≤ k → new k ≡ old k

@@ -1,4 +1,4 @@
--- What is sent to each open session, slots upwards, one slot after another.
+-- The packets of each open session, in ascending order of slots, one slot after another.
 use Rattle.std.proofs.Common.{◌≡◌, ℕ, suc, ◌+◌, ◌-◌, ◌<◌, ◌≤◌, Option, None, Some, List, [], ◌++◌, map, find, refl, sym, ap, ◌∙◌, append_assoc, append-nil}
 use Rattle.std.proofs.Common.{arith}
 use Rattle.std.specs.List.{cons_option, flat_map}
@@ -12,7 +12,7 @@ use Rattle.srt_route.specs.inside.Reports.{AreSaid}
 use Rattle.srt_route.proofs.steps.Delivered.{from_places}
 use Rattle.srt_route.proofs.steps.Saying.{nothing_said, same_said, said_then}
 
--- what a slot is sent, and what slots are
+-- the packets of a slot, and of a range of slots
 abbrev pub said_of : (Session → List Answer) → Option Session → List Answer
 said_of f None = []
 said_of f (Some s) = f s
@@ -20,7 +20,7 @@ said_of f (Some s) = f s
 abbrev pub slots_said : (Session → List Answer) → List Session → (from count : ℕ) → List Datagram
 slots_said f ss from count = map sent (flat_map f (from_places ss from count))
 
--- what the slots below this one were sent, and what the others will be sent, is what all are sent
+-- the packets of the slots below `at` with those of the remaining slots are the packets of all
 pub record IsSaying (f : Session → List Answer) (e : Terms) (at : ℕ) (ss : List Session) (before now : List Reply) (places more : ℕ) : Type 0 where
   pub told : List Datagram
   pub said : AreSaid before now places more told

@@ -41,7 +41,7 @@ use Rattle.srt_route.proofs.stored.TwoBuffers.{never_other}
 use Rattle.srt_route.proofs.model.TakeOver.{opens_behind}
 use Rattle.srt_route.proofs.stored.Seats.{opened_kept, other_publisher}
 
--- what a slot has after a session more
+-- the session of a slot after one more session opened
 pub found_newest : (k : ℕ) (s : Session) (ss : List Session) (u : Session)
     → find (is_open_in k) (s ∷ ss) ≡ Some u → ((is_open_in k s ≡ true) × (s ≡ u)) ⊎ (find (is_open_in k) ss ≡ Some u)
 found_newest k s ss u h = by (is_open_in k s) refl h
@@ -51,7 +51,7 @@ found_newest k s ss u h = by (is_open_in k s) refl h
     by true e h = inl (e, let same : Some s ≡ Some u = h in cc)
     by false e h = inr h
 
--- the table with a session more, in a seat in which none was open
+-- the table with one more session, in a seat in which none was open
 pub record IsOpening (e : Terms) (clock : ℕ) (old new : Table) (s : Session) (ss : List Session) (y : Seat) : Type 0 where
   pub publishers_wide : AreWide e.buffer new.publishers.items
   pub seated : (p : Publisher) → IsSeated e clock (buffers_of new.publishers.items y p) y.subscriber s
@@ -191,7 +191,7 @@ table_opened e index clock old new s ss y is alike same_length here beside o ins
           ∙ (first_is ∙ (opening.leading_is ∙ leading_stays old.leading s.conclusion.role (used_buffers y) role))))
     ]
 
--- what has begun, by the role
+-- the buffers that have begun, by the role
 pub record HasBegun (e : Terms) (clock : ℕ) (old : Table) (which : PublisherBuffers) (q : Publisher) (x y : Seat) (s : Session) (ss : List Session)
     : Type 0 where
   pub publishers_wide : AreWide e.buffer (set old.publishers.items (place_of which) q)
@@ -327,7 +327,7 @@ session_stored e index clock peer stamp c old new ss at which q x w v y t h insi
       (seat_at e index clock old ss at x (some_buffers old) h inside there).count_is,
     )
 
--- what a subscriber's session is opened with
+-- the parameters of a subscriber's session
 abbrev pub made : Mode → (width delay mtu window : ℕ) → Rules → subscribing.Terms
 made mode width delay mtu window rules =
     record { mode = mode; width = width; delay = delay; mtu = mtu; window = window; resend_percent = rules.resend_percent }
@@ -341,7 +341,7 @@ subscriber_terms e c a delay same delay_is =
     turned : (n : ℕ) → n * 1000 ≡ 1000 * n
     turned n = omega arith
 
--- and a publisher's
+-- the parameters of a publisher's session
 abbrev pub published : Mode → (width delay : ℕ) → Rules → publishing.Terms
 published mode width delay rules = record { mode = mode; width = width; delay = delay; callers = rules.callers }
 
@@ -355,7 +355,7 @@ publisher_terms e c a width delay same wide delay_is =
     turned : (n : ℕ) → n * 1000 ≡ 1000 * n
     turned n = omega arith
 
--- a route's buffers are no wider than they may be
+-- a route's buffers are within their limit
 pub buffer_fits : (e : Terms) → in_limits e ≡ true → e.buffer ≤ 8192
 buffer_fits e h = grind (arith, nat_tests, h)
 
@@ -365,7 +365,7 @@ AreVacant width seats =
     (k : ℕ) (d : Seat) → k < length seats
     → ((get_or seats k d).generation ≡ 0) × ((get_or seats k d).session ≡ None) × subscriber.IsWide width (get_or seats k d).subscriber
 
--- one more
+-- one more seat
 pub vacant_pushed : (width : ℕ) (xs ys : List Seat) (x : Seat) (u : Subscriber) → ys ≡ xs ++ x ∷ [] → AreVacant width xs
     → x ≡ record { generation = 0; session = None; subscriber = u } → subscriber.IsWide width u
     → AreVacant width ys

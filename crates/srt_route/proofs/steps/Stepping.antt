@@ -1,4 +1,4 @@
--- An item more.
+-- One more item.
 use Rattle.std.proofs.Common.{◌≡◌, ℕ, ◌<◌, ◌≤◌, ◌^◌, true, false, ◌||◌, List, [], ◌∷◌, ◌++◌, length, map, max, sym, ap, subst, ◌∙◌, append_assoc, arith}
 use Rattle.std.proofs.lemmas.List.{length-map, map-append}
 use Rattle.srt_seq.specs.Terms.{Terms}
@@ -22,13 +22,13 @@ use Rattle.srt_route.proofs.model.Ending.{closed_ended, ended_table}
 use Rattle.srt_route.proofs.steps.Saying.{said_then, same_said}
 use Rattle.srt_route.proofs.steps.Serving.{all_finished, same_served}
 
--- what an event's end sends at a clock
+-- the output at an event's end, at a clock
 abbrev pub said_at : Terms → (clock : ℕ) → List Session → List Datagram
 said_at e clock ss =
     let later = after_delivery e clock ss in
     map sent (packets_where e clock speaks later ++ served e clock (is_file_over e later) later)
 
--- what an event sends at a clock before its end
+-- the output of an event before its end, at a clock
 abbrev pub answered_at : Terms → (index clock : ℕ) → Item → List Session → List Datagram
 answered_at e index clock item ss = map sent (idle_told e clock ss) ++ map sent (taken e index clock item (advanced e clock ss)).answers
 
@@ -36,7 +36,7 @@ answered_at e index clock item ss = map sent (idle_told e clock ss) ++ map sent 
 abbrev pub ended_at : Terms → (clock : ℕ) → List Session → List Session
 ended_at e clock ss = map (finished e clock (is_file_over e ss)) ss
 
--- sessions are taken through an event: the last table is that of the sessions after it, and what it sends is queued
+-- the sessions went through an event: the last table represents the sessions after it, and its output is queued
 pub record IsStepped (e : Terms) (index clock : ℕ) (item : Item) (sessions : List Session) (last : Table) (before after : ReplyQueue) : Type 0 where
   pub last_is : IsTable e index clock last (ended_at e clock (after_delivery e clock (taken e index clock item (advanced e clock sessions)).sessions))
   pub said : Queues before after
@@ -77,7 +77,7 @@ stepped e index before clock item sessions first aged_to second third fourth las
           both;
     }
 
--- the table before the subscribers' part
+-- the table before the subscribers' step
 pub before_subscribers : (e : Terms) (index before clock : ℕ) (item : Item) (sessions : List Session) (first aged_to second third fourth : Table)
     → IsTable e index before first sessions → before ≤ clock → clock < 2 ^ 62 → AdvancesTo clock first aged_to
     → TakesItem clock item aged_to second → TableBecomes clock second third (λ d. after_delivery d clock)
@@ -89,7 +89,7 @@ before_subscribers e index before clock item sessions first aged_to second third
     (delivers e index (taken e index clock item (advanced e clock sessions)).sessions
     (takes e index (advanced e clock sessions) (ages e index before sessions body later early)))
 
--- after the six steps of a route that wasn't closed, it stands for one item more
+-- after the six steps, a route that wasn't closed represents one more item
 pub stands_more : (e : Terms) (index : ℕ) (items : List Item) (item : Item) (old new : TheRoute) → IsRoute e index old (after e index items)
     → old.closed ≡ false → new.clock ≡ max old.clock (moment_of item)
     → IsTable e index new.clock new.table
@@ -113,7 +113,7 @@ stands_more e index items item old new h lives moment body more shut =
       closed_is = ap (λ b. b || closes item) is_open ∙ sym shut;
     }
 
--- of a route that was closed the clock alone goes on
+-- in a closed route only the clock advances
 pub stays_closed : (e : Terms) (index : ℕ) (items : List Item) (item : Item) (old new : TheRoute)
     → IsRoute e index old (after e index items) → old.closed ≡ true → new.clock ≡ max old.clock (moment_of item) → new.clock < 2 ^ 62
     → new.table ≡ old.table → new.waiting ≡ old.waiting → new.closed ≡ old.closed
@@ -131,7 +131,7 @@ stays_closed e index items item old new h shut moment early same queue still =
       closed_is = ap (λ b. b || closes item) is_closed ∙ sym (still ∙ shut);
     }
 
--- and the replies are those of the definition
+-- the replies are those of the definition
 pub replies_more : (e : Terms) (index : ℕ) (items : List Item) (item : Item) (old : TheRoute) (time : ℕ) (queue : ReplyQueue)
     → IsRoute e index old (after e index items) → old.closed ≡ false → time ≡ max old.clock (moment_of item) → waiting old ≡ []
     → AreSaid (replies_of old.waiting) (replies_of queue) (places old) (places_of queue)

@@ -25,7 +25,7 @@ use Rattle.srt_route.proofs.model.Found.{of_parts}
 use Rattle.srt_route.proofs.stored.Kept.{Alike, seat_at, seat_put}
 use Rattle.srt_route.proofs.stored.Stored.{address_among, caller_at, publishers_among, vacant_among, hears, hears_marks, heard_becomes, not_of_caller}
 
--- the answer to a conclusion, by what decides it
+-- the answer to a conclusion, by the values that decide it
 pub answer_is : (e : Terms) (peer : Peer) (c : Conclusion) (ss : List Session) (o : Option RefusalCause) (crowded : Bool) (f : Option ℕ) (kept : Bool)
     → refused e.mode (open_publishers ss) c ≡ o → is_crowded e.rules.sessions_per_address (sessions_from peer.ip ss) ≡ crowded
     → free_slot e ss ≡ f → is_reserved e.rules.reserved (free_slots e ss) (open_publishers ss) c.role ≡ kept
@@ -42,7 +42,7 @@ refused_is e index clock table ss mode publishers c cause are mode_is among is =
     ap (λ (n : ℕ). refused e.mode n c) (sym (publishers_among e index clock table ss are) ∙ sym among)
     ∙ (ap (λ (m : Mode). refused m publishers c) (sym mode_is) ∙ sym is)
 
--- and so are the limit of the caller's address, and the slots that are kept for publishers
+-- so are the limit of the caller's address, and the slots reserved for publishers
 pub crowded_is : (e : Terms) (index clock : ℕ) (table : Table) (ss : List Session) (peer : Peer) (rules : Rules) (crowded : Bool)
     → IsTable e index clock table ss → rules ≡ table.rules
     → crowded ≡ is_crowded rules.sessions_per_address (count_by (has_address peer.ip) table.seats.items)
@@ -93,7 +93,7 @@ pub opened_taken : (e : Terms) (index clock : ℕ) (peer : Peer) (stamp : ℕ) (
     → IsTaken e index clock new (reply ∷ []) (considered e index clock peer stamp c ss d)
 opened_taken e index clock peer stamp c ss new reply d at is taken = rw (is) taken
 
--- a caller's session is heard of, and its first answer given again
+-- a repeated conclusion: the session's time of last reception is updated, and its first answer is sent again
 pub again_taken : (e : Terms) (index clock : ℕ) (peer : Peer) (stamp : ℕ) (c : Conclusion) (ss : List Session) (old new : Table)
     (replies : List Datagram) (at : ℕ) (x y : Seat)
     → IsTable e index clock old ss → position (holds peer c.caller) old.seats.items ≡ Some at → x ≡ get_or old.seats.items at x

@@ -1,4 +1,4 @@
--- A packet comes for a session.
+-- A packet arrives for a session.
 use Rattle.std.proofs.Common.{◌≡◌, ℕ, ◌+◌, ◌-◌, ◌<◌, Bool, true, false, ◌||◌, ◌&&◌, cond, Bor, Option}
 use Rattle.std.proofs.Common.{None, Some, List, [], ◌∷◌, ◌++◌, length, map, find, get_or, set, refl}
 use Rattle.std.proofs.Common.{sym, ap, subst, ◌∙◌, append-nil, arith}
@@ -105,7 +105,7 @@ lost_is_told terms initial (DropRequest message first last) m =
 lost_is_told terms initial PeerError m = lost_only (publishing.loses_window terms.mode terms (to_publisher.heard_from initial PeerError) m)
 lost_is_told terms initial UserDefined m = lost_only (publishing.loses_window terms.mode terms (to_publisher.heard_from initial UserDefined) m)
 
--- and whether it ended by its own SHUTDOWN
+-- whether it ended by its own SHUTDOWN
 end_only : (b : Bool) → shutdown_end (lost_if b) ≡ cond b (Some false) None
 end_only true = refl
 end_only false = refl
@@ -125,7 +125,7 @@ end_is_told terms initial (DropRequest message first last) m = end_only (loses_w
 end_is_told terms initial PeerError m = end_only (loses_window terms initial PeerError (Publishes m))
 end_is_told terms initial UserDefined m = end_only (loses_window terms initial UserDefined (Publishes m))
 
--- and a subscriber's
+-- how a subscriber's session ends
 shutdown_is : (body : Body) → endings.is_shutdown body ≡ is_shutdown body || false
 shutdown_is Shutdown = refl
 shutdown_is (Data number encryption payload) = refl
@@ -139,7 +139,7 @@ shutdown_is (DropRequest message first last) = refl
 shutdown_is PeerError = refl
 shutdown_is UserDefined = refl
 
--- a session drains from a SHUTDOWN on alone
+-- a session drains only from a SHUTDOWN on
 abbrev pub EndsByShutdown : (drains : Option ℕ) → Body → Type 0
 EndsByShutdown drains body = (until : ℕ) → drains ≡ Some until → is_shutdown body ≡ true
 
@@ -181,7 +181,7 @@ end_of : (drains : Option ℕ) (e : Terms) (body : Body) (s : Session) (end : Op
 end_of None e body s end h = ap (of_libsrt e.rules.callers) h
 end_of (Some until) e body s end h = libsrt_none e.rules.callers
 
--- what a publisher's session has after a packet
+-- a publisher's session after a packet
 record PublisherIs (drains : Option ℕ) (e : Terms) (clock : ℕ) (packet : Packet) (new : Publisher) (x y : Seat) (end : Option PubEnd)
     (s : Session) : Type 0 where
   wide : publisher.width_of new ≡ e.buffer
@@ -231,7 +231,7 @@ publisher_is drains e clock packet old new x y end s role by_shutdown took_it en
               ∙ ap (publisher_end (terms_of e s) s.conclusion.initial packet.body) (sym same));
         }
 
--- and a subscriber's
+-- a subscriber's session after a packet
 record SubscriberIs (e : Terms) (clock : ℕ) (peer : Peer) (packet : Packet) (p : Publisher) (x y : Seat) (replies : List Datagram) (s : Session) : Type 0 where
   wide : subscriber.IsWide e.buffer y.subscriber
   seated : IsSeated e clock p y.subscriber (took None e clock packet.stamp packet.body s)
@@ -314,7 +314,7 @@ by_end e index clock peer packet table ss o drains end found drains_is is body =
     (subst (λ (d : Option ℕ). IsTable e index clock table (map (took_packet d (packet_end d e packet.body o) e index clock peer packet) ss)) (sym drains_is)
     (subst (λ (x : Option Bool). IsTable e index clock table (map (took_packet drains x e index clock peer packet) ss)) (sym is) body))
 
--- the packet is for none
+-- the packet is for no session
 pub none_arrived : (e : Terms) (index clock : ℕ) (peer : Peer) (packet : Packet) (table later : Table) (ss : List Session)
     → IsTable e index clock table ss → Alike table later → later.publishers ≡ table.publishers → later.seats ≡ table.seats
     → IsForNone index peer packet.dest e.sessions ss
@@ -338,7 +338,7 @@ none_arrived e index clock peer packet table later ss is alike same_publisher sa
     f : Session → Session
     f s = took_if None (is_for index peer packet.dest s) e clock packet s
 
--- a session that drains had its SHUTDOWN
+-- a draining session received its SHUTDOWN
 drains_by_shutdown : (e : Terms) (clock : ℕ) (body : Body) (ss : List Session) (s : Session) (until : ℕ)
     → drain_of e clock body ss (Some s) ≡ Some until → is_shutdown body ≡ true
 drains_by_shutdown e clock body ss s until h = by e.rules.callers (is_shutdown body) h
@@ -461,7 +461,7 @@ subscriber_arrived e index clock peer packet old new ss at x y replies t s is th
     one p = subscriber_is e clock peer packet (buffers_of old.publishers.items x p) x y replies s role peer_is took_them end answers
         ((seat_at e index clock old ss at x p is inside there).seated s here.found_is)
 
--- the role of a session that is here
+-- the role of a session that is found here
 pub stored_role : (e : Terms) (index : ℕ) (ss : List Session) (peer : Peer) (dest at : ℕ) (seat : Seat) (t : TheSession) (s : Session)
     (b : Bool)
     → IsHere e index ss peer dest at seat t s → has_publisher seat ≡ b
@@ -469,7 +469,7 @@ pub stored_role : (e : Terms) (index : ℕ) (ss : List Session) (peer : Peer) (d
 stored_role e index ss peer dest at seat t s b here h =
     ap publishes (sym here.session_is.role_is) ∙ (sym (ap (session_passes (λ (u : TheSession). publishes u.role)) here.stored_is) ∙ h)
 
--- what is no handshake is no conclusion
+-- a packet that isn't a handshake isn't a conclusion
 pub no_conclusion : (kind : Kind) → ((info : Bor (List ℕ)) → kind ≡ kinds.Handshake info → ⊥) → concludes (body_of kind) ≡ None
 no_conclusion (kinds.Data number encryption payload) other = refl
 no_conclusion (kinds.Handshake info) other = absurd (other info refl)

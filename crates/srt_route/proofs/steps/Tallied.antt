@@ -1,4 +1,4 @@
--- What is counted of openings and refusals.
+-- The counts of openings and refusals.
 use Rattle.std.proofs.Common.{◌≡◌, ℕ, ◌≢◌, ◌<◌, ◌≤◌, ◌^◌, nat_eq, Bool, true, false, cond, Option, None, Some, refl, sym, ap, subst, ◌∙◌}
 use Rattle.std.proofs.lemmas.Bool.{ne_eqb}
 use Rattle.srt_seq.specs.declared.shared.Peer.{Peer}

@@ -1,4 +1,4 @@
--- What sessions are told whose peers are idle.
+-- The SHUTDOWNs to sessions whose peers are idle.
 use Rattle.std.proofs.Common.{◌≡◌, ℕ, ◌+◌, ◌<◌, Bool, true, false, Option, None, Some, List, [], map, find, not, refl, ap, ◌∙◌}
 use Rattle.std.proofs.lemmas.Bool.{and_parts}
 use Rattle.srt_seq.specs.declared.shared.Callers.{Callers}
@@ -18,21 +18,21 @@ use Rattle.srt_route.proofs.steps.Aging.{not_true}
 use Rattle.srt_route.proofs.steps.Saying.{same_said}
 use Rattle.srt_route.proofs.steps.Slots.{IsSaying, said_of, saying_more}
 
--- what one session is told
+-- the SHUTDOWN to one session
 abbrev pub told_one : Terms → (clock : ℕ) → Session → List Answer
 told_one e clock s = told_if e.rules.callers (is_idle s clock) clock s
 
--- a stored session's peer is idle if its session's is
+-- a stored session's peer is idle exactly if its session's is
 idle_is : (e : Terms) (index clock : ℕ) (t : TheSession) (s : Session) → IsSession e index t s → peer_idle clock t ≡ is_idle s clock
 idle_is e index clock t s is =
     ap (λ (d : Option ℕ). is_silent_at d t.heard clock) is.drains_is ∙ ap (λ (n : ℕ). is_silent_at s.drains n clock) is.heard_is
 
--- a session that isn't over isn't idle
+-- a session that hasn't expired isn't idle
 not_idle : (drains : Option ℕ) (heard clock : ℕ) → is_over_at drains heard clock ≡ false → is_silent_at drains heard clock ≡ false
 not_idle None heard clock h = h
 not_idle (Some until) heard clock h = refl
 
--- a seat is told what its slot is
+-- a seat is sent what its slot is sent
 seat_told : (e : Terms) (index clock : ℕ) (o : Option TheSession) (g : Option Session) → IsStored e index o g
     → shutdowns_if e.rules.callers (session_passes (peer_idle clock) o) clock o ≡ map sent (said_of (told_one e clock) g)
 seat_told e index clock None None is = none_told e.rules.callers
@@ -46,7 +46,7 @@ seat_told e index clock (Some t) (Some s) is =
     told_alike e index clock e.rules.callers (peer_idle clock t) t s is
     ∙ ap (λ (b : Bool). map sent (told_if e.rules.callers b clock s)) (idle_is e index clock t s is)
 
--- one slot more
+-- one more slot
 pub idle_slot : (e : Terms) (index earlier clock : ℕ) (p : Publisher) (ss : List Session) (at : ℕ) (x : Seat) (callers : Callers)
     (before now then_ : List Reply) (places more most : ℕ)
     → at < e.sessions → IsSeat e index earlier at p x ss → callers ≡ e.rules.callers
@@ -61,7 +61,7 @@ idle_slot e index earlier clock p ss at x callers before now then_ places more m
     says)
     h
 
--- a subscriber's session that isn't idle is told nothing
+-- a subscriber's session that hasn't expired is sent nothing
 pub kept_untold : (clock : ℕ) (callers : Callers) (o : Option TheSession) → session_passes (is_kept_subscriber clock) o ≡ true
     → shutdowns_if callers (session_passes (peer_idle clock) o) clock o ≡ []
 kept_untold clock callers None kept = absurd (let bad : false ≡ true = kept in cc)

@@ -44,7 +44,7 @@ use Rattle.srt_route.proofs.model.Found.{changed, found_passes, open_parts, plac
 use Rattle.srt_route.proofs.stored.Kept.{below_seats, seat_at, some_buffers}
 use Rattle.srt_route.proofs.stored.Stored.{IsForNone, IsHere, some_item}
 
--- what is told of a stored session is told of the session that it stores
+-- the end of a stored session is the end of the session that it represents
 end_is : (e : Terms) (index : ℕ) (cause : EndCause) (moment : ℕ) (t : TheSession) (s : Session) (new : Option EndedSession)
     → IsSession e index t s → TellsEnd cause moment t new → EndIs index cause moment s new
 end_is e index cause moment t s None is h = h
@@ -82,7 +82,7 @@ slot_told e index stored cause moment (Some t) None old new same is h = absurd i
 slot_told e index stored cause moment (Some t) (Some s) old new same is h =
     end_for e index (cause s) moment t s old new is (subst (λ (c : Option EndCause). Tells c moment (Some t) old new) (same t s is) h)
 
--- all slots, where a session ends for its own part
+-- all slots, where each session ends independently
 each_told : (e : Terms) (index before moment : ℕ) (table : Table) (ss : List Session) (stored : Option TheSession → Option EndCause)
     (cause : Session → Option EndCause) (old new : Ledger)
     → IsTable e index before table ss → ((t : TheSession) (s : Session) → IsSession e index t s → stored (Some t) ≡ cause s)
@@ -117,7 +117,7 @@ pub closed_told : (e : Terms) (index clock : ℕ) (table : Table) (ss : List Ses
 closed_told e index clock table ss old new is h =
     each_told e index clock clock table ss closed_cause (λ s. Some causes.Closed) old new is (λ t s stored. refl) h
 
--- where nothing is noted, no session has a cause
+-- if nothing is recorded, no session has a cause
 pub none_told : (index : ℕ) (cause : Session → Option EndCause) (moment : ℕ) (ss : List Session) (old new : Ledger)
     → ((at : ℕ) (s : Session) → find (is_open_in at) ss ≡ Some s → cause s ≡ None) → ((at : ℕ) → entry_of new at ≡ entry_of old at)
     → EndsAre index cause moment ss (entry_of old) (entry_of new)
@@ -127,7 +127,7 @@ none_told index cause moment ss old new none same at = by (find (is_open_in at) 
     by None found = same at
     by (Some s) found = subst (λ (c : Option EndCause). EndsFor index c moment s (entry_of old at) (entry_of new at)) (sym (none at s found)) (same at)
 
--- a packet that is for none
+-- a packet that is for no session
 not_for : (e : Terms) (index clock : ℕ) (peer : Peer) (packet : Packet) (ss : List Session) (s : Session)
     → is_for index peer packet.dest s ≡ false → arrived_end e index clock peer packet ss s ≡ None
 not_for e index clock peer packet ss s h =
@@ -197,7 +197,7 @@ subscriber_end e clock packet p x s role is = by s.past is.past_is
     by (Subscribes m) h = refl
     by (Publishes m) h = absurd (let bad : true ≡ false = sym h.0 ∙ role in cc)
 
--- what is told of a session that has aged is told of it
+-- the end of a session that has aged is the end of the session
 aged_told : (e : Terms) (index clock : ℕ) (cause : Option EndCause) (s : Session) (old new : Option EndedSession)
     → EndsFor index cause clock (aged_at e true (time_in s clock) s) old new → EndsFor index cause clock s old new
 aged_told e index clock None s old new h = h
@@ -214,7 +214,7 @@ aged_told e index clock (Some cause) s old (Some x) h =
       heard_is = h.heard_is;
     }
 
--- and a mark changes nothing of it
+-- a mark changes nothing of its end
 mark_end : (e : Terms) (index clock : ℕ) (item : Item) (all : List Session) (mark : Bool) (s : Session)
     → item_end e index clock item all (record s { took_over = mark }) ≡ item_end e index clock item all s
 mark_end e index clock (Received datagram moment) all mark s = by (packet_in datagram.bytes)
@@ -273,7 +273,7 @@ marked_told true e index clock item all ss old new h at =
     by None k = k
     by (Some s) k = one s (is_publisher s) (not (is_active ss s)) k
 
--- what a session keeps of a publisher's end changes nothing of its own end
+-- recording a publisher's end changes nothing of a session's own end
 end_told : (e : Terms) (index clock : ℕ) (item : Item) (all : List Session) (b : Bool) (s : Session)
     → item_end e index clock item all (with_end (Some b) s) ≡ item_end e index clock item all s
 end_told e index clock (Received datagram moment) all b s = by (packet_in datagram.bytes)
@@ -323,7 +323,7 @@ with_end_told end e index clock item all ss old new h at =
         (subst (λ (c : Option EndCause). EndsFor index c clock (with_end (Some b) s) (entry_of old at) (entry_of new at))
         (end_told e index clock item all b s) k)
 
--- nor does what the publishers send
+-- nor do the publishers' packets
 past_told : (index clock : ℕ) (cause : Option EndCause) (past : Past) (s : Session) (old new : Option EndedSession)
     → EndsFor index cause clock (record s { past = past }) old new → EndsFor index cause clock s old new
 past_told index clock None past s old new h = h
@@ -410,7 +410,7 @@ noted_at : (at : ℕ) (cause : Option EndCause) (clock : ℕ) (seats : List Seat
     → NotesAt at cause clock x.session old new
 noted_at at cause clock seats x old new there notes = subst (λ (z : Seat). NotesAt at cause clock z.session old new) (sym there) (notes x)
 
--- the cause of an end that a session drains before
+-- the cause of an end that draining may defer
 unless_is : (drains : Option ℕ) (end : Option PubEnd) → cause_of (end_unless drains end) ≡ cause_unless drains (cause_of end)
 unless_is None end = refl
 unless_is (Some until) end = refl
@@ -471,7 +471,7 @@ subscriber_told e index clock peer packet table ss at x t s cause old new is the
     (sym (subscriber_goes_on e clock packet.body p x.subscriber ss s role (seat.seated s here.found_is))))
     (noted_at at cause clock table.seats.items x old new there notes)
 
--- after a Close none ends
+-- after a Close no session ends
 pub closed_none : (e : Terms) (index : ℕ) (item : Item) (m : Route) (s : Session) → m.is_closed ≡ true → end_at e index item m s ≡ None
 closed_none e index item m s closed = rw (closed) refl
 
@@ -493,7 +493,7 @@ step_told e index before clock item table aged_to m old mid new open_is clock_is
     (sym open_is)
     (subst (λ (n : ℕ). EndsAre index (event_end e index n item m.sessions) n m.sessions (entry_of old) (entry_of new)) clock_is all)
 
--- and then what drained, and the files
+-- the sessions that have drained, and then those with the whole file
 pub closed_drained : (e : Terms) (m : Route) (s : Session) → m.is_closed ≡ true → settled_end_at e m s ≡ None
 closed_drained e m s closed = rw (closed) refl
 

@@ -1,4 +1,4 @@
--- A delivery is the turns of it.
+-- A delivery is the sequence of its steps.
 use Rattle.std.proofs.Common.{◌≡◌, ℕ, zero, suc, ◌+◌, ◌-◌, ◌<◌, ◌≤◌, ◌==◌, Bool, true, false, cond, Option, None, Some, List, [], ◌∷◌, ◌++◌}
 use Rattle.std.proofs.Common.{map, find, unwrap_or, inl, inr, refl, sym, ap, subst, ◌∙◌, append_assoc, append-nil, arith}
 use Rattle.std.specs.Prelude.{min, filter_map, fold}
@@ -26,7 +26,7 @@ use Rattle.srt_route.proofs.model.Changes.{is_there, found_before, find_changed}
 use Rattle.srt_route.proofs.steps.Feeding.{changed_is, least_from}
 use Rattle.srt_route.proofs.steps.Passing.{amid_more, amid_here, slot_is, inside, past_changed}
 
--- `calls` calls are left; with them the delivery gives and leaves what all calls give and leave
+-- `calls` calls remain; with them the delivery yields the same payloads and the same past as all calls
 pub record IsPassing (e : Terms) (index clock : ℕ) (table : Table) (ss : List Session) (at : ℕ) (s : Session) (places calls : ℕ)
     (given : List (List ℕ)) (left : Publishing) : Type 0 where
   pub done : Publishing
@@ -36,7 +36,7 @@ pub record IsPassing (e : Terms) (index clock : ℕ) (table : Table) (ss : List 
   pub given_is : before ++ map payload_of (gives (terms_of e s).publisher (time_in s clock) places calls done) ≡ given
   pub left_is : leaves (terms_of e s).publisher (time_in s clock) places calls done ≡ left
 
--- the publisher's session in the middle
+-- the publisher's session amid the delivery
 pub publisher_amid : (e : Terms) (clock : ℕ) (ss : List Session) (at : ℕ) (s : Session) (q done : Publishing) (before : List (List ℕ))
     → IsPublisherAt ss at s q → IsPublisherAt (map (changed (amid e clock at done before)) ss) at (record s { past = Publishes done }) done
 publisher_amid e clock ss at s q done before here =
@@ -51,7 +51,7 @@ publisher_amid e clock ss at s q done before here =
       past_is = refl;
     }
 
--- one payload takes the room of at most one
+-- one payload uses at most one unit of room
 takes_one : (width time : ℕ) (x : List ℕ) (b : Bool) (m : subscribing.Subscribing)
     → room width m.sending ≤ room width (cond b (record m { sending = queued time x m.sending }) m).sending + 1
 takes_one width time x true m = omega (arith, length-append m.sending.queue (record { origin = time; payload = x } ∷ []))
@@ -89,7 +89,7 @@ leaves_more : (terms : publishing.Terms) (time places calls : ℕ) (q : Publishi
     → leaves terms time places (suc calls) q ≡ leaves terms time (room_after terms.mode places) calls (after_delivery terms (Some a) q)
 leaves_more terms time places calls q a is = rw (leaves, is) refl
 
--- with no room it stays so
+-- no room stays no room
 no_room : (mode : Mode) → room_after mode 0 ≡ 0
 no_room Live = refl
 no_room Buffer = refl
@@ -109,7 +109,7 @@ pub leaves_none : (terms : publishing.Terms) (time places calls : ℕ) (q : Publ
     → next_delivery terms time places q ≡ None → leaves terms time places (suc calls) q ≡ q
 leaves_none terms time places calls q is = rw (leaves, is) refl
 
--- a turn more
+-- one more step
 pub goes_on : (e : Terms) (index clock : ℕ) (table later : Table) (ss : List Session) (at : ℕ) (s : Session) (places more calls : ℕ)
     (given : List (List ℕ)) (left : Publishing)
     → (h : IsPassing e index clock table ss at s places more given left) → more ≡ suc calls
@@ -141,7 +141,7 @@ goes_on e index clock table later ss at s places more calls given left h one som
       left_is = sym (leaves_more terms time places calls h.done a.0 a.1) ∙ (ap (λ (n : ℕ). leaves terms time places n h.done) (sym one) ∙ h.left_is);
     }
 
--- all is delivered
+-- everything is delivered
 pub ends : (e : Terms) (index clock : ℕ) (table : Table) (ss : List Session) (at : ℕ) (s : Session) (places : ℕ) (given : List (List ℕ))
     (left : Publishing)
     → IsPassing e index clock table ss at s places 0 given left
@@ -150,7 +150,7 @@ ends e index clock table ss at s places given left h =
     subst (λ (xs : List (List ℕ)). IsTable e index clock table (map (changed (amid e clock at left xs)) ss)) (sym (append-nil h.before) ∙ h.given_is)
     (subst (λ (q : Publishing). IsTable e index clock table (map (changed (amid e clock at q h.before)) ss)) h.left_is h.body)
 
--- also if the next call gives nothing
+-- also if the next call yields nothing
 pub ends_early : (e : Terms) (index clock : ℕ) (table later : Table) (ss : List Session) (at : ℕ) (s : Session) (places more calls : ℕ)
     (given : List (List ℕ)) (left : Publishing)
     → (h : IsPassing e index clock table ss at s places more given left) → more ≡ suc calls
@@ -176,7 +176,7 @@ ends_early e index clock table later ss at s places more calls given left h one 
     subst (λ (xs : List (List ℕ)). IsTable e index clock later (map (changed (amid e clock at left xs)) ss)) all
     (subst (λ (q : Publishing). IsTable e index clock later (map (changed (amid e clock at q h.before)) ss)) last now)
 
--- the least room is no more than that of any
+-- the smallest room is at most that of any
 Under : Option ℕ → ℕ → Type 0
 Under o n = (r : ℕ) × (o ≡ Some r) × (r ≤ n)
 

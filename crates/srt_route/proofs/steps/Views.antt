@@ -1,4 +1,4 @@
--- What a look shows of a slot is its open session.
+-- The snapshot of a slot is that of its open session.
 use Rattle.std.proofs.Common.{is_some, ◌≡◌, ℕ, ◌<◌, ◌≤◌, Bool, true, false, ◌&&◌, Option, None, Some, List, length}
 use Rattle.std.proofs.Common.{find, get_or, refl, sym, ap, subst, ◌∙◌, arith}
 use Rattle.std.proofs.lemmas.Bool.{eq-eqb, ne_eqb}
@@ -110,7 +110,7 @@ active_is e index clock table ss at d s t o is found stored role none some = by 
 latency_is : (e : Terms) (index : ℕ) (s : Session) (r : Role) → latency_in r (answer_of e index s) ≡ latency_of r e s
 latency_is e index s r = refl
 
--- past the last slot, and where no session is stored, none is open
+-- no session is open past the last slot, nor where no session is stored
 pub none_past : (e : Terms) (index clock : ℕ) (table : Table) (ss : List Session) (slot : ℕ)
     → IsTable e index clock table ss → length table.seats.items ≤ slot → ShowsSession e index slot ss None
 none_past e index clock table ss slot is past = by (find (is_open_in slot) ss) refl
@@ -131,7 +131,7 @@ none_stored e index clock table ss slot d is below none =
     by None h = tt
     by (Some s) h = h
 
--- what is shown of a stored session
+-- the snapshot of a stored session
 abbrev pub shown_of : Option PublisherBuffers → TheSession → Traffic → SessionView
 shown_of o t traffic =
     record {

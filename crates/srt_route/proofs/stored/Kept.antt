@@ -1,4 +1,4 @@
--- A table, as each of its sessions changes.
+-- A table in which each session changes.
 use Rattle.std.proofs.Common.{◌≡◌, ◌≢◌, ℕ, ◌+◌, ◌%◌, ◌^◌, ◌<◌, ◌≤◌, Bool, true, cond, Option, None, Some, List, [], ◌∷◌, length, map, find}
 use Rattle.std.proofs.Common.{get_or, set, refl, sym, ap, subst, ◌∙◌, inl, inr, arith}
 use Rattle.std.specs.Prelude.{⊤}
@@ -20,13 +20,13 @@ use Rattle.srt_route.specs.Tables.{UseTheSame, buffers_by, used_buffers, buffers
 use Rattle.srt_route.proofs.model.Found.{found_passes, found_in_place, open_parts, Keeps, alone_kept, counted_kept, place_kept, changed, changed_from}
 use Rattle.srt_route.proofs.model.TakeOver.{OpensNone, KeepsMarks, stays_active}
 
--- the values of the entry are the same, and which publisher leads
+-- the values of the entry and the leading buffers are the same
 abbrev pub Alike : (old new : Table) → Type 0
 Alike old new =
     (new.index ≡ old.index) × (new.mode ≡ old.mode) × (new.latency_ms ≡ old.latency_ms) × (new.buffer ≡ old.buffer) ×
     (new.leading ≡ old.leading) × (new.rules ≡ old.rules)
 
--- what is stored of a session tells neither whether it is open nor its past
+-- a stored session contains neither whether the session is open nor its past
 pub still_stored : (e : Terms) (index : ℕ) (t : TheSession) (s : Session) (is_open : Bool) (past : Past)
     → IsSession e index t s → IsSession e index t (record s { is_open = is_open; past = past })
 still_stored e index t s is_open past is =
@@ -50,7 +50,7 @@ some_buffers table = by table.publishers.items (omega (arith, table.two))
     by [] h = absurd (omega (arith, h))
     by (p ∷ ps) h = p
 
--- a stored session that stays uses the buffers that it used
+-- a stored session that stays uses the same buffers
 abbrev pub KeepsBuffers : (old new : Option TheSession) → Type 0
 KeepsBuffers o None = ⊤
 KeepsBuffers None (Some t) = ⊥
@@ -117,7 +117,7 @@ uses_kept e index o None s keeps is = absurd is
 uses_kept e index None (Some t) s keeps is = absurd keeps
 uses_kept e index (Some u) (Some t) s keeps is = keeps
 
--- a table with the same entry stands for these sessions if its buffers and its seats do
+-- a table with the same entry represents these sessions if its buffers and its seats do
 abbrev pub SameEntry : (old new : Table) → Type 0
 SameEntry old new =
     (new.index ≡ old.index) × (new.mode ≡ old.mode) × (new.latency_ms ≡ old.latency_ms) × (new.buffer ≡ old.buffer) ×
@@ -212,7 +212,7 @@ pub seat_at : (e : Terms) (index clock : ℕ) (table : Table) (ss : List Session
 seat_at e index clock table ss at x p is inside there =
     subst (λ (z : Seat). IsSeat e index clock at (buffers_of table.publishers.items z p) z ss) (sym there) (is.seats_are at x p inside)
 
--- the same fields are the same table
+-- tables with the same fields are the same table
 pub table_same : (e : Terms) (index clock : ℕ) (old new : Table) (ss : List Session)
     → IsTable e index clock old ss → Alike old new → new.publishers ≡ old.publishers → new.seats ≡ old.seats → IsTable e index clock new ss
 table_same e index clock old new ss is alike publishers seats =
@@ -285,7 +285,7 @@ table_put f keeps marks e index clock old new ss at x y is alike wide inside the
           (λ s found. same k s apart (omega (arith, below, is.places_are)) found) (λ s found h. others k d p s apart found h))
     ]
 
--- the same where the publishers' buffers stay
+-- the same if the publishers' buffers stay
 pub seat_put : (f : Session → Session) → Keeps f → KeepsMarks f → (e : Terms) (index clock : ℕ) (old new : Table) (ss : List Session) (at : ℕ) (x y : Seat)
     → IsTable e index clock old ss → Alike old new → new.publishers ≡ old.publishers → at < length old.seats.items
     → x ≡ get_or old.seats.items at x → new.seats.items ≡ set old.seats.items at y
@@ -299,7 +299,7 @@ seat_put f keeps marks e index clock old new ss at x y is alike same inside ther
     (λ k d p s apart found h. subst
     (λ (v : _). IsSeated e clock (buffers_of v.items (get_or old.seats.items k d) p) (get_or old.seats.items k d).subscriber s) (sym same) h)
 
--- the items below this one have changed as R says, and the others haven't
+-- the items below `at` have changed as R states, and the others haven't
 pub record EachUpTo {A : Type 0} (R : A → A → Type 0) (at : ℕ) (old new : List A) : Type 0 where
   pub same_length : length new ≡ length old
   pub done : (k : ℕ) (d : A) → k < at → k < length old → R (get_or old k d) (get_or new k d)
@@ -330,7 +330,7 @@ one_more {A} R at old new later x y h inside there changes put =
       | inr apart ↦ subst (λ (z : A). R (get_or old k d) z) (sym (get_or-set_other new at k y d apart)) (h.done k d (omega (arith, lt, apart)) below)
     ]
 
--- the seats below this one have changed as R says, and nothing else has
+-- the seats below `at` have changed as R states, and nothing else has
 pub record UpTo (R : Seat → Seat → Type 0) (at : ℕ) (old new : Table) : Type 0 where
   pub alike : Alike old new
   pub publishers_are : new.publishers ≡ old.publishers
@@ -355,7 +355,7 @@ one_done R at old new later x y h inside there changes alike same put =
       seats = one_more R at old.seats.items new.seats.items later.seats.items x y h.seats inside there changes put;
     }
 
--- all have
+-- all seats have changed
 pub all_done : (R : Seat → Seat → Type 0) (f : Session → Session) → Keeps f → KeepsMarks f
     → (e : Terms) (index before clock at : ℕ) (old new : Table) (ss : List Session) → IsTable e index before old ss → clock < 2 ^ 62
     → UpTo R at old new → length old.seats.items ≤ at
@@ -371,7 +371,7 @@ all_done R f keeps marks e index before clock at old new ss is early h all becom
     (becomes k (buffers_of old.publishers.items (get_or old.seats.items k d) p) (get_or old.seats.items k d) (get_or new.seats.items k d)
     (is.seats_are k d p below) (h.seats.done k d (omega (arith, below, all)) below)))
 
--- and all use the buffers that they used, if a seat's session stays
+-- all use the same buffers as before, if a seat's session stays
 pub seats_use_the_same : (R : Seat → Seat → Type 0) (at : ℕ) (old new : List Seat)
     → EachUpTo R at old new → length old ≤ at → ((x y : Seat) → R x y → y.session ≡ x.session) → UseSameBuffers old new
 seats_use_the_same R at old new h all same k d = elim (cases_lt k at) [

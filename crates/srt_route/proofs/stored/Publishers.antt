@@ -49,7 +49,7 @@ wide_set width ps b q two wide is d p = by b d
     by First Second = ap publisher.width_of (set_elsewhere ps First Second q p (λ h. let bad : Second ≡ First = h in absurd cc)) ∙ wide Second p
     by First First = ap publisher.width_of (set_here ps First q p two) ∙ is
 
--- buffers that are put where they were
+-- buffers that are put back into their place
 pub set_again : (ps : List Publisher) (b d : PublisherBuffers) (q p : Publisher)
     → length ps ≡ 2 → q ≡ get_or ps (place_of b) q → get_or (set ps (place_of b) q) (place_of d) p ≡ get_or ps (place_of d) p
 set_again ps b d q p two is = by b d is
@@ -80,7 +80,7 @@ publishing_from e index clock table ss b at d is below h =
         let opens : s.is_open ≡ true = (open_parts at s (found_passes (is_open_in at) ss s found)).0 in
         (s, record { found = found; publishes = rw (opens, ← stored.role_is) parts.0 }, is_same_from t.buffers b parts.1)
 
--- and of a publisher's session its seat is found
+-- the seat of a publisher's session
 pub seat_publishes : (e : Terms) (index clock : ℕ) (table : Table) (ss : List Session) (b : PublisherBuffers) (at : ℕ) (d : Seat) (s : Session)
     → IsTable e index clock table ss → IsPublishing ss at s → used_buffers (get_or table.seats.items at d) ≡ b
     → publishes_from b (get_or table.seats.items at d) ≡ true
@@ -104,7 +104,7 @@ some_seat e index clock table ss b at d s is here uses =
     list_any_at (publishes_from b) table.seats.items at d (below_seats e index clock table ss at s is here.found)
     (seat_publishes e index clock table ss b at d s is here uses)
 
--- if no seat has one with these buffers, a publisher uses the others
+-- if no seat has a publisher with these buffers, a publisher uses the others
 pub uses_others : (e : Terms) (index clock : ℕ) (table : Table) (ss : List Session) (b : PublisherBuffers) (at : ℕ) (d : Seat) (s : Session)
     → IsTable e index clock table ss → list_any (publishes_from b) table.seats.items ≡ false → IsPublishing ss at s
     → used_buffers (get_or table.seats.items at d) ≡ other_buffers b

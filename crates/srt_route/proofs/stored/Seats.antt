@@ -1,4 +1,4 @@
--- The buffers of sessions, as these change.
+-- The buffers of sessions that change.
 use Rattle.std.proofs.Common.{◌≡◌, ℕ, ◌-◌, ◌≤◌, Bool, true, false, not, ◌&&◌, Option, None, Some, List, refl, sym, ap, ◌∙◌, arith}
 use Rattle.srt_seq.specs.declared.shared.Mode.{Mode}
 use Rattle.srt_seq.specs.declared.shared.Mode.TheVariants.{Live, Buffer}
@@ -13,7 +13,7 @@ use Rattle.srt_route.specs.Past.{Past, Publishes, Subscribes, expired_past}
 use Rattle.srt_route.specs.Sessions.{Session, publishes, terms_of, time_in, aged, aged_at, is_over}
 use Rattle.srt_route.specs.Buffers.{IsPast, IsSeated, ExpiresTo}
 
--- what is too old is given up once
+-- giving up what is too old a second time has no effect
 expired_twice : (mode : Mode) (terms : subscribing.Terms) (time : ℕ) (s : Sending)
     → subscribing.expired_in mode terms time (subscribing.expired_in mode terms time s) ≡ subscribing.expired_in mode terms time s
 expired_twice Live terms time s = refl
@@ -23,7 +23,7 @@ pub gives_up_once : (terms : subscribing.Terms) (time : ℕ) (m : subscribing.Su
     → subscribing.expired terms time (subscribing.expired terms time m) ≡ subscribing.expired terms time m
 gives_up_once terms time m = ap (λ (s : Sending). record m { sending = s }) (expired_twice terms.mode terms time m.sending)
 
--- and nothing more is given up after what leaves the queue and the front as they are
+-- nothing more is given up if the queue and the front stay
 still_kept : (mode : Mode) (terms : subscribing.Terms) (time : ℕ) (s r : Sending) → r.queue ≡ s.queue → r.expired ≡ s.expired
     → subscribing.expired_in mode terms time s ≡ s
     → subscribing.expired_in mode terms time r ≡ r
@@ -74,7 +74,7 @@ opened_in Buffer terms time = refl
 pub opened_kept : (terms : subscribing.Terms) (time : ℕ) → subscribing.expired terms time subscribing.opened ≡ subscribing.opened
 opened_kept terms time = ap (λ (s : Sending). record subscribing.opened { sending = s }) (opened_in terms.mode terms time)
 
--- a session's past as time goes on
+-- a session's past as time advances
 aged_past : (e : Terms) (before clock : ℕ) (p : Publisher) (x y : Subscriber) (s : Session) → before ≤ clock
     → (publishes s.conclusion.role ≡ false → ExpiresTo clock x y) → (past : Past) → IsPast e before p x s past
     → IsPast e clock p y s (expired_past (terms_of e s) (time_in s clock) past)

@@ -1,4 +1,4 @@
--- The sessions that seats store, and what becomes of them.
+-- The sessions that seats store, and their changes.
 use Rattle.std.proofs.Common.{◌≡◌, ℕ, zero, suc, ◌+◌, ◌%◌, ◌<◌, ◌≤◌, Bool, true, false, not, ◌||◌, cond, Option, None, Some}
 use Rattle.std.proofs.Common.{List, [], ◌∷◌, length, find, take, get_or, refl, sym, ap, subst, ◌∙◌, ◌≢◌, inl, inr, add-zero, arith}
 use Rattle.std.specs.Prelude.{count_by}
@@ -33,7 +33,7 @@ use Rattle.srt_route.proofs.model.Found.{of_parts, Keeps, changed, while_open}
 use Rattle.srt_route.proofs.model.TakeOver.{AreApart, AreInside, KeepsMarks, one_if, counted, count_at, count_next, counted_slots}
 use Rattle.srt_route.proofs.stored.Kept.{Becomes, KeepsBuffers, some_buffers, seat_at}
 
--- a list in which something is found, or that is long enough, has an item
+-- a list in which something is found, or that is long enough, has an element
 pub some_found : {A : Type 0} (p : A → Bool) (xs : List A) (i : ℕ) → position p xs ≡ Some i → A
 some_found p [] i h = absurd (let bad : None ≡ Some i = h in cc)
 some_found p (x ∷ xs) i h = x
@@ -71,7 +71,7 @@ pub open_found : (at : ℕ) (ss : List Session) (found : Option Session) → fin
 open_found at ss None h = tt
 open_found at ss (Some s) h = (open_parts at s (found_passes (is_open_in at) ss s h)).0
 
--- a slot's session is the one of this caller
+-- a slot's session is this caller's exactly if the stored one is
 of_alike : (e : Terms) (index : ℕ) (peer : Peer) (caller : ℕ) (t : TheSession) (s : Session)
     → IsSession e index t s → s.is_open ≡ true → is_of peer caller s ≡ is_session_of peer caller t
 of_alike e index peer caller t s is o = rw (o, is.peer_is, is.caller_is, is.drains_is) refl
@@ -88,7 +88,7 @@ seat_passes e index clock table ss are stored test alike at d below =
     passes_alike e index stored test alike (get_or table.seats.items at d).session (find (is_open_in at) ss)
     (are.seats_are at d (some_buffers table) below).session_is (open_found at ss (find (is_open_in at) ss) refl)
 
--- no slot passes, so no session does
+-- if no slot passes, no session does
 none_passes : (e : Terms) (index clock : ℕ) (table : Table) (ss : List Session) → IsTable e index clock table ss
     → (stored : TheSession → Bool) (test : Session → Bool)
     → ((t : TheSession) (s : Session) → IsSession e index t s → s.is_open ≡ true → test s ≡ stored t)
@@ -135,7 +135,7 @@ caller_at e index clock table ss peer caller at seat are first there =
         let mine : is_of peer caller s ≡ true = of_alike e index peer caller t s is o ∙ h in
         (t, s, a, b, is, mine, found_of_caller peer caller at e.sessions ss are.alone s b mine)
 
--- what one test finds passes another, so something does
+-- an element that one test finds passes another, so some element does
 pub any_from : {A : Type 0} (p q : A → Bool) (xs : List A) (x : A) → find q xs ≡ Some x → p x ≡ true → list_any p xs ≡ true
 any_from p q [] x h passes = absurd (let bad : None ≡ Some x = h in cc)
 any_from p q (y ∷ ys) x h passes = at_head (q y) refl (λ later. any_from p q ys x later passes) h
@@ -144,12 +144,12 @@ any_from p q (y ∷ ys) x h passes = at_head (q y) refl (λ later. any_from p q 
     at_head true e rest h = let same : y ≡ x = cc in or_left (p y) (list_any p ys) (ap p same ∙ passes)
     at_head false e rest h = or_right (p y) (list_any p ys) (rest h)
 
--- the open publishers are as many as the seats with a publisher
+-- there are as many open publishers as seats with a publisher
 pub alone_apart : (places : ℕ) (ss : List Session) → AreAlone places ss → AreApart ss × AreInside places ss
 alone_apart places [] h = (tt, tt)
 alone_apart places (s ∷ ss) h = let rest = alone_apart places ss h.1 in (((λ o. (h.0 o).slot_alone), rest.0), ((λ o. (h.0 o).inside), rest.1))
 
--- one seat more
+-- one more seat
 count_by_more : (p : Seat → Bool) (x : Seat) (xs : List Seat) → count_by p (x ∷ xs) ≡ one_if (p x) + count_by p xs
 unfolding one_if
 count_by_more p x xs = sum_by-cons (λ y. cond (p y) 1 0) x xs ∙ by (p x)
@@ -158,7 +158,7 @@ count_by_more p x xs = sum_by-cons (λ y. cond (p y) 1 0) x xs ∙ by (p x)
     by true = refl
     by false = refl
 
--- the open sessions that pass a test are as many as the seats whose stored session passes it
+-- as many open sessions pass a test as stored sessions of seats do
 pub among : (e : Terms) (index clock : ℕ) (table : Table) (ss : List Session) (stored : TheSession → Bool) (test : Session → Bool)
     → ((t : TheSession) (s : Session) → IsSession e index t s → s.is_open ≡ true → test s ≡ stored t)
     → ((s : Session) → test s ≡ true → s.is_open ≡ true)
@@ -202,14 +202,14 @@ address_among e index clock table ss ip are =
     among e index clock table ss (λ t. bytes_eq t.peer.ip ip) (is_from ip) (λ t s is o. rw (o, is.peer_is) refl)
     (λ s h. (and_parts s.is_open (bytes_eq s.peer.ip ip) h).0) are
 
--- and those that drain
+-- the draining sessions
 pub draining_among : (e : Terms) (index clock : ℕ) (table : Table) (ss : List Session)
     → IsTable e index clock table ss → count_by has_draining table.seats.items ≡ number_draining ss
 draining_among e index clock table ss are =
     among e index clock table ss (λ t. is_some t.drains) drains_open (λ t s is o. rw (o, is.drains_is) refl)
     (λ s h. (and_parts s.is_open (is_draining s) h).0) are
 
--- one more that is counted
+-- one more is counted
 pub count_more_taken : (p : Seat → Bool) (xs : List Seat) (at : ℕ) (x : Seat)
     → at < length xs → x ≡ get_or xs at x → count_by p (take (at + 1) xs) ≡ count_by p (take at xs) + cond (p x) 1 0
 count_more_taken p xs at x below there =
@@ -235,7 +235,7 @@ no_number p from (suc count) fails =
     let here : p from ≡ false = rw (← add-zero from) (fails 0 (omega arith)) in
     rw (here) (no_number p (from + 1) count (λ k lt. subst (λ (n : ℕ). p n ≡ false) (omega arith) (fails (suc k) (omega arith))))
 
--- a slot is free if it is vacant
+-- a slot is free exactly if its seat is vacant
 free_is : (e : Terms) (index clock at : ℕ) (p : Publisher) (seat : Seat) (ss : List Session)
     → IsSeat e index clock at p seat ss → is_free ss at ≡ is_vacant seat
 free_is e index clock at p seat ss is = ap not (any_is (is_open_in at) ss) ∙ both seat.session (find (is_open_in at) ss) is.session_is
@@ -275,7 +275,7 @@ free_at e index clock table ss at are first =
         absurd (let some : is_free ss at ≡ false = ap not (any_is (is_open_in at) ss) ∙ ap (λ (g : Option Session). not (is_some g)) h in
         cc)
 
--- no session is open in the least free slot
+-- no session is open in the lowest free slot
 pub free_is_vacant : (e : Terms) (ss : List Session) (at : ℕ) → free_slot e ss ≡ Some at → find (is_open_in at) ss ≡ None
 free_is_vacant e ss at free = nothing (find (is_open_in at) ss) refl (found_passes (is_free ss) (numbers_from 0 e.sessions) at free)
   where
@@ -296,7 +296,7 @@ none_free e index clock table ss are none =
     (get_or table.seats.items k d) ss (are.seats_are k d (some_buffers table) below)
     ∙ position_none is_vacant table.seats.items none k d below))
 
--- and the free slots as many as the vacant seats
+-- there are as many free slots as vacant seats
 pub vacant_among : (e : Terms) (index clock : ℕ) (table : Table) (ss : List Session)
     → IsTable e index clock table ss → count_by is_vacant table.seats.items ≡ free_slots e ss
 unfolding one_if
@@ -322,7 +322,7 @@ vacant_among e index clock table ss are =
         (λ k d below. subst (λ (n : ℕ). q n ≡ p (get_or xs k d)) (omega arith) (same (suc k) d (omega (arith, below)))) in
         omega (arith, count_by_more p x xs, rest, next q from (length xs) (p x) here)
 
--- what a repeated conclusion does to a session
+-- the effect of a repeated conclusion on a session
 pub hears : (peer : Peer) (caller clock : ℕ) → Keeps (λ s. heard_if (is_of peer caller s) clock s)
 hears peer caller clock =
     record {
@@ -368,7 +368,7 @@ heard_stored e index clock t s is =
       answer_is = is.answer_is;
     }
 
--- a caller's session is heard of
+-- a caller's session is heard
 heard_seat : (e : Terms) (clock : ℕ) (p : Publisher) (x : Subscriber) (b : Bool) (s : Session)
     → IsSeated e clock p x s → IsSeated e clock p x (heard_if b clock s)
 heard_seat e clock p x false s is = is
@@ -378,7 +378,7 @@ heard_seat e clock p x true s is = record { past_is = by s.past is.past_is; open
     by (Publishes m) h = h
     by (Subscribes m) h = h
 
--- the seat whose session gets its first answer again
+-- the seat whose session is sent its first answer again
 pub heard_becomes : (e : Terms) (index clock : ℕ) (p : Publisher) (ss : List Session) (peer : Peer) (caller at : ℕ) (x y : Seat)
     (t : TheSession) (s : Session)
     → IsSeat e index clock at p x ss → y ≡ with_stored (option_map (heard_at clock) x.session) x → x.session ≡ Some t
@@ -406,7 +406,7 @@ heard_becomes e index clock p ss peer caller at x y t s seat_is y_is stored ther
     changed_is : changed f (find (is_open_in at) ss) ≡ Some (record s { heard = clock })
     changed_is = let stays_open : s.is_open ≡ true = (of_parts peer caller s mine).0 in rw (there, mine, stays_open) refl
 
--- and the other sessions are not of that caller
+-- the other sessions aren't that caller's
 pub not_of_caller : (peer : Peer) (caller clock at k places : ℕ) (ss : List Session) (s u : Session) → AreAlone places ss → k ≢ at
     → find (is_open_in k) ss ≡ Some u → find (is_open_in at) ss ≡ Some s → find (is_of peer caller) ss ≡ Some s → (b : Bool)
     → is_of peer caller u ≡ b
@@ -434,7 +434,7 @@ takes_marks drains e index clock peer packet s = by (is_for index peer packet.de
     by true = refl
     by false = refl
 
--- what a packet does to a session
+-- the effect of a packet on a session
 pub takes : (drains : Option ℕ) (e : Terms) (index clock : ℕ) (peer : Peer) (packet : Packet)
     → Keeps (λ s. took_if drains (is_for index peer packet.dest s) e clock packet s)
 takes drains e index clock peer packet =
@@ -467,7 +467,7 @@ takes drains e index clock peer packet =
     opens_of s true q h = for_open index peer packet.dest s q
     opens_of s false q h = h
 
--- the least byte of a session's ID is its slot
+-- the low byte of a session's ID is its slot
 slot_of_id : (index k dest : ℕ) (peer : Peer) (ss : List Session) (u : Session)
     → k < 256 → find (is_open_in k) ss ≡ Some u → is_for index peer dest u ≡ true → k ≡ dest % 256
 slot_of_id index k dest peer ss u small here mine =
@@ -490,7 +490,7 @@ for_alike : (e : Terms) (index : ℕ) (peer : Peer) (dest : ℕ) (t : TheSession
     → IsSession e index t s → s.is_open ≡ true → is_for index peer dest s ≡ is_stored_for peer dest t
 for_alike e index peer dest t s is o = rw (o, is.peer_is, is.id_is, is.drains_is) refl
 
--- nor for any session, if its slot holds none that it is for
+-- a packet is for no session if the session of its slot isn't the one that it is for
 pub for_none_stored : (e : Terms) (index clock : ℕ) (table : Table) (ss : List Session) (peer : Peer) (dest at : ℕ) (seat : Seat)
     → IsTable e index clock table ss → length table.seats.items ≤ 17 → at ≡ dest % 256 → at < length table.seats.items
     → seat ≡ get_or table.seats.items at seat → session_passes (is_stored_for peer dest) seat.session ≡ false
@@ -513,7 +513,7 @@ none_found_for index peer dest places ss alone none (Some u) h =
     let is : is_for index peer dest u ≡ true = found_passes (is_for index peer dest) ss u h in
     absurd (let not_it : is_for index peer dest u ≡ false = none u.slot u place.0 place.1 in cc)
 
--- and none is changed
+-- then none is changed
 pub none_changes : (drains : Option ℕ) (e : Terms) (index clock : ℕ) (peer : Peer) (packet : Packet) (u : Session)
     → is_for index peer packet.dest u ≡ false → took_if drains (is_for index peer packet.dest u) e clock packet u ≡ u
 none_changes drains e index clock peer packet u h = rw (h) refl
@@ -538,7 +538,7 @@ passes_at e index clock table ss stored test at seat are alike below there passe
     at_place (Some t) a None b is h = absurd is
     at_place (Some t) a (Some s) b is h = (t, s, a, b, is, alike t s is (open_parts at s (found_passes (is_open_in at) ss s b)).0 ∙ h)
 
--- what a packet is for
+-- the session that a packet is for
 pub record IsHere (e : Terms) (index : ℕ) (ss : List Session) (peer : Peer) (dest at : ℕ) (seat : Seat) (t : TheSession) (s : Session) : Type 0 where
   pub below : at < e.sessions
   pub stored_is : seat.session ≡ Some t

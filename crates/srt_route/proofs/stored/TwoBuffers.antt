@@ -1,4 +1,4 @@
--- The two publisher buffers of a route: which one the other is, and that they have different places.
+-- The two publisher buffers of a route: which one the other is, and that their indexes differ.
 use Rattle.std.proofs.Common.{◌≡◌, ◌≢◌, true, false, refl, sym, ap, ◌∙◌, arith}
 use Rattle.srt_route.specs.declared.publisher_buffers.PublisherBuffers.{PublisherBuffers}
 use Rattle.srt_route.specs.declared.publisher_buffers.PublisherBuffers.TheVariants.{First, Second}

@@ -1,4 +1,4 @@
--- What the calls of an event do to a route's table, for any sessions that it stands for.
+-- The effect of an event's calls on a route's table, for all sessions that it represents.
 use Rattle.std.specs.Prelude.{◌≡◌, ℕ, ◌<◌, ◌≤◌, ◌^◌, true, None, Result, List, map, find}
 use Rattle.srt_seq.specs.declared.shared.Peer.{Peer}
 use Rattle.srt_seq.specs.Terms.{Terms}
@@ -17,7 +17,7 @@ use Rattle.srt_route.specs.Tables.{IsTable, IsTaken}
 use Rattle.srt_route.specs.Admission.{admitted, agreement_of}
 use Rattle.srt_route.specs.inside.Reports.{Queues}
 
--- the table becomes that of these sessions
+-- the table represents `later` of its sessions afterwards
 abbrev pub TableBecomes : (clock : ℕ) → (old new : Table) → (later : Terms → List Session → List Session) → Type 0
 TableBecomes clock old new later =
     (e : Terms) (index : ℕ) (sessions : List Session)
@@ -29,65 +29,65 @@ Transmits clock table before after packets =
     (e : Terms) (index : ℕ) (sessions : List Session)
     → IsTable e index clock table sessions → Queues before after (map sent (packets e sessions))
 
--- step 2: time advances to this clock
+-- step 2: the sessions' time advances to this clock
 abbrev pub AgesTo : (clock : ℕ) → (old new : Table) → Type 0
 AgesTo clock old new =
     (e : Terms) (index before : ℕ) (sessions : List Session)
     → IsTable e index before old sessions → before ≤ clock → clock < 2 ^ 62 → IsTable e index clock new (map (aged e clock) sessions)
 
--- the SHUTDOWNs of the sessions that end by it are queued
+-- step 2: the SHUTDOWNs of the sessions that end by silence are queued
 abbrev pub TellsIdle : (clock : ℕ) → Table → (before after : ReplyQueue) → Type 0
 TellsIdle clock table before after =
     (e : Terms) (index earlier : ℕ) (sessions : List Session)
     → IsTable e index earlier table sessions → Queues before after (map sent (idle_told e clock sessions))
 
--- with it a take-over, if it is due
+-- step 2 with a take-over, if it is due
 abbrev pub AdvancesTo : (clock : ℕ) → (old new : Table) → Type 0
 AdvancesTo clock old new =
     (e : Terms) (index before : ℕ) (sessions : List Session)
     → IsTable e index before old sessions → before ≤ clock → clock < 2 ^ 62 → IsTable e index clock new (advanced e clock sessions)
 
--- step 3: an item is taken
+-- step 3: an item is processed
 abbrev pub TakesItem : (clock : ℕ) → Item → (old new : Table) → Type 0
 TakesItem clock item old new =
     (e : Terms) (index : ℕ) (sessions : List Session)
     → IsTable e index clock old sessions → IsTable e index clock new (taken e index clock item sessions).sessions
 
--- and its replies are queued
+-- step 3: the replies to the item are queued
 abbrev pub AnswersItem : (clock : ℕ) → Item → Table → (before after : ReplyQueue) → Type 0
 AnswersItem clock item old before after =
     (e : Terms) (index : ℕ) (sessions : List Session)
     → IsTable e index clock old sessions → Queues before after (map sent (taken e index clock item sessions).answers)
 
--- a datagram with these bytes is taken, and these datagrams answer it
+-- a datagram with these bytes is processed, and `replies` answer it
 abbrev pub TakesDatagram : (clock : ℕ) → Peer → (bytes : List ℕ) → (old new : Table) → List Datagram → Type 0
 TakesDatagram clock peer bytes old new replies =
     (e : Terms) (index : ℕ) (sessions : List Session)
     → IsTable e index clock old sessions
     → IsTaken e index clock new replies (read_taken e index clock peer (packet_in bytes) sessions)
 
--- a packet is taken
+-- a packet is processed
 abbrev pub TakesPacket : Arrival → Packet → (old new : Table) → Type 0
 TakesPacket arrival packet old new =
     (e : Terms) (index : ℕ) (sessions : List Session)
     → IsTable e index arrival.clock old sessions
     → IsTable e index arrival.clock new (packet_taken e index arrival.clock arrival.peer packet sessions).sessions
 
--- and these datagrams answer it
+-- `replies` answer a packet
 abbrev pub AnswersPacket : Arrival → Packet → Table → List Datagram → Type 0
 AnswersPacket arrival packet old replies =
     (e : Terms) (index : ℕ) (sessions : List Session)
     → IsTable e index arrival.clock old sessions
     → replies ≡ map sent (packet_taken e index arrival.clock arrival.peer packet sessions).answers
 
--- a packet with a destination is taken by the session whose ID that is, if one is open
+-- a packet with a destination is processed by the open session with that ID, if there is one
 abbrev pub TakenBySession : Arrival → Packet → (old new : Table) → List Datagram → Type 0
 TakenBySession arrival packet old new replies =
     (e : Terms) (index : ℕ) (sessions : List Session)
     → IsTable e index arrival.clock old sessions
     → IsTaken e index arrival.clock new replies (arrived e index arrival.clock arrival.peer packet sessions)
 
--- a conclusion is answered: again, or by a session that opens, or by a refusal
+-- a conclusion is answered: by the same answer again, by a session that opens, or by a refusal
 abbrev pub TakesConclusion : Arrival → Conclusion → (old new : Table) → List Datagram → Type 0
 TakesConclusion arrival c old new replies =
     (e : Terms) (index : ℕ) (sessions : List Session)
@@ -109,7 +109,7 @@ abbrev pub Admits : Table → Peer → Conclusion → Result Admission RefusalCa
 Admits table peer c answer =
     (e : Terms) (index clock : ℕ) (sessions : List Session) → IsTable e index clock table sessions → answer ≡ admitted e peer sessions c
 
--- it is admitted, and its session opens
+-- such a conclusion is admitted, and its session opens
 abbrev pub OpensSession : Arrival → Conclusion → Admission → (old new : Table) → List Datagram → Type 0
 OpensSession arrival c admission old new replies =
     (e : Terms) (index : ℕ) (sessions : List Session)

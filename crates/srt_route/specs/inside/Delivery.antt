@@ -1,4 +1,4 @@
--- The parts of a delivery and of an event's output: payload by payload, and session by session.
+-- The steps of a delivery and of an event's output: payload by payload, and session by session.
 use Rattle.std.specs.Prelude.{◌≡◌, ℕ, ◌<◌, ◌≤◌, Bool, true, false, Option, None, Some, List, [], ◌∷◌, map, find, length, slice_index_or}
 use Rattle.std.specs.Prelude.{unwrap_or, ⊤, ◌==◌, if◌then◌else◌}
 use Rattle.srt_seq.specs.declared.shared.Mode.TheVariants.{Buffer}
@@ -23,7 +23,7 @@ use Rattle.srt_route.specs.Tables.{IsTable, Uses, has_subscriber}
 abbrev pub changed : (Session → Past) → Session → Session
 changed past s = if s.is_open then record s { past = past s } else s
 
--- the past of this slot's publisher is q, and the subscribers were fed these payloads
+-- a past amid a delivery: that of the publisher in slot `at` is q, and a subscriber was fed these payloads
 abbrev pub amid_past : Agreed → (time : ℕ) → (mine : Bool) → publisher.Publishing → List (List ℕ) → Past → Past
 amid_past terms time mine q payloads (Publishes p) = Publishes (if mine then q else p)
 amid_past terms time mine q payloads (Subscribes m) = Subscribes (subscriber.fed_all terms.subscriber time payloads m)
@@ -31,7 +31,7 @@ amid_past terms time mine q payloads (Subscribes m) = Subscribes (subscriber.fed
 abbrev pub amid : Terms → (clock at : ℕ) → publisher.Publishing → List (List ℕ) → Session → Past
 amid e clock at q payloads s = amid_past (terms_of e s) (time_in s clock) (s.slot == at) q payloads s.past
 
--- the subscribers are fed one payload, and the publishers stay
+-- a past after one payload: a subscriber is fed it, and a publisher stays
 abbrev pub fed_past : Agreed → (time : ℕ) → List ℕ → Past → Past
 fed_past terms time payload (Publishes p) = Publishes p
 fed_past terms time payload (Subscribes m) = Subscribes (subscriber.fed terms.subscriber time payload m)
@@ -45,12 +45,12 @@ pub record IsPublisherAt (sessions : List Session) (at : ℕ) (s : Session) (q :
   pub publishes : is_publisher s ≡ true
   pub past_is : s.past ≡ Publishes q
 
--- a publisher's buffers stand for this past of a session
+-- a publisher's buffers represent this past of a session
 abbrev pub PublisherStands : Terms → Publisher → Session → publisher.Publishing → Type 0
 PublisherStands e p s q =
     buffers.StandsFor (terms_of e s).publisher s.conclusion.initial s.opening s.stamp s.conclusion.caller p q
 
--- the publisher of slot `at` in a table that stands for these sessions: its session s, its past q, and the buffers that it uses
+-- the publisher of slot `at` in a table that represents these sessions: its session s, its past q, and its buffers
 pub record IsPublisherOf (e : Terms) (index clock : ℕ) (t : Table) (sessions : List Session) (at : ℕ) (s : Session) (q : publisher.Publishing)
     (which : PublisherBuffers)
     : Type 0 where
@@ -66,12 +66,12 @@ HasRoom e places (Subscribes m) = e.mode ≡ Buffer → places ≤ room e.buffer
 abbrev pub HaveRoom : Terms → (places : ℕ) → List Session → Type 0
 HaveRoom e places sessions = (at : ℕ) (s : Session) → find (is_open_in at) sessions ≡ Some s → HasRoom e places s.past
 
--- the lesser of a slot's room and the least room so far
+-- the smaller of a slot's room and the smallest room so far
 abbrev pub lesser : Option ℕ → Option ℕ → Option ℕ
 lesser found None = found
 lesser found (Some room) = Some (least found room)
 
--- a seat after its subscriber was fed this payload, if one is open there
+-- a seat after its subscriber, if one is open, was fed this payload
 pub record IsFedSeat (clock : ℕ) (payload : List ℕ) (old new : Seat) : Type 0 where
   pub generation_is : new.generation ≡ old.generation
   pub session_is : new.session ≡ old.session
@@ -88,12 +88,12 @@ abbrev pub AreGiven : (clock : ℕ) → Option Arrival → (old new : List Seat)
 AreGiven clock None old new = new ≡ old
 AreGiven clock (Some a) old new = (0 < length a.payload) × AreFed clock a.payload old new
 
--- the sessions after the next payload of this slot's publisher, if there is one
+-- the sessions after the next payload of the publisher in slot `at`, if there is one
 abbrev pub turned : Terms → (clock at : ℕ) → Option Arrival → publisher.Publishing → List Session → List Session
 turned e clock at None q sessions = sessions
 turned e clock at (Some a) q sessions = map (changed (amid e clock at q (a.payload ∷ []))) sessions
 
--- the sessions after all payloads of this slot's publisher s, whose past is q
+-- the sessions after all payloads of the publisher s in slot `at`, whose past is q
 abbrev pub passed_on : Terms → (clock at : ℕ) → (room : Option ℕ) → Session → publisher.Publishing → List Session → List Session
 passed_on e clock at room s q sessions =
     map (changed (amid e clock at (publisher.delivered (terms_of e s).publisher (time_in s clock) room q) (payloads e clock room s))) sessions
@@ -110,14 +110,14 @@ publisher_reported draining terms time (Subscribes m) = Subscribes m
 abbrev pub after_publisher : Terms → (clock : ℕ) → Session → Past
 after_publisher e clock s = publisher_reported (is_draining s) (terms_of e s) (time_in s clock) s.past
 
--- the same after the output of this slot's publisher
+-- the same after the output of the publisher in slot `at`
 abbrev pub reported_in : (draining : Bool) → Agreed → (time : ℕ) → (mine : Bool) → Past → Past
 reported_in draining terms time mine past = if mine then publisher_reported draining terms time past else past
 
 abbrev pub after_publisher_in : Terms → (clock at : ℕ) → Session → Past
 after_publisher_in e clock at s = reported_in (is_draining s) (terms_of e s) (time_in s clock) (s.slot == at) s.past
 
--- the packets that the open session of this slot sends if it passes the test
+-- the packets that the open session of slot `at` sends if it passes the test
 abbrev pub packets_of : Terms → (clock : ℕ) → (Session → Bool) → Option Session → List Reply
 packets_of e clock test None = []
 packets_of e clock test (Some s) = packets_at e (test s) (time_in s clock) s
@@ -132,17 +132,17 @@ subscriber_reported terms time (Subscribes m) = Subscribes (subscriber.reported 
 abbrev pub after_subscriber : Terms → (clock : ℕ) → Session → Past
 after_subscriber e clock s = subscriber_reported (terms_of e s) (time_in s clock) s.past
 
--- the calls of a delivery, for any sessions that the table stands for; s is the publisher of slot `at`, which uses these
--- buffers, and its past is q
+-- the calls of a delivery, for all sessions that the table represents; s is the publisher of slot `at`, which uses
+-- these buffers, and its past is q
 
--- whether its next payload is given
+-- whether that publisher has a next payload
 abbrev pub GivesNext : (which : PublisherBuffers) → (clock room : ℕ) → Table → (given : Bool) → Type 0
 GivesNext which clock room old given =
     (e : Terms) (index : ℕ) (sessions : List Session) (at : ℕ) (s : Session) (q : publisher.Publishing)
     → IsPublisherOf e index clock old sessions at s q which
     → given ≡ is_given (next_delivery (terms_of e s).publisher (time_in s clock) room q)
 
--- the table after it
+-- the table after its next payload
 abbrev pub turned_by : Terms → (clock room at : ℕ) → Session → publisher.Publishing → List Session → List Session
 turned_by e clock room at s q sessions =
     turned e clock at (next_delivery (terms_of e s).publisher (time_in s clock) room q)
@@ -154,7 +154,7 @@ TurnsTo which clock room old new =
     → IsPublisherOf e index clock old sessions at s q which → HaveRoom e room sessions
     → IsTable e index clock new (turned_by e clock room at s q sessions)
 
--- in buffer mode this is the room of all open subscribers, 0 without one; in live mode, where the room doesn't count, any
+-- in buffer mode this is the room of all open subscribers, 0 without one; in live mode, where the room is ignored, any
 -- number
 abbrev pub IsRoomOfAll : Table → (room : ℕ) → Type 0
 IsRoomOfAll t room =

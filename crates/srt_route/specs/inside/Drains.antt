@@ -1,4 +1,4 @@
--- A publisher's session that drains: what of a route's table tells it.
+-- Draining publishers' sessions, in terms of a route's table.
 use Rattle.std.specs.Prelude.{◌≡◌, ℕ, ◌+◌, Bool, true, false, Option, None, Some, List, find, map, not, slice_index_or, ◌&&◌}
 use Rattle.srt_seq.specs.declared.shared.Callers.TheVariants.{Libsrt}
 use Rattle.srt_seq.specs.Terms.{Terms}
@@ -15,7 +15,7 @@ use Rattle.srt_route.specs.Ledgers.{entry_of}
 use Rattle.srt_route.specs.Tables.{IsSeat, IsTable, buffers_of}
 use Rattle.srt_route.specs.inside.Calls.{TableBecomes}
 
--- until when the publisher of this slot drains after a packet
+-- the time until which the publisher of slot `at` drains after a packet, if it drains
 abbrev pub Drains : (at : ℕ) → Body → (clock : ℕ) → Table → Option ℕ → Type 0
 Drains at body clock table drains =
     (e : Terms) (index : ℕ) (sessions : List Session) (s : Session)
@@ -26,7 +26,7 @@ Drains at body clock table drains =
 abbrev pub GivesSome : (clock : ℕ) → Table → Bool → Type 0
 GivesSome clock table given = (e : Terms) (index : ℕ) (sessions : List Session) → IsTable e index clock table sessions → given ≡ gives_some e clock sessions
 
--- the same where the callers speak libsrt
+-- the same on a route for libsrt callers
 abbrev pub DrainsFrom : (at : ℕ) → Body → (clock : ℕ) → Table → Option ℕ → Type 0
 DrainsFrom at body clock table drains =
     (e : Terms) (index : ℕ) (sessions : List Session) (s : Session)
@@ -34,13 +34,13 @@ DrainsFrom at body clock table drains =
     → drains ≡ drain_if Libsrt (is_shutdown body && is_active sessions s && has_left (terms_of e s) s.past)
     (clock + (terms_of e s).publisher.delay + 5_000_000)
 
--- what a seat with one of these buffers tells of the open session that it stands for
+-- a fact about the open session of every slot that a seat with one of these buffers can represent
 abbrev pub TellsOf : List Publisher → Seat → (fact : Terms → Option Session → Type 0) → Type 0
 TellsOf publishers seat fact =
     (e : Terms) (index clock at : ℕ) (p : Publisher) (sessions : List Session)
     → IsSeat e index clock at (buffers_of publishers seat p) seat sessions → fact e (find (is_open_in at) sessions)
 
--- whether something of a session is left
+-- whether a session has something left to deliver
 abbrev pub left_in : Terms → Option Session → Bool
 left_in e None = false
 left_in e (Some s) = has_left (terms_of e s) s.past
@@ -56,7 +56,7 @@ drained_in e (Some s) = is_draining s && not (has_left (terms_of e s) s.past)
 abbrev pub IsDrained : (at : ℕ) → Table → Bool → Type 0
 IsDrained at table ends = (d : Seat) → TellsOf table.publishers.items (slice_index_or table.seats.items at d) (λ e o. ends ≡ drained_in e o)
 
--- what becomes of the sessions after the deliveries of an event, and which ends are noted
+-- the sessions after the deliveries of an event, and the recorded ends
 abbrev pub SettlesTo : (clock : ℕ) → (delivered : Bool) → (old new : Table) → Type 0
 SettlesTo clock given old new = TableBecomes clock old new (λ e. map (settled e given clock))
 

@@ -1,4 +1,4 @@
--- The end of a file: what of a route's table tells it.
+-- The end of a file, in terms of a route's table.
 use Rattle.std.specs.Prelude.{◌≡◌, ℕ, Bool, true, false, Option, None, Some, List, [], find, map}
 use Rattle.srt_seq.specs.Terms.{Terms}
 use Rattle.srt_pub.specs.declared.ends.PubEnd.{PubEnd}
@@ -18,7 +18,7 @@ use Rattle.srt_route.specs.inside.Delivery.{after_subscriber, changed}
 use Rattle.srt_route.specs.inside.OneSession.{SeatSaid, SubscriberReported, shutdowns_to}
 use Rattle.srt_route.specs.inside.Reports.{Queues}
 
--- how a packet ended a publisher's session, if it did
+-- whether a packet ended a publisher's session, and if so whether by its own SHUTDOWN
 abbrev pub shutdown_end : Option PubEnd → Option Bool
 shutdown_end None = None
 shutdown_end (Some ends.Shutdown) = Some true
@@ -29,17 +29,17 @@ abbrev pub whole_in : (over : Bool) → Option Session → Bool
 whole_in over None = false
 whole_in over (Some s) = has_whole_file over s
 
--- the same of a seat, whatever sessions it is a seat of
+-- the same of a seat, for all sessions that it can represent
 abbrev pub HasWhole : (over : Bool) → Seat → (whole : Bool) → Type 0
 HasWhole over seat whole =
     (e : Terms) (index clock at : ℕ) (p : Publisher) (sessions : List Session)
     → IsSeat e index clock at p seat sessions → whole ≡ whole_in over (find (is_open_in at) sessions)
 
--- whether files are over
+-- whether the file is complete
 abbrev pub IsOver : Table → (over : Bool) → Type 0
 IsOver table over = (e : Terms) (index clock : ℕ) (sessions : List Session) → IsTable e index clock table sessions → over ≡ is_file_over e sessions
 
--- a session that has the whole file ends; another one has sent its packets, if it is a subscriber's
+-- a session after step 6: one that has the whole file ends; any other subscriber's has sent its packets
 abbrev pub finished_subscriber_at : (whole : Bool) → Terms → (clock : ℕ) → Session → Session
 finished_subscriber_at true e clock s = ended s
 finished_subscriber_at false e clock s = changed (after_subscriber e clock) s
@@ -47,7 +47,7 @@ finished_subscriber_at false e clock s = changed (after_subscriber e clock) s
 abbrev pub finished_subscriber : Terms → (clock : ℕ) → (over : Bool) → Session → Session
 finished_subscriber e clock over s = finished_subscriber_at (has_whole_file over s) e clock s
 
--- a seat whose session ends, with its SHUTDOWN
+-- a seat whose session ends with its SHUTDOWN
 pub record SeatEnds (clock : ℕ) (seat new : Seat) (before after : ReplyQueue) : Type 0 where
   pub seat_is : new ≡ with_stored None seat
   pub said : Queues before after (shutdowns_to clock seat.session)
@@ -61,7 +61,7 @@ pub record SeatServed (clock : ℕ) (seat new : Seat) (before after : ReplyQueue
   pub stands : has_subscriber seat ≡ true → SubscriberReported clock seat.subscriber new.subscriber
   pub said : SeatSaid clock seat before after
 
--- step 6, for any sessions that the table stands for: what it makes of them, what is queued, and which ends are noted
+-- step 6, for all sessions that the table represents: the sessions after it, the queued packets, and the recorded ends
 abbrev pub FinishesSubscribers : (clock : ℕ) → (old new : Table) → Type 0
 FinishesSubscribers clock old new = TableBecomes clock old new (λ e sessions. map (finished_subscriber e clock (is_file_over e sessions)) sessions)
 

@@ -1,4 +1,4 @@
--- The effect of a call on the buffers and the seat of one session, whatever they stood for.
+-- The effect of a call on the buffers and the seat of one session, whatever they represented before.
 use Rattle.std.specs.Prelude.{◌≡◌, ℕ, ◌+◌, ◌-◌, ◌%◌, ◌^◌, ◌<◌, ◌≤◌, Bool, true, false, Option, None, Some, List, [], ◌∷◌, length, map}
 use Rattle.std.specs.Option.{is_some}
 use Rattle.srt_seq.specs.declared.shared.Peer.{Peer}
@@ -40,8 +40,8 @@ use Rattle.srt_route.specs.Buffers.{datagrams_to}
 use Rattle.srt_route.specs.Tables.{has_subscriber, stored_after, with_stored}
 use Rattle.srt_route.specs.inside.Reports.{Queues}
 
--- a session begins with this conclusion: the publisher's buffers or those of the seat stand for its beginning, and all
--- else is as before
+-- a session begins with this conclusion: the publisher's buffers or those of the seat represent its beginning, and
+-- everything else is unchanged
 abbrev pub BeginsAs : Role → Terms → (clock stamp : ℕ) → Conclusion → (p q : Publisher) → (seat new : Seat) → Type 0
 BeginsAs Publish e clock stamp c p q seat new =
     publisher.StandsFor (agreed_terms e c).publisher c.initial clock stamp c.caller q publishing.opened × (new ≡ seat)
@@ -52,14 +52,14 @@ BeginsAs Request e clock stamp c p q seat new =
 abbrev pub Begins : Terms → (clock stamp : ℕ) → Conclusion → (p q : Publisher) → (seat new : Seat) → Type 0
 Begins e clock stamp c p q seat new = BeginsAs c.role e clock stamp c p q seat new
 
--- the same for any terms under which this was agreed
+-- the same for all terms under which this was agreed
 abbrev pub BeginsUnder : Agreement → Arrival → Conclusion → (p q : Publisher) → (seat new : Seat) → Type 0
 BeginsUnder agreement arrival c p q seat new =
     (e : Terms) → agreement ≡ agreement_of e c → e.buffer ≤ 8192
     → publisher.width_of p ≡ e.buffer → subscriber.IsWide e.buffer seat.subscriber
     → Begins e arrival.clock arrival.stamp c p q seat new
 
--- the publisher's buffers alone, and the subscriber's
+-- the same of the publisher's buffers alone, and of the subscriber's
 abbrev pub PublisherBegins : Agreement → Arrival → (initial caller : ℕ) → (old new : Publisher) → Type 0
 PublisherBegins agreement arrival initial caller old new =
     (e : Terms) (c : Conclusion) → agreement ≡ agreement_of e c → caller ≡ c.caller → publisher.width_of old ≡ e.buffer → e.buffer ≤ 8192
@@ -78,7 +78,7 @@ PublisherTook clock packet old new =
     → publisher.StandsFor terms initial opening stamp caller new
     (publishing.took terms time (stamped_from stamp packet.stamp) (to_publisher.heard_from initial packet.body) m)
 
--- why the packet ends the publisher's session, if it does
+-- the cause for which the packet ends the publisher's session, if it does
 abbrev pub PublisherEndsFor : Packet → Publisher → Option PubEnd → Type 0
 PublisherEndsFor packet old end =
     (terms : publishing.Terms) (initial opening stamp caller : ℕ) (m : publishing.Publishing)
@@ -105,7 +105,7 @@ SubscriberTook clock packet old new =
     → subscriber.StandsFor terms initial opening caller clock new
     (subscribing.took (clock - opening) (to_subscriber.heard_from initial packet.body) (subscribing.expired terms (clock - opening) m))
 
--- the datagrams that the subscriber answers at once
+-- the datagrams with which the subscriber answers at once
 abbrev pub SubscriberAnswers : (clock : ℕ) → Peer → Packet → Subscriber → List Datagram → Type 0
 SubscriberAnswers clock peer packet old replies =
     (terms : subscribing.Terms) (initial opening caller last : ℕ) (m : subscribing.Subscribing)
@@ -128,7 +128,7 @@ SubscriberFed clock payload old new =
     → subscriber.StandsFor terms initial opening caller clock new
     (subscribing.fed terms (clock - opening) payload (subscribing.expired terms (clock - opening) m))
 
--- a publisher's buffers after it delivered to nobody
+-- a standby's buffers after it delivered to nobody
 abbrev pub PublisherStoodBy : (clock : ℕ) → (old new : Publisher) → Type 0
 PublisherStoodBy clock old new =
     (terms : publishing.Terms) (initial opening stamp caller time : ℕ) (m : publishing.Publishing) → clock ≡ opening + time
@@ -142,7 +142,7 @@ PublisherReported clock old new =
     → publisher.StandsFor terms initial opening stamp caller old m
     → publisher.StandsFor terms initial opening stamp caller new (publishing.reported terms time m)
 
--- and that output was queued
+-- that output was queued
 abbrev pub PublisherSaid : (clock : ℕ) → Peer → Publisher → (before after : ReplyQueue) → Type 0
 PublisherSaid clock peer old before after =
     (terms : publishing.Terms) (initial opening stamp caller time : ℕ) (m : publishing.Publishing) → clock ≡ opening + time
@@ -176,7 +176,7 @@ abbrev pub shutdowns_to : (clock : ℕ) → Option StoredSession → List Datagr
 shutdowns_to clock None = []
 shutdowns_to clock (Some t) = datagrams_to t.peer (text (shutdown_of clock t) ∷ [])
 
--- the same if it is sent one: where the callers speak libsrt, and it ends by silence or by a lost window
+-- the same if it is sent: on a route for libsrt callers, to a session that ends by silence or by a lost window
 abbrev pub shutdowns_if : Callers → (ends : Bool) → (clock : ℕ) → Option StoredSession → List Datagram
 shutdowns_if Draft ends clock o = []
 shutdowns_if Libsrt true clock o = shutdowns_to clock o

@@ -1,4 +1,4 @@
--- Which publisher is active, and what becomes of the one that stands by.
+-- Which publisher is active, and the deliveries of the standby.
 use Rattle.std.specs.Prelude.{◌≡◌, ℕ, Bool, false, Option, None, Some, List, find, map, ◌==◌, ◌&&◌, if◌then◌else◌}
 use Rattle.std.specs.List.{list_any}
 use Rattle.srt_seq.specs.declared.shared.Role.{Role}
@@ -16,17 +16,16 @@ use Rattle.srt_route.specs.PublisherBuffers.{is_same, other_buffers}
 use Rattle.srt_route.specs.Tables.{IsTable, Uses, publishes_from}
 use Rattle.srt_route.specs.inside.Delivery.{IsPublisherAt, IsPublisherOf, changed}
 
--- the buffers of a publisher that opens while one is open at most
+-- the buffers for a publisher that opens while at most one is open
 abbrev pub unused_buffers : List Seat → PublisherBuffers
 unused_buffers seats = if list_any (publishes_from First) seats then Second else First
 
--- the buffers of the active one of two open publishers after a session has opened, if it is a publisher's, with these
--- buffers
+-- the buffers of the active one of two open publishers after a session opened; a subscriber's session changes nothing
 abbrev pub leading_after : PublisherBuffers → Role → (opened : PublisherBuffers) → PublisherBuffers
 leading_after leading Publish opened = other_buffers opened
 leading_after leading Request opened = leading
 
--- whether a stored session is the active publisher, if the active one uses these buffers
+-- whether a stored session is the active publisher's, given the buffers that the active one uses
 abbrev pub is_active_by : Option PublisherBuffers → TheSession → Bool
 is_active_by None t = false
 is_active_by (Some which) t = publishes t.role && is_same t.buffers which
@@ -35,7 +34,7 @@ is_active_by (Some which) t = publishes t.role && is_same t.buffers which
 abbrev pub NonePublishes : List Session → Type 0
 NonePublishes sessions = (at : ℕ) (s : Session) → find (is_open_in at) sessions ≡ Some s → is_publisher s ≡ false
 
--- the active publisher, which uses these buffers
+-- the active publisher exists and uses these buffers
 pub record HasActive (sessions : List Session) (t : Table) (which : PublisherBuffers) : Type 0 where
   pub at : ℕ
   pub session : Session
@@ -44,7 +43,7 @@ pub record HasActive (sessions : List Session) (t : Table) (which : PublisherBuf
   pub active_is : active sessions ≡ Some session
   pub uses : Uses t at which
 
--- the publishers of other slots than this one stand by: what they deliver goes to nobody
+-- the publishers of slots other than `at` are standbys, which deliver to nobody
 abbrev pub stood_past : Agreed → (time : ℕ) → (is_active : Bool) → Past → Past
 stood_past terms time is_active (Publishes p) = Publishes (if is_active then p else publisher.delivered terms.publisher time None p)
 stood_past terms time is_active (Subscribes m) = Subscribes m
@@ -52,15 +51,15 @@ stood_past terms time is_active (Subscribes m) = Subscribes m
 abbrev pub stood_by : Terms → (clock at : ℕ) → Session → Past
 stood_by e clock at s = stood_past (terms_of e s) (time_in s clock) (s.slot == at) s.past
 
--- the table after the payloads of the publisher with the other buffers, if one is open; s is the active publisher, of slot
--- `at`, and its past is q
+-- the table after the payloads of the publisher with the other buffers, if one is open; s is the active publisher, of
+-- slot `at`, and its past is q
 abbrev pub StandsBy : (active : PublisherBuffers) → (clock : ℕ) → (old new : Table) → Type 0
 StandsBy active clock old new =
     (e : Terms) (index : ℕ) (sessions : List Session) (at : ℕ) (s : Session) (q : publisher.Publishing)
     → IsPublisherOf e index clock old sessions at s q active
     → IsTable e index clock new (map (changed (stood_by e clock at)) sessions)
 
--- no publisher is open, or the active one uses these buffers
+-- no publisher is open
 abbrev pub HasNone : Table → Type 0
 HasNone t = (e : Terms) (index clock : ℕ) (sessions : List Session) → IsTable e index clock t sessions → NonePublishes sessions
 
@@ -70,7 +69,7 @@ HasFailed limit clock t failed =
     (e : Terms) (index : ℕ) (sessions : List Session)
     → IsTable e index clock t sessions → failed ≡ has_failed limit clock (active sessions) (standby sessions)
 
--- whether it is due
+-- whether a take-over is due
 abbrev pub IsDue : (clock : ℕ) → Table → Bool → Type 0
 IsDue clock t due = (e : Terms) (index : ℕ) (sessions : List Session) → IsTable e index clock t sessions → due ≡ takes_over e clock sessions
 

@@ -7,7 +7,7 @@ use Rattle.srt_route.proofs.stored.Kept.{UpTo}
 use Rattle.srt_route.proofs.model.Ending.{IsEnded, IsEnding}
 use Rattle.srt_route.proofs.closing.close_seats.Given as goal
 
--- the sessions of the seats below `at` have ended, and their peers were told
+-- the sessions of the seats below `at` have ended, and their peers were sent a SHUTDOWN
 abbrev pub invariant-loop-at : goal.invariant-loop-at
 invariant-loop-at l = record {
   seats : UpTo IsEnded l.at l.fn.table l.table;

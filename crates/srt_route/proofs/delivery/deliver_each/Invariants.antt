@@ -13,7 +13,7 @@ use Rattle.srt_route.specs.inside.Delivery.{IsPublisherOf}
 use Rattle.srt_route.proofs.steps.Turns.{IsPassing}
 use Rattle.srt_route.proofs.delivery.deliver_each.Given as goal
 
--- what was given and what the calls that are left give is what all give; and the seats use the buffers that they used
+-- the payloads delivered so far with those of the remaining calls are all payloads; each seat uses the same buffers
 pub record Passes (which : PublisherBuffers) (clock turn first room : ℕ) (old table : Table) : Type 0 where
   pub passing : (e : Terms) (index : ℕ) (sessions : List Session) (at : ℕ) (s : Session) (q : Publishing)
       → IsPublisherOf e index clock old sessions at s q which

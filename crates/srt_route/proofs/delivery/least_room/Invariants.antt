@@ -6,7 +6,7 @@ use Rattle.srt_route.specs.Tables.{IsTable}
 use Rattle.srt_route.proofs.steps.Feeding.{least_from}
 use Rattle.srt_route.proofs.delivery.least_room.Given as goal
 
--- the least room of those before and of those that are left is that of all
+-- the smallest room of the seats below `at` and of the remaining ones is that of all
 abbrev pub invariant-loop-at : goal.invariant-loop-at
 invariant-loop-at l =
     (e : Terms) (index clock : ℕ) (sessions : List Session)

@@ -9,7 +9,7 @@ use Rattle.srt_route.proofs.steps.Telling.{told_one}
 use Rattle.srt_route.proofs.stored.Kept.{UpTo}
 use Rattle.srt_route.proofs.idle.end_idle.Given as goal
 
--- the seats below `at` have aged, and their peers were told; nothing else changed
+-- the seats below `at` have aged, and their peers were sent a SHUTDOWN; nothing else changed
 abbrev pub invariant-loop-at : goal.invariant-loop-at
 invariant-loop-at l = record {
   places_are : l.places ≡ length l.fn.table.seats.items;

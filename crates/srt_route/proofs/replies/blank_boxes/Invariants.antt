@@ -2,7 +2,7 @@ use Rattle.std.proofs.Common.{◌-◌, ◌≤◌, length}
 use Rattle.std.specs.Vec.{vec_capacity}
 use Rattle.srt_route.proofs.replies.blank_boxes.Given as goal
 
--- no more boxes than wanted, and room for all
+-- at most as many boxes as requested, and capacity for all
 abbrev pub invariant-loop-alloc : goal.invariant-loop-alloc
 invariant-loop-alloc l = record {
   few : length l.boxes.items ≤ l.count;

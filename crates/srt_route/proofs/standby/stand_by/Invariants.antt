@@ -5,7 +5,7 @@ use Rattle.srt_pub.specs.Stands as publishers
 use Rattle.srt_pub.specs.declared.session.Publisher.{Publisher}
 use Rattle.srt_route.proofs.standby.stand_by.Given as goal
 
--- the calls that are left leave what all calls leave
+-- the remaining calls lead to the same past as all calls
 pub record IsLeaving (terms : publishing.Terms) (initial opening stamp caller time turn : ℕ) (p : Publisher) (m : publishing.Publishing) : Type 0 where
   pub done : publishing.Publishing
   pub stands : publishers.StandsFor terms initial opening stamp caller p done

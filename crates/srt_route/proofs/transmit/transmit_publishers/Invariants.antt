@@ -7,7 +7,7 @@ use Rattle.srt_route.specs.inside.Delivery.{changed}
 use Rattle.srt_route.proofs.steps.Saying.{IsTold, below_told}
 use Rattle.srt_route.proofs.transmit.transmit_publishers.Given as goal
 
--- those before have sent what they send
+-- the publishers of the seats below `at` have sent their packets
 abbrev pub invariant-loop-at : goal.invariant-loop-at
 invariant-loop-at l = record {
   seats : length l.table.seats.items ≡ length l.fn.table.seats.items;

@@ -5,7 +5,7 @@ use Rattle.srt_sub.specs.Stands as subscribers
 use Rattle.srt_route.proofs.steps.Saying.{IsTelling}
 use Rattle.srt_route.proofs.transmit.transmit_subscriber.Given as goal
 
--- as many packets wait as turns were taken, and the others are left
+-- as many packets were queued as steps were made, and the others remain
 abbrev pub invariant-loop-turn : goal.invariant-loop-turn
 invariant-loop-turn l =
     (terms : subscribing.Terms) (initial opening caller : ℕ) (m : subscribing.Subscribing)

@@ -10,7 +10,7 @@ use Rattle.srt_route.proofs.steps.Serving.{EndsUpTo, Serves, serving}
 use Rattle.srt_route.proofs.steps.Slots.{IsSaying}
 use Rattle.srt_route.proofs.transmit.transmit_subscribers.Given as goal
 
--- those before have sent what they send, or ended
+-- the subscribers of the seats below `at` have sent their packets, or ended
 abbrev pub invariant-loop-at : goal.invariant-loop-at
 invariant-loop-at l = record {
   seats : UpTo (Serves l.clock l.over) l.at l.fn.table l.table;

@@ -5,7 +5,7 @@ use Rattle.srt_route.specs.Tables.{IsTable}
 use Rattle.srt_route.specs.Totals.{AddUp}
 use Rattle.srt_route.proofs.route.Route.totals.Given as goal
 
--- the sums have what the open sessions in the slots below `at` count
+-- the sums contain the counts of the open sessions in the slots below `at`
 abbrev pub invariant-loop-at : goal.invariant-loop-at
 invariant-loop-at l =
     (e : Terms) (index clock : ℕ) (sessions : List Session)

@@ -8,7 +8,7 @@ use Rattle.srt_route.specs.declared.view.Traffic.{Traffic}
 use Rattle.srt_route.proofs.steps.Views.{none_past, none_stored, one_shown}
 use Rattle.srt_route.proofs.table.Table.look.Goals as goal
 
--- what is shown, with this flag and this latency
+-- the snapshot with this flag and this latency
 abbrev view_with : TheSession → (active draining : Bool) → ℕ → Traffic → SessionView
 view_with t active draining latency traffic =
     record {

@@ -2,7 +2,7 @@ use Rattle.std.proofs.Common.{◌-◌, ◌≤◌, length}
 use Rattle.srt_route.proofs.steps.Starting.{AreVacant}
 use Rattle.srt_route.proofs.table.Table.open.Given as goal
 
--- no more seats than wanted, all vacant, with buffers as wide as wanted
+-- at most as many seats as requested, all vacant, with buffers of the requested width
 abbrev pub invariant-loop-alloc : goal.invariant-loop-alloc
 invariant-loop-alloc l = record {
   few : length l.seats.items ≤ l.sessions;
