@@ -121,7 +121,7 @@ settled width r = moved_to (least_from (λ n. not (is_dropped width r n)) r.fron
 abbrev pub passed : (width : ℕ) → List Arrival → Receiving → Receiving
 passed width arrivals r = settled width (moved_to (next_after r.front arrivals) r)
 
--- the record after a packet with the number `Some n` of the window. None stands for a number outside the window
+-- the record after a packet with the number `Some n` of the window. None means a number outside the window
 abbrev pub with_number : Option ℕ → List ℕ → ℤ → Receiving → Receiving
 with_number None payload due r = r
 with_number (Some n) payload due r = if is_received r n then r else record r { arrivals = record { number = n; payload = payload; due = due } ∷ r.arrivals }
@@ -130,7 +130,7 @@ with_number (Some n) payload due r = if is_received r n then r else record r { a
 abbrev pub received : (width word : ℕ) → List ℕ → ℤ → Receiving → Receiving
 received width word payload due r = with_number (in_window word r.front width) payload due r
 
--- the result of `put` for a packet with the number `Some n` of the window; None stands for a number outside the window
+-- the result of `put` for a packet with the number `Some n` of the window; None means a number outside the window
 abbrev pub put_of : Option ℕ → Receiving → Put
 put_of None r = Outside
 put_of (Some n) r = if is_received r n then Repeat else New
@@ -157,7 +157,7 @@ abbrev pub after_next : (width : ℕ) → Option Arrival → Receiving → Recei
 after_next width None r = r
 after_next width (Some a) r = passed width (a ∷ []) r
 
--- the runs that a NAK reports from a number on: the first 32 runs of gaps. None stands for a number that is outside
+-- the runs that a NAK reports from a number on: the first 32 runs of gaps. None means a number that is outside
 -- the window and isn't its end (section 4.8.2; our choice)
 abbrev pub runs_from : (width : ℕ) → Option ℕ → Receiving → List Run
 runs_from width None r = []
