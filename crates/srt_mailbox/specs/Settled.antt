@@ -1,4 +1,4 @@
--- The final counters of a closed route.
+-- The final counters of a finalised route.
 use Rattle.std.specs.Prelude.{◌≡◌, List, ◌++◌, length}
 use Rattle.srt_route.specs.declared.replies.Reply.{Reply}
 use Rattle.srt_mailbox.specs.declared.inbox_rule.InboxEntry.{InboxEntry}

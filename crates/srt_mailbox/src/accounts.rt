@@ -1,4 +1,4 @@
-//! Closing a route: consumes its four ends and returns the final counters.
+//! Finalising a route: consumes its four ends and returns the final counters.
 
 ghost use Rattle.std.specs.Prelude.{◌≡◌, IfOk, IfErr};
 ghost use Rattle.srt_mailbox.specs.Cells.{AreEndsOf};
@@ -41,8 +41,8 @@ pub struct Unsettled {
 }
 
 impl Running {
-    /// Closes the route and returns its final counters. The three ends must be of its two queues. Messages and replies
-    /// remaining in the queues are counted and discarded. Doesn't allocate.
+    /// Finalises the route and returns its final counters. The three ends must be of its two queues. Messages and
+    /// replies remaining in the queues are counted and discarded. Doesn't allocate.
     pub fn settle<R: Wait>(self, rt: &R, ingress: Ingress, clock: ClockEnd, drain: Drain) -> Account
         requires inbox { (ingress.queue ≡ self.inbox.queue) × (clock.queue ≡ self.inbox.queue) }
         requires outbox { drain.queue ≡ self.outbox.queue }
@@ -62,7 +62,7 @@ impl Running {
     }
 }
 
-/// Closes a route and returns its final counters. The four ends must be from one `open_route`. If another call has
+/// Finalises a route and returns its final counters. The four ends must be from one `open_route`. If another call has
 /// claimed the route, `Unsettled` returns them unchanged. Messages and replies remaining in the queues are counted and
 /// discarded. Doesn't allocate.
 pub fn settle<R: Wait>(

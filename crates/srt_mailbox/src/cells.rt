@@ -120,7 +120,7 @@ impl RouteCell {
         }
     }
 
-    /// Closes the cell and returns its route. If another call has the route, the cell is returned unchanged. Never
+    /// Consumes the cell and returns its route. If another call has the route, the cell is returned unchanged. Never
     /// waits.
     pub fn into_running(self) -> Result<Running, RouteCell>
         ensures route { IfOk result (λ running. Bears (identity_in self) running) }

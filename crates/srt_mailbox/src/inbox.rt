@@ -187,8 +187,9 @@ impl InboxReceiver {
         pop::<Takes, _, _, _, R>(&self.queue, rt, &mut self.pass)
     }
 
-    /// Returns the number of messages remaining in the inbox, and closes it; the other two ends must be of the same
-    /// inbox. The messages received, followed by the remaining ones, are what the two ends offered, each in order.
+    /// Returns the number of messages remaining in the inbox, and consumes the end; the other two ends must be of the
+    /// same inbox. The messages received, followed by the remaining ones, are what the two ends offered, each in
+    /// order.
     pub fn settle<R: Wait>(self, rt: &R, ingress: Ingress, clock: ClockEnd) -> usize
         requires { (ingress.queue ≡ self.queue) × (clock.queue ≡ self.queue) }
         ensures { AreLeft result self.taken ingress clock }

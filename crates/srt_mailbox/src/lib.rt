@@ -7,7 +7,7 @@
 //! Types: the four ends of a route: `Ingress` (the poller offers datagrams), `ClockEnd` (the ticking thread offers
 //! ticks), `RouteCell` (workers serve the route) and `Drain` (the poller receives replies). A `Gate` may refuse a step
 //! (`Ungated` never does); `Served` is the outcome of one step, `Visit` that of a batch of steps, and `Account` has
-//! the final counters of a closed route. An `Observer` receives a snapshot of a claimed route. `InboxFull` and
+//! the final counters of a finalised route. An `Observer` receives a snapshot of a claimed route. `InboxFull` and
 //! `OutboxEmpty` are evidence of a refusal. For routes added at run time: a `Seat` has a route and its ends until
 //! their owners take them (`PollerEnds` with an `Attachment`, `ClockHand`), a `Place` has a seat or is empty, and each
 //! owner has a `SeatReader`.

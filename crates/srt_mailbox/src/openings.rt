@@ -18,7 +18,7 @@ use srt_seq::{Entry, OpenFault};
 use std::alloc::{AllocError, Global};
 use std::snapshot::Snapshot;
 
-// Opens both queues. Returns the ends of the poller and of the clock, and the route's own.
+// Opens both queues. Returns the ends of the poller and of the clock, and those of the route.
 fn open_queues(
     alloc: Global,
     entry: &Entry,
@@ -51,7 +51,7 @@ fn tag_of(ends: &RouteEnds, entry: &Entry, index: usize) -> Result<CellTag, Allo
     })
 }
 
-// Makes the cell of an opened route, with its own ends of both queues.
+// Makes the cell of an opened route, with its ends of both queues.
 fn cell_of(
     alloc: Global,
     ends: RouteEnds,

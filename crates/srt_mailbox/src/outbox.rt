@@ -86,7 +86,7 @@ impl OutboxSender {
         push::<Puts, _, _, _, R>(&self.queue, rt, &mut self.pass, parcel)
     }
 
-    /// Returns the number of remaining replies and the number drained (saturated at 2^64 - 1), and closes the outbox;
+    /// Returns the number of remaining replies and the number drained (saturated at 2^64 - 1), and consumes both ends;
     /// `drain` must be of the same outbox. The replies drained, followed by the remaining ones, are those that were
     /// put.
     pub fn settle<R: Wait>(self, rt: &R, drain: Drain) -> (usize, u64)

@@ -298,7 +298,7 @@ impl Running {
         let _waiting = self.waiting;
     }
 
-    /// Closes the route. Returns its two ends, the number of messages received, and the number of waiting replies.
+    /// Consumes the route. Returns its two ends, the number of messages received, and the number of waiting replies.
     pub(crate) fn into_parts(self) -> EndedRoute
         ensures ends { (result.receiver ≡ self.inbox) × (result.sender ≡ self.outbox) }
         ensures taken { result.taken ≡ counted (length self.inbox.taken) }
@@ -329,7 +329,7 @@ impl Running {
     }
 }
 
-/// The parts of a closed route that its final counters need.
+/// The parts of a finalised route that its final counters need.
 #[derive(Drop)]
 pub(crate) struct EndedRoute {
     /// The end of the inbox.

@@ -135,9 +135,9 @@ impl<X: Attachment + Drop> Seat<X> {
         take_out(&self.clock)
     }
 
-    /// Closes the route and returns its final counters, as `settle` does; the three ends must be of this seat's route.
-    /// `None` if another call has the route, or it was finalised before. Messages and replies remaining in the queues
-    /// are counted and discarded; the ends are consumed in both cases. Doesn't allocate.
+    /// Finalises the route and returns its final counters, as `settle` does; the three ends must be of this seat's
+    /// route. `None` if another call has the route, or it was finalised before. Messages and replies remaining in the
+    /// queues are counted and discarded; the ends are consumed in both cases. Doesn't allocate.
     pub fn settle<R: Wait>(
         &self,
         rt: &R,
