@@ -69,8 +69,8 @@ pub fn dropped(run: DropRun, time: u64, caller: u32, packet: &mut EncodedPacket)
 }
 
 /// Writes this packet (section 3.1). Its timestamp is the time at which its payload was queued. Returns false, with
-/// `packet` unchanged, if its payload is empty. No caller feeds an empty payload; the check allows to write each
-/// packet without a precondition on the queue. One copy of the payload. The flag R of a packet that is sent again
+/// `packet` unchanged, if its payload is empty. No caller feeds an empty payload; due to this check, a packet can be
+/// written without a precondition on the queue. One copy of the payload. The flag R of a packet that is sent again
 /// (section 3.1) is `out.again`: `srt_sendbuf` sets it for lost packets (`next_due.rt`).
 #[inline(always)]
 fn write(out: Out<'_>, caller: u32, packet: &mut EncodedPacket) -> bool
