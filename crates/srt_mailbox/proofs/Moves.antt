@@ -1,4 +1,4 @@
--- Each step keeps the rule of the outbox.
+-- Each operation preserves the rule of the outbox.
 use Rattle.std.proofs.Common.{◌≡◌, ℕ, Bool, true, List, [], ◌∷◌, ◌++◌, sym, refl, ap, ◌∙◌, append_assoc}
 use Rattle.crossbeam_queue.specs.Fifo.{Pushes, Pops, Forks, Merges, Learns}
 use Rattle.std.specs.Global.{Box}
@@ -8,7 +8,7 @@ use Rattle.srt_mailbox.specs.Outbox.{replies_in, view_of, fresh, without_drain, 
 use Rattle.srt_mailbox.specs.Outbox.{StoodAsPut, StoodAsDrained, KnowsAll}
 use Rattle.srt_mailbox.proofs.Rights.{never, all_one, before, used, kept, given, held, returned, outlasts}
 
--- the two rights, and what each pass knows was done by them
+-- the two rights, and which operations each pass knows were performed with them
 abbrev puts_of : OutboxView → Bool
 puts_of v = v.puts
 

@@ -1,4 +1,4 @@
--- Each step keeps the rule of the inbox.
+-- Each operation preserves the rule of the inbox.
 use Rattle.std.proofs.Common.{◌≡◌, ℕ, Bool, true, false, List, [], ◌∷◌, ◌++◌, sym, refl, ap, ◌∙◌, append_assoc, append-nil}
 use Rattle.crossbeam_queue.specs.Fifo.{Pushes, Pops, Forks, Merges, Learns}
 use Rattle.srt_seq.specs.declared.shared.Item.{Item}
@@ -25,14 +25,14 @@ ticked_append : (xs ys : List InboxEntry) → ticked_of (xs ++ ys) ≡ ticked_of
 ticked_append [] ys = refl
 ticked_append (m ∷ ms) ys = ap (skip m.polled m.item) (ticked_append ms ys) ∙ skip_append m.polled m.item (ticked_of ms) (ticked_of ys)
 
--- what an item at the end adds
+-- the effect of a message at the end
 polled_snoc : (taken items : List InboxEntry) (x : InboxEntry) → polled_of (taken ++ (items ++ x ∷ [])) ≡ polled_of (taken ++ items) ++ keep x.polled x.item []
 polled_snoc taken items x = ap polled_of (sym (append_assoc taken items (x ∷ []))) ∙ polled_append (taken ++ items) (x ∷ [])
 
 ticked_snoc : (taken items : List InboxEntry) (x : InboxEntry) → ticked_of (taken ++ (items ++ x ∷ [])) ≡ ticked_of (taken ++ items) ++ skip x.polled x.item []
 ticked_snoc taken items x = ap ticked_of (sym (append_assoc taken items (x ∷ []))) ∙ ticked_append (taken ++ items) (x ∷ [])
 
--- the three rights, and what each pass knows was done by them
+-- the three rights, and which operations each pass knows were performed with them
 abbrev polls_of : InboxView → Bool
 polls_of v = v.polls
 
@@ -135,7 +135,7 @@ learns_ticked pass v may items views h at = (views, pass, v, h, at, (may, refl))
 pub learns_rest : (pass : ℕ) (v : InboxView) → v.takes ≡ true → Learns Kept pass v (StoodAsTaken v.taken)
 learns_rest pass v may items views h at = (views, pass, v, h, at, (may, refl))
 
--- a new pass takes over one right
+-- a new pass receives one right
 pub forks_poller : (pass : ℕ) (v : InboxView) → v.polls ≡ true → Forks Kept pass v (without_poller v) (poller v)
 forks_poller pass v may items views h at = (
   _,
@@ -162,7 +162,7 @@ forks_clock pass v may items views h at = (
   ),
 )
 
--- the right comes back
+-- the right is returned
 pub merges_poller : (pass : ℕ) (v : InboxView) (other : ℕ) (u : InboxView) → u.polls ≡ true → Merges Kept pass v other u (with_poller v u) nobody
 merges_poller pass v other u may items views h at apart there =
     let was = before views pass (with_poller v u) other u apart there in (

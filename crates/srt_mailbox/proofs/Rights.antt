@@ -1,11 +1,12 @@
--- A right to use a queue, through each kind of step. At most one pass has the right, and that pass knows all that was done by it.
--- `views` are the views of the passes; `may v` says whether a pass with the view v has the right, and `done v` what it knows was done.
+-- A right to use a queue, through each kind of operation. At most one pass has the right, and that pass knows all
+-- operations performed with it. `views` are the views of the passes; `may v` states whether a pass with the view v has
+-- the right, and `done v` which operations it knows of.
 use Rattle.std.proofs.Common.{◌≡◌, ◌≢◌, ℕ, zero, suc, Bool, true, false, true≢false, List, [], ◌∷◌, ◌++◌, length, set, sym, refl, ap, ◌∙◌, subst, ⊎_elim}
 use mathlib.Core.Option.{some, some-ne-none, some-injective}
 use lib.ListN.{get_elem?}
 use Rattle.crossbeam_queue.proofs.Lists.{at_set, at_snoc}
 
--- a view made without the right hasn't got it
+-- a view made without the right doesn't have it
 pub never : false ≢ true
 never t = true≢false (sym t)
 
@@ -28,30 +29,30 @@ module _ {V : Type 0} where
   at_end (x ∷ xs) a b zero n e = absurd (n e)
   at_end (x ∷ xs) a b (suc j) n e = ap suc (at_end xs a b j n e)
 
-  -- a pass's view before another pass's changed
+  -- a pass's view before another pass's view changed
   pub before : (views : List V) (pass : ℕ) (w : V) (other : ℕ) (u : V)
       → other ≢ pass → get_elem? (set views pass w) other ≡ some u → get_elem? views other ≡ some u
   before views pass w other u apart e = ⊎_elim (λ x. absurd (apart x.0)) (λ x. x.1) (at_set views pass other w u e)
 
 module _ {V L : Type 0} (may : V → Bool) (done : V → L) where
-  -- a pass that has the right is the pass p, and knows that xs was done
+  -- a pass that has the right is the pass p, and knows that xs was performed
   abbrev pub Has : (p : ℕ) (xs : L) (pass : ℕ) → V → Type 0
   Has p xs pass v = may v ≡ true → (pass ≡ p) × (done v ≡ xs)
 
-  -- a step by the right
+  -- an operation with the right
   pub used : (p : ℕ) (xs ys : L) (views : List V) (pass : ℕ) (v w : V)
       → All (Has p xs) views → get_elem? views pass ≡ some v → may v ≡ true → done w ≡ ys → All (Has p ys) (set views pass w)
   used p xs ys views pass v w has at mine knows =
       all_set (Has p ys) views pass w (λ _. ((has pass v at mine).0, knows)) (λ j u other e t. absurd (other ((has j u e t).0 ∙ sym (has pass v at mine).0)))
 
-  -- a step by another right, of a pass whose view says the same of this right as before
+  -- an operation with another right, of a pass whose view of this right is unchanged
   pub kept : (p : ℕ) (xs ys : L) (views : List V) (pass : ℕ) (v w : V)
       → All (Has p xs) views → get_elem? views pass ≡ some v → xs ≡ ys → may w ≡ may v → done w ≡ done v → All (Has p ys) (set views pass w)
   kept p xs ys views pass v w has at same may_is done_is =
       all_set (Has p ys) views pass w (λ t. let f = has pass v at (sym may_is ∙ t) in (f.0, done_is ∙ f.1 ∙ same))
       (λ j u other e t. let f = has j u e t in (f.0, f.1 ∙ same))
 
-  -- a new pass takes over the right
+  -- a new pass receives the right
   pub given : (p : ℕ) (xs : L) (views : List V) (pass : ℕ) (v left right : V) → All (Has p xs) views → get_elem? views pass ≡ some v
       → may v ≡ true → may left ≢ true → done right ≡ done v
       → All (Has (length (set views pass left)) xs) (set views pass left ++ right ∷ [])
@@ -63,7 +64,7 @@ module _ {V L : Type 0} (may : V → Bool) (done : V → L) where
       (λ (is : right ≡ u). (at_end rest right u j (λ x. none j u x t) e, ap done (sym is) ∙ same ∙ (has pass v at mine).1))
       (at_snoc rest right u j e)
 
-  -- a new pass takes over another right, and not this one
+  -- a new pass receives another right, and not this one
   pub held : (p : ℕ) (xs : L) (views : List V) (pass : ℕ) (v left right : V) → All (Has p xs) views → get_elem? views pass ≡ some v
       → may left ≡ may v → done left ≡ done v → may right ≢ true
       → All (Has p xs) (set views pass left ++ right ∷ [])
@@ -71,7 +72,7 @@ module _ {V L : Type 0} (may : V → Bool) (done : V → L) where
       ⊎_elim (λ x. kept p xs xs views pass v left has at refl may_is done_is j u x t) (λ (is : right ≡ u). absurd (lacks (ap may is ∙ t)))
       (at_snoc (set views pass left) right u j e)
 
-  -- the right comes back from another pass, which is spent
+  -- the right is returned by another pass, which becomes unusable
   pub returned : (p : ℕ) (xs : L) (views : List V) (pass other : ℕ) (u both spent : V) → All (Has p xs) views
       → get_elem? views other ≡ some u → may u ≡ true → done both ≡ done u → may spent ≢ true
       → All (Has pass xs) (set (set views pass both) other spent)
@@ -80,7 +81,7 @@ module _ {V L : Type 0} (may : V → Bool) (done : V → L) where
       (λ j y apart e. all_set (λ k z. k ≢ other → Has pass xs k z) views pass both (λ _ _. (refl, same ∙ (has other u at theirs).1))
       (λ k z _ f away t. absurd (away ((has k z f t).0 ∙ sym (has other u at theirs).0))) j y e apart)
 
-  -- another right comes back from another pass, which is spent
+  -- another right is returned by another pass, which becomes unusable
   pub outlasts : (p : ℕ) (xs : L) (views : List V) (pass other : ℕ) (v both spent : V) → All (Has p xs) views
       → get_elem? views pass ≡ some v → may both ≡ may v → done both ≡ done v → may spent ≢ true
       → All (Has p xs) (set (set views pass both) other spent)

@@ -1,4 +1,4 @@
--- A seat may go to another thread, threads may share a place, and a reader may go to its owner's thread.
+-- A seat may be moved to another thread, threads may share a place, and a reader may be moved to its owner's thread.
 use denote.RattleType.{RattleType}
 use denote.Ref.{NamedLft}
 use denote.Param.Send.{IsSend, IsSync, struct_send, struct_sync, recorded_send, recorded_sync, shr_slice_send}
@@ -21,16 +21,16 @@ use Rattle.srt_mailbox.proofs.inbox.ClockEnd.TheSendSync as clock_is
 use Rattle.srt_mailbox.proofs.outbox.Drain.TheSendSync as drain_is
 use Rattle.srt_mailbox.proofs.Syncs.{ingress_sync, clock_sync, drain_sync, cell_fields_send, cell_fields_sync}
 
--- the clock's end of a route that has come may go to another thread
+-- the clock's end of an added route may be moved to another thread
 pub hand_send : IsSend hand.the_row
 hand_send = recorded_send (hand.the_field).row _ _ hand.the_type.to_one (struct_send (shape hand.the_type) (clock_is.the_send, tt))
 
--- and threads may share it
+-- threads may share the clock's end of an added route
 pub hand_sync : IsSync hand.the_row
 hand_sync = recorded_sync (hand.the_field).row _ _ hand.the_type.to_one (struct_sync (shape hand.the_type) (clock_sync, tt))
 
 module _ (X : RattleType) (g : Ghosts X.Denot) (s : IsSend X) (y : IsSync X) where
-  -- and so the poller's
+  -- the poller's ends of an added route may be moved to another thread
   pub ends_send : IsSend (ends.the_row X)
   ends_send =
       recorded_send (ends.the_field X).row _ _ (ends.the_type X).to_one
@@ -41,7 +41,7 @@ module _ (X : RattleType) (g : Ghosts X.Denot) (s : IsSend X) (y : IsSync X) whe
       recorded_sync (ends.the_field X).row _ _ (ends.the_type X).to_one
       (struct_sync (shape (ends.the_type X)) (ingress_sync, (drain_sync, (y, tt))))
 
-  -- a seat may go to another thread
+  -- a seat may be moved to another thread
   pub seat_send : IsSend (seat.the_row X g)
   seat_send =
       recorded_send (seat.the_field X g).row _ _ (seat.the_type X g).to_one
@@ -53,7 +53,7 @@ module _ (X : RattleType) (g : Ghosts X.Denot) (s : IsSend X) (y : IsSync X) whe
         ),
       ))
 
-  -- and threads may share it
+  -- threads may share a seat
   pub seat_sync : IsSync (seat.the_row X g)
   seat_sync =
       recorded_sync (seat.the_field X g).row _ _ (seat.the_type X g).to_one
@@ -78,7 +78,8 @@ module _ (X : RattleType) (g : Ghosts X.Denot) (s : IsSend X) (y : IsSync X) whe
   place_sync = recorded_sync (place.the_field X g).row _ _ (place.the_type X g).to_one place_fields_sync
 
   module _ (a : NamedLft) where
-    -- the fields of a reader, for a struct that contains one: a reference to places, which threads may share, and tokens
+    -- the fields of a reader, for a struct that contains one: a reference to places, which threads may share, and its
+    -- tokens
     pub reader_fields_send : IsSend (reader.the_field a X g).row
     reader_fields_send =
         struct_send (shape (reader.the_type a X g)) (
@@ -86,6 +87,6 @@ module _ (X : RattleType) (g : Ghosts X.Denot) (s : IsSend X) (y : IsSync X) whe
           (heap.Vec-send _ (token_is.the_send a (seat.the_row X g)), tt),
         )
 
-    -- a reader of places may go to its owner's thread
+    -- a reader of places may be moved to its owner's thread
     pub reader_send : IsSend (reader.the_row a X g)
     reader_send = recorded_send (reader.the_field a X g).row _ _ (reader.the_type a X g).to_one reader_fields_send

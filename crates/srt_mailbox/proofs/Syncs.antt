@@ -1,4 +1,4 @@
--- Threads may share a cell. A pass may be looked at from any thread: a reference to it shows nothing.
+-- Threads may share a cell. A pass may be read from any thread: a reference to it exposes no contents.
 use denote.RattleType.{RattleType}
 use denote.Param.Send.{IsSend, IsSync, part_keyless, sendable, struct_send, struct_sync, recorded_send, recorded_sync, view_send, view_sync}
 use denote.Struct.Declared.{shape}
@@ -93,7 +93,7 @@ clock_in_sync =
     (struct_sync (shape clock_in.the_type)
     (heap.Arc-sync inbox_queue inbox_queue_send inbox_queue_sync, (seat_sync _ _ option_entry, (search sendable, tt))))
 
--- and the clock's
+-- threads may share the clock's end of an inbox
 pub clock_sync : IsSync clock.the_row
 clock_sync = view_sync _ _ _ _ _ clock_in_sync
 
@@ -268,10 +268,10 @@ cell_fields_sync =
       ),
     )
 
--- a route behind its claim word may go to another thread
+-- a route's cell may be moved to another thread
 pub cell_send : IsSend cell.the_row
 cell_send = recorded_send (cell.the_field).row _ _ cell.the_type.to_one cell_fields_send
 
--- and threads may share it
+-- threads may share a route's cell
 pub cell_sync : IsSync cell.the_row
 cell_sync = recorded_sync (cell.the_field).row _ _ cell.the_type.to_one cell_fields_sync

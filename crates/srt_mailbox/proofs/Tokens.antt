@@ -1,4 +1,4 @@
--- A reader's tokens show the locks of the places that it has come to, in their order.
+-- The tokens of a reader are those of the locks of the places that it has reached, in their order.
 use Rattle.std.proofs.Common.{◌≡◌, ℕ, suc, ◌+◌, ◌<◌, ◌≤◌, Bool, true, false, cond, List, [], ◌∷◌, ◌++◌, length, map, take, get_or, Some, slice_get}
 use Rattle.std.proofs.Common.{sym, ap, ◌∙◌, arith}
 use Rattle.std.proofs.lemmas.List.{map-append, length-append, length-map, length-take, get_or-map, get_or-take}
@@ -7,7 +7,7 @@ use Rattle.std.specs.Option.{option_map}
 use Rattle.std.proofs.Math.Seq.{take-suc}
 
 module _ {T S : Type 0} (of : T → ℕ) (id : S → ℕ) (ts : List T) (seats : List S) (shown : map of ts ≡ take (length ts) (map id seats)) where
-  -- a token more, if there was room for it
+  -- one more token, if there was room for it
   pub one_shown : (after : List T) (t : T) (b : Bool) →
       after ≡ cond b (ts ++ t ∷ []) ts → slice_get (map id seats) (length ts) ≡ Some (of t) →
       map of after ≡ take (length after) (map id seats)
@@ -45,7 +45,7 @@ module _ {T S : Type 0} (of : T → ℕ) (id : S → ℕ) (ts : List T) (seats :
       let inside : i < length seats = omega (arith, within, few) in
       lock_of i t within there ∙ get_or-map id seats i s 0 inside
 
-  -- there is room for the token of the place behind those that were read
+  -- there is room for the token of the place after those that were read
   pub goes_in : (lock capacity count : ℕ) → slice_get (map id seats) (length ts) ≡ Some lock → length seats ≤ capacity →
       count ≡ length ts → capacity ≤ count → ⊥
   goes_in lock capacity count at room counted full =
@@ -53,7 +53,7 @@ module _ {T S : Type 0} (of : T → ℕ) (id : S → ℕ) (ts : List T) (seats :
       let all = length-map seats id in
       omega (arith, before, all, room, counted, full)
 
--- what a token shows stands at its index among all that is shown
+-- the value of a token is at its index among all values
 pub shown_at : {T V : Type 0} (value : T → V) (ts : List T) (i : ℕ) (t : T) → i < length ts → t ≡ get_or ts i t →
     slice_get (map value ts) i ≡ Some (value t)
 shown_at value ts i t within there =

@@ -1,4 +1,4 @@
--- What a turn adds to what was taken and to what was put.
+-- The effect of a step on the messages received and on the replies put.
 use Rattle.std.proofs.Common.{◌≡◌, ℕ, suc, true, ◌+◌, ◌-◌, ◌^◌, min, arith, Option, None, Some, List, [], ◌∷◌, ◌++◌, length, map}
 use Rattle.std.proofs.Common.{option_map, option_to_list, refl, sym, ap, ◌∙◌, append_assoc, append-nil, subst}
 use Rattle.std.proofs.lemmas.List.{map-append, length-append}
@@ -28,12 +28,13 @@ pub told_last : (earlier : List Item) (taken : List InboxEntry) (x : InboxEntry)
 told_last earlier [] x = refl
 told_last earlier (m ∷ ms) x = told_last (told m.item ∷ earlier) ms x
 
--- no reply was handed back if none waits
+-- if no reply waits, no reply was returned by the outbox
 pub none_held : (held : Option (Box Reply)) (route : Route) → waiting_at held route ≡ [] → map written (replies_in (option_to_list held)) ≡ []
 none_held None route none = refl
 none_held (Some b) route none = absurd (let e : (written b.value ∷ (waiting route)) ≡ [] = none in cc)
 
--- the replies to an item that was applied while none waited are all that wait; the item is known by another expression, j
+-- the replies to a message that was processed while none waited are all that wait; the message is given by another
+-- expression, j
 pub waits_next : (e : Terms) (r : ℕ) (items : List Item) (held : Option (Box Reply)) (old new : Route) (i j : TheItem)
     → waiting_at held old ≡ [] → waiting new ≡ reply e r (told i ∷ items) → i ≡ j → waiting_at held new ≡ reply e r (told j ∷ items)
 waits_next e r items held old new i j none replies same =
@@ -51,14 +52,14 @@ moved_replays put y rest all so_far = ap (λ l. l ++ rest) (map-append written p
 pub counted_more : (n m : ℕ) → m ≡ counted n → min (m + 1) (2 ^ 64 - 1) ≡ counted (n + 1)
 counted_more n m is = omega (arith, is)
 
--- a turn is of the same route, at the same queues
+-- a step is of the same route, at the same queues
 pub still_bears : (t : Turned) (a b : Run) → TurnedAs t a b → (n : CellIdentity) → Bears n a → Bears n b
 still_bears Applied a b turned n bears = subst (λ (r : Run). Bears n r) (sym turned.2) bears
 still_bears Moved a b turned n bears = subst (λ (r : Run). Bears n r) (sym turned.3) bears
 still_bears Blocked a b turned n bears = subst (λ (r : Run). Bears n r) (sym turned.3) bears
 still_bears Idle a b turned n bears = subst (λ (r : Run). Bears n r) (sym turned.1) bears
 
--- an item that was taken is one turn more
+-- a received message is one more step
 pub taken_more : (t : Turned) (a b : Run)
     → t ≡ Applied → TurnedAs t a b → (length b.outbox.put ≡ length a.outbox.put) × (turns_of b ≡ turns_of a + 1) × (b.refusals ≡ a.refusals)
 taken_more t a b is turned =
@@ -67,7 +68,7 @@ taken_more t a b is turned =
     let taken : length b.inbox.taken ≡ length a.inbox.taken + 1 = ap (λ (r : Run). length r.inbox.taken) one.2 ∙ length-append a.inbox.taken (one.0 ∷ []) in
     (put, omega (arith, put, taken), ap (λ (r : Run). r.refusals) one.2)
 
--- so is a reply that was put
+-- a put reply is one more step
 pub put_more : (t : Turned) (a b : Run) → t ≡ Moved → TurnedAs t a b
     → (length b.outbox.put ≡ length a.outbox.put + 1) × (turns_of b ≡ turns_of a + 1) × (b.refusals ≡ a.refusals)
 put_more t a b is turned =
@@ -76,13 +77,13 @@ put_more t a b is turned =
     let put : length b.outbox.put ≡ length a.outbox.put + 1 = ap (λ (r : Run). length r.outbox.put) one.3 ∙ length-append a.outbox.put (one.0 ∷ []) in
     (put, omega (arith, put, taken), ap (λ (r : Run). r.refusals) one.3)
 
--- after turns without a refusal, an idle one finds the inbox empty once more
+-- after steps without a refusal, an idle step finds the inbox empty once more
 pub idle_at_last : (t : Turned) (n : Refused) (a b : Run) → t ≡ Idle → TurnedAs t a b → a.refusals ≡ n → EmptyOnceMore n b.refusals
 idle_at_last t n a b is turned same =
     let one : WasIdle a b = subst (λ (u : Turned). TurnedAs u a b) is turned in
     subst (λ (m : Refused). EmptyOnceMore m b.refusals) same one.3
 
--- and a blocked one the outbox full
+-- after steps without a refusal, a blocked step finds the outbox full once more
 pub blocked_at_last : (t : Turned) (n : Refused) (a b : Run) → t ≡ Blocked → TurnedAs t a b → a.refusals ≡ n → FullOnceMore n b.refusals
 blocked_at_last t n a b is turned same =
     let one : WasBlocked a b = subst (λ (u : Turned). TurnedAs u a b) is turned in
@@ -91,7 +92,7 @@ blocked_at_last t n a b is turned same =
 passes_more : (r n : ℕ) (earlier : List Answer) → passes r (n + 1) earlier ≡ answer r true ∷ passes r n earlier
 passes_more r n earlier = let next : n + 1 ≡ suc n = omega arith in ap (λ (m : ℕ). passes r m earlier) next
 
--- a gate that let n turns pass lets another one pass
+-- the answers of a gate that permitted n steps and then one more
 pub asked_more : (r n : ℕ) (old mid new : Option (List Answer))
     → mid ≡ option_map (passes r n) old → new ≡ option_map (λ xs. answer r true ∷ xs) mid → new ≡ option_map (passes r (n + 1)) old
 asked_more r n None mid new first next = next ∙ ap (option_map (λ (xs : List Answer). answer r true ∷ xs)) first

@@ -1,7 +1,7 @@
--- What a gate was asked.
+-- The queries of a gate.
 use Rattle.std.specs.Prelude.{ℕ, zero, suc, Bool, true, List, ◌∷◌}
 
--- a gate was asked about a turn of this route, and let it pass or not
+-- a query of a gate: the route whose step was to be made, and whether the gate permitted it
 pub record Answer : Type 0 where
   pub route : ℕ
   pub passed : Bool
@@ -9,7 +9,7 @@ pub record Answer : Type 0 where
 abbrev pub answer : (route : ℕ) → (passed : Bool) → Answer
 answer r p = record { route = r; passed = p }
 
--- n answers that let a turn of this route pass, in front of the earlier ones
+-- n answers that permit a step of this route, before the earlier answers
 abbrev pub passes : (route n : ℕ) → List Answer → List Answer
 passes r zero earlier = earlier
 passes r (suc n) earlier = answer r true ∷ passes r n earlier

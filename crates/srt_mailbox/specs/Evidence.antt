@@ -1,4 +1,4 @@
--- What evidence of a refusal tells, and how often a route's queues refused.
+-- The contents of evidence of a refusal, and how often a route's queues refused.
 use Rattle.std.specs.Prelude.{◌≡◌, ℕ, List}
 use Rattle.atomic_table.specs.Seated.{TableId}
 use Rattle.crossbeam_queue.specs.Passes.{Pass, view}
@@ -6,11 +6,13 @@ use Rattle.srt_seq.specs.declared.shared.Item.{Item}
 use Rattle.srt_route.specs.declared.replies.Reply.{Reply}
 use Rattle.srt_mailbox.specs.Counts.{Grew}
 
--- the pass as it was when the queue refused: a pass of the same queue, which had done what it has done now
+-- `asked` is the pass at the time of the refusal: a pass of the same queue, which had performed the same operations as
+-- `now`
 abbrev pub AskedBy : {T V : Type 0} → (asked now : Pass T V) → Type 0
 AskedBy asked now = (asked.table_id ≡ now.table_id) × (view asked ≡ view now)
 
--- which inbox was full, and what the end that asked had put into it by then, the oldest first: as the poller, and as the clock
+-- which inbox was full, and what the calling end had put into it by then, oldest first: as the poller, and as the
+-- clock
 pub record FoundFull : Type 0 where
   pub queue : TableId
   pub polled : List Item
@@ -19,7 +21,7 @@ pub record FoundFull : Type 0 where
 abbrev pub found_full : TableId → (polled ticked : List Item) → FoundFull
 found_full q ps ts = record { queue = q; polled = ps; ticked = ts }
 
--- which outbox was empty, and the replies that had been drained of it by then, the oldest first
+-- which outbox was empty, and the replies that had been drained from it by then, oldest first
 pub record FoundEmpty : Type 0 where
   pub queue : TableId
   pub through : List Reply

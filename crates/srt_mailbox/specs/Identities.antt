@@ -1,7 +1,7 @@
--- Which route a cell holds.
+-- The identity of a cell's route.
 use Rattle.srt_mailbox.specs.declared.cells.RouteCell.{RouteCell}
 use Rattle.srt_mailbox.specs.Cells.{CellIdentity}
 
--- which route the cell holds, and which two queues it is between
+-- the identity of the cell's route, and of the two queues that it is between
 abbrev pub identity_in : RouteCell → CellIdentity
 identity_in cell = cell.slot

@@ -1,4 +1,5 @@
--- The rule of the inbox: the items taken, followed by those held, are what the poller and the clock offered, each in order.
+-- The rule of the inbox: the messages received, followed by those in the queue, are what the poller and the clock
+-- offered, each in order.
 use Rattle.std.specs.Prelude.{◌≡◌, ℕ, Bool, true, false, List, [], ◌∷◌, ◌++◌}
 use mathlib.Core.Option.{some}
 use lib.ListN.{get_elem?}
@@ -7,27 +8,27 @@ use Rattle.srt_seq.specs.Items.{Item as ToldItem, told}
 use Rattle.srt_mailbox.specs.declared.inbox_rule.InboxEntry.{InboxEntry}
 use Rattle.srt_mailbox.specs.declared.inbox_rule.InboxView.{InboxView}
 
--- the item in front of the others, if the poller offered it
+-- the message prepended to the others, if the poller offered it
 abbrev pub keep : Bool → Item → List Item → List Item
 keep true i is = i ∷ is
 keep false i is = is
 
--- the item in front of the others, if the clock offered it
+-- the message prepended to the others, if the clock offered it
 abbrev pub skip : Bool → Item → List Item → List Item
 skip true i is = is
 skip false i is = i ∷ is
 
--- the items that the poller offered, in order
+-- the messages that the poller offered, in order
 abbrev pub polled_of : List InboxEntry → List Item
 polled_of [] = []
 polled_of (m ∷ ms) = keep m.polled m.item (polled_of ms)
 
--- the items that the clock offered, in order
+-- the messages that the clock offered, in order
 abbrev pub ticked_of : List InboxEntry → List Item
 ticked_of [] = []
 ticked_of (m ∷ ms) = skip m.polled m.item (ticked_of ms)
 
--- the taken items as the route's definition sees them, the newest first
+-- the received messages as the route's definition has them, newest first, prepended to earlier ones
 abbrev pub told_before : List ToldItem → List InboxEntry → List ToldItem
 told_before earlier [] = earlier
 told_before earlier (m ∷ ms) = told_before (told m.item ∷ earlier) ms
@@ -38,7 +39,7 @@ applied taken = told_before [] taken
 abbrev pub view_of : (polls ticks takes : Bool) → (polled ticked : List Item) → (taken : List InboxEntry) → InboxView
 view_of p q r ps qs ts = record { polls = p; ticks = q; takes = r; polled = ps; ticked = qs; taken = ts }
 
--- the first pass: all rights, and nothing done yet
+-- the first pass: it has all rights, and has performed no operation
 abbrev pub fresh : InboxView
 fresh = view_of true true true [] [] []
 
@@ -46,7 +47,7 @@ fresh = view_of true true true [] [] []
 abbrev pub nobody : InboxView
 nobody = view_of false false false [] [] []
 
--- the poller's pass splits off
+-- the pass that remains when the poller's pass is split off, and below it the poller's pass
 abbrev pub without_poller : InboxView → InboxView
 without_poller v = view_of false v.ticks v.takes [] v.ticked v.taken
 
@@ -56,7 +57,7 @@ poller v = view_of v.polls false false v.polled [] []
 abbrev pub with_poller : InboxView → InboxView → InboxView
 with_poller v w = view_of w.polls v.ticks v.takes w.polled v.ticked v.taken
 
--- the clock's pass splits off
+-- the pass that remains when the clock's pass is split off, and below it the clock's pass
 abbrev pub without_clock : InboxView → InboxView
 without_clock v = view_of v.polls false v.takes v.polled [] v.taken
 
@@ -66,20 +67,20 @@ clock v = view_of false v.ticks false [] v.ticked []
 abbrev pub with_clock : InboxView → InboxView → InboxView
 with_clock v w = view_of v.polls w.ticks v.takes v.polled w.ticked v.taken
 
--- what the pass of this number knows, if the passes that have the three rights are p, q and r
+-- the knowledge of the pass with this number, if the passes that have the three rights are p, q and r
 abbrev pub Knows : (p q r : ℕ) → (taken items : List InboxEntry) → (pass : ℕ) → InboxView → Type 0
 Knows p q r taken items pass v =
     (v.polls ≡ true → (pass ≡ p) × (v.polled ≡ polled_of (taken ++ items)))
     × (v.ticks ≡ true → (pass ≡ q) × (v.ticked ≡ ticked_of (taken ++ items)))
     × (v.takes ≡ true → (pass ≡ r) × (v.taken ≡ taken))
 
--- at most one pass has each right, and it knows all that was done by that right
+-- at most one pass has each right, and it knows all operations that were performed with that right
 abbrev pub Kept : (items : List InboxEntry) → (views : List InboxView) → Type 0
 Kept items views =
     (p : ℕ) × (q : ℕ) × (r : ℕ) × (taken : List InboxEntry)
     × ((pass : ℕ) (v : InboxView) → get_elem? views pass ≡ some v → Knows p q r taken items pass v)
 
--- a pass's view before and after a step of that pass
+-- a pass's view before and after an operation of that pass
 abbrev pub Polled : InboxView → InboxEntry → InboxView → Type 0
 Polled v x w = w ≡ view_of v.polls v.ticks v.takes (v.polled ++ x.item ∷ []) v.ticked v.taken
 
@@ -89,7 +90,7 @@ Ticked v x w = w ≡ view_of v.polls v.ticks v.takes v.polled (v.ticked ++ x.ite
 abbrev pub Took : InboxView → InboxEntry → InboxView → Type 0
 Took v x w = w ≡ view_of v.polls v.ticks v.takes v.polled v.ticked (v.taken ++ x ∷ [])
 
--- at some moment the rule was true with these items held, and some pass knew this
+-- at some time the rule was true with these messages in the queue, and some pass knew this
 abbrev pub Stood : (items : List InboxEntry) → (InboxView → Type 0) → Type 0
 Stood items knows = (views : List InboxView) × (pass : ℕ) × (v : InboxView) × Kept items views × (get_elem? views pass ≡ some v) × knows v
 
@@ -102,6 +103,6 @@ StoodAsTicked ticked items = Stood items (λ v. (v.ticks ≡ true) × (v.ticked 
 abbrev pub StoodAsTaken : (taken items : List InboxEntry) → Type 0
 StoodAsTaken taken items = Stood items (λ v. (v.takes ≡ true) × (v.taken ≡ taken))
 
--- what the pass with all three rights knows of the items held
+-- the knowledge of the pass with all three rights about the messages in the queue
 abbrev pub KnowsAll : InboxView → (items : List InboxEntry) → Type 0
 KnowsAll v items = (v.polled ≡ polled_of (v.taken ++ items)) × (v.ticked ≡ ticked_of (v.taken ++ items))

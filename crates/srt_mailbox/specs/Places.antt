@@ -1,4 +1,4 @@
--- Places, and which routes a reader of places has come to.
+-- Places, and the routes that a reader of places has reached.
 use Rattle.std.specs.Prelude.{◌≡◌, ℕ, List, map, length, Some, slice_get}
 use Rattle.srt_mailbox.specs.Cells.{CellIdentity}
 use Rattle.srt_mailbox.specs.Identities.{identity_in}
@@ -15,7 +15,7 @@ module _ {X : Type 0} {g : Ghosts X} where
   abbrev pub places_of : SeatReader X g → List (Place X g)
   places_of reader = reader.places.now
 
-  -- the routes that the reader has come to, in the order of their places
+  -- the routes that the reader has reached, in the order of their places
   abbrev pub came : SeatReader X g → List CellIdentity
   came reader = map (λ t. identity_in t.value.cell) reader.tokens.items
 
@@ -23,6 +23,6 @@ module _ {X : Type 0} {g : Ghosts X} where
   abbrev pub locks_of : SeatReader X g → List ℕ
   locks_of reader = map lock_in reader.places.now
 
-  -- the lock of this name is that of the place behind those that the reader has come to
+  -- the lock of this name is that of the place after those that the reader has reached
   abbrev pub is_next : SeatReader X g → (lock : ℕ) → Type 0
   is_next reader lock = slice_get (locks_of reader) (length reader.tokens.items) ≡ Some lock

@@ -1,4 +1,4 @@
--- The account of a route that has ended.
+-- The final counters of a finalised route.
 use Rattle.std.specs.Prelude.{◌≡◌, List, ◌++◌, length}
 use Rattle.srt_route.specs.declared.replies.Reply.{Reply}
 use Rattle.srt_mailbox.specs.declared.inbox_rule.InboxEntry.{InboxEntry}
@@ -9,8 +9,8 @@ use Rattle.srt_mailbox.specs.Runs.{Run, Replays}
 use Rattle.srt_mailbox.specs.Cells.{CellIdentity, Bears}
 use Rattle.srt_mailbox.specs.Counts.{counted}
 
--- The account has the numbers of this route and of its two queues: the items that it took, those that are left of what the two ends
--- offered, the replies that wait at it, those that are queued of what it put, and those that were drained
+-- `a` has the final counters of this route and of its two queues: the messages received, those remaining of what the
+-- two ends offered, the replies that wait in the route, those remaining in the outbox, and those that were drained
 pub record IsAccountOf (a : Account) (r : Run) (ingress clock : Producer) (drain : Drained) : Type 0 where
   pub left : List InboxEntry
   pub queued : List Reply
@@ -23,7 +23,8 @@ pub record IsAccountOf (a : Account) (r : Run) (ingress clock : Producer) (drain
   pub queued_is : a.queued ≡ length queued
   pub drained_is : a.drained ≡ counted (length drain.through)
 
--- The account is that of a route of this name, which put and keeps waiting what it, alone, replies to the items that it took
+-- `a` has the final counters of a route with this identity. It put, or keeps waiting, all that it, alone, replies to
+-- the messages received
 pub record Settles (a : Account) (n : CellIdentity) (ingress clock : Producer) (drain : Drained) : Type 0 where
   pub route : Run
   pub bears : Bears n route

@@ -1,4 +1,4 @@
-//! Ends a route: takes its four ends and returns the final counts.
+//! Finalising a route: consumes its four ends and returns the final counters.
 
 ghost use Rattle.std.specs.Prelude.{◌≡◌, IfOk, IfErr};
 ghost use Rattle.srt_mailbox.specs.Cells.{AreEndsOf};
@@ -12,37 +12,37 @@ use crate::outbox::Drain;
 use crate::running::Running;
 use std::sync::Wait;
 
-/// The final counts of a route: items applied and replies drained; then what is left in its queues.
+/// The final counters of a route: messages processed and replies drained, and what remains in its queues.
 #[derive(Clone, Copy, Debug, PartialEq, Eq)]
 pub struct Account {
-    /// Items that the route took from its inbox and applied. Saturates at 2^64 - 1.
+    /// Messages that the route received from its inbox and processed. Saturates at 2^64 - 1.
     pub taken: u64,
-    /// Items left in the inbox, never applied.
+    /// Messages remaining in the inbox, never processed.
     pub left: u64,
-    /// Replies that wait at the route, not yet in the outbox.
+    /// Replies that wait in the route, not yet in the outbox.
     pub waiting: u64,
-    /// Replies left in the outbox.
+    /// Replies remaining in the outbox.
     pub queued: u64,
-    /// Replies taken out by `Drain::take`. Saturates at 2^64 - 1.
+    /// Replies removed by `Drain::take`. Saturates at 2^64 - 1.
     pub drained: u64,
 }
 
-/// The error of `settle`: another call had claimed the route. The four ends, unchanged.
+/// The error of `settle`: another call had claimed the route. Returns the four ends unchanged.
 #[derive(Drop)]
 pub struct Unsettled {
     /// The poller's end of the inbox.
     pub ingress: Ingress,
     /// The clock's end of the inbox.
     pub clock: ClockEnd,
-    /// The route behind its claim word.
+    /// The route's cell.
     pub cell: RouteCell,
     /// The end of the outbox.
     pub drain: Drain,
 }
 
 impl Running {
-    /// Ends the route and returns its account. The three ends must be of its two queues. What is left in the queues is
-    /// counted and discarded. Doesn't allocate.
+    /// Finalises the route and returns its final counters. The three ends must be of its two queues. Messages and
+    /// replies remaining in the queues are counted and discarded. Doesn't allocate.
     pub fn settle<R: Wait>(self, rt: &R, ingress: Ingress, clock: ClockEnd, drain: Drain) -> Account
         requires inbox { (ingress.queue ≡ self.inbox.queue) × (clock.queue ≡ self.inbox.queue) }
         requires outbox { drain.queue ≡ self.outbox.queue }
@@ -62,8 +62,9 @@ impl Running {
     }
 }
 
-/// Ends a route and returns its account. The four ends must come from one `open_route`. If another call has claimed the
-/// route, `Unsettled` hands them back unchanged. What is left in the queues is counted and discarded. Doesn't allocate.
+/// Finalises a route and returns its final counters. The four ends must be from one `open_route`. If another call has
+/// claimed the route, `Unsettled` returns them unchanged. Messages and replies remaining in the queues are counted and
+/// discarded. Doesn't allocate.
 pub fn settle<R: Wait>(
     rt: &R,
     ingress: Ingress,

@@ -19,9 +19,9 @@ use std::marker::Model;
 use std::snapshot::Snapshot;
 use std::sync::{Arc, Wait};
 
-/// Which route a cell holds, and its two queues. Fixed when the cell is made, and the tag of its slot: so what a claim
-/// finds there is known to be that route between those queues, whoever put it there. Contracts see it as a
-/// `CellIdentity`.
+/// The identity of a cell's route and of its two queues. It is fixed when the cell is made, and is the tag of the
+/// cell's slot: every claim yields that route between those queues, whichever thread put it there. Contracts see it as
+/// a `CellIdentity`.
 #[derive(Drop)]
 pub struct CellTag {
     pub(crate) inbox: Arc<Inbox>,
@@ -55,7 +55,7 @@ impl Fits for Boxed {
     ghost fits = { λ label boxed. Bears label boxed.running.value };
 }
 
-/// Takes out what a slot holds. `None` if it holds nothing, or another call has it. One compare-exchange; never waits.
+/// Removes the content of a slot. `None` if it is empty, or another call has it. One compare-exchange; never waits.
 #[inline(always)]
 pub(crate) fn take_out<X: Fits + Drop>(slot: &Counted<Option<X>>) -> Option<X>
     ensures { IfSome result (X.fits slot.now) }
@@ -74,7 +74,7 @@ pub struct RouteCell {
     index: usize,
     slot: Counted<Option<Boxed>>,
     ghost named: { index ≡ slot.index },
-    // 64 bytes of padding, so that the claim words of two neighbouring cells share no cache line
+    // 64 bytes of padding, so that the claim words of two adjacent cells share no cache line
     _apart: [u64; 8],
 }
 
@@ -82,7 +82,7 @@ impl RouteCell {
     ghost use Rattle.srt_mailbox.specs.Identities.{identity_in};
     ghost use Rattle.srt_mailbox.specs.Visits.{asked_in, asked_last};
 
-    /// A cell that holds this route, with a free claim word. `index` is the route's; gates are asked about it.
+    /// Makes a cell that holds this route, with a free claim word. `index` is the route's; gates are queried for it.
     pub(crate) fn new(index: usize, boxed: Boxed, label: &CellTag) -> RouteCell
         requires bears { Bears label.now boxed.running.value }
         requires index { index ≡ label.now.index }
@@ -102,15 +102,15 @@ impl RouteCell {
         take_out(&self.slot)
     }
 
-    /// The route's index.
+    /// Returns the route's index.
     pub(crate) fn index(&self) -> usize
         ensures { result ≡ (identity_in self.now).index }
     {
         self.index
     }
 
-    /// Takes the route out for good: to every later call the route is claimed elsewhere. `None` if another call has it.
-    /// Never waits.
+    /// Takes the route out permanently: to every later call the route is claimed elsewhere. `None` if another call has
+    /// it. Never waits.
     pub(crate) fn take(&self) -> Option<Running>
         ensures { IfSome result (λ running. Bears (identity_in self.now) running) }
     {
@@ -120,7 +120,8 @@ impl RouteCell {
         }
     }
 
-    /// Ends the cell and returns its route. If another call has the route, the cell is returned unchanged. Never waits.
+    /// Consumes the cell and returns its route. If another call has the route, the cell is returned unchanged. Never
+    /// waits.
     pub fn into_running(self) -> Result<Running, RouteCell>
         ensures route { IfOk result (λ running. Bears (identity_in self) running) }
         ensures busy { IfErr result (λ cell. cell ≡ self) }
@@ -132,7 +133,7 @@ impl RouteCell {
     }
 
     // Puts the route back and frees the claim word. While a call has the route, no other call changes the word, so the
-    // first try succeeds. The proof doesn't know that, hence the loop.
+    // first attempt succeeds. No contract states this, hence the loop.
     fn give_back<R: Wait>(&self, rt: &R, boxed: Boxed)
         requires { Bears (identity_in self.now) boxed.running.value }
     {
@@ -146,9 +147,9 @@ impl RouteCell {
         }
     }
 
-    /// Makes one turn of the route, if no other call has it and the gate lets it pass. `GateRefused`: the gate
-    /// refused. `ClaimedElsewhere`: another call had the route, and the gate wasn't asked. In both cases no turn is
-    /// made. The route is given back in every case. Doesn't allocate and doesn't wait for the route.
+    /// Makes one step of the route, if no other call has it and the gate permits it. `GateRefused`: the gate refused.
+    /// `ClaimedElsewhere`: another call had the route, and the gate wasn't queried. In both cases no step is made. The
+    /// route is returned to the cell in every case. Doesn't allocate and doesn't wait for the route.
     pub fn serve<R: Wait, G: Gate>(&self, rt: &R, gate: &mut G) -> Served
         ensures held { result ≡ GateRefused → Grew (G.held gate.old) (G.held gate.new) }
         ensures asked { G.asked gate.new ≡ option_map (asked_last (identity_in self.now).index result) (G.asked gate.old) }
@@ -161,9 +162,9 @@ impl RouteCell {
         served
     }
 
-    /// Makes turns of the route, at most `most`, if no other call has it, until one finds nothing to do or a full
-    /// outbox, or the gate refuses one; it is asked before each. The route is claimed once for all of them, since a
-    /// claim and its return are four locked operations. Doesn't allocate and doesn't wait for the route.
+    /// Makes a batch of at most `most` steps of the route, if no other call has it, until a step finds no work or a
+    /// full outbox, or the gate refuses one; the gate is queried before each. The route is claimed once for the batch,
+    /// since a claim and its return are four locked operations. Doesn't allocate and doesn't wait for the route.
     pub fn visit<R: Wait, G: Gate>(&self, rt: &R, gate: &mut G, most: u32) -> Visit
         ensures most { result.turns ≤ most }
         ensures moved { result.moved ≤ result.turns }
@@ -185,7 +186,7 @@ impl RouteCell {
         visit
     }
 
-    // Puts a route back that is as it was when it was claimed.
+    // Puts back a route that is unchanged since it was claimed.
     fn give_back_same<R: Wait>(&self, rt: &R, boxed: Boxed, _claimed: Snapshot<Boxed>)
         requires bears { Bears (identity_in self.now) boxed.running.value }
         requires same { boxed ≡ _claimed.value }
@@ -193,8 +194,8 @@ impl RouteCell {
         self.give_back(rt, boxed);
     }
 
-    /// Shows the route, once, if no other call has it. False if another call has it; then nothing was shown. Makes no
-    /// turn: the route is given back as it was. Doesn't allocate and doesn't wait for the route.
+    /// Shows the route once to `look`, if no other call has it. False if another call has it; then nothing was shown.
+    /// Makes no step: the route is returned unchanged. Doesn't allocate and doesn't wait for the route.
     pub fn show<R: Wait, L: Observer>(&self, rt: &R, look: &mut L) -> bool
         ensures shown { result ≡ true → OneWasShown (identity_in self.now) (L.looked look.old) (L.looked look.new) }
         ensures busy { result ≡ false → look.new ≡ look.old }
@@ -209,10 +210,10 @@ impl RouteCell {
     }
 }
 
-/// A route that can be served: what `RouteCell` does for workers. Code that hands cells to threads is generic over this
-/// trait, so that it can ask for `Sync` by a bound.
+/// A route that can be served, as `RouteCell` is by workers. Code that passes cells to threads is generic over this
+/// trait, so that it can require `Sync` by a bound.
 pub trait Serve {
-    /// Makes turns of the route, as `RouteCell::visit` does.
+    /// Makes a batch of steps of the route, as `RouteCell::visit` does.
     fn visit<R: Wait, G: Gate>(&self, rt: &R, gate: &mut G, most: u32) -> Visit
         ensures most { result.turns ≤ most }
         ensures moved { result.moved ≤ result.turns }
@@ -221,7 +222,7 @@ pub trait Serve {
         ensures passed { result.end ≢ Some GateRefused → G.held gate.new ≡ G.held gate.old }
         ensures busy { result.end ≡ Some ClaimedElsewhere → (result.turns ≡ 0) × (gate.new ≡ gate.old) };
 
-    /// Makes one turn of the route, as `RouteCell::serve` does.
+    /// Makes one step of the route, as `RouteCell::serve` does.
     fn serve<R: Wait, G: Gate>(&self, rt: &R, gate: &mut G) -> Served
         ensures held { result ≡ GateRefused → Grew (G.held gate.old) (G.held gate.new) };
 

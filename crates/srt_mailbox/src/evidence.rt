@@ -1,8 +1,8 @@
-//! Evidence that a queue was full, or empty, at some moment of a call. Only the functions of this file make any, and only
-//! where the queue itself refused.
+//! Evidence that a queue was full, or empty, at some time during a call. Only the functions of this file make
+//! evidence, and only if the queue itself refused.
 //!
-//! They are generic over the queue's rule. Of a rule that isn't known, nobody but the queue can show that it stood with n
-//! values; so a body of theirs that tells a queue full or empty without asking it isn't proved.
+//! They are generic over the queue's rule. Under an unknown rule, only the queue can show that it held n values, so a
+//! body that reports a queue as full or empty without a call of the queue isn't proved.
 
 ghost use Rattle.std.specs.Prelude.{◌≡◌, IfErr, IfSome, MatchResult};
 ghost use Rattle.crossbeam_queue.specs.Fifo.{Held, Learns, Pops, Pushes};
@@ -18,7 +18,7 @@ use std::marker::Model;
 use std::snapshot::Snapshot;
 use std::sync::Wait;
 
-/// Evidence that a queue was full at some moment of a call. It has no bytes, and can't be copied.
+/// Evidence that a queue was full at some time during a call. It has no bytes, and can't be copied.
 pub struct WasFull<T, V> {
     asked: Snapshot<Pass<T, V>>,
 }
@@ -29,7 +29,7 @@ impl<T, V> Drop for WasFull<T, V> {
     }
 }
 
-/// Evidence that a queue was empty at some moment of a call. It has no bytes, and can't be copied.
+/// Evidence that a queue was empty at some time during a call. It has no bytes, and can't be copied.
 pub struct WasEmpty<T, V> {
     asked: Snapshot<Pass<T, V>>,
 }
@@ -40,7 +40,7 @@ impl<T, V> Drop for WasEmpty<T, V> {
     }
 }
 
-/// Pushes a value. The queue hands it back only if it was full at some moment of the call, which the evidence tells.
+/// Pushes a value. The queue returns it only if it was full at some time during the call; then the evidence states so.
 #[inline(always)]
 pub fn push<M, T, V, P, R>(
     queue: &RuledArrayQueue<T, V, P>,
@@ -71,7 +71,7 @@ where
     }
 }
 
-/// Evidence that the queue is full, if it is. Changes nothing, and only reads.
+/// Returns evidence that the queue is full, if it is. Changes nothing, and only reads.
 #[inline(always)]
 pub fn find_full<M, T, V, P>(
     queue: &RuledArrayQueue<T, V, P>,
@@ -94,8 +94,8 @@ where
     None
 }
 
-/// Pops the oldest value. There is none only if the queue was empty at some moment of the call, which the evidence
-/// tells.
+/// Pops the oldest value. The error occurs only if the queue was empty at some time during the call; then the evidence
+/// states so.
 #[inline(always)]
 pub fn pop<M, T, V, P, R>(
     queue: &RuledArrayQueue<T, V, P>,
@@ -121,7 +121,7 @@ where
     }
 }
 
-/// Evidence that the queue is empty, if it is. Changes nothing, and only reads.
+/// Returns evidence that the queue is empty, if it is. Changes nothing, and only reads.
 #[inline(always)]
 pub fn find_empty<M, T, V, P>(
     queue: &RuledArrayQueue<T, V, P>,
@@ -144,8 +144,8 @@ where
     None
 }
 
-/// Evidence that an inbox was full at some moment of a call; nobody else can make any. Contracts see it as a `FoundFull`:
-/// which inbox, and what the end that asked had offered by then.
+/// Evidence that an inbox was full at some time during a call. Only this file can make it. Contracts see it as a
+/// `FoundFull`: which inbox, and what the calling end had offered by then.
 #[derive(Drop)]
 pub struct InboxFull {
     full: WasFull<InboxEntry, InboxView>,
@@ -162,7 +162,7 @@ impl Model for InboxFull {
 impl InboxFull {
     ghost use Rattle.srt_mailbox.specs.Evidence.{found_full};
 
-    /// The same evidence, of an inbox.
+    /// Restricts the evidence to an inbox.
     #[inline(always)]
     pub(crate) fn new(full: WasFull<InboxEntry, InboxView>) -> InboxFull
         ensures { result ≡ found_full full.asked.value.table_id full.asked.value.me.0.client.polled full.asked.value.me.0.client.ticked }
@@ -177,8 +177,8 @@ impl fmt::Debug for InboxFull {
     }
 }
 
-/// Evidence that an outbox was empty at some moment of a call; nobody else can make any. Contracts see it as a
-/// `FoundEmpty`: which outbox, and the replies that had been drained of it by then.
+/// Evidence that an outbox was empty at some time during a call. Only this file can make it. Contracts see it as a
+/// `FoundEmpty`: which outbox, and the replies that had been drained from it by then.
 #[derive(Drop)]
 pub struct OutboxEmpty {
     empty: WasEmpty<Parcel, OutboxView>,
@@ -197,7 +197,7 @@ impl OutboxEmpty {
     ghost use Rattle.srt_mailbox.specs.Evidence.{found_empty};
     ghost use Rattle.srt_mailbox.specs.Outbox.{replies_in};
 
-    /// The same evidence, of an outbox.
+    /// Restricts the evidence to an outbox.
     #[inline(always)]
     pub(crate) fn new(empty: WasEmpty<Parcel, OutboxView>) -> OutboxEmpty
         ensures { result ≡ found_empty empty.asked.value.table_id (replies_in empty.asked.value.me.0.client.drained) }
@@ -212,8 +212,8 @@ impl fmt::Debug for OutboxEmpty {
     }
 }
 
-/// How often a route found its inbox empty and its outbox full. Only evidence makes a count grow. Contracts see it as a
-/// `Refused`.
+/// Counters of how often a route found its inbox empty and its outbox full. Only evidence increments them. Contracts
+/// see them as a `Refused`.
 #[derive(Drop)]
 pub struct QueueRefusals {
     // both saturate at 2^64 - 1
@@ -232,7 +232,7 @@ impl Model for QueueRefusals {
 impl QueueRefusals {
     ghost use Rattle.srt_mailbox.specs.Evidence.{EmptyOnceMore, FullOnceMore, refused};
 
-    /// None so far.
+    /// Returns counters of 0.
     pub fn new() -> QueueRefusals
         ensures { result ≡ refused 0 0 }
     {

@@ -1,4 +1,4 @@
-//! Whether a turn may be made, and the outcome of serving a route.
+//! The permission to make a step, and the outcome of serving a route.
 
 ghost use Rattle.std.specs.Prelude.{◌≡◌, ℕ, Option, List, ◌∷◌, option_map, IsTrue, IsFalse};
 ghost use Rattle.srt_mailbox.specs.Asked.{Answer, answer};
@@ -6,27 +6,27 @@ ghost use Rattle.srt_mailbox.specs.Counts.{Grew};
 
 use srt_seq::Turned;
 
-/// Lets a worker's turn pass, or refuses it. It is asked before each turn, while the worker has the route; a gate that
-/// waits keeps that route from other workers. Each worker has a gate of its own.
+/// Permits or refuses a worker's step. It is queried before each step, while the worker has the route; a gate that
+/// waits blocks that route for other workers. Each worker has a separate gate.
 pub trait Gate {
     /// The number of refusals. Saturates at 2^64 - 1.
     ghost held: { Self → ℕ };
 
-    /// The routes that it was asked about and its answers, the newest first; `None` for a gate that keeps no record.
+    /// The routes for which it was queried and its answers, newest first; `None` for a gate that keeps no record.
     ghost asked: { Self → Option (List Answer) };
 
-    /// Whether a turn of the route with this index may be made now. If not, the refusals grow by one.
+    /// Whether a step of the route with this index may be made now. If not, the number of refusals grows by one.
     fn allows(&mut self, route: usize) -> bool
         ensures refused { IsFalse result → Grew (held self.old) (held self.new) }
         ensures passed { IsTrue result → held self.new ≡ held self.old }
         ensures asked { asked self.new ≡ option_map (λ answers. answer route result ∷ answers) (asked self.old) };
 
-    /// The number of refusals. Saturates at 2^64 - 1.
+    /// Returns the number of refusals. Saturates at 2^64 - 1.
     fn held(&self) -> u64
         ensures { result ≡ held self.now };
 }
 
-/// A gate that lets every turn pass.
+/// A gate that permits every step.
 #[derive(Clone, Copy, Debug, PartialEq, Eq)]
 pub struct Ungated;
 
@@ -49,22 +49,22 @@ impl Gate for Ungated {
 /// The outcome of `RouteCell::serve`.
 #[derive(Clone, Copy, Debug, PartialEq, Eq)]
 pub enum Served {
-    /// The route made one turn, with this outcome.
+    /// The route made one step, with this outcome.
     Turned(Turned),
-    /// The gate refused; no turn was made.
+    /// The gate refused; no step was made.
     GateRefused,
-    /// Another call had the route; no turn was made.
+    /// Another call had the route; no step was made.
     ClaimedElsewhere,
 }
 
-/// What `RouteCell::visit` did.
+/// The outcome of `RouteCell::visit`, a batch of steps.
 #[derive(Clone, Copy, Debug, PartialEq, Eq)]
 pub struct Visit {
-    /// The number of turns that applied an item or moved a reply.
+    /// The number of steps that processed a message or moved a reply.
     pub turns: u32,
     /// The number of replies that were moved to the outbox.
     pub moved: u32,
-    /// What ended the visit: a turn that found nothing to do (`Idle`) or a full outbox (`Blocked`), the gate, or another
-    /// call that had the route. `None` if it made all the turns that it might.
+    /// The reason why the batch ended: a step found no work (`Idle`) or a full outbox (`Blocked`), the gate refused,
+    /// or another call had the route. `None` if it made the maximum number of steps.
     pub end: Option<Served>,
 }

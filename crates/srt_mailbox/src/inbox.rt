@@ -1,4 +1,4 @@
-//! The three ends of an inbox: two offer items (the poller, the clock), one takes them (the route).
+//! The three ends of an inbox: two offer messages (the poller, the clock), one receives them (the route).
 
 ghost use Rattle.std.specs.Prelude.{◌≡◌, ◌<◌, ◌^◌, [], ◌∷◌, ◌++◌, IfOk, OnOk, IfErr, IfSome, MatchResult};
 ghost use Rattle.std.specs.Arc.{arc_value};
@@ -18,17 +18,17 @@ use std::alloc::{AllocError, Global};
 use std::marker::Model;
 use std::sync::{Arc, Wait};
 
-/// The error of `offer`: the inbox was full at some moment of the call. It has the item.
+/// The error of `offer`: the inbox was full at some time during the call. It returns the message.
 #[derive(Debug, Drop)]
 pub struct OfferFault {
-    /// The item that was offered, unchanged.
+    /// The message that was offered, unchanged.
     pub item: Item,
-    /// That the inbox was full.
+    /// Evidence that the inbox was full.
     pub evidence: InboxFull,
 }
 
-/// The poller's end of a route's inbox. Contracts see which inbox it is, its capacity, and the items of this end that
-/// it accepted.
+/// The poller's end of a route's inbox. Contracts see which inbox it is, its capacity, and the messages of this end
+/// that it accepted.
 #[derive(Drop)]
 pub struct Ingress {
     queue: Arc<Inbox>,
@@ -49,8 +49,8 @@ impl Model for Ingress {
     ghost invariant = { λ s. IsPassOf (arc_value s.queue) s.pass × (s.pass.me.0.client.polls ≡ true) };
 }
 
-/// The clock's end of a route's inbox. Contracts see which inbox it is, its capacity, and the items of this end that it
-/// accepted.
+/// The clock's end of a route's inbox. Contracts see which inbox it is, its capacity, and the messages of this end
+/// that it accepted.
 #[derive(Drop)]
 pub struct ClockEnd {
     queue: Arc<Inbox>,
@@ -71,7 +71,8 @@ impl Model for ClockEnd {
     ghost invariant = { λ s. IsPassOf (arc_value s.queue) s.pass × (s.pass.me.0.client.ticks ≡ true) };
 }
 
-/// The route's own end of its inbox. Contracts see which inbox it is, its capacity, and the items that were taken.
+/// The route's end of its inbox. Contracts see which inbox it is, its capacity, and the messages that were
+/// received.
 #[derive(Drop)]
 pub struct InboxReceiver {
     queue: Arc<Inbox>,
@@ -92,8 +93,8 @@ impl Model for InboxReceiver {
 }
 
 impl Ingress {
-    /// Appends an item to the inbox. `OfferFault` hands it back if the inbox was full at some moment of the call; then
-    /// nothing changed. The item's moment is in microseconds, below 2^62. Doesn't allocate.
+    /// Appends a message to the inbox. `OfferFault` returns it if the inbox was full at some time during the call;
+    /// then nothing changed. Its `moment` is in microseconds, below 2^62. Doesn't allocate.
     pub fn offer<R: Wait>(&mut self, rt: &R, item: Item) -> Result<(), OfferFault>
         requires timely { moment_of (told item) < 2 ^ 62 }
         ensures ok { OnOk result (self.new ≡ producer self.old.queue self.old.capacity (self.old.offered ++ item ∷ [])) }
@@ -110,10 +111,10 @@ impl Ingress {
         }
     }
 
-    /// Appends a datagram to the inbox, as `offer` does with its item. The error is evidence that the inbox was full at
-    /// some moment of the call; then nothing changed, and the datagram is discarded. Its moment is in microseconds, below
-    /// 2^62. Doesn't allocate. The datagram comes by its parts: an `Item` that is passed on is copied four times by words
-    /// that overlap, and the processor waits at each copy.
+    /// Appends a datagram to the inbox, as `offer` does with its message. The error is evidence that the inbox was
+    /// full at some time during the call; then nothing changed, and the datagram is discarded. `moment` is in
+    /// microseconds, below 2^62. Doesn't allocate. The datagram is passed by its parts: an `Item` that is passed on is
+    /// copied four times by overlapping words, and the processor stalls at each copy.
     #[inline(always)]
     pub fn offer_datagram<R: Wait>(
         &mut self,
@@ -137,8 +138,8 @@ impl Ingress {
 }
 
 impl ClockEnd {
-    /// Appends an item to the inbox. `OfferFault` hands it back if the inbox was full at some moment of the call; then
-    /// nothing changed. The item's moment is in microseconds, below 2^62. Doesn't allocate.
+    /// Appends a message to the inbox. `OfferFault` returns it if the inbox was full at some time during the call;
+    /// then nothing changed. Its `moment` is in microseconds, below 2^62. Doesn't allocate.
     pub fn offer<R: Wait>(&mut self, rt: &R, item: Item) -> Result<(), OfferFault>
         requires timely { moment_of (told item) < 2 ^ 62 }
         ensures ok { OnOk result (self.new ≡ producer self.old.queue self.old.capacity (self.old.offered ++ item ∷ [])) }
@@ -155,9 +156,9 @@ impl ClockEnd {
         }
     }
 
-    /// Evidence that the inbox was full at some moment of the call, if it was. Changes nothing. It only reads, so calls at
-    /// several inboxes one after the other wait for memory at the same time, where one `offer` waits for the one before
-    /// it.
+    /// Returns evidence that the inbox was full at some time during the call, if it was. Changes nothing. It only
+    /// reads, so successive calls on several inboxes wait for memory in parallel, whereas each `offer` waits for the
+    /// previous one.
     pub fn is_full(&mut self) -> Option<InboxFull>
         ensures same { self.new ≡ self.old }
         ensures full { IfSome result (λ _. Held self.old.capacity (StoodAsTicked self.old.offered)) }
@@ -171,22 +172,24 @@ impl ClockEnd {
 }
 
 impl InboxReceiver {
-    /// Takes the oldest item. The error is evidence that the inbox was empty at some moment of the call. Doesn't allocate.
+    /// Removes and returns the oldest message. The error is evidence that the inbox was empty at some time during the
+    /// call. Doesn't allocate.
     pub fn take<R: Wait>(&mut self, rt: &R) -> Result<InboxEntry, WasEmpty<InboxEntry, InboxView>>
         ensures took { MatchResult result
             (λ x. self.new ≡ consumer self.old.queue self.old.capacity (self.old.taken ++ x ∷ []))
             (λ _. (self.new ≡ self.old) × Held 0 (StoodAsTaken self.old.taken)) }
         ensures evidence { IfErr result (λ empty. (empty.asked.value.table_id ≡ self.old.queue) × (empty.asked.value.me.0.client.taken ≡ self.old.taken)) }
     {
-        // Two loads tell whether the inbox is empty. A pop copies a whole cell of the queue even if it finds nothing.
+        // Two loads show whether the inbox is empty. A pop copies a whole cell of the queue even if it finds none.
         if let Some(empty) = find_empty::<Takes, _, _, _>(&self.queue, &mut self.pass) {
             return Err(empty);
         }
         pop::<Takes, _, _, _, R>(&self.queue, rt, &mut self.pass)
     }
 
-    /// Returns the number of items left in the inbox, and ends it; the other two ends must be of the same inbox. The
-    /// items taken, followed by those left, are what the two ends offered, each in order.
+    /// Returns the number of messages remaining in the inbox, and consumes the end; the other two ends must be of the
+    /// same inbox. The messages received, followed by the remaining ones, are what the two ends offered, each in
+    /// order.
     pub fn settle<R: Wait>(self, rt: &R, ingress: Ingress, clock: ClockEnd) -> usize
         requires { (ingress.queue ≡ self.queue) × (clock.queue ≡ self.queue) }
         ensures { AreLeft result self.taken ingress clock }
@@ -207,7 +210,7 @@ impl InboxReceiver {
         queue.len_as::<ItemsLeft, R>(rt, &mut pass)
     }
 
-    /// Another handle of this end's queue.
+    /// Allocates another handle of this end's queue.
     pub fn share(&self) -> Result<Arc<Inbox>, AllocError>
         ensures { IfOk result (λ q. (arc_value q).table.shared.table_id ≡ self.now.queue) }
     {
@@ -215,8 +218,8 @@ impl InboxReceiver {
     }
 }
 
-/// The three ends of a new, empty inbox for at most `capacity` items, 1 or more. Allocates all of them; an error
-/// means that memory was refused.
+/// Opens the three ends of a new, empty inbox for at most `capacity` messages, 1 or more. Allocates all of them; the
+/// error is a failed allocation.
 pub fn open_inbox(
     alloc: Global,
     capacity: usize,

@@ -1,5 +1,6 @@
-//! The rule of the inbox: which end may do what, and what each end knows of the items. A *pass* is the right to use the
-//! queue; each of the three ends has one. Views, rules, splits, outcomes and lessons are for proofs alone.
+//! The rule of the inbox: which end may perform which operations, and which messages each end knows of. A *pass* is
+//! the right to use the queue; each of the three ends has one. Views, rules, splits, outcomes and lessons exist only
+//! for proofs.
 
 ghost use Rattle.std.specs.Prelude.{◌≡◌, ◌<◌, ◌^◌};
 ghost use Rattle.srt_seq.specs.Items.{told, moment_of};
@@ -13,19 +14,19 @@ use std::alloc::Global;
 use std::collections::LinkedList;
 use std::marker::Model;
 
-/// Which item an entry is.
+/// The kind of an entry's message.
 #[derive(Clone, Copy)]
 pub enum EntryKind {
     /// A datagram.
     Datagram,
     /// A tick of the clock.
     Tick,
-    /// The end of the route.
+    /// The closing of the route.
     Close,
 }
 
-/// An item in the inbox, with the end that offered it. Contracts see it as an `OfferedItem`. The fields of all kinds lie
-/// side by side, and not each kind's in a variant of an enum: that one's tag and padding would make each copy slow.
+/// A message in the inbox, with the end that offered it. Contracts see it as an `OfferedItem`. The fields of all kinds
+/// are adjacent, not in the variants of an enum: its tag and padding would make each copy slow.
 #[derive(Drop)]
 pub struct InboxEntry {
     // a datagram's header and sender; without meaning for another kind
@@ -60,8 +61,8 @@ const NOWHERE: Peer = Peer {
 };
 
 impl InboxEntry {
-    /// An entry of an item. Its moment is in microseconds, below 2^62. Doesn't allocate; `alloc` is that of the empty body of
-    /// what is no datagram.
+    /// Makes an entry of a message. Its `moment` is in microseconds, below 2^62. Doesn't allocate; `alloc` is that of
+    /// the empty body of an entry that isn't a datagram.
     pub fn new(alloc: Global, polled: bool, item: Item) -> InboxEntry
         requires timely { moment_of (told item) < 2 ^ 62 }
         ensures { result ≡ offered_item polled item }
@@ -94,7 +95,8 @@ impl InboxEntry {
         }
     }
 
-    /// An entry of a datagram. Its moment is in microseconds, below 2^62. No `Item` is made of it, whose copies would be slow.
+    /// Makes an entry of a datagram. Its `moment` is in microseconds, below 2^62. Makes no `Item`, whose copies would
+    /// be slow.
     #[inline(always)]
     pub fn datagram(
         polled: bool,
@@ -117,7 +119,7 @@ impl InboxEntry {
         }
     }
 
-    /// The item. Its moment is below 2^62.
+    /// Returns the message. Its `moment` is below 2^62.
     #[inline(always)]
     pub fn into_item(self) -> Item
         ensures item { result ≡ self.item }
@@ -145,23 +147,25 @@ impl InboxEntry {
     }
 }
 
-/// The rights of a pass of the inbox, and what was done by them, the oldest first. No value of it is ever made.
+/// The rights of a pass of the inbox, and the operations performed with them, oldest first. No value of it is ever
+/// made.
 pub struct InboxView {
-    /// It may offer as the poller.
+    /// Whether it may offer as the poller.
     pub polls: bool,
-    /// It may offer as the clock.
+    /// Whether it may offer as the clock.
     pub ticks: bool,
-    /// It may take items.
+    /// Whether it may receive messages.
     pub takes: bool,
-    /// The items that it offered as the poller.
+    /// The messages that it offered as the poller.
     pub polled: LinkedList<Item>,
-    /// The items that it offered as the clock.
+    /// The messages that it offered as the clock.
     pub ticked: LinkedList<Item>,
-    /// The items that it took.
+    /// The messages that it received.
     pub taken: LinkedList<InboxEntry>,
 }
 
-/// The rule: the items taken, followed by those held, are what the poller and the clock offered, each in order.
+/// The rule: the messages received, followed by those in the queue, are what the poller and the clock offered, each in
+/// order.
 pub struct InboxRule;
 
 impl Protocol<InboxEntry, InboxView> for InboxRule {
@@ -210,7 +214,7 @@ impl Join<InboxView> for Ticking {
     ghost spent = { nobody };
 }
 
-/// The poller offers an item.
+/// Operation: the poller offers a message.
 pub struct Polls;
 
 impl Outcome<InboxEntry, InboxView> for Polls {
@@ -225,8 +229,8 @@ impl Lesson<InboxEntry, InboxView> for Polls {
     ghost fact = { λ v items. StoodAsPolled v.polled items };
 }
 
-/// The poller offers a datagram. It means what `Polls` does; as a name of its own it gives the push of a datagram one
-/// caller alone, so that the compiler moves it into the poller's loop.
+/// Operation: the poller offers a datagram. It is equivalent to `Polls`. With a separate name, the push of a datagram
+/// has only one caller, so that the compiler inlines it into the poller's loop.
 pub struct PollsDatagram;
 
 impl Outcome<InboxEntry, InboxView> for PollsDatagram {
@@ -241,7 +245,7 @@ impl Lesson<InboxEntry, InboxView> for PollsDatagram {
     ghost fact = { λ v items. StoodAsPolled v.polled items };
 }
 
-/// The clock offers a tick.
+/// Operation: the clock offers a tick.
 pub struct Ticks;
 
 impl Outcome<InboxEntry, InboxView> for Ticks {
@@ -256,7 +260,7 @@ impl Lesson<InboxEntry, InboxView> for Ticks {
     ghost fact = { λ v items. StoodAsTicked v.ticked items };
 }
 
-/// The route takes an item.
+/// Operation: the route receives a message.
 pub struct Takes;
 
 impl Outcome<InboxEntry, InboxView> for Takes {
@@ -271,7 +275,7 @@ impl Lesson<InboxEntry, InboxView> for Takes {
     ghost fact = { λ v items. StoodAsTaken v.taken items };
 }
 
-/// The pass that has all three rights looks at the items left.
+/// Operation: the pass that has all three rights reads the number of remaining messages.
 pub struct ItemsLeft;
 
 impl Lesson<InboxEntry, InboxView> for ItemsLeft {

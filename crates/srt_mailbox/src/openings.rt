@@ -1,4 +1,4 @@
-//! Opens a route with its two queues.
+//! Opening a route with its two queues.
 
 ghost use Rattle.std.specs.Prelude.{◌≡◌, ◌<◌, ◌≤◌, [], None, Some, Err, IfOk, IfErr};
 ghost use Rattle.srt_seq.specs.declared.shared.OpenFault.{OpenFault as TheFault};
@@ -18,7 +18,7 @@ use srt_seq::{Entry, OpenFault};
 use std::alloc::{AllocError, Global};
 use std::snapshot::Snapshot;
 
-// Opens both queues: the ends of the poller and of the clock, and the route's own.
+// Opens both queues. Returns the ends of the poller and of the clock, and those of the route.
 fn open_queues(
     alloc: Global,
     entry: &Entry,
@@ -39,7 +39,7 @@ fn open_queues(
     Ok((ingress, clock, drain, ends))
 }
 
-// Which route stands between the queues of these ends.
+// Returns the identity of the route between the queues of these ends.
 fn tag_of(ends: &RouteEnds, entry: &Entry, index: usize) -> Result<CellTag, AllocError>
     ensures { IfOk result (λ tag. tag ≡ identity_of (terms_of entry.now) index ends.now.receiver.queue ends.now.sender.queue) }
 {
@@ -51,7 +51,7 @@ fn tag_of(ends: &RouteEnds, entry: &Entry, index: usize) -> Result<CellTag, Allo
     })
 }
 
-// Makes the cell of a route that was opened, with its own ends of both queues.
+// Makes the cell of an opened route, with its ends of both queues.
 fn cell_of(
     alloc: Global,
     ends: RouteEnds,
@@ -71,7 +71,7 @@ fn cell_of(
     Ok(RouteCell::new(index, boxed, &tag))
 }
 
-// Makes the queues and the cell of a route that was opened, and returns the four ends.
+// Makes the queues and the cell of an opened route, and returns the four ends.
 fn joined(
     alloc: Global,
     route: Route,
@@ -91,9 +91,9 @@ fn joined(
     Ok((ingress, clock, cell, drain))
 }
 
-/// Opens a route that has applied no item yet, with empty queues. Returns its four ends: the poller's and the clock's
-/// of the inbox, the route behind its claim word, and the drain of the outbox. The inbox has room for `entry.inbox`
-/// items and the outbox for `entry.outbox` replies. Takes all memory that the route will ever need.
+/// Opens a route that has processed no message yet, with empty queues. Returns its four ends: the poller's and the
+/// clock's of the inbox, the route's cell, and the drain of the outbox. The inbox has room for `entry.inbox` messages
+/// and the outbox for `entry.outbox` replies. Allocates everything that the route will ever need.
 ///
 /// Errors, in this order: `Names` if the route's name is malformed, `Limits` if a number or the index is out of range,
 /// `OutOfMemory`. Nothing is kept after an error.

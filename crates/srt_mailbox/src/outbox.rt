@@ -19,7 +19,7 @@ use std::marker::Model;
 use std::mem;
 use std::sync::{Arc, Wait};
 
-/// The route's own end of its outbox. Contracts see which outbox it is, its capacity, and the replies that were put.
+/// The route's end of its outbox. Contracts see which outbox it is, its capacity, and the replies that were put.
 #[derive(Drop)]
 pub struct OutboxSender {
     queue: Arc<Outbox>,
@@ -48,7 +48,7 @@ pub struct Drain {
     pass: OutboxPass,
     spent: Spent,
     hand: Box<Reply>,
-    // the buffer that came with it
+    // the buffer that was passed with it
     buffer: Option<Vec<u8>>,
     // the number of replies drained; saturates at 2^64 - 1
     count: u64,
@@ -71,7 +71,7 @@ impl Model for Drain {
 }
 
 impl OutboxSender {
-    /// Appends a reply to the outbox. The error hands it back, with evidence that the outbox was full at some moment of
+    /// Appends a reply to the outbox. The error returns it, with evidence that the outbox was full at some time during
     /// the call. Doesn't allocate.
     pub fn put<R: Wait>(
         &mut self,
@@ -86,8 +86,9 @@ impl OutboxSender {
         push::<Puts, _, _, _, R>(&self.queue, rt, &mut self.pass, parcel)
     }
 
-    /// Returns the number of replies left and the number drained (saturated at 2^64 - 1), and ends the outbox; `drain`
-    /// must be of the same outbox. The replies drained, followed by those left, are what was put.
+    /// Returns the number of remaining replies and the number drained (saturated at 2^64 - 1), and consumes both ends;
+    /// `drain` must be of the same outbox. The replies drained, followed by the remaining ones, are those that were
+    /// put.
     pub fn settle<R: Wait>(self, rt: &R, drain: Drain) -> (usize, u64)
         requires { drain.queue ≡ self.queue }
         ensures left { (left : List TheReply) × (length left ≡ result.0) × (self.put ≡ drain.through ++ left) }
@@ -106,7 +107,7 @@ impl OutboxSender {
         (queue.len_as::<RepliesLeft, R>(rt, &mut pass), count)
     }
 
-    /// Another handle of this end's queue.
+    /// Allocates another handle of this end's queue.
     pub fn share(&self) -> Result<Arc<Outbox>, AllocError>
         ensures { IfOk result (λ q. (arc_value q).table.shared.table_id ≡ self.now.queue) }
     {
@@ -115,9 +116,9 @@ impl OutboxSender {
 }
 
 impl Drain {
-    /// Takes the oldest reply out of the outbox, to be read by `reply`. The error is evidence that the outbox was empty
-    /// at some moment of the call; then nothing changed. Doesn't allocate: the box of the reply before goes back to the
-    /// route.
+    /// Removes the oldest reply from the outbox; `reply` returns it. The error is evidence that the outbox was empty
+    /// at some time during the call; then nothing changed. Doesn't allocate: the box of the previous reply returns to
+    /// the route.
     #[inline(always)]
     pub fn take<R: Wait>(&mut self, rt: &R) -> Result<(), OutboxEmpty>
         ensures some { OnOk result (self.new ≡ drained self.old.queue self.old.capacity (self.old.through ++ self.new.hand ∷ []) self.new.hand) }
@@ -140,9 +141,9 @@ impl Drain {
         }
     }
 
-    /// Evidence that the outbox was empty at some moment of the call, if it was. Changes nothing. It only reads, so calls
-    /// at several outboxes one after the other wait for memory at the same time, where one `take` waits for the one before
-    /// it.
+    /// Returns evidence that the outbox was empty at some time during the call, if it was. Changes nothing. It only
+    /// reads, so successive calls on several outboxes wait for memory in parallel, whereas each `take` waits for the
+    /// previous one.
     #[inline(always)]
     pub fn is_empty(&mut self) -> Option<OutboxEmpty>
         ensures same { self.new ≡ self.old }
@@ -155,8 +156,8 @@ impl Drain {
         }
     }
 
-    /// The buffer of some datagram that the route has applied, if one came with the reply that `take` took last. It has
-    /// room for any packet's (`BUFFER_ROOM`), and its bytes mean nothing.
+    /// Returns the buffer of some datagram that the route has processed, if one was passed with the reply that `take`
+    /// removed last. It has room for the body of any packet (`BUFFER_ROOM`), and its bytes are no longer used.
     #[inline(always)]
     pub fn take_buffer(&mut self) -> Option<Vec<u8>>
         ensures { self.new ≡ self.old }
@@ -164,8 +165,8 @@ impl Drain {
         self.buffer.take()
     }
 
-    /// The reply that `take` took last, lent where the route wrote it: no reply is moved between writing and sending.
-    /// Before the first it is a blank one, which isn't to be sent.
+    /// Returns the reply that `take` removed last, borrowed where the route wrote it: no reply is moved between
+    /// writing and sending. Before the first one it is a blank reply, which must not be sent.
     #[inline(always)]
     pub fn reply(&self) -> &Reply
         ensures { result.now ≡ self.now.hand }
@@ -174,9 +175,9 @@ impl Drain {
     }
 }
 
-/// The two ends of a new, empty outbox for at most `capacity` replies (1 to 4096), and the empty boxes that
-/// circulate between them. Allocates the queue and more than `capacity` boxes (`open_boxes`); an error means that memory
-/// was refused.
+/// Opens the two ends of a new, empty outbox for at most `capacity` replies (1 to 4096), and the empty boxes that
+/// circulate between them. Allocates the queue and more than `capacity` boxes (`open_boxes`); the error is a failed
+/// allocation.
 pub fn open_outbox(
     alloc: Global,
     capacity: usize,

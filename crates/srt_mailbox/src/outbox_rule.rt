@@ -1,5 +1,6 @@
-//! The rule of the outbox: which end may do what, and what each end knows of the replies. A *pass* is the right to use
-//! the queue; each of the two ends has one. Views, rules, splits, outcomes and lessons are for proofs alone.
+//! The rule of the outbox: which end may perform which operations, and which replies each end knows of. A *pass* is
+//! the right to use the queue; each of the two ends has one. Views, rules, splits, outcomes and lessons exist only for
+//! proofs.
 
 ghost use Rattle.std.specs.Prelude.{◌≡◌};
 
@@ -9,12 +10,12 @@ use srt_route::Reply;
 use std::collections::LinkedList;
 use std::marker::Model;
 
-/// An outbox entry: a reply in its box, and perhaps a used datagram buffer going back to the poller. Contracts see the
-/// reply only.
+/// An outbox entry: a reply in its box, and possibly a used datagram buffer on its way back to the poller. Contracts
+/// see only the reply.
 #[derive(Drop)]
 pub struct Parcel {
     reply: Box<Reply>,
-    // the datagram's buffer, whose bytes mean nothing any more
+    // the datagram's buffer; its bytes are no longer used
     buffer: Option<Vec<u8>>,
 }
 
@@ -28,7 +29,7 @@ impl Model for Parcel {
 }
 
 impl Parcel {
-    /// A reply, and a buffer to be filled again if there is one.
+    /// Makes an entry of a reply, and of a buffer for reuse if there is one.
     #[inline(always)]
     pub fn new(reply: Box<Reply>, buffer: Option<Vec<u8>>) -> Parcel
         ensures { result ≡ reply }
@@ -36,7 +37,7 @@ impl Parcel {
         Parcel { reply, buffer }
     }
 
-    /// The reply and the buffer.
+    /// Returns the reply and the buffer.
     #[inline(always)]
     pub fn into_parts(self) -> (Box<Reply>, Option<Vec<u8>>)
         ensures { result.0 ≡ self }
@@ -46,11 +47,12 @@ impl Parcel {
     }
 }
 
-/// The rights of a pass of the outbox, and what was done by them, the oldest first. No value of it is ever made.
+/// The rights of a pass of the outbox, and the operations performed with them, oldest first. No value of it is ever
+/// made.
 pub struct OutboxView {
-    /// It may put replies.
+    /// Whether it may put replies.
     pub puts: bool,
-    /// It may drain replies.
+    /// Whether it may drain replies.
     pub drains: bool,
     /// The replies that it put.
     pub put: LinkedList<Parcel>,
@@ -58,7 +60,7 @@ pub struct OutboxView {
     pub drained: LinkedList<Parcel>,
 }
 
-/// The rule: the replies drained, followed by those held, are the replies that were put, in order.
+/// The rule: the replies drained, followed by those in the queue, are the replies that were put, in order.
 pub struct OutboxRule;
 
 impl Protocol<Parcel, OutboxView> for OutboxRule {
@@ -88,7 +90,7 @@ impl Join<OutboxView> for Draining {
     ghost spent = { nobody };
 }
 
-/// The route puts a reply.
+/// Operation: the route puts a reply.
 pub struct Puts;
 
 impl Outcome<Parcel, OutboxView> for Puts {
@@ -103,7 +105,7 @@ impl Lesson<Parcel, OutboxView> for Puts {
     ghost fact = { λ v items. StoodAsPut (replies_in v.put) items };
 }
 
-/// The drain takes a reply.
+/// Operation: the drain receives a reply.
 pub struct Drains;
 
 impl Outcome<Parcel, OutboxView> for Drains {
@@ -118,7 +120,7 @@ impl Lesson<Parcel, OutboxView> for Drains {
     ghost fact = { λ v items. StoodAsDrained (replies_in v.drained) items };
 }
 
-/// The pass that has both rights looks at the replies left.
+/// Operation: the pass that has both rights reads the number of remaining replies.
 pub struct RepliesLeft;
 
 impl Lesson<Parcel, OutboxView> for RepliesLeft {

@@ -1,4 +1,4 @@
-//! Places for the seats of routes that come while threads run: each is written once, and any thread may look at it.
+//! Places for the seats of routes added at run time. Each is written once, and any thread may read it.
 
 ghost use Rattle.std.specs.Prelude.{◌≡◌, ◌≢◌, ◌≤◌, true, false, Some, None, IfOk, IfErr, IfSome};
 ghost use Rattle.srt_mailbox.specs.Counts.{Grew};
@@ -21,15 +21,15 @@ pub struct Place<X: Attachment + Drop> {
 impl<X: Attachment + Drop> Place<X> {
     ghost use Rattle.srt_mailbox.specs.Places.{lock_in};
 
-    /// An empty place. Takes no memory.
+    /// Makes an empty place. Doesn't allocate.
     pub fn new() -> Place<X> {
         Place {
             seat: OnceLock::new(),
         }
     }
 
-    /// Puts a seat here, for all threads to find, and returns the knowledge that it is here. If the place has one
-    /// already, or gets one meanwhile, the error hands the new one back. Never waits.
+    /// Puts a seat here, visible to all threads, and returns a token as evidence of it. If the place has a seat
+    /// already, or gets one concurrently, the error returns the new seat. Never waits.
     pub fn put(&self, seat: Seat<X>) -> Result<OnceToken<'_, Seat<X>>, Seat<X>>
         ensures put { IfOk result (λ token. (token.of ≡ lock_in self.now) × (token.value ≡ seat)) }
         ensures taken { IfErr result (λ back. back ≡ seat) }
@@ -39,7 +39,7 @@ impl<X: Attachment + Drop> Place<X> {
 }
 
 impl<X: Attachment + Drop> Serve for Place<X> {
-    // An empty place has nothing to do: that is an idle turn.
+    // An empty place has no work, which is an idle step.
     fn visit<R: Wait, G: Gate>(&self, rt: &R, gate: &mut G, most: u32) -> Visit {
         match self.seat.get() {
             Some(seat) => seat.cell.visit(rt, gate, most),
@@ -58,7 +58,7 @@ impl<X: Attachment + Drop> Serve for Place<X> {
         }
     }
 
-    // An empty place shows nothing.
+    // An empty place has no route to show.
     fn show<R: Wait, L: Observer>(&self, rt: &R, look: &mut L) -> bool {
         match self.seat.get() {
             Some(seat) => seat.cell.show(rt, look),

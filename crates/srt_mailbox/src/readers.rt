@@ -1,4 +1,4 @@
-//! Reads the places of routes in their order, as each owner of ends does: the poller, and the clock's thread.
+//! Readers of the places of routes, in order. Each owner of ends has one: the poller, and the clock's thread.
 
 ghost use Rattle.std.specs.Prelude.{◌≡◌, ◌≤◌, ◌<◌, ℕ, List, [], ◌∷◌, ◌++◌, length, map, take, get_or, slice_get, Some};
 ghost use Rattle.std.specs.Prelude.{IfSome, IfNone, IfOk, vec_len, vec_capacity};
@@ -11,18 +11,18 @@ use crate::seats::{Attachment, ClockHand, PollerEnds, Seat};
 use std::alloc::{AllocError, Global};
 use std::sync::OnceToken;
 
-/// One owner's reader of places: which routes it has come to, one after the other.
+/// One owner's reader of places. It reaches the routes one after the other.
 #[derive(Drop)]
 pub struct SeatReader<'a, X: Attachment + Drop> {
     places: &'a [Place<X>],
-    // of each place that was read, which seat it has; no bytes
+    // for each place that was read, evidence of its seat; no bytes
     tokens: Vec<OnceToken<'a, Seat<X>>>,
     ghost shown: { map (λ t. t.of) tokens.items ≡ take (length tokens.items) (map (λ p. p.seat.id) places.now) },
     ghost room: { length places.now ≤ vec_capacity tokens },
 }
 
-// The item at this index. Where an item's size depends on a type parameter, the offset's bound is proved here once, over
-// no other type.
+// Returns the element at this index. Where an element's size depends on a type parameter, the offset's bound is proved
+// here once, over no other type.
 #[inline(always)]
 fn item_at<T>(items: &[T], index: usize) -> &T
     requires { index < length items.now }
@@ -34,8 +34,8 @@ fn item_at<T>(items: &[T], index: usize) -> &T
 impl<'a, X: Attachment + Drop> SeatReader<'a, X> {
     ghost use Rattle.srt_mailbox.specs.Places.{came, places_of, locks_of, is_next};
 
-    /// A reader of these places that has come to none of them. Allocates all that it will ever need; an error means that
-    /// memory was refused.
+    /// Allocates a reader of these places that has reached none of them. The only call that allocates; the error is a
+    /// failed allocation.
     pub fn new(alloc: Global, places: &'a [Place<X>]) -> Result<SeatReader<'a, X>, AllocError>
         ensures { IfOk result (λ r. (came r ≡ []) × (places_of r ≡ places.now)) }
     {
@@ -45,8 +45,8 @@ impl<'a, X: Attachment + Drop> SeatReader<'a, X> {
         })
     }
 
-    // The seat in the next place. `None` if that place is empty, if it is behind the last, or if the route there has
-    // another index than its place.
+    // Returns the seat in the next place. `None` if that place is empty, if there is no further place, or if the route
+    // there has another index than its place.
     fn coming(&self) -> Option<(&'a Seat<X>, OnceToken<'a, Seat<X>>)>
         ensures value { IfSome result (λ r. r.0.now ≡ r.1.value) }
         ensures next { IfSome result (λ r. is_next self.now r.1.of) }
@@ -62,7 +62,7 @@ impl<'a, X: Attachment + Drop> SeatReader<'a, X> {
         Some((seat, token))
     }
 
-    // Goes on behind the next place, which has this seat.
+    // Moves on past the next place, which has this seat.
     fn pass(&mut self, token: OnceToken<'a, Seat<X>>)
         requires { is_next self.old token.of }
         ensures tokens { self.new.tokens.items ≡ self.old.tokens.items ++ token.entry ∷ [] }
@@ -73,7 +73,8 @@ impl<'a, X: Attachment + Drop> SeatReader<'a, X> {
         };
     }
 
-    /// Takes the poller's ends of the route in the next place, if one has come there. Doesn't allocate and never waits.
+    /// Takes the poller's ends of the route in the next place, if one was added there. Doesn't allocate and never
+    /// waits.
     pub fn next_poller(&mut self) -> Option<PollerEnds<X>>
         ensures some { IfSome result (λ e. (n : CellIdentity) × (came self.new ≡ came self.old ++ n ∷ []) × (n.index ≡ length (came self.old)) ×
             IsNewPoller n e.ingress e.drain × X.belongs n.terms n.index e.companion) }
@@ -86,7 +87,7 @@ impl<'a, X: Attachment + Drop> SeatReader<'a, X> {
         Some(ends)
     }
 
-    /// Takes the clock's end of the route in the next place, if one has come there. Doesn't allocate and never waits.
+    /// Takes the clock's end of the route in the next place, if one was added there. Doesn't allocate and never waits.
     pub fn next_clock(&mut self) -> Option<ClockHand>
         ensures some { IfSome result (λ h. (n : CellIdentity) × (came self.new ≡ came self.old ++ n ∷ []) × (n.index ≡ length (came self.old)) ×
             IsNewClock n h.end) }
@@ -99,14 +100,14 @@ impl<'a, X: Attachment + Drop> SeatReader<'a, X> {
         Some(hand)
     }
 
-    /// The number of routes that the reader has come to.
+    /// Returns the number of routes that the reader has reached.
     pub fn routes(&self) -> usize
         ensures { result ≡ length (came self.now) }
     {
         self.tokens.len()
     }
 
-    /// The seat of a route that the reader has come to.
+    /// Returns the seat of a route that the reader has reached.
     pub fn seat(&self, index: usize) -> &'a Seat<X>
         requires { index < length (came self.now) }
         ensures { slice_get (came self.now) index ≡ Some (identity_in result.now.cell) }
@@ -114,8 +115,8 @@ impl<'a, X: Attachment + Drop> SeatReader<'a, X> {
         item_at(self.places, index).seat.value(&self.tokens[index])
     }
 
-    /// That two readers of the same places, which have both come to this index, came to the same route there. Does
-    /// nothing.
+    /// States that two readers of the same places, which have both passed this index, reached the same route there.
+    /// Does nothing.
     pub fn agree(&self, other: &SeatReader<'a, X>, index: usize)
         requires places { locks_of self.now ≡ locks_of other.now }
         requires here { index < length (came self.now) }
@@ -125,8 +126,8 @@ impl<'a, X: Attachment + Drop> SeatReader<'a, X> {
         self.tokens[index].agrees(&other.tokens[index]);
     }
 
-    /// That the route to which the reader came at this index is that of the seat which was put there, as this knowledge
-    /// of `Place::put` has it. Does nothing.
+    /// States that the route that the reader reached at this index is that of the seat which `Place::put` put there,
+    /// according to its token. Does nothing.
     pub fn came_to(&self, index: usize, put: &OnceToken<'a, Seat<X>>)
         requires here { index < length (came self.now) }
         requires place { slice_get (locks_of self.now) index ≡ Some put.now.of }

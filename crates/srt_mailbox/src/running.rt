@@ -1,4 +1,4 @@
-//! A route with its ends of both queues: what a worker has while it has claimed the route, and one turn of it.
+//! A route with its ends of both queues, which a worker has while it has claimed the route, and one step of it.
 
 ghost use Rattle.std.specs.Prelude.{◌≡◌, ◌≢◌, ◌<◌, ◌≤◌, ◌+◌, ℕ, List, [], ◌∷◌, Some, None, length, option_map};
 ghost use Rattle.srt_seq.specs.Terms.{Terms, terms_of};
@@ -27,7 +27,7 @@ use std::marker::Model;
 use std::snapshot::Snapshot;
 use std::sync::Wait;
 
-/// A route's own ends of its two queues, and its empty boxes.
+/// A route's ends of its two queues, and its empty boxes.
 #[derive(Drop)]
 pub(crate) struct RouteEnds {
     /// The end of the inbox.
@@ -38,28 +38,28 @@ pub(crate) struct RouteEnds {
     pub boxes: Boxes,
 }
 
-/// A route with its own ends of the inbox and of the outbox, and its empty boxes.
+/// A route with its ends of the inbox and of the outbox, and its empty boxes.
 #[derive(Drop)]
 pub struct Running {
     receiver: InboxReceiver,
     sender: OutboxSender,
     boxes: Boxes,
-    // a reply that a full outbox handed back; it is the oldest that waits
+    // a reply that a full outbox returned; it is the oldest that waits
     held: Option<Box<Reply>>,
-    // the body of a datagram that was applied, which goes back to the poller with the next reply
+    // the body of a processed datagram, which returns to the poller with the next reply
     buffer: Option<Vec<u8>>,
-    // the number of replies that wait, `held` included; kept here so that a turn needn't ask the route
+    // the number of waiting replies, including `held`; stored here so that a step needn't read it from the route
     waiting: usize,
-    // the number of items taken; saturates at 2^64 - 1
+    // the number of messages received; saturates at 2^64 - 1
     taken: u64,
     // how often the inbox was found empty and the outbox full
     refusals: QueueRefusals,
-    // written and never read: what makes the compiler keep two reads of the route; see `apply_item`
+    // written and never read: they keep the compiler from removing two reads of the route; see `apply_item`
     _clock: u64,
     _publishers: usize,
-    // not in a box of its own, whose address an event would have to read first
+    // not in a separate box, whose address an event would have to read first
     route: Route,
-    // the entry and the index that the route was opened with, for contracts alone: no bytes at run time
+    // the entry and the index that the route was opened with, only for contracts: no bytes at run time
     entry: Snapshot<Entry>,
     index: Snapshot<usize>,
 }
@@ -76,17 +76,18 @@ impl Model for Running {
 
     ghost view = { λ s. run (terms_of s.entry.value) s.index.value s.receiver s.sender (waiting_at s.held s.route) s.refusals };
 
-    // The route is in the state that the taken items lead to, and what it replied is what it would reply alone.
+    // The route is in the state that the received messages lead to, and its replies are those that it would make
+    // alone.
     ghost invariant = { λ s. stands s.route (terms_of s.entry.value) s.index.value (applied s.receiver.taken) ×
         Replays (run (terms_of s.entry.value) s.index.value s.receiver s.sender (waiting_at s.held s.route) s.refusals) ×
         (s.waiting ≡ length (waiting_at s.held s.route)) × (s.taken ≡ counted (length s.receiver.taken)) };
 }
 
-/// The length of the longest body of a packet, in bytes: that of a data packet's payload.
+/// Maximum length of a packet's body, in bytes: that of a data packet's payload.
 pub const BUFFER_ROOM: usize = MAX_PAYLOAD;
 
-// Keeps the body of an item that was applied, if it has room for any packet's. It goes back to the thread that took its
-// memory: what one thread takes and another one gives back costs both of them a lock of the allocator.
+// Keeps the body of a processed message, if it has room for the body of any packet. It returns to the thread that
+// allocated it: memory that one thread allocates and another one frees costs both of them a lock of the allocator.
 fn keep_buffer(kept: &mut Option<Vec<u8>>, item: Item) {
     if let Item::Datagram {
         peer: _,
@@ -101,7 +102,7 @@ fn keep_buffer(kept: &mut Option<Vec<u8>>, item: Item) {
     }
 }
 
-// Takes the oldest reply that waits, in its box. There must be one.
+// Returns the oldest waiting reply, in its box. There must be one.
 fn next_waiting<R: Wait>(
     rt: &R,
     held: &mut Option<Box<Reply>>,
@@ -122,7 +123,7 @@ fn next_waiting<R: Wait>(
 }
 
 impl Running {
-    /// A route that has applied no item, with ends that nothing has passed through.
+    /// Makes a route that has processed no message, with unused ends.
     pub(crate) fn new(ends: RouteEnds, route: Route, entry: &Entry, index: usize) -> Running
         requires fresh { stands route (terms_of entry.now) index [] }
         requires none_waits { waiting route ≡ [] }
@@ -151,7 +152,7 @@ impl Running {
         }
     }
 
-    // Moves the oldest reply that waits to the outbox, or returns `Blocked` if that is full.
+    // Moves the oldest waiting reply to the outbox, or returns `Blocked` if the outbox is full.
     fn move_reply<R: Wait>(&mut self, rt: &R) -> Turned
         requires { 0 < length self.old.waiting }
         ensures { TurnedAs result self.old self.new }
@@ -173,15 +174,15 @@ impl Running {
         }
     }
 
-    // Applies the oldest item of the inbox, or returns `Idle` if that is empty.
+    // Processes the oldest message of the inbox, or returns `Idle` if the inbox is empty.
     fn apply_item<R: Wait>(&mut self, rt: &R) -> Turned
         requires { self.old.waiting ≡ [] }
         ensures { TurnedAs result self.old self.new }
     {
-        // What an item reads first of its route is read here already, so that the processor fetches it from memory while
-        // it fetches the inbox: a take makes locked operations, and no read behind one begins before it is over. The two
-        // values are stored because the compiler leaves out a read whose value goes nowhere (there is no `black_box` that
-        // keeps it); nothing reads them.
+        // The first values that a message needs of its route are read here, so that the processor fetches them from
+        // memory while it fetches the inbox: a take makes locked operations, and no later read begins before they are
+        // complete. The two values are stored because the compiler removes a read whose value is unused (there is no
+        // `black_box` that keeps it); they are never read.
         self._clock = self.route.clock();
         self._publishers = self.route.publishers();
         match self.receiver.take(rt) {
@@ -199,9 +200,9 @@ impl Running {
         }
     }
 
-    /// Makes one turn: moves the oldest reply that waits to the outbox, or, if none waits, applies the oldest item of
-    /// the inbox. `Blocked` (full outbox) and `Idle` (empty inbox) change nothing but the count of such refusals. Takes no
-    /// memory.
+    /// Makes one step: moves the oldest waiting reply to the outbox, or, if none waits, processes the oldest message
+    /// of the inbox. `Blocked` (full outbox) and `Idle` (empty inbox) change only the counter of such refusals.
+    /// Doesn't allocate.
     pub fn turn<R: Wait>(&mut self, rt: &R) -> Turned
         ensures { TurnedAs result self.old self.new }
     {
@@ -212,8 +213,8 @@ impl Running {
         }
     }
 
-    /// Makes one turn if the gate lets it pass, and none if it refuses (`GateRefused`). `route` is the index that the
-    /// gate is asked about. Never answers `ClaimedElsewhere`. Doesn't allocate.
+    /// Makes one step if the gate permits it, and none if it refuses (`GateRefused`). The gate is queried for the
+    /// index `route`. Never returns `ClaimedElsewhere`. Doesn't allocate.
     pub fn serve<R: Wait, G: Gate>(&mut self, rt: &R, route: usize, gate: &mut G) -> Served
         ensures turned { ServedAs result self.old self.new }
         ensures held { result ≡ GateRefused → Grew (G.held gate.old) (G.held gate.new) }
@@ -226,8 +227,8 @@ impl Running {
         }
     }
 
-    /// Makes turns, at most `most`, until one finds nothing to do or a full outbox, or the gate refuses one; it is asked
-    /// before each. `route` is the index that the gate is asked about. Doesn't allocate.
+    /// Makes at most `most` steps, until one finds no work or a full outbox, or the gate refuses one; it is queried
+    /// before each, for the index `route`. Doesn't allocate.
     pub fn visit<R: Wait, G: Gate>(
         &mut self,
         rt: &R,
@@ -282,22 +283,22 @@ impl Running {
         }
     }
 
-    /// Shows the route, once, with the number of replies that wait. Changes nothing.
+    /// Shows the route once to `look`, with the number of waiting replies. Changes nothing.
     pub fn show<L: Observer>(&self, look: &mut L)
         ensures { WasShown self.now (L.looked look.old) (L.looked look.new) }
     {
         look.look(&self.route, self.waiting);
     }
 
-    /// The replies put, followed by those that wait, are all that the route, running alone, replies to the items taken,
-    /// whichever workers made its turns. Does nothing: its contract is the statement.
+    /// States that the replies put, followed by those that wait, are all that the route, running alone, replies to the
+    /// messages received, whichever workers made its steps. Does nothing: its contract is the statement.
     pub fn replays(&self)
         ensures { Replays self.now }
     {
         let _waiting = self.waiting;
     }
 
-    /// Ends the route: its two ends, the number of items taken, and the number of replies that wait.
+    /// Consumes the route. Returns its two ends, the number of messages received, and the number of waiting replies.
     pub(crate) fn into_parts(self) -> EndedRoute
         ensures ends { (result.receiver ≡ self.inbox) × (result.sender ≡ self.outbox) }
         ensures taken { result.taken ≡ counted (length self.inbox.taken) }
@@ -328,15 +329,15 @@ impl Running {
     }
 }
 
-/// What is left of a route that has ended.
+/// The parts of a finalised route that its final counters need.
 #[derive(Drop)]
 pub(crate) struct EndedRoute {
     /// The end of the inbox.
     pub receiver: InboxReceiver,
     /// The end of the outbox.
     pub sender: OutboxSender,
-    /// The number of items taken, saturated at 2^64 - 1.
+    /// The number of messages received, saturated at 2^64 - 1.
     pub taken: u64,
-    /// The number of replies that wait.
+    /// The number of waiting replies.
     pub waiting: usize,
 }

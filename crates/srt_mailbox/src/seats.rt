@@ -1,5 +1,5 @@
-//! Seats: in each one route that has come, with its ends until their owners take them. A thread that opens a route
-//! knows no other owner's thread; it leaves the ends here, and each owner takes its own.
+//! Seats: each has one route added at run time, with its ends until their owners take them. The thread that opens a
+//! route has no access to the owners' threads; it leaves the ends here, and each owner takes its own.
 
 ghost use Rattle.std.specs.Prelude.{◌≡◌, ℕ, Some, None, Err, IfSome, IfOk, IfErr};
 ghost use Rattle.srt_seq.specs.declared.shared.OpenFault.{OpenFault as TheFault};
@@ -22,13 +22,13 @@ use std::marker::Model;
 use std::snapshot::Snapshot;
 use std::sync::Wait;
 
-/// What the poller is given with its ends of a route that comes, such as the route's name.
+/// Data that the poller receives with its ends of an added route, such as the route's name.
 pub trait Attachment {
     /// Whether it belongs to a route of these terms and this index.
     ghost belongs: { Terms → ℕ → Self → Type 0 };
 }
 
-/// Which route a seat has: the tag of its slots. Contracts see it as a `CellIdentity`.
+/// The identity of a seat's route: the tag of its slots. Contracts see it as a `CellIdentity`.
 #[derive(Drop)]
 pub struct SeatTag {
     cell: Snapshot<RouteCell>,
@@ -43,14 +43,14 @@ impl Model for SeatTag {
     ghost view = { λ s. identity_in s.cell.value };
 }
 
-/// The poller's ends of a route that has come, and what belongs to it.
+/// The poller's ends of an added route, and the data that belongs to it.
 #[derive(Drop)]
 pub struct PollerEnds<X: Attachment + Drop> {
     /// Offers datagrams.
     pub ingress: Ingress,
-    /// Takes replies.
+    /// Receives replies.
     pub drain: Drain,
-    /// What came with them.
+    /// The data passed with them.
     pub companion: X,
 }
 
@@ -60,7 +60,7 @@ impl<X: Attachment + Drop> Fits for PollerEnds<X> {
     ghost fits = { λ n e. IsNewPoller n e.ingress e.drain × X.belongs n.terms n.index e.companion };
 }
 
-/// The clock's end of a route that has come.
+/// The clock's end of an added route.
 #[derive(Drop)]
 pub struct ClockHand {
     /// Offers ticks.
@@ -73,11 +73,11 @@ impl Fits for ClockHand {
     ghost fits = { λ n h. IsNewClock n h.end };
 }
 
-/// A route that has come, and its ends until the poller and the clock's thread take them.
+/// An added route, and its ends until the poller and the clock's thread take them.
 #[derive(Drop)]
 pub struct Seat<X: Attachment + Drop> {
-    /// The route, which workers serve. It is the first field, so that a worker that finds the place empty or claimed has
-    /// read one cache line.
+    /// The route, which workers serve. It is the first field, so that a worker that finds the place empty or claimed
+    /// has read one cache line.
     pub cell: RouteCell,
     poller: Counted<Option<PollerEnds<X>>>,
     clock: Counted<Option<ClockHand>>,
@@ -85,8 +85,8 @@ pub struct Seat<X: Attachment + Drop> {
     ghost for_clock: { clock ≡ identity_in cell },
 }
 
-/// Opens a route as `open_route` does, and gives it a seat with all its ends and what belongs to it. Takes all memory
-/// that the route will ever need, in the calling thread.
+/// Opens a route as `open_route` does, and returns a seat with the route, all its ends and its data. Allocates
+/// everything that the route will ever need, in the calling thread.
 ///
 /// Errors, in this order: `Names` if the route's name is malformed, `Limits` if a number or the index is out of range,
 /// `OutOfMemory`. Nothing is kept after an error.
@@ -119,8 +119,8 @@ pub fn open_seat<X: Attachment + Drop>(
 }
 
 impl<X: Attachment + Drop> Seat<X> {
-    /// Takes the poller's ends and what came with them. `None` if they were taken before. One compare-exchange; never
-    /// waits.
+    /// Takes the poller's ends and the data passed with them. `None` if they were taken before. One compare-exchange;
+    /// never waits.
     pub fn take_poller(&self) -> Option<PollerEnds<X>>
         ensures new { IfSome result (λ e. IsNewPoller (identity_in self.now.cell) e.ingress e.drain) }
         ensures belongs { IfSome result (λ e. X.belongs (identity_in self.now.cell).terms (identity_in self.now.cell).index e.companion) }
@@ -135,9 +135,9 @@ impl<X: Attachment + Drop> Seat<X> {
         take_out(&self.clock)
     }
 
-    /// Ends the route and returns its account, as `settle` does; the three ends must be of this seat's route. `None` if
-    /// another call has the route, or it was settled before. What is left in the queues is counted and discarded; the
-    /// ends are gone in both cases. Doesn't allocate.
+    /// Finalises the route and returns its final counters, as `settle` does; the three ends must be of this seat's
+    /// route. `None` if another call has the route, or it was finalised before. Messages and replies remaining in the
+    /// queues are counted and discarded; the ends are consumed in both cases. Doesn't allocate.
     pub fn settle<R: Wait>(
         &self,
         rt: &R,

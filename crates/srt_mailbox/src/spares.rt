@@ -1,7 +1,7 @@
-//! The boxes of replies on their way back, from the end that drains them to the route that fills them again. They go
-//! back in batches, so that a box costs no locked operation of its own; by a queue of its own it would cost four, and
-//! five cache lines of another processor. Nobody waits for the lock. No contract speaks of the boxes' contents, since
-//! each is overwritten as a whole, nor of which box comes when.
+//! The boxes of replies on their way back, from the end that drains them to the route that fills them again. They
+//! return in batches, so that there is no locked operation per box; a separate queue would cost four per box, and five
+//! cache lines of another processor. No thread waits for the lock. No contract is about the boxes' contents, since
+//! each is overwritten as a whole, nor about the order in which boxes return.
 
 use srt_route::Reply;
 use std::alloc::{AllocError, Global};
@@ -12,15 +12,15 @@ use std::thread;
 // A batch has a sixteenth as many boxes as the outbox has places, and at most this many.
 const BATCH: usize = 16;
 
-/// Where the drain leaves boxes for the route.
+/// The list in which the drain leaves boxes for the route.
 #[derive(Drop)]
 pub struct Returned {
-    // boxes lie here: a hint, so that the route asks for the lock only where it finds some; written under the lock
+    // whether there are boxes: a hint, so that the route tries the lock only if there are some; written under the lock
     any: AtomicBool,
     boxes: Mutex<Vec<Box<Reply>>>,
 }
 
-/// The drain's part: the boxes whose replies were read, until there is a batch of them.
+/// The drain's part: the boxes whose replies were read, until they are a batch.
 #[derive(Drop)]
 pub struct Spent {
     returned: Arc<Returned>,
@@ -29,15 +29,15 @@ pub struct Spent {
 }
 
 /// The route's part: a stack of free boxes. The box that was returned last is used first, so that only as many boxes
-/// circulate as there are replies under way and in two batches, and they stay in the processor's caches.
+/// circulate as there are replies in transit and in two batches, and they stay in the processor's caches.
 #[derive(Drop)]
 pub struct Boxes {
     returned: Arc<Returned>,
     stock: Vec<Box<Reply>>,
 }
 
-/// Both parts for an outbox of this capacity, with all free boxes in the stock: as many as the outbox holds, a batch,
-/// and two. Allocates them and three lists that have room for all; an error means that memory was refused.
+/// Allocates both parts for an outbox of this capacity, with all free boxes in the stock: as many as the outbox holds,
+/// a batch, and two. Allocates them and three lists that have room for all; the error is a failed allocation.
 pub fn open_boxes(alloc: Global, capacity: usize) -> Result<(Boxes, Spent), AllocError> {
     let batch = (capacity / 16).clamp(1, BATCH);
     let count = capacity.saturating_add(batch + 2);
@@ -68,7 +68,7 @@ pub fn open_boxes(alloc: Global, capacity: usize) -> Result<(Boxes, Spent), Allo
 }
 
 impl Spent {
-    /// Sends a box back to the route, with those before it once they are a batch. Doesn't allocate.
+    /// Returns a box to the route, with the previous ones once they are a batch. Doesn't allocate.
     #[inline(always)]
     pub fn give(&mut self, empty: Box<Reply>) {
         let _ = self.boxes.push(empty);
@@ -76,7 +76,7 @@ impl Spent {
     }
 
     /// Leaves all boxes for the route if they are a batch or more. If the route has the lock they stay, until the next
-    /// call of this or of `give`. Doesn't allocate.
+    /// call of this function or of `give`. Doesn't allocate.
     #[inline(always)]
     pub fn flush(&mut self) {
         if self.boxes.len() < self.batch {
@@ -90,7 +90,7 @@ impl Spent {
 }
 
 impl Boxes {
-    // Moves the boxes that were returned to the stock, if there are any and the drain hasn't got the lock.
+    // Moves the returned boxes to the stock, if there are any and the drain doesn't hold the lock.
     fn collect(&mut self) {
         if !self.returned.any.load(Ordering::SeqCst) {
             return;
@@ -101,19 +101,19 @@ impl Boxes {
         }
     }
 
-    /// A free box, if one is here or where the drain leaves them and hasn't got the lock. Its old contents are to be
-    /// overwritten.
+    /// Returns a free box, if one is in the stock, or was returned and the drain doesn't hold the lock. Its old
+    /// contents are to be overwritten.
     #[inline(always)]
     pub fn try_box(&mut self) -> Option<Box<Reply>> {
         self.collect();
         self.stock.pop()
     }
 
-    /// A free box, whose old contents are to be overwritten. There are three boxes more than the outbox and a batch
-    /// hold. The drain has at most two (the one that it took last and the one before) and less than a batch, so one is
-    /// here or where the drain leaves them. A drain that has more met the lock: the route had it then, and got a batch.
-    /// Once the route has used that up, nothing keeps the lock from the drain, and its next look into the outbox brings
-    /// all that it has. Nothing proves this, hence the loop.
+    /// Returns a free box, whose old contents are to be overwritten. There are three boxes more than the outbox and a
+    /// batch hold. The drain has at most two (the current one and the previous one) and less than a batch, so one is
+    /// in the stock or was returned. A drain that has more found the lock taken: the route had it then, and got a
+    /// batch. Once the route has used that up, no other thread holds the lock against the drain, and its next poll of
+    /// the outbox returns all that it has. This isn't proved, hence the loop.
     pub fn empty_box<R: Wait>(&mut self, rt: &R) -> Box<Reply> {
         for _ in rt.forever() {
             if let Some(place) = self.try_box() {

@@ -1,5 +1,5 @@
-//! A route between its queues: turns of one thread, a full inbox, a full outbox, the account, and several workers at
-//! once. What is expected was worked out from the rules by hand.
+//! A route between its queues: steps of one thread, a full inbox, a full outbox, the final counters, and several
+//! workers in parallel. The expected values were derived from the rules by hand.
 
 mod boxes;
 mod datagrams;
@@ -69,7 +69,7 @@ fn studio(alloc: Global) -> Result<Ends, Fail>
     }
 }
 
-/// A gate that always lets turns pass, or never does.
+/// A gate that always permits steps, or never does.
 #[derive(Drop)]
 struct Fixed {
     passes: bool,
@@ -205,7 +205,7 @@ fn drain_each(
     Ok(())
 }
 
-/// The account of a route whose ends came from one opening.
+/// Returns the final counters of a route whose ends are from one opening.
 fn settled<R: Wait>(
     rt: &R,
     ingress: Ingress,
@@ -233,8 +233,8 @@ fn a_held_route_makes_no_turn(rt: HostRuntime) -> Result<(), Fail> {
     Ok(())
 }
 
-/// Visits the route with an open gate, for at most this many turns, and asserts the turns, the replies that were moved
-/// and the end.
+/// Makes a batch of at most this many steps with an open gate, and asserts the steps, the replies that were moved and
+/// the end.
 fn assert_visited<C: Serve>(
     rt: &(impl Wait + Abort),
     cell: &C,
@@ -246,7 +246,8 @@ fn assert_visited<C: Serve>(
     assert_eq!(rt; visit, Visit { turns, moved, end });
 }
 
-/// A visit ends where there is nothing to do, at a full outbox of 16 places, at a shut gate, or after the most turns.
+/// A batch ends where there is no work, at a full outbox of 16 places, at a closed gate, or after the maximum number
+/// of steps.
 #[test]
 fn a_visit_makes_the_turns_that_it_may(rt: HostRuntime) -> Result<(), Fail> {
     let (mut ingress, _clock, cell, mut drain) = studio(rt.alloc())?;
@@ -270,7 +271,7 @@ fn a_visit_makes_the_turns_that_it_may(rt: HostRuntime) -> Result<(), Fail> {
     Ok(())
 }
 
-/// A route with an outbox of 64 places. It has 71 boxes, which go back four at a time.
+/// Returns a route with an outbox of 64 places. It has 71 boxes, which return four at a time.
 fn wide_studio(alloc: Global) -> Result<Ends, Fail> {
     let mut wide = entry(alloc)?;
     wide.outbox = 64;
@@ -362,7 +363,7 @@ fn an_entry_out_of_its_limits_is_refused(rt: HostRuntime) -> Result<(), Fail> {
     Ok(())
 }
 
-/// Whether this is the data packet, with its sender and its moment.
+/// Whether this is the data packet, with its sender and its time.
 fn is_data(alloc: Global, item: &Item) -> Result<bool, Fail> {
     let offered = publisher_data();
     let bytes = offered.sample.bytes(alloc)?;
@@ -382,7 +383,7 @@ fn is_data(alloc: Global, item: &Item) -> Result<bool, Fail> {
     }
 }
 
-/// Offers a datagram to a full inbox, asserts that it comes back as it was, and after a turn offers what came back, which
+/// Offers a datagram to a full inbox, asserts that it is returned unchanged, and after a step offers it again, which
 /// the inbox accepts.
 fn assert_goes_in_after_a_turn(
     rt: &(impl AllocGlobal + Wait + Abort),
@@ -401,8 +402,8 @@ fn assert_goes_in_after_a_turn(
     Ok(())
 }
 
-/// An inbox of 16 places accepts 16 items and refuses one more, of the poller and of the clock; after a turn it accepts
-/// the one that came back, and is full again.
+/// An inbox of 16 places accepts 16 messages and refuses one more, of the poller and of the clock; after a step it
+/// accepts the returned one, and is full again.
 fn assert_full_inbox(
     rt: &(impl AllocGlobal + Wait + Abort),
     ingress: &mut Ingress,
@@ -421,7 +422,7 @@ fn assert_full_inbox(
     Ok(())
 }
 
-/// Serves the route until the stream's items are applied, and asserts each reply.
+/// Serves the route until the stream's messages are processed, and asserts each reply.
 fn assert_stream(
     rt: &(impl AllocGlobal + Wait + Abort),
     cell: &RouteCell,
@@ -446,7 +447,7 @@ fn what_meets_a_full_inbox_comes_back(rt: HostRuntime) -> Result<(), Fail> {
     assert_stream(&rt, &cell, &mut drain)
 }
 
-/// The drain lags behind: 16 replies fill the outbox, one waits, and none is lost or doubled.
+/// The drain is slow: 16 replies fill the outbox, one waits, and none is lost or duplicated.
 fn assert_full_outbox(
     rt: &(impl AllocGlobal + Wait + Abort),
     ingress: &mut Ingress,
@@ -489,7 +490,7 @@ fn a_full_outbox_blocks_the_route(rt: HostRuntime) -> Result<(), Fail> {
     Ok(())
 }
 
-/// Offers a conclusion, serves the route a few times, drains n replies, and ends the route.
+/// Offers a conclusion, serves the route a few times, drains n replies, and returns the route's final counters.
 fn account_after(
     rt: &(impl AllocGlobal + Wait + Abort),
     turns: usize,
@@ -504,7 +505,7 @@ fn account_after(
     settled(rt, ingress, clock, cell, drain)
 }
 
-/// The number of turns of a route with one item, the number of replies that are drained, and its account then.
+/// Number of steps of a route with one message, number of drained replies, and its final counters then.
 type Accounting = (usize, usize, Account);
 
 const ACCOUNTINGS: [Accounting; 4] = [
@@ -564,13 +565,13 @@ fn assert_accounts(
     Ok(())
 }
 
-/// The account counts each item and each reply where it is.
+/// The final counters count each message and each reply where it is.
 #[test]
 fn an_account_tells_where_all_is(rt: HostRuntime) -> Result<(), Fail> {
     assert_accounts(&rt, &ACCOUNTINGS)
 }
 
-/// A route that took one of two ticks, neither of which brings a reply, is settled by itself.
+/// A route that received one of two ticks is finalised by `Running::settle`. A tick causes no reply.
 #[test]
 fn an_account_tells_an_item_without_a_reply(rt: HostRuntime) -> Result<(), Fail> {
     let (ingress, mut clock, cell, drain) = studio(rt.alloc())?;
@@ -637,7 +638,7 @@ impl Alone {
         }
     }
 
-    /// Applies an item, and returns the number of replies.
+    /// Processes a message, and returns the number of replies.
     fn apply<R: Abort>(&mut self, rt: &R, item: &Item) -> usize
         requires timely { moment_of (told item.now) < 2 ^ 62 }
     {
@@ -654,8 +655,8 @@ impl Alone {
     }
 }
 
-/// Applies a datagram at the route alone, waits for as many replies of the other one, and asserts that they are the same.
-/// Returns their number.
+/// Processes a datagram at the route alone, waits for as many replies of the other one, and asserts that they are the
+/// same. Returns their number.
 fn await_the_same(
     rt: &(impl AllocGlobal + Wait + Abort),
     alone: &mut Alone,
@@ -672,7 +673,7 @@ fn await_the_same(
     Ok(count)
 }
 
-/// Offers a datagram n times, and asserts that each brings the replies of the route alone, and this many.
+/// Offers a datagram n times, and asserts that each causes the replies of the route alone, and this many.
 fn offer_and_compare(
     rt: &(impl AllocGlobal + Wait + Abort),
     ingress: &mut Ingress,
@@ -690,8 +691,8 @@ fn offer_and_compare(
     Ok(())
 }
 
-/// Offers the stream's items, then the publisher's conclusion 800 times, and asserts that the replies are those of the
-/// route alone.
+/// Offers the stream's messages, then the publisher's conclusion 800 times, and asserts that the replies are those of
+/// the route alone.
 fn offer_and_await(
     rt: &(impl AllocGlobal + Wait + Abort),
     ingress: &mut Ingress,
@@ -758,7 +759,7 @@ fn serve_by_two<C: Serve + Sync, R: AllocGlobal + Threads + Wait + Abort + Sync>
     offered
 }
 
-/// Whichever of two workers makes a turn, the replies are those of the route alone, in order.
+/// Whichever of two workers makes a step, the replies are those of the route alone, in order.
 #[test]
 fn two_workers_serve_as_one(rt: HostRuntime) -> Result<(), Fail> {
     let (mut ingress, _clock, cell, mut drain) = studio(rt.alloc())?;
@@ -767,14 +768,14 @@ fn two_workers_serve_as_one(rt: HostRuntime) -> Result<(), Fail> {
     Ok(())
 }
 
-/// A gate that waits until another thread got its reply.
+/// A gate that waits until another thread has received its reply.
 #[derive(Drop)]
 struct Staying<'a> {
     entered: &'a AtomicBool,
     answered: &'a AtomicBool,
 }
 
-/// Waits for the flag, for a limited number of turns.
+/// Waits for the flag, for a limited number of attempts.
 fn wait_for(flag: &AtomicBool) {
     for _ in 0..1_000_000 {
         if flag.load(Ordering::SeqCst) {
@@ -802,8 +803,8 @@ impl Gate for Staying<'_> {
     }
 }
 
-/// The outcome of a worker that waits in its gate, and those of another worker meanwhile: a turn and a visit at the same
-/// route, and a turn at another one.
+/// Returns the outcome of a worker that waits in its gate, and the outcomes of another worker meanwhile: a step and a
+/// batch at the same route, and a step at another one.
 fn serve_beside<C: Serve + Sync, R: Threads + Wait + Sync>(
     rt: &R,
     cell: &C,
@@ -827,8 +828,8 @@ fn serve_beside<C: Serve + Sync, R: Threads + Wait + Sync>(
     (stayed, busy, visit, free)
 }
 
-/// A route that only one thread serves is never busy. One that another thread has claimed is, and a worker can go on
-/// with another route.
+/// A route that only one thread serves is never busy. A route that another thread has claimed is, and a worker can
+/// continue with another route.
 #[test]
 fn nobody_waits_for_a_route(rt: HostRuntime) -> Result<(), Fail> {
     let (_ingress, mut clock, cell, _drain) = studio(rt.alloc())?;

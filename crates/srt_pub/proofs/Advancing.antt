@@ -1,4 +1,4 @@
--- A session whose buffer has passed over the next packet.
+-- A session whose buffer has removed the next packet.
 use Rattle.std.proofs.Common.{◌≡◌, ℕ, Option, Some, None, List, refl, sym, subst}
 use Rattle.srt_recvbuf.specs.Receiving.{Arrival, next_due, after_next}
 use Rattle.srt_recvbuf.specs.Stands as buffers
@@ -16,7 +16,7 @@ same_delivery : (terms : Terms) (m : Publishing) (o : Option Arrival) → record
 same_delivery terms m None = refl
 same_delivery terms m (Some a) = refl
 
--- the buffer is ahead of the rest
+-- the buffer is ahead of the other fields
 pub ahead : (terms : Terms) (initial opening stamp caller time room : ℕ) (p : Publisher) (b : RecvBuf) (m : Publishing)
     → StandsFor terms initial opening stamp caller p m
     → buffers.StandsFor terms.width initial opening b (after_next terms.width (next_due time room m.receiving) m.receiving)
@@ -39,7 +39,7 @@ ahead terms initial opening stamp caller time room p b m h after =
       goes_on = k.goes_on;
     }
 
--- and the rest follows
+-- the other fields follow
 pub followed : (terms : Terms) (initial opening stamp caller : ℕ) (p : Publisher) (m : Publishing) (o : Option Arrival)
     → StandsFor terms initial opening stamp caller p (record m { receiving = after_next terms.width o m.receiving })
     → StandsFor terms initial opening stamp caller p (after_delivery terms o m)

@@ -1,4 +1,4 @@
--- Delivering payloads one by one is the same as delivering them together.
+-- Delivering payloads one by one has the same result as delivering them together.
 use Rattle.std.proofs.Common.{◌≡◌, inl, inr, ℕ, suc, zero, ◌+◌, ◌-◌, ◌<◌, min, pos, Bool, true, false, cond, Option, Some, None, List, []}
 use Rattle.std.proofs.Common.{◌∷◌, length, take, refl, sym, ap, subst, ◌∙◌, arith}
 use Rattle.std.specs.Prelude.{int_le, filter_map}
@@ -22,7 +22,7 @@ pub record IsGood (terms : Terms) (m : Publishing) : Type 0 where
   pub orderly : IsOrderly terms.mode terms.width m.receiving
   pub beyond : NothingBeyond terms.width m.receiving
 
--- one call, with this list of payloads left
+-- one call, where `left` are the remaining payloads
 pub data Step (terms : Terms) (time room : ℕ) (m : Publishing) (left : List Arrival) (rest : Publishing → List Arrival) : Type 0 where
   Nothing : next_delivery terms time room m ≡ None → left ≡ [] → Step terms time room m left rest
   One : (a : Arrival) (more : List Arrival) → next_delivery terms time room m ≡ Some a → waiting m.receiving ≡ a ∷ more
@@ -136,7 +136,7 @@ live_step terms time live calls room m g = by (waiting m.receiving) refl
     by [] w = Nothing (next ∙ ap (first_due time) w) (ap whole w)
     by (a ∷ more) w = by_due a more w (int_le a.due (pos time)) refl
 
--- buffer mode: the payloads without a gap, as long as there is room
+-- buffer mode: the payloads without a gap, while there is room
 pub buffer_step : (terms : Terms) (time : ℕ) → terms.mode ≡ Buffer → (calls room : ℕ) (m : Publishing) → IsGood terms m
     → Step terms time room m (take (min (suc calls) room) (unbroken terms.width m.receiving))
     (λ p. take (min calls (room_after terms.mode room)) (unbroken terms.width p.receiving))

@@ -1,4 +1,4 @@
--- The counts of a session follow what it receives, delivers and sends.
+-- The counters of a session represent what it receives, delivers and sends.
 use Rattle.std.proofs.Common.{◌≡◌, ℕ, suc, zero, ◌+◌, ◌-◌, ◌^◌, ◌≤◌, Bool, true, false, not, cond, ◌&&◌, Option, Some, None, List, ◌∷◌}
 use Rattle.std.proofs.Common.{length, refl, sym, ap, subst, ◌∙◌, arith, ℤ}
 use Rattle.std.specs.Prelude.{◌==◌, is_some, filter_map, nat_lt}
@@ -22,7 +22,7 @@ use Rattle.srt_recvbuf.specs.declared.buffer.Put.TheVariants.{New, Repeat}
 use Rattle.srt_packet.specs.declared.writing.Rates.{Rates}
 use Rattle.srt_pub.proofs.Goings.{settles, next_waits}
 
--- no more numbers are received than there are
+-- at most n of the numbers below n were received
 pub no_more : (xs : List Arrival) (n : ℕ) → received_below xs n ≤ n
 no_more xs zero = omega arith
 no_more xs (suc n) = let h = no_more xs n in let k = at_most_one (is_some (arrival_of xs n)) in omega (arith, h, k)
@@ -31,11 +31,11 @@ no_more xs (suc n) = let h = no_more xs n in let k = at_most_one (is_some (arriv
     at_most_one true = omega arith
     at_most_one false = omega arith
 
--- one number further
+-- one more number
 one_further : (xs : List Arrival) (n : ℕ) (b : Bool) → is_some (arrival_of xs n) ≡ b → received_below xs (n + 1) ≡ received_below xs n + one_if b
 one_further xs n b e = let s : n + 1 ≡ suc n = omega arith in ap (received_below xs) s ∙ ap (λ x. received_below xs n + one_if x) e
 
--- a packet that comes doesn't count below its number
+-- a new arrival isn't counted below its number
 pub none_below : (a : Arrival) (xs : List Arrival) (n : ℕ) → n ≤ a.number → received_below (a ∷ xs) n ≡ received_below xs n
 none_below a xs zero le = refl
 none_below a xs (suc n) le =
@@ -64,7 +64,7 @@ settled_below width r (suc places) from = by (not (is_dropped width r from)) ref
         ap (received_below r.arrivals) (found (λ n. not (is_dropped width r n)) from places false is) ∙ next
         ∙ one_further r.arrivals from false none ∙ zero_more
 
--- up to the first waiting packet and with it, one number more was received
+-- up to the first waiting packet, inclusive, one more number was received
 pub record IsFirst (xs : List Arrival) (from : ℕ) (a : Arrival) : Type 0 where
   pub low : from ≤ a.number
   pub one : received_below xs (a.number + 1) ≡ received_below xs from + 1
@@ -90,7 +90,7 @@ first_below xs from (suc count) a more e = by (arrival_of xs from) refl (first_b
         let m : a.number ≡ from = sym (ap (λ (y : Arrival). y.number) same) ∙ n in
         record { low = omega (arith, m); one = ap (λ k. received_below xs (k + 1)) m ∙ one_further xs from true (ap is_some is) }
 
--- the next packet is passed, if it is due
+-- the front passes the next packet, if it is due
 pub passes_next : (width time room : ℕ) (r : Receiving) (o : Option Arrival) → next_due time room r ≡ o → Passes (is_some o) r (after_next width o r)
 passes_next width time room r None e = record { delivered = omega arith; far = omega arith }
 passes_next width time room r (Some a) e =
@@ -100,7 +100,7 @@ passes_next width time room r (Some a) e =
     let k = settles width s in
     record { delivered = settled_below width s width (a.number + 1) ∙ h.one; far = omega (arith, k.0, h.low) }
 
--- and that is so if the call says so
+-- the same, with the result of the call
 pub passes_if : (width time room : ℕ) (r : Receiving) (b : Bool) → is_some (next_due time room r) ≡ b → Passes b r (after_next width (next_due time room r) r)
 passes_if width time room r b e =
     subst (λ (x : Bool). Passes x r (after_next width (next_due time room r) r)) e
@@ -128,7 +128,7 @@ pub none_arrive : (width : ℕ) (o : Option Arrival) (r : Receiving) → (after_
 none_arrive width None r = refl
 none_arrive width (Some a) r = refl
 
--- a packet comes
+-- a packet arrives
 from_front : (front past n : ℕ) (b : Bool) → cond b (Some (front + past)) None ≡ Some n → front ≤ n
 from_front front past n true e = let same : front + past ≡ n = cc in omega (arith, same)
 from_front front past n false e = cc
@@ -151,7 +151,7 @@ passes_data width word payload due r = by (in_window word r.front width) (λ n e
     by None low = record { delivered = omega arith; far = omega arith }
     by (Some n) low = stored n (is_received r n) (low n refl)
 
--- a count that is kept, and some more
+-- adding to a capped counter
 some_more : (count more : ℕ) → capped (capped count + more) ≡ capped (count + more)
 some_more count more = omega arith
 
@@ -212,7 +212,7 @@ acks_count false true index point rtt variance room rates a time xs delivered fr
     λ i. record (counts_of xs delivered front (Sent time (LightAck a) ∷ notes)) { reported_lost = none_more (reported_lost_in notes) i }
 acks_count false false index point rtt variance room rates a time xs delivered front notes = refl
 
--- that changes by whether a Full ACK is due and says that no place is available
+-- that number increases if a Full ACK is due that reports no available place
 pub full_window : (terms : Terms) (point room time : ℕ) (notes : List Note) (answer : Bool)
     → answer ≡ (is_full_due terms.width point room time notes && (room == 0))
     → full_windows_in (noted time (acks_at terms point room time notes) notes) ≡ full_windows_in notes + one_if answer
@@ -239,13 +239,13 @@ counts_acks terms point room time c xs delivered front notes is_full full h =
     })
     ∙ acks_count (is_full_due terms.width point room time notes) (is_light_due notes) _ _ _ _ _ _ _ time xs delivered front notes
 
--- an ACKACK changes none
+-- an ACKACK changes no counter
 pub same_confirmed : (c : Counts) (xs : List Arrival) (delivered front time : ℕ) (o : Option Full) (notes : List Note)
     → Counted c xs delivered front notes → Counted c xs delivered front (confirmed_notes time o notes)
 same_confirmed c xs delivered front time None notes h = h
 same_confirmed c xs delivered front time (Some full) notes h = h
 
--- a NAK counts, and what it reports
+-- a NAK and the numbers that it reports are counted
 pub counts_nak : (time : ℕ) (all : Bool) (rs : List Run) (lost : ℕ) (c : Counts) (xs : List Arrival) (delivered front : ℕ)
     (notes : List Note)
     → lost ≡ capped (numbers_in rs) → Counted c xs delivered front notes
@@ -275,7 +275,7 @@ counts_nak time all rs lost c xs delivered front notes e h = by all
     by true = one
     by false = one
 
--- nor does a KEEPALIVE change any
+-- a KEEPALIVE changes no counter
 pub counts_alive : (c : Counts) (xs : List Arrival) (delivered front time : ℕ) (notes : List Note)
     → Counted c xs delivered front notes → Counted c xs delivered front (Sent time KeepAlive ∷ notes)
 counts_alive c xs delivered front time notes h =
@@ -284,7 +284,7 @@ counts_alive c xs delivered front time notes h =
       full_windows = none_more (full_windows_in notes) i;
     })
 
--- a data packet counts, whatever becomes of it
+-- a data packet is counted, also if it isn't stored
 pub counts_one : (time : ℕ) (region : Region) (put : Put) (c : Counts) (xs : List Arrival) (delivered front : ℕ) (notes : List Note)
     → Counted c xs delivered front notes → Counted (with_one region c) xs delivered front (Came time region put ∷ notes)
 counts_one time region put c xs delivered front notes h = ap (with_one region) h ∙ by region

@@ -1,4 +1,4 @@
--- The fields of ACKs keep representing the notes.
+-- The fields of ACKs represent the notes after each event.
 use Rattle.std.proofs.Common.{◌≡◌, ◌⊎◌, inl, inr, ℕ, suc, zero, ◌+◌, ◌-◌, ◌<◌, ◌≤◌, min, Bool, true, false, cond, not, ◌||◌, ◌&&◌, Option}
 use Rattle.std.proofs.Common.{Some, None, List, [], ◌∷◌, length, refl, sym, ap, subst, ◌∙◌, arith}
 use Rattle.std.specs.Prelude.{nat_lt, nat_le, ◌==◌, slice_get}
@@ -15,7 +15,7 @@ use Rattle.srt_packet.specs.declared.writing.Rates.{Rates}
 same_full : (f g : Full) → Some f ≡ Some g → f ≡ g
 same_full f g e = cc
 
--- no ACK yet
+-- no Full ACK yet
 nothing_there : (d : ℕ) (f : Full) → slice_get {X = Full} [] d ≡ Some f → ⊥
 nothing_there d f e = cc
 

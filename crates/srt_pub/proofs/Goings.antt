@@ -1,4 +1,4 @@
--- A receiver moves on, and stays orderly.
+-- A receiver moves on and keeps its invariants.
 use Rattle.std.proofs.Common.{◌≡◌, ◌⊎◌, inl, inr, ℕ, suc, zero, ◌+◌, ◌-◌, ◌*◌, ◌^◌, ◌<◌, ◌≤◌, max, Bool, true, false, not, cond, ◌||◌, ◌&&◌}
 use Rattle.std.proofs.Common.{Option, Some, None, List, [], ◌∷◌, length, refl, sym, ap, subst, ◌∙◌, arith, ℤ, pos}
 use Rattle.std.specs.Prelude.{nat_lt, nat_le, ◌==◌, is_some, filter_map, int_le, option_map, IfSome}
@@ -59,7 +59,7 @@ goes width r s on near kept ends =
 pub stays_put : (width : ℕ) (r : Receiving) → GoesOn width r r
 stays_put width r = goes width r r (omega arith) (omega arith) (λ n e. e) (omega arith)
 
--- settling
+-- the settled front is within the window
 pub settles : (width : ℕ) (r : Receiving) → (r.front ≤ (settled width r).front) × ((settled width r).front ≤ r.front + width)
 settles width r = let h = least_of (λ n. not (is_dropped width r n)) r.front width in (h.low, h.high)
 
@@ -88,7 +88,7 @@ pub fronts_on : (a b : ℕ) (qs : List Request) → a ≤ b → Each (λ (q : Re
 fronts_on a b [] le all = tt
 fronts_on a b (q ∷ qs) le all = (omega (arith, le, all.0), fronts_on a b qs le all.1)
 
--- after settling, the number at the position isn't dropped
+-- after settling, the front isn't dropped
 pub settled_stays : (width : ℕ) (r : Receiving)
     → Each (λ (q : Request). q.front ≤ r.front) r.requests → is_dropped width (settled width r) (settled width r).front ≡ false
 settled_stays width r fronts =
@@ -178,7 +178,7 @@ no_request width q r (inr e) =
     none_of_three true b = refl
     none_of_three false b = refl
 
--- a packet comes
+-- a packet arrives
 missing_more : (a b c : Bool) → not (a || b) ≡ false → (a ≡ true → c ≡ true) → not (c || b) ≡ false
 missing_more true b c e f = let k = f refl in rw k refl
 missing_more false b c e f = let k = not-false _ e in rw k (by c)
@@ -259,7 +259,7 @@ ends_below bound (a ∷ xs) none =
 pub end_within : (width : ℕ) (r : Receiving) → NothingBeyond width r → end_of r.arrivals ≤ r.front + width
 end_within width r beyond = ends_below (r.front + width) r.arrivals (λ n le. beyond n le)
 
--- the first waiting packet was received, and its number is from the position on and below the end
+-- the first waiting packet was received, and its number is at or above the front and below the end
 pub record IsOneOf (P : Arrival → Type 0) (from end : ℕ) (a : Arrival) : Type 0 where
   pub low : from ≤ a.number
   pub high : a.number < end

@@ -8,7 +8,7 @@ pub none_shorter : (times : List ℕ) (time : ℕ) → 0 ≡ shorter times time 
 unfolding shorter
 none_shorter times time = refl
 
--- the interval of one place more is counted
+-- one more interval is counted
 counts_one : (times : List ℕ) (time place : ℕ) → shorter times time (suc place) ≡ shorter times time place + one_if (nat_lt (interval times place) time)
 unfolding shorter
 counts_one times time place = refl
@@ -24,7 +24,7 @@ pub none_longest : (times : List ℕ) → 0 ≡ longest_up_to_median times 0
 unfolding longest_up_to_median
 none_longest times = refl
 
--- the interval of one place more is looked at
+-- the maximum with one more interval
 looks_at_one : (times : List ℕ) (place : ℕ) → longest_up_to_median times (suc place) ≡ max (longest_up_to_median times place) (up_to_median times place)
 unfolding longest_up_to_median
 looks_at_one times place = refl

@@ -1,4 +1,4 @@
--- The fields keep representing the notes.
+-- The log's fields represent the notes after each event.
 use Rattle.std.proofs.Common.{◌≡◌, ℕ, Bool, true, false, if◌then◌else◌, Option, None, Some, List, [], ◌∷◌, length, refl, sym, subst, ◌∙◌, arith}
 use Rattle.std.specs.Prelude.{option_map}
 use Rattle.srt_rtt.specs.Book as book
@@ -91,7 +91,7 @@ log_alive terms front point seen time log notes h =
       seen_is = h.seen_is;
     }
 
--- a Full ACK is confirmed, which gives a sample
+-- a Full ACK is confirmed, which yields a sample
 pub log_confirmed : (terms : Terms) (front point seen time sample : ℕ) (full : Option Full) (log : Log) (acks : Acks) (rtt : SampledRtt)
     (notes : List Note)
     → Some sample ≡ option_map (sample_of time) full → AcksStandFor terms.width front point acks (confirmed_notes time full notes)
@@ -110,7 +110,7 @@ log_confirmed terms front point seen time sample (Some full) log acks rtt notes 
       seen_is = h.seen_is;
     }
 
--- nothing has happened yet
+-- the log before the first event
 pub log_first : (terms : Terms) (log : Log) → AcksStandFor terms.width 0 0 log.acks [] → times.StandsFor terms.callers log.rtt []
     → MeterStandsFor (rating terms.mode terms.callers) log.meter [] → log.came ≡ 0 → log.nak ≡ 0 → log.sent ≡ 0 → log.seen ≡ 0
     → LogStandsFor terms 0 0 log [] 0

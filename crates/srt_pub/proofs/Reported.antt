@@ -1,4 +1,4 @@
--- How many numbers a NAK reports as lost.
+-- The number of numbers that a NAK reports as lost.
 use Rattle.std.proofs.Common.{◌≡◌, ℕ, zero, suc, ◌+◌, ◌-◌, ◌^◌, ◌<◌, ◌≤◌, max, Bool, true, false, cond, List, [], ◌∷◌, map, take, refl, sym}
 use Rattle.std.proofs.Common.{ap, ◌∙◌, inl, inr, arith}
 use Rattle.std.specs.Prelude.{filter}
@@ -14,7 +14,7 @@ use Rattle.srt_pub.specs.Publishing.{gaps_told, runs_said}
 use Rattle.srt_pub.specs.Stands.{Each}
 use Rattle.srt_pub.specs.Counting.{numbers_between, numbers_in_pairs, numbers_in}
 
--- a number from low on and below high, and a run of such numbers
+-- a number at or above `low` and below `high`, and a run of such numbers
 record IsBetween (low high n : ℕ) : Type 0 where
   from : low ≤ n
   below : n < high
@@ -53,7 +53,7 @@ grouped : (low high : ℕ) (ns : List ℕ) → Each (IsBetween low high) ns → 
 grouped low high [] h = tt
 grouped low high (n ∷ ns) h = before low high n (runs ns) h.0 (grouped low high ns h.1)
 
--- the numbers of a run, from its words
+-- the length of a run, from its sequence numbers
 span_is : (initial low high : ℕ) → low ≤ high → high < low + 2 ^ 31 → offset_of (number_word initial high) (number_word initial low) + 1 ≡ high - low + 1
 span_is initial low high a b = omega (arith, a, b)
 
@@ -89,7 +89,7 @@ gaps_between false width seen r ends =
     kept _ (is_missing width r) _
     (consecutive r.front (r.front + width) (max seen r.front) (end_of r.arrivals - max seen r.front) (omega arith) (omega (arith, ends)))
 
--- the numbers of the runs that a NAK reports
+-- the length of the runs that a NAK reports
 pub numbers_told : (all : Bool) (width seen initial : ℕ) (r : Receiving) (pairs : List (Seq31 × Seq31))
     → end_of r.arrivals ≤ r.front + width → width ≤ 8192 → words_of pairs ≡ map (run_words initial) (runs_said (gaps_told all width seen r))
     → numbers_in_pairs pairs ≡ numbers_in (runs_said (gaps_told all width seen r))

@@ -1,4 +1,4 @@
--- What a session delivers and sends, computed from the definitions.
+-- Computed examples of what a session delivers and sends.
 use Rattle.std.proofs.Common.{◌≡◌, ℕ, zero, suc, ◌+◌, true, false, Option, None, Some, List, [], ◌∷◌, length, ◌++◌, refl}
 use Rattle.std.specs.Prelude.{map, option_map}
 use Rattle.srt_seq.specs.declared.shared.Mode.TheVariants.{Live, Buffer}
@@ -16,8 +16,8 @@ use Rattle.srt_pub.specs.Publishing.{shorter, longest_up_to_median, median_inter
 use Rattle.srt_pub.specs.Calls.{ended}
 use Rattle.srt_pub.specs.Says.{says}
 
--- an event of a session that was opened with the timestamp 0: its time since the opening, what was received, and the
--- subscribers' least room
+-- an event of a session that was opened with the timestamp 0: its time since the opening, the packet that arrived, and
+-- the subscribers' least room
 record Event : Type 0 where
   time : ℕ
   stamp : ℕ
@@ -30,7 +30,7 @@ heard terms initial e p = took terms e.time (stamped_from 0 e.stamp) (heard_from
 abbrev before_reports : Terms → (initial : ℕ) → Event → Publishing → Publishing
 before_reports terms initial e p = delivered terms e.time e.room (heard terms initial e p)
 
--- the session after events, the newest first; and the payloads and the datagrams of the newest
+-- the session after events, the newest first. Below it: the payloads and the datagrams of the newest event
 abbrev after : Terms → (initial : ℕ) → List Event → Publishing
 after terms initial [] = opened
 after terms initial (e ∷ events) = reported terms e.time (before_reports terms initial e (after terms initial events))
@@ -62,7 +62,7 @@ confirms time number = record { time = time; stamp = 0; body = AckAck number; ro
 abbrev gives_up : (time first last : ℕ) → Event
 gives_up time first last = record { time = time; stamp = 0; body = DropRequest 0 first last; room = None }
 
--- n numbers from this one on come at 9 ms
+-- numbers from `first` on arrive at 9 ms
 abbrev many : (first count : ℕ) → List Event
 many first zero = []
 many first (suc n) = comes 9_000 9_000 (first + n) 0x61 ∷ many first n
@@ -108,7 +108,7 @@ in_time : sends (live 1024 1_000_000) 7 (still 310_000 ∷ still 309_999 ∷ con
 unfolding in_window lift confirmed_by is_full_due acks_at naks reports deliveries says
 in_time = refl
 
--- of two packets the later one is delivered when it is due, though a number between them is missing
+-- of two packets the later one is delivered when it is due, although a number between them is missing
 abbrev waits : List Event
 waits = comes 1_000 1_000 9 0x62 ∷ comes 1_000 500 7 0x61 ∷ []
 
@@ -129,7 +129,7 @@ passed_the_gap : ((after (live 1024 100_000) 7 (still 101_000 ∷ waits)).receiv
 unfolding in_window lift confirmed_by is_full_due acks_at naks reports deliveries says
 passed_the_gap = (refl, refl)
 
--- a dropped number is delivered if it comes
+-- a dropped number is delivered if it arrives
 abbrev comes_late : List Event
 comes_late = comes 3_000 900 8 0x63 ∷ gives_up 2_000 8 8 ∷ waits
 
@@ -203,7 +203,7 @@ sixty_four : (length (delivers (in_buffer 128) 0 (takes 10_000 ∷ many 0 66)) �
 unfolding in_window lift confirmed_by is_full_due acks_at naks reports deliveries says
 sixty_four = (refl, refl)
 
--- of two Full ACKs the later one is the latest confirmed, though the earlier is confirmed after it
+-- of two Full ACKs the later one is the latest confirmed, although the earlier one is confirmed after it
 abbrev two_acked : List Event
 two_acked = still 170_000 ∷ comes 160_000 1_000 8 0x63 ∷ still 150_000 ∷ two
 
@@ -229,12 +229,13 @@ times_after first (interval ∷ earlier) = then_after interval (times_after firs
 abbrev twice : List ℕ → List ℕ
 twice xs = xs ++ xs
 
--- the pauses between bursts don't count
+-- the pauses between bursts have no effect
 bursts : packet_rate (times_after 0 (twice (10_000 ∷ 100 ∷ 100 ∷ 100 ∷ 100 ∷ 100 ∷ 100 ∷ 100 ∷ []))) ≡ 10_000
 unfolding shorter longest_up_to_median
 bursts = refl
 
--- of eight short intervals and eight long ones the ninth by length is a long one, of nine short ones a short one
+-- with eight short intervals and eight long ones the ninth by length is a long one; with nine short ones it is a short
+-- one
 as_many_short : packet_rate (times_after 0 (twice (twice (twice (400 ∷ 50 ∷ []))))) ≡ 2_500
 unfolding shorter longest_up_to_median
 as_many_short = refl
@@ -252,7 +253,8 @@ different : median_interval (times_after 7 mixed) ≡ 900
 unfolding shorter longest_up_to_median
 different = refl
 
--- of nine packets the median interval is a missing one, and the least rate is told; of ten it is the longest of theirs
+-- with nine packets the median interval is a missing one, and the minimum rate is reported; with ten it is their
+-- longest
 too_few : packet_rate (times_after 0 (1 ∷ 1 ∷ 1 ∷ 1 ∷ 1 ∷ 1 ∷ 1 ∷ 1 ∷ [])) ≡ 1_000
 unfolding shorter longest_up_to_median
 too_few = refl

@@ -20,7 +20,7 @@ pub no_number : (initial word position width : ℕ) → 2 ^ 31 ≤ word → in_w
 unfolding in_window
 no_number initial word position width le = grind (arith, nat_tests)
 
--- where a number lies, by its distance from the front
+-- the region of a number, by its distance from the front
 pub region_none : (width initial word : ℕ) (r : Receiving) → 2 ^ 31 ≤ word → Late ≡ region_in width (counted_from initial word) r
 unfolding region_in
 region_none width initial word r le = rw (no_number initial word r.front width le, no_number initial word (r.front + width) (2 ^ 30) le) refl

@@ -1,5 +1,5 @@
--- What clauses say of a publisher, whatever session it represents: how it changes, what holds of it, and which packets
--- are written.
+-- The forms of the publisher's clauses: how a call changes the session that it represents, which facts hold of the
+-- session, and which packets are written.
 use Rattle.std.specs.Prelude.{◌≡◌, ℕ, ◌+◌, ◌<◌, ◌≤◌, ℤ, pos, ◌+ℤ◌, Bool, true, false, Option, List, map, length, IfSome}
 use Rattle.srt_seq.specs.Window.{word_of, counted_from, number_word}
 use Rattle.srt_seq.specs.Lift.{stamped_from}
@@ -33,53 +33,54 @@ Becomes old new change =
     (terms : Terms) (initial opening stamp caller : ℕ) (m : Publishing) → StandsFor terms initial opening stamp caller old m
     → StandsFor terms initial opening stamp caller new (change terms initial m)
 
--- the same at a moment, which is a time after the opening
+-- the same at the clock's time `now`, which is the opening plus `time`
 abbrev pub BecomesAt : (now : ℕ) → (old new : Publisher) → (change : (terms : Terms) (time : ℕ) → Publishing → Publishing) → Type 0
 BecomesAt now old new change =
     (terms : Terms) (initial opening stamp caller time : ℕ) (m : Publishing) → now ≡ opening + time → StandsFor terms initial opening stamp caller old m
     → StandsFor terms initial opening stamp caller new (change terms time m)
 
--- a packet with this timestamp comes at a moment; `heard` is what it says, counted from the initial number
+-- a packet with this timestamp arrives at the clock's time `now`; `heard` is its contents, counted from the initial
+-- number
 abbrev pub HearsAt : (now stamp : ℕ) → (old new : Publisher) → (heard : (initial : ℕ) → Heard) → Type 0
 HearsAt now stamp old new heard =
     (terms : Terms) (initial opening begun caller time : ℕ) (m : Publishing) → now ≡ opening + time → StandsFor terms initial opening begun caller old m
     → StandsFor terms initial opening begun caller new (took terms time (stamped_from begun stamp) (heard initial) m)
 
--- an unencrypted data packet comes at a moment
+-- an unencrypted data packet arrives at the clock's time `now`
 abbrev pub ReceivesAt : (now stamp word : ℕ) → (payload : List ℕ) → (old new : Publisher) → Type 0
 ReceivesAt now stamp word payload old new =
     (terms : Terms) (initial opening begun caller time : ℕ) (m : Publishing) → now ≡ opening + time → StandsFor terms initial opening begun caller old m
     → StandsFor terms initial opening begun caller new (with_data terms time (stamped_from begun stamp) (counted_from initial word) payload m)
 
--- if the publisher represents a session, this holds of the session
+-- if the publisher represents a session, the fact holds of the session
 abbrev pub HoldsOf : Publisher → (fact : (terms : Terms) (initial : ℕ) → Publishing → Type 0) → Type 0
 HoldsOf p fact = (terms : Terms) (initial opening stamp caller : ℕ) (m : Publishing) → StandsFor terms initial opening stamp caller p m → fact terms initial m
 
--- the same at a moment, which is a time after the opening
+-- the same at the clock's time `now`, which is the opening plus `time`
 abbrev pub HoldsOfAt : (now : ℕ) → Publisher → (fact : (terms : Terms) (time : ℕ) → Publishing → Type 0) → Type 0
 HoldsOfAt now p fact =
     (terms : Terms) (initial opening stamp caller time : ℕ) (m : Publishing) → now ≡ opening + time → StandsFor terms initial opening stamp caller p m
     → fact terms time m
 
--- these packets are the session's reports at a time after its opening
+-- the packets are the session's reports at a time after its opening
 abbrev pub Writes : (time : ℕ) → Publisher → List EncodedPacket → (due : (terms : Terms) (time : ℕ) → Publishing → List Report) → Type 0
 Writes time p packets due =
     (terms : Terms) (initial opening stamp caller : ℕ) (m : Publishing) → StandsFor terms initial opening stamp caller p m
     → texts packets ≡ map (says caller initial time) (due terms time m)
 
--- these packets are the session's reports at a moment
+-- the packets are the session's reports at the clock's time `now`
 abbrev pub WritesAt : (now : ℕ) → Publisher → List EncodedPacket → (due : (terms : Terms) (time : ℕ) → Publishing → List Report) → Type 0
 WritesAt now p packets due =
     (terms : Terms) (initial opening stamp caller time : ℕ) (m : Publishing) → now ≡ opening + time → StandsFor terms initial opening stamp caller p m
     → texts packets ≡ map (says caller initial time) (due terms time m)
 
--- a payload that is given isn't empty
+-- a payload that is returned isn't empty
 abbrev pub GivesNoneEmpty : (now : ℕ) → Publisher → (payload : Option (List ℕ)) → Type 0
 GivesNoneEmpty now p payload =
     (terms : Terms) (initial opening stamp caller : ℕ) (m : Publishing) → opening ≤ now → StandsFor terms initial opening stamp caller p m
     → IfSome payload (λ bytes. 0 < length bytes)
 
--- for this room the payload that is delivered next is that of the first packet that is due, with that many places
+-- with this room, the payload that is delivered next is the one that the buffer yields with the room `counted`
 abbrev pub CountsAs : Terms → (room counted : ℕ) → Publishing → Type 0
 CountsAs terms room counted m = (time : ℕ) → next_delivery terms time room m ≡ next_due time counted m.receiving
 
@@ -91,11 +92,11 @@ range_between initial first last = range_from initial (record { first = first; l
 abbrev pub data_from : (initial word encryption : ℕ) → (payload : List ℕ) → Heard
 data_from initial word encryption payload = Data (counted_from initial word) encryption payload
 
--- whether this ends the session because the window is lost
+-- whether this packet ends the session because the window is lost
 abbrev pub loses_window_by : Terms → Heard → Publishing → Bool
 loses_window_by terms heard m = loses_window terms.mode terms heard m
 
--- why this ends the session, if it loses its window
+-- the reason for the session's end, if this packet loses the window
 abbrev pub lost_by : Terms → Heard → Publishing → Option PubEnd
 lost_by terms heard m = lost_if (loses_window_by terms heard m)
 
@@ -107,28 +108,28 @@ with_sent time reports m = record m { notes = noted time reports m.notes }
 abbrev pub nak_words : (all : Bool) → Terms → (initial : ℕ) → Publishing → List (ℕ × ℕ)
 nak_words all terms initial m = map (run_words initial) (runs_said (gaps_told all terms.width m.seen m.receiving))
 
--- a packet that was written can be sent
+-- a packet that was written is a valid packet
 abbrev pub IsPacketIf : (written : Bool) → EncodedPacket → Type 0
 IsPacketIf written packet = written ≡ true → IsPacketText (bytes_of packet)
 
--- a packet that wasn't written is as it was
+-- a packet that wasn't written is unchanged
 abbrev pub KeptIfNot : (written : Bool) → (old new : EncodedPacket) → Type 0
 KeptIfNot written old new = written ≡ false → new ≡ old
 
--- the moment at which a packet with this timestamp that comes at a moment is due
+-- `due` is the due time of a packet with this timestamp that arrives at `now`, on the route's clock
 abbrev pub IsDueTime : Agreed → (stamp now : ℕ) → (due : ℤ) → Type 0
 IsDueTime agreed stamp now due =
     (terms : Terms) (time : ℕ) → agreed.mode ≡ terms.mode → agreed.delay ≡ terms.delay → now ≡ agreed.opening + time
     → due ≡ pos agreed.opening +ℤ due_in terms.mode terms time (stamped_from agreed.first.word stamp)
 
--- in live mode these numbers are dropped
+-- in live mode, the numbers from `first` to `last` are dropped
 abbrev pub DropsInLiveMode : (first last : ℕ) → (old new : Publisher) → Type 0
 DropsInLiveMode first last old new =
     (terms : Terms) (initial opening stamp caller : ℕ) (m : Publishing) → terms.mode ≡ Live → StandsFor terms initial opening stamp caller old m
     → StandsFor terms initial opening stamp caller new (record m { receiving = requested terms.width (range_between initial first last) m.receiving })
 
--- the notes and the counts follow a buffer that is ahead: its front and its acknowledgement point were these, and the
--- front passed a packet that is delivered or none
+-- the notes and the counters catch up with a buffer that is ahead. `front` and `point` are the previous front and
+-- acknowledgement point, and the front passed a delivered packet if `is_due`
 abbrev pub CatchesUp : (front point : Seq31) → (is_due : Bool) → (old new : Publisher) → Type 0
 CatchesUp front point is_due old new =
     (terms : Terms) (initial opening stamp caller : ℕ) (m : Publishing) (r : Receiving) → word_of front ≡ number_word initial m.receiving.front

@@ -1,4 +1,4 @@
--- A packet as a publisher's session takes it, its sequence numbers counted from the session's initial one.
+-- A packet as a publisher's session processes it, its sequence numbers counted from the session's initial one.
 use Rattle.std.specs.Prelude.{ℕ, List}
 use Rattle.srt_seq.specs.Window.{counted_from}
 use Rattle.srt_seq.specs.Runs.{Range, range_from}
@@ -12,7 +12,7 @@ pub data Heard : Type 0 where
   -- all other kinds, which change nothing
   Other : Heard
 
--- the same, from a decoded packet body
+-- the contents of a decoded packet body
 abbrev pub heard_from : (initial : ℕ) → grammar.Body → Heard
 heard_from initial (grammar.Data number encryption payload) = Data (counted_from initial number) encryption payload
 heard_from initial (grammar.AckAck number) = AckAck number

@@ -1,4 +1,4 @@
--- What a session's fields keep of its notes: of ACKs, of NAKs, and of the rest.
+-- How a session's fields represent its notes: the ACKs, the measured rates, and the rest.
 use Rattle.std.specs.Prelude.{◌≡◌, ℕ, ◌+◌, ◌-◌, ◌%◌, ◌<◌, ◌≤◌, min, Bool, false, nat_lt, Option, None, Some, List, length, map, slice_get}
 use Rattle.std.specs.Prelude.{slice_index_or}
 use Rattle.srt_rtt.specs.Book as book
@@ -20,25 +20,25 @@ noted_of notes f = record { index = f.index; moment = f.time; is_confirmed = is_
 unfoldable pub book_of : List Note → List book.Noted
 book_of notes = map (noted_of notes) (fulls notes)
 
--- the acknowledgement point and the window's end of the first Full ACK aren't past those of the second
+-- neither the acknowledgement point nor the window's end of the first Full ACK is past that of the second
 pub record IsNotPast (f g : Full) : Type 0 where
   pub point : f.point ≤ g.point
   pub window : f.point + f.available ≤ g.point + g.available
 
--- Full ACKs are numbered in order, what they report never goes back, and it isn't past the current state
+-- Full ACKs are numbered in order, what they report never decreases, and it isn't past the current state
 pub record AreFulls (width front point : ℕ) (fs : List Full) : Type 0 where
   pub numbered : (d : ℕ) (f : Full) → slice_get fs d ≡ Some f → f.index + (d + 1) ≡ length fs
   pub rising : (d e : ℕ) (f g : Full) → d ≤ e → slice_get fs d ≡ Some f → slice_get fs e ≡ Some g → IsNotPast g f
   pub low : (d : ℕ) (f : Full) → slice_get fs d ≡ Some f → width ≤ f.point + f.available
   pub high : (d : ℕ) (f : Full) → slice_get fs d ≡ Some f → (f.point ≤ point) × (f.point + f.available ≤ front + width)
 
--- only Full ACKs that were sent are confirmed
+-- every confirmed Full ACK was sent
 pub record AreConfirmed (notes : List Note) : Type 0 where
   pub latest : (f : Full) → latest_confirmed notes ≡ Some f → (d : ℕ) × (slice_get (fulls notes) d ≡ Some f)
   pub below : (index : ℕ) → length (fulls notes) ≤ index → is_confirmed notes index ≡ false
 
--- these fields have the values that the definitions give: whether the current pair is confirmed, how many of the last
--- 64 Full ACKs reported it, when the last one was sent, and the number of data packets since an ACK, at most 64
+-- the fields have the values that the notes define: whether the current pair is confirmed, how many of the last 64
+-- Full ACKs reported it, the time of the last Full ACK, and the number of data packets since the last ACK, at most 64
 pub record AreAcks (width front point : ℕ) (notes : List Note) (known : Bool) (same last came : ℕ) : Type 0 where
   pub inside : point ≤ front + width
   pub sent : AreFulls width front point (fulls notes)
@@ -52,16 +52,16 @@ pub record AreAcks (width front point : ℕ) (notes : List Note) (known : Bool) 
 abbrev pub AcksStandFor : (width front point : ℕ) → Acks → List Note → Type 0
 AcksStandFor width front point a notes = book.StandsFor a.book (book_of notes) × AreAcks width front point notes a.known a.same a.last a.came
 
--- a ring keeps the last 17 of these times, the newest at the index before `at`
+-- a ring stores the last 17 of these times, the newest at the index before `at`
 pub record AreLatest (at : ℕ) (kept : List (Option ℕ)) (times : List ℕ) : Type 0 where
   pub are : (place : ℕ) → place < 17 → slice_index_or kept ((at + (16 - place)) % 17) None ≡ slice_get times place
 
--- a meter measures or doesn't; if it does, it keeps the last of these times
+-- the meter has this rating, and if it measures, it stores the last of these times
 pub record MeterStandsFor (rating : Rating) (m : Meter) (times : List ℕ) : Type 0 where
   pub rating_is : m.rating ≡ rating
   pub latest : rating ≡ Measured → AreLatest m.at m.times.items times
 
--- a meter keeps what a session of these terms measures
+-- the meter stores the times that a session of these terms measures
 abbrev pub Measures : Terms → Meter → List Note → Type 0
 Measures terms meter notes = MeterStandsFor (rating terms.mode terms.callers) meter (received_at notes)
 
@@ -69,9 +69,9 @@ Measures terms meter notes = MeterStandsFor (rating terms.mode terms.callers) me
 abbrev pub IsRoundTrip : Terms → Rtt → List Note → Type 0
 IsRoundTrip terms rtt notes = times.round_trip_of rtt ≡ round_trip terms.callers notes
 
--- the fields represent these notes: the ACKs, the round trips, when data packets were received, the times of the last
--- data packet, of the last NAK of all gaps and of the last packet sent, and how far past the front the received numbers
--- ended at the end of the event before this one
+-- the fields represent these notes: the ACKs, the round trips, the times at which data packets were received, and the
+-- times of the last data packet, of the last NAK of all gaps and of the last packet sent. `seen` is the end of the
+-- received numbers at the end of the previous event
 pub record LogStandsFor (terms : Terms) (front point : ℕ) (log : Log) (notes : List Note) (seen : ℕ) : Type 0 where
   pub acks : AcksStandFor terms.width front point log.acks notes
   pub times : times.StandsFor terms.callers log.rtt (samples notes)

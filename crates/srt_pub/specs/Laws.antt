@@ -1,11 +1,11 @@
--- Delivering payloads one by one is the same as delivering them together.
+-- Delivering payloads one by one has the same result as delivering them together.
 use Rattle.std.specs.Prelude.{◌≡◌, ℕ, false, Some}
 use Rattle.srt_recvbuf.specs.Receiving.{is_dropped}
 use Rattle.srt_recvbuf.specs.OneByOne.{NothingBeyond, NothingDroppedBeyond}
 use Rattle.srt_pub.specs.Publishing.{Terms, Publishing, deliveries, delivered}
 use Rattle.srt_pub.specs.Calls.{gives, leaves}
 
--- 64 calls, up to the first that gives nothing, give what an event delivers, and leave the session that it leaves
+-- 64 calls, up to the first that returns none, return what an event delivers, and leave the session as the event does
 abbrev pub DeliversOneByOne : Terms → Publishing → Type 0
 DeliversOneByOne terms p = (time room : ℕ) →
     (gives terms time room 64 p ≡ deliveries terms.mode terms time (Some room) p) ×

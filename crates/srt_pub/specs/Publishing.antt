@@ -1,6 +1,6 @@
--- A publisher's session, defined by all that it received and sent. It counts from its own beginning: times in
--- microseconds from its opening, numbers from its initial number, timestamps from its conclusion's. Lists have the
--- newest first.
+-- A publisher's session, defined by everything that it received and sent. Times are microseconds since its opening,
+-- numbers count from its initial number, and timestamps from the timestamp of its conclusion. Lists have the newest
+-- first.
 use Rattle.std.specs.Prelude.{ℕ, zero, suc, ◌+◌, ◌-◌, ◌*◌, ◌/◌, ◌^◌, ℤ, pos, Bool, true, false, Option, None, Some, List, [], ◌∷◌, ◌++◌, find, take, max}
 use Rattle.std.specs.Prelude.{min, length, not, is_none, is_some, nat_lt, nat_le, slice_get, ◌==◌, ◌&&◌, ◌||◌, if◌then◌else◌}
 use Rattle.srt_seq.specs.Limits.{full_ack_interval_us, keep_alive_after_us, light_ack_packets}
@@ -25,7 +25,7 @@ use Rattle.srt_pub.specs.declared.region.Region.TheVariants.{Inside, Ahead, Late
 use Rattle.srt_pub.specs.declared.rates.Rating.{Rating}
 use Rattle.srt_pub.specs.declared.rates.Rating.TheVariants.{Unmeasured, Measured}
 
--- what was agreed: the mode, the window's width in packets, the delay in microseconds, and which rules the callers
+-- the agreed terms: the mode, the window's width in packets, the delay in microseconds, and which rules the callers
 -- follow
 pub record Terms : Type 0 where
   pub mode : Mode
@@ -33,35 +33,35 @@ pub record Terms : Type 0 where
   pub delay : ℕ
   pub callers : Callers
 
--- a Full ACK: the number of Full ACKs before it, when it was sent, and the acknowledgement point and available buffer
--- size that it reported
+-- a Full ACK: the number of Full ACKs before it, the time at which it was sent, and the acknowledgement point and
+-- available buffer size that it reported
 pub record Full : Type 0 where
   pub index : ℕ
   pub time : ℕ
   pub point : ℕ
   pub available : ℕ
 
--- what a session sends
+-- a packet that a session sends
 pub data Report : Type 0 where
   FullAck : (index point round_trip variance available : ℕ) (rates : Rates) → Report
   LightAck : (point : ℕ) → Report
   -- a NAK of all gaps
   NakOfAll : List Run → Report
-  -- a NAK of those gaps that came with this event
+  -- a NAK of the gaps that appeared with this event
   NakOfNew : List Run → Report
   KeepAlive : Report
 
--- an event that the session remembers
+-- an event that the session records
 pub data Note : Type 0 where
-  -- an unencrypted data packet came at this time; its number lies there, and this became of it
+  -- an unencrypted data packet arrived at this time; its number is in this region, and `put` is the buffer's result
+  -- for it
   Came : (time : ℕ) (region : Region) (put : Put) → Note
   -- a packet was sent
   Sent : (time : ℕ) (report : Report) → Note
   -- a Full ACK was confirmed, with this sample of the round-trip time
   Confirmed : (full : Full) (sample : ℕ) → Note
 
--- all that was received, all that happened, and the end of the received numbers at the end of the event before this
--- one
+-- everything received, all notes, and the end of the received numbers at the end of the previous event
 pub record Publishing : Type 0 where
   pub receiving : Receiving
   pub notes : List Note
@@ -71,7 +71,7 @@ pub record Publishing : Type 0 where
 abbrev pub opened : Publishing
 opened = record { receiving = nothing_yet; notes = []; seen = 0 }
 
--- when a packet with this timestamp is due: in buffer mode at once
+-- the due time of a packet with this timestamp: in buffer mode at once
 abbrev pub due_in : Mode → Terms → (time stamp : ℕ) → ℤ
 due_in Live terms time stamp = due_time terms.delay time stamp
 due_in Buffer terms time stamp = pos 0
@@ -130,8 +130,8 @@ latest_confirmed (Confirmed full sample ∷ notes) = later_of full (latest_confi
 abbrev pub says_pair : (point room : ℕ) → Full → Bool
 says_pair point room f = (point == f.point) && (room == f.available)
 
--- whether this pair is confirmed: the latest confirmed Full ACK reported it; before the first confirmation, that is
--- the pair of 0 and the width
+-- whether this pair is confirmed: the latest confirmed Full ACK reported it. Before the first confirmation only the
+-- pair of 0 and the width is confirmed
 abbrev pub is_known : (width point room : ℕ) → Option Full → Bool
 is_known width point room None = (point == 0) && (room == width)
 is_known width point room (Some full) = says_pair point room full
@@ -148,7 +148,7 @@ came_since_ack (Came time region put ∷ notes) = came_since_ack notes + 1
 came_since_ack (Sent time report ∷ notes) = if is_ack report then 0 else came_since_ack notes
 came_since_ack (Confirmed full sample ∷ notes) = came_since_ack notes
 
--- when the last Full ACK was sent; the opening counts as one
+-- the time of the last Full ACK; 0, the opening, without one
 abbrev pub time_of : List Full → ℕ
 time_of [] = 0
 time_of (f ∷ fs) = f.time
@@ -157,7 +157,7 @@ abbrev pub is_nak_of_all : Report → Bool
 is_nak_of_all (NakOfAll rs) = true
 is_nak_of_all _ = false
 
--- when the last packet was sent, and the last NAK of all gaps; the opening counts as both
+-- the time of the last packet sent, and below it the time of the last NAK of all gaps; 0, the opening, without one
 abbrev pub last_sent : List Note → ℕ
 last_sent [] = 0
 last_sent (Came time region put ∷ notes) = last_sent notes
@@ -170,78 +170,79 @@ last_nak_of_all (Came time region put ∷ notes) = last_nak_of_all notes
 last_nak_of_all (Sent time report ∷ notes) = if is_nak_of_all report then time else last_nak_of_all notes
 last_nak_of_all (Confirmed full sample ∷ notes) = last_nak_of_all notes
 
--- when an unencrypted data packet came last; the opening counts as one
+-- the time of the last unencrypted data packet; 0, the opening, without one
 abbrev pub last_came : List Note → ℕ
 last_came [] = 0
 last_came (Came time region put ∷ notes) = time
 last_came (Sent time report ∷ notes) = last_came notes
 last_came (Confirmed full sample ∷ notes) = last_came notes
 
--- with the time of a data packet, if it was the first copy of its number
+-- the times with the time of this data packet, if it was the first copy of its number
 abbrev pub if_new : Put → (time : ℕ) → List ℕ → List ℕ
 if_new New time times = time ∷ times
 if_new Repeat time times = times
 if_new Outside time times = times
 
--- the times at which data packets were received, each number's first copy alone
+-- the times at which data packets were received: the first copy of each number only
 abbrev pub received_at : List Note → List ℕ
 received_at [] = []
 received_at (Came time region put ∷ notes) = if_new put time (received_at notes)
 received_at (Sent time report ∷ notes) = received_at notes
 received_at (Confirmed full sample ∷ notes) = received_at notes
 
--- the time between two packets; a second where one is missing (our choice, as in libsrt)
+-- the time between two packets; a second if one of them is missing (our choice, as in libsrt)
 abbrev pub time_between : (later earlier : Option ℕ) → ℕ
 time_between None earlier = 1_000_000
 time_between (Some later) None = 1_000_000
 time_between (Some later) (Some earlier) = later - earlier
 
--- the interval from the packet before it to the packet of this place; the latest is at place 0
+-- the interval between the packet before it and the packet at this place; the latest is at place 0
 abbrev pub interval : (times : List ℕ) → (place : ℕ) → ℕ
 interval times place = time_between (slice_get times place) (slice_get times (suc place))
 
--- how many of this number of latest intervals are shorter than this time
+-- how many of the latest `number` intervals are shorter than this time
 unfoldable pub shorter : (times : List ℕ) → (time : ℕ) → (number : ℕ) → ℕ
 shorter times time zero = 0
 shorter times time (suc n) = shorter times time n + one_if (nat_lt (interval times n) time)
 
--- the interval of this place; 0 if it is longer than the median, as more than eight of the latest 16 are shorter
+-- the interval at this place; 0 if it is longer than the median, that is, if more than eight of the latest 16 are
+-- shorter
 abbrev pub up_to_median : (times : List ℕ) → (place : ℕ) → ℕ
 up_to_median times place = if nat_lt 8 (shorter times (interval times place) 16) then 0 else interval times place
 
--- the longest of this number of latest intervals that isn't longer than the median
+-- the longest of the latest `number` intervals that isn't longer than the median
 unfoldable pub longest_up_to_median : (times : List ℕ) → (number : ℕ) → ℕ
 longest_up_to_median times zero = 0
 longest_up_to_median times (suc n) = max (longest_up_to_median times n) (up_to_median times n)
 
--- the median of the latest 16 intervals: the ninth of them by length, as libsrt takes it (our choice)
+-- the median of the latest 16 intervals: the ninth of them by length, as in libsrt (our choice)
 abbrev pub median_interval : (times : List ℕ) → ℕ
 median_interval times = longest_up_to_median times 16
 
--- the packets receiving rate, in packets per second, where packets come at this interval: from 1000 to 1,000,000, rounded
--- down (our choice)
+-- the packets receiving rate, in packets per second, for packets that arrive at this interval in microseconds: from
+-- 1000 to 1,000,000, rounded down (our choice)
 abbrev pub rate_at : (interval : ℕ) → ℕ
 rate_at interval = max 1000 (1_000_000 / max interval 1)
 
--- the same, from the times of the packets: 1000 where fewer than ten came
+-- the packets receiving rate from the packets' arrival times: 1000 if fewer than ten arrived
 abbrev pub packet_rate : (times : List ℕ) → ℕ
 packet_rate times = rate_at (median_interval times)
 
--- what a Full ACK says of this rate: the packets receiving rate, the link capacity, at least 100,000, and the receiving
--- rate in bytes, of 1456 in each packet (section 3.2.4; the values are our choice)
+-- the rates that a Full ACK reports for this packets receiving rate: this rate, the link capacity, at least 100,000,
+-- and the receiving rate in bytes, with 1456 bytes in each packet (section 3.2.4; the values are our choice)
 abbrev pub rates_with : (rate : ℕ) → Rates
 rates_with rate = record { packets = rate; capacity = max 100_000 rate; bytes = rate * 1456 }
 
 abbrev pub no_rates : Rates
 no_rates = record { packets = 0; capacity = 0; bytes = 0 }
 
--- whether a session measures how fast packets come: in buffer mode, where the callers speak libsrt
+-- whether a session measures packet rates: only in buffer mode, with callers that use libsrt
 abbrev pub rating : Mode → Callers → Rating
 rating Live callers = Unmeasured
 rating Buffer Draft = Unmeasured
 rating Buffer Libsrt = Measured
 
--- what its Full ACKs say of the rates
+-- the rates that the session's Full ACKs report
 abbrev pub rates_in : Rating → (times : List ℕ) → Rates
 rates_in Unmeasured times = no_rates
 rates_in Measured times = rates_with (packet_rate times)
@@ -249,7 +250,7 @@ rates_in Measured times = rates_with (packet_rate times)
 abbrev pub rates_of : Terms → List Note → Rates
 rates_of terms notes = rates_in (rating terms.mode terms.callers) (received_at notes)
 
--- whether a Full ACK is due: 10 ms after the last one, as long as the current pair isn't confirmed (section 4.8.1;
+-- whether a Full ACK is due: the last one is at least 10 ms ago and the current pair isn't confirmed (section 4.8.1;
 -- that a confirmed pair isn't sent again is our choice)
 unfoldable pub is_full_due : (width point room time : ℕ) → List Note → Bool
 is_full_due width point room time notes = nat_le full_ack_interval_us (time - time_of (fulls notes)) && not (is_known width point room (latest_confirmed notes))
@@ -263,7 +264,7 @@ abbrev pub full_ack : Terms → (point room : ℕ) → List Note → Report
 full_ack terms point room notes =
     FullAck (length (fulls notes)) point (round_trip terms.callers notes).time (round_trip terms.callers notes).variance room (rates_of terms notes)
 
--- the ACK that is due: one at most, and a Full ACK before a Light one
+-- the ACK that is due: at most one, and a Full ACK before a Light ACK
 abbrev pub ack_of : (full light : Bool) → (full_one light_one : Report) → List Report
 ack_of true light full_one light_one = full_one ∷ []
 ack_of false true full_one light_one = light_one ∷ []
@@ -273,7 +274,7 @@ unfoldable pub acks_at : Terms → (point room time : ℕ) → List Note → Lis
 acks_at terms point room time notes =
     ack_of (is_full_due terms.width point room time notes) (is_light_due notes) (full_ack terms point room notes) (LightAck point)
 
--- the ACK that is due in a session, if one is
+-- the ACK that is due in a session, if any
 abbrev pub acks : Terms → (time : ℕ) → Publishing → List Report
 acks terms time p = acks_at terms (ack_point terms.width p.receiving) (available terms.width p.receiving) time p.notes
 
@@ -289,11 +290,11 @@ abbrev pub nak_with : (all : Bool) → List Run → List Report
 nak_with all [] = []
 nak_with all (r ∷ rs) = nak_report all (r ∷ rs) ∷ []
 
--- whether a NAK of all gaps is due (section 4.8.2)
+-- whether a NAK of all gaps is due: the last one is at least the NAK interval ago (section 4.8.2)
 abbrev pub is_nak_due : Callers → (time : ℕ) → List Note → Bool
 is_nak_due callers time notes = nat_le (nak_interval (round_trip callers notes)) (time - last_nak_of_all notes)
 
--- the gaps that a NAK reports: all of them at each interval, else those above the numbers received before this event
+-- the gaps that a NAK reports: all gaps at each interval, else those above the numbers received before this event
 -- (section 4.8.2)
 abbrev pub gaps_told : (all : Bool) → (width seen : ℕ) → Receiving → List ℕ
 gaps_told true width seen r = gaps width r
@@ -302,7 +303,7 @@ gaps_told false width seen r = gaps_from width (max seen r.front) r
 abbrev pub naks_of : (all : Bool) → (width seen : ℕ) → Receiving → List Report
 naks_of all width seen r = nak_with all (runs_said (gaps_told all width seen r))
 
--- the NAK that is due in a session, if one is
+-- the NAK that is due in a session, if any
 unfoldable pub naks : Terms → (time : ℕ) → Publishing → List Report
 naks terms time p = naks_of (is_nak_due terms.callers time p.notes) terms.width p.seen p.receiving
 
@@ -311,7 +312,7 @@ abbrev pub keep_alive_if : Bool → List Report
 keep_alive_if true = KeepAlive ∷ []
 keep_alive_if false = []
 
--- a KEEPALIVE only if nothing else is sent
+-- the KEEPALIVE that is due, only if nothing else is sent
 abbrev pub keep_alives : (time : ℕ) → List Report → List Note → List Report
 keep_alives time (r ∷ rs) notes = []
 keep_alives time [] notes = keep_alive_if (nat_le keep_alive_after_us (time - last_sent notes))
@@ -322,23 +323,23 @@ reports terms time p =
     let due = acks terms time p ++ naks terms time p in
     due ++ keep_alives time due p.notes
 
--- with these packets sent, the first of them first
+-- the notes after these packets were sent, the first of them first
 abbrev pub noted : (time : ℕ) → List Report → List Note → List Note
 noted time [] notes = notes
 noted time (r ∷ rs) notes = noted time rs (Sent time r ∷ notes)
 
--- the session after an event's end
+-- the session after the end of an event
 abbrev pub reported : Terms → (time : ℕ) → Publishing → Publishing
 reported terms time p = record { receiving = p.receiving; notes = noted time (reports terms time p) p.notes; seen = end_of p.receiving.arrivals }
 
 -- the payloads that an event delivers. `room` is the least room of the open subscribers, None without a subscriber or
--- for a publisher that stands by; it counts in buffer mode only (sections 4.2 and 4.6)
+-- for a standby publisher; it is used in buffer mode only (sections 4.2 and 4.6)
 unfoldable pub deliveries : Mode → Terms → (time : ℕ) → (room : Option ℕ) → Publishing → List Arrival
 deliveries Live terms time room p = deliverable time p.receiving
 deliveries Buffer terms time None p = []
 deliveries Buffer terms time (Some room) p = in_order terms.width room p.receiving
 
--- the session after these payloads were delivered
+-- the session after the delivery of these payloads
 abbrev pub delivered : Terms → (time : ℕ) → (room : Option ℕ) → Publishing → Publishing
 delivered terms time room p = record p { receiving = passed terms.width (deliveries terms.mode terms time room p) p.receiving }
 
@@ -350,18 +351,18 @@ abbrev pub confirmed_notes : (time : ℕ) → Option Full → List Note → List
 confirmed_notes time None notes = notes
 confirmed_notes time (Some full) notes = Confirmed full (sample_of time full) ∷ notes
 
--- after an ACKACK; None if it confirms no Full ACK
+-- the session after an ACKACK; None means that it confirms no Full ACK
 abbrev pub confirmed_at : (time : ℕ) → Option Full → Publishing → Publishing
 confirmed_at time full p = record p { notes = confirmed_notes time full p.notes }
 
--- where a data packet's number lies, seen from the window: in it, ahead of it by fewer than 2^30, or neither
+-- the region of a data packet's number: in the window, ahead of it by fewer than 2^30, or neither
 unfoldable pub region_in : (width number : ℕ) → Receiving → Region
 region_in width number r =
     if is_some (in_window number r.front width) then Inside
     else if is_some (in_window number (r.front + width) (2 ^ 30)) then Ahead
     else Late
 
--- after an unencrypted data packet
+-- the session after an unencrypted data packet
 abbrev pub with_data : Terms → (time stamp number : ℕ) → List ℕ → Publishing → Publishing
 with_data terms time stamp number payload p =
     record {
@@ -370,20 +371,20 @@ with_data terms time stamp number payload p =
       seen = p.seen;
     }
 
--- after a drop request, which counts in live mode only (our choice)
+-- the session after a drop request, which changes something in live mode only (our choice)
 abbrev pub with_request : Mode → Terms → Range → Publishing → Publishing
 with_request Live terms range p = record p { receiving = requested terms.width range p.receiving }
 with_request Buffer terms range p = p
 
--- after a packet; an encrypted one changes nothing
+-- the session after a packet; an encrypted data packet changes nothing
 abbrev pub took : Terms → (time stamp : ℕ) → Heard → Publishing → Publishing
 took terms time stamp (Data number encryption payload) p = if encryption == 0 then with_data terms time stamp number payload p else p
 took terms time stamp (AckAck number) p = confirmed_at time (confirmed_by number p.notes) p
 took terms time stamp (DropRequest range) p = with_request terms.mode terms range p
 took terms time stamp Other p = p
 
--- whether something that was received is still to be delivered: in live mode a packet at or above the front, in buffer
--- mode the front's own
+-- whether a received packet is still to be delivered: in live mode any packet at or above the front, in buffer mode
+-- only the front's
 abbrev pub has_undelivered : Mode → Receiving → Bool
 has_undelivered Live r = is_waiting r
 has_undelivered Buffer r = is_received r r.front

@@ -13,7 +13,7 @@ use Rattle.srt_pub.specs.Publishing.{Report, FullAck, LightAck, NakOfAll, NakOfN
 abbrev pub range_said : (initial : ℕ) → Run → Range
 range_said initial run = record { first = number_word initial run.low; last = number_word initial run.high }
 
--- the loss list of runs, in words
+-- the words of a loss list with these runs
 abbrev pub losses_said : (initial : ℕ) → List Run → List ℕ
 losses_said initial rs = loss_words (map (range_said initial) rs)
 
@@ -30,7 +30,7 @@ abbrev pub second_word : Report → ℕ
 second_word (FullAck index point round_trip variance available rates) = ack_number index
 second_word _ = 0
 
--- the body, in words
+-- the words of the packet's control information
 abbrev pub other_words : (initial : ℕ) → Report → List ℕ
 other_words initial (FullAck index point round_trip variance available rates) =
     number_word initial point ∷ round_trip ∷ variance ∷ available ∷ rates.packets ∷ rates.capacity ∷ rates.bytes ∷ []

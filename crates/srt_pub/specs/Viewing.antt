@@ -1,4 +1,4 @@
--- What a look at a publisher's session shows.
+-- The snapshot of a publisher's session.
 use Rattle.std.specs.Prelude.{◌≡◌, ◌-◌}
 use Rattle.srt_rtt.specs.RoundTrip.{RoundTrip}
 use Rattle.srt_recvbuf.specs.Receiving.{end_of, available}
@@ -9,7 +9,7 @@ use Rattle.srt_pub.specs.declared.statistics.Statistics.{Statistics}
 abbrev pub shown_round_trip : Statistics → RoundTrip
 shown_round_trip x = record { time = x.rtt; variance = x.variance }
 
--- these are the counts and the state of a session
+-- `x` has the counters and the state of the session
 pub record AreStatistics (terms : Terms) (m : Publishing) (x : Statistics) : Type 0 where
   pub counts_are : Counted x.counts m.receiving.arrivals (delivered_in m.receiving) m.receiving.front m.notes
   pub in_use_is : x.in_use ≡ end_of m.receiving.arrivals - m.receiving.front

@@ -21,27 +21,27 @@ use std::alloc::{AllocError, Global};
 pub struct State {
     /// The acknowledgement point.
     pub point: Seq31,
-    /// The available buffer size: how many packets from the acknowledgement point on have room.
+    /// The available buffer size: the number of packets from the acknowledgement point on for which there is room.
     pub available: u32,
 }
 
-/// Which Full ACKs were sent, and whether the current pair of acknowledgement point and available buffer size is
+/// The Full ACKs that were sent, and whether the current pair of acknowledgement point and available buffer size is
 /// confirmed.
 ///
-/// The acknowledgement point and the window's end only grow. So a Full ACK that reported another pair can never match
-/// the current one again, and it is enough to count the Full ACKs since the pair last changed. Times are microseconds
-/// since the opening.
+/// The acknowledgement point and the window's end never decrease. So a Full ACK that reported another pair can never
+/// match the current one again, and it is enough to count the Full ACKs since the pair last changed. Times are
+/// microseconds since the opening.
 #[derive(Drop)]
 pub struct Acks {
     book: AckBook,
-    /// Whether the current pair is confirmed: the latest confirmed Full ACK, or the opening if there is none,
-    /// reported it.
+    /// Whether the current pair is confirmed: the latest confirmed Full ACK reported it, or the opening if there is
+    /// none.
     known: bool,
-    /// The number of newest Full ACKs that reported the current pair; it stops at 64.
+    /// Number of newest Full ACKs that reported the current pair; stops at 64.
     same: usize,
-    /// When the last Full ACK was sent; 0 at first.
+    /// Time of the last Full ACK; 0 at first.
     last: u64,
-    /// The number of data packets since the last ACK of either kind; it stops at 64.
+    /// Number of data packets since the last ACK of either kind; stops at 64.
     came: u32,
 }
 
@@ -50,7 +50,7 @@ impl Acks {
     ghost use Rattle.srt_pub.specs.inside.Noting.{AcksBecome, AcksHoldOf, AcksMove, CountsAcks, NotesAck, NotesFullAck, WritesAck};
     ghost use Rattle.srt_pub.specs.inside.Noting.{WritesFullAck, WritesLightAck};
 
-    /// No ACK was sent yet. The only call that allocates; the error is a refused allocation.
+    /// Allocates the state before the first ACK. The only call that allocates; the error is a failed allocation.
     pub fn open(alloc: Global) -> Result<Acks, AllocError>
         ensures { IfOk result (λ a. (width : ℕ) → AcksStandFor width 0 0 a []) }
     {
@@ -63,7 +63,7 @@ impl Acks {
         })
     }
 
-    /// Forgets everything, as at an opening.
+    /// Discards everything, as at an opening.
     pub fn clear(&mut self)
         ensures { (width : ℕ) → AcksStandFor width 0 0 self.new [] }
     {
@@ -74,14 +74,14 @@ impl Acks {
         self.came = 0;
     }
 
-    /// Counts an unencrypted data packet, whatever its number.
+    /// Counts an unencrypted data packet with any number.
     pub fn came(&mut self)
         ensures { (time : ℕ) (region : Region) (put : Put) → AcksBecome self.old self.new (λ point notes. Came time region put ∷ notes) }
     {
         self.came = self.came.saturating_add(1).min(LIGHT_ACK_PACKETS);
     }
 
-    /// Notes that the front and the acknowledgement point moved on by these numbers of packets. If either moved, the
+    /// Records that the front and the acknowledgement point moved on by these numbers of packets. If either moved, the
     /// pair is a new one.
     pub fn moves(&mut self, front_steps: u32, point_steps: u32)
         ensures { AcksMove front_steps point_steps self.old self.new }
@@ -93,7 +93,7 @@ impl Acks {
         self.same = 0;
     }
 
-    /// Notes an ACKACK with this number, at a time in microseconds since the opening (section 3.2.8). Returns the
+    /// Records an ACKACK with this number, at a time in microseconds since the opening (section 3.2.8). Returns the
     /// sample of the round-trip time, in microseconds, at most 10 seconds. None if it confirms none of the last 64
     /// Full ACKs, or one that was confirmed before.
     pub fn confirm(&mut self, number: u32, time: u64) -> Option<u64>
@@ -116,14 +116,14 @@ impl Acks {
         time.saturating_sub(self.last) >= FULL_ACK_INTERVAL_US
     }
 
-    /// Whether a Light ACK is due if no Full ACK is: 64 data packets came since the last ACK.
+    /// Whether a Light ACK is due if no Full ACK is: 64 data packets arrived since the last ACK.
     fn is_light_due(&self) -> bool
         ensures { AcksHoldOf self.now (λ width front point notes. result ≡ is_light_due notes) }
     {
         self.came >= LIGHT_ACK_PACKETS
     }
 
-    /// Writes a Full ACK and notes that it is sent.
+    /// Writes a Full ACK and records that it is sent.
     fn full(&mut self, time: u64, state: State, rtt: Rtt, rates: Rates, body: &mut Body<'_>)
         ensures stands { NotesFullAck time state.available rtt rates self.old self.new }
         ensures bytes { WritesFullAck time state.point state.available rtt rates self.old body.new }
@@ -142,7 +142,7 @@ impl Acks {
         };
     }
 
-    /// Writes a Light ACK and notes that it is sent.
+    /// Writes a Light ACK and records that it is sent.
     fn light(&mut self, time: u64, point: Seq31, body: &mut Body<'_>)
         ensures stands { AcksBecome self.old self.new (λ a notes. noted time (TheLightAck a ∷ []) notes) }
         ensures bytes { WritesLightAck time point body.new }
@@ -152,8 +152,8 @@ impl Acks {
         *body = Body::LightAck { point };
     }
 
-    /// Writes the body of the ACK that is due at a time in microseconds since the opening: a Full ACK, or else a
-    /// Light one. Returns whether one is due; if not, `body` is unchanged and nothing is noted. O(1).
+    /// Writes the body of the ACK that is due at a time in microseconds since the opening: a Full ACK, or else a Light
+    /// ACK. Returns whether one is due; if not, `body` is unchanged and nothing is recorded. O(1).
     pub fn report(
         &mut self,
         time: u64,
@@ -180,8 +180,8 @@ impl Acks {
     }
 }
 
-/// Whether the current pair is confirmed once the Full ACK `place` positions before the newest one is confirmed;
-/// `same` is the number of newest Full ACKs that reported this pair.
+/// Whether the current pair is confirmed after the confirmation of the Full ACK that is `place` positions before the
+/// newest one. `same` is the number of newest Full ACKs that reported this pair.
 fn is_known_after(known: bool, place: usize, same: usize) -> bool
     ensures { result ≡ (known || nat_lt place same) }
 {

@@ -1,7 +1,7 @@
 //! The reasons why a packet ends a publisher's session.
 
-/// Why a packet ends a publisher's session. A session also ends if nothing is heard for five seconds; that is in
-/// `srt_route`.
+/// The reason why a packet ends a publisher's session. A session also ends if nothing is received for five seconds;
+/// that is in `srt_route`.
 #[derive(Clone, Copy, Debug, PartialEq, Eq)]
 pub enum PubEnd {
     /// The publisher sent a SHUTDOWN (section 3.2.7).

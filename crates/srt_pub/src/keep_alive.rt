@@ -1,4 +1,4 @@
-//! A publisher's KEEPALIVE: after a second in which nothing was sent (draft-sharabayko-srt-01, section 3.2.3).
+//! A publisher's KEEPALIVE: sent after a second in which nothing was sent (draft-sharabayko-srt-01, section 3.2.3).
 
 ghost use Rattle.std.specs.Prelude.{◌≡◌, ◌-◌, ◌∷◌, true, false, nat_le};
 ghost use Rattle.srt_seq.specs.Given.{given};
@@ -18,7 +18,7 @@ impl Publisher {
     ghost use Rattle.srt_pub.specs.Stands.{opening_of};
     ghost use Rattle.srt_pub.specs.Changes.{Becomes, Writes, with_sent};
 
-    /// Writes a KEEPALIVE, if one is due and neither an ACK nor a NAK is sent. Returns whether there is one; if not,
+    /// Writes a KEEPALIVE, if one is due and neither an ACK nor a NAK is sent. Returns whether it did; if not,
     /// `packet` is unchanged.
     pub(crate) fn keep_alive(
         &mut self,
@@ -58,7 +58,7 @@ impl Log {
         time.saturating_sub(self.sent) >= KEEP_ALIVE_AFTER_US
     }
 
-    /// Notes that a KEEPALIVE is sent.
+    /// Records that a KEEPALIVE is sent.
     pub fn keep_alive(&mut self, time: u64)
         ensures { LogBecomes self.old self.new (λ notes. Sent time TheKeepAlive ∷ notes) }
     {

@@ -6,7 +6,7 @@ ghost use Rattle.srt_pub.specs.Changes.{HoldsOf};
 use crate::Publisher;
 
 /// Payloads can be delivered one by one: those that `next_due` returns before 64 calls of `note_delivered`, up to the
-/// first that returns false, are what the definition of an event delivers together.
+/// first call that returns false, are the payloads that an event delivers together.
 pub fn deliveries(publisher: &Publisher)
     ensures { HoldsOf publisher.now (λ terms initial m. DeliversOneByOne terms m) }
 {}

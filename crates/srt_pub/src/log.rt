@@ -1,5 +1,5 @@
-//! What a session remembers of its events: acknowledgements, round trips and the times of its last packets. Which NAK
-//! is due is in `nak.rt`, and whether a KEEPALIVE is, in `keep_alive.rt`.
+//! The state that a session keeps of its events: acknowledgements, round trips and the times of its last packets.
+//! Which NAK is due is in `nak.rt`, and whether a KEEPALIVE is due in `keep_alive.rt`.
 
 ghost use Rattle.std.specs.Prelude.{◌≡◌, ℕ, ◌+◌, ◌-◌, ◌≤◌, [], ◌∷◌, IfOk, true, false};
 ghost use Rattle.srt_seq.specs.Given.{given};
@@ -18,24 +18,24 @@ use srt_rtt::SampledRtt;
 use srt_seq::{Callers, Mode};
 use std::alloc::{AllocError, Global};
 
-/// What a session remembers of its events. All times are microseconds since the opening, which counts as the last NAK,
-/// as the last packet sent and as the last data packet at first.
+/// The state that a session keeps of its events. All times are microseconds since the opening. At the opening, the
+/// times of the last NAK, the last packet sent and the last data packet are 0.
 #[derive(Drop)]
 pub struct Log {
-    /// The ACKs that were sent, and which are due.
+    /// The ACKs that were sent, and whether one is due.
     pub acks: Acks,
     /// The smoothed round-trip time and its variance (section 4.10).
     pub rtt: SampledRtt,
-    /// When the last new data packets came.
+    /// Times of the last new data packets.
     pub meter: Meter,
-    /// When an unencrypted data packet came last.
+    /// Time of the last unencrypted data packet.
     pub came: u64,
-    /// When the last NAK of all gaps was sent.
+    /// Time of the last NAK of all gaps.
     pub nak: u64,
-    /// When the last ACK, NAK or KEEPALIVE was sent.
+    /// Time of the last ACK, NAK or KEEPALIVE.
     pub sent: u64,
-    /// The distance from the front to the end of the received numbers, in packets, at the end of the last event. A
-    /// NAK of new gaps starts there.
+    /// Distance from the front to the end of the received numbers, in packets, at the end of the last event. A NAK of
+    /// new gaps starts there.
     pub seen: u32,
 }
 
@@ -43,8 +43,7 @@ impl Log {
     ghost use Rattle.srt_pub.specs.Kept.{LogStandsFor};
     ghost use Rattle.srt_pub.specs.inside.Noting.{LogBecomes, LogMoves, LogNotesAck, LogSees, LogWritesAck, ReportsFullWindow};
 
-    /// A session in which nothing has happened yet. The only call that allocates; the error is a refused
-    /// allocation.
+    /// Allocates the log of a session without events. The only call that allocates; the error is a failed allocation.
     pub fn open(alloc: Global) -> Result<Log, AllocError>
         ensures { IfOk result (λ log. (terms : Terms) → terms.mode ≡ TheLive → terms.callers ≡ TheDraft → LogStandsFor terms 0 0 log [] 0) }
     {
@@ -59,7 +58,7 @@ impl Log {
         })
     }
 
-    /// Forgets everything, as at an opening in this mode, with callers that follow these rules.
+    /// Discards everything, as at an opening in this mode, with callers that follow these rules.
     pub fn reset(&mut self, mode: Mode, callers: Callers)
         ensures { (terms : Terms) → terms.mode ≡ mode → terms.callers ≡ callers → LogStandsFor terms 0 0 self.new [] 0 }
     {
@@ -72,7 +71,7 @@ impl Log {
         self.seen = 0;
     }
 
-    /// Notes that an unencrypted data packet came at a time, of which this became.
+    /// Records the arrival of an unencrypted data packet at a time; `put` is the buffer's result for it.
     pub fn note_data(&mut self, put: Put, time: u64)
         ensures { (region : Region) → LogBecomes self.old self.new (λ notes. Came time region put ∷ notes) }
     {
@@ -81,7 +80,7 @@ impl Log {
         self.came = time;
     }
 
-    /// Notes that the front and the acknowledgement point moved on by these numbers of packets.
+    /// Records that the front and the acknowledgement point moved on by these numbers of packets.
     pub fn moves(&mut self, front_steps: u32, point_steps: u32)
         ensures { LogMoves front_steps point_steps self.old self.new }
     {
@@ -89,7 +88,7 @@ impl Log {
         self.seen = self.seen.saturating_sub(front_steps);
     }
 
-    /// Notes an ACKACK with this number. If it confirms one of the last 64 Full ACKs for the first time, that gives a
+    /// Records an ACKACK with this number. If it confirms one of the last 64 Full ACKs for the first time, it yields a
     /// sample of the round-trip time (section 3.2.8).
     pub fn confirm(&mut self, number: u32, time: u64)
         ensures { LogBecomes self.old self.new (λ notes. confirmed_notes time (confirmed_by number notes) notes) }
@@ -99,8 +98,7 @@ impl Log {
         }
     }
 
-    /// Writes the body of the ACK that is due, Full or Light. Returns whether one is due; if not, `body` is
-    /// unchanged.
+    /// Writes the body of the ACK that is due, Full or Light. Returns whether one is due; if not, `body` is unchanged.
     pub fn ack(&mut self, time: u64, state: State, body: &mut Body<'_>) -> bool
         ensures stands { LogNotesAck time state.available self.old self.new }
         ensures bytes { LogWritesAck time state.point state.available self.old (listed (given result body.new)) }
@@ -117,7 +115,7 @@ impl Log {
         false
     }
 
-    /// Whether a Full ACK is due, and it says that no place is available.
+    /// Whether a Full ACK is due that reports no available place.
     pub fn is_window_full(&self, time: u64, available: u32) -> bool
         ensures { ReportsFullWindow time available self.now result }
     {
@@ -127,7 +125,7 @@ impl Log {
         self.acks.is_full_due(time)
     }
 
-    /// Notes the end of an event, at which the received numbers end `seen` packets past the front.
+    /// Records the end of an event, at which the received numbers end `seen` packets past the front.
     pub fn see(&mut self, seen: u32)
         ensures { LogSees seen self.old self.new }
     {
@@ -135,7 +133,7 @@ impl Log {
     }
 }
 
-/// Whether a session measures how fast packets come: in buffer mode, where the callers speak libsrt.
+/// Whether a session measures packet rates: only in buffer mode, with callers that use libsrt.
 fn rating(mode: Mode, callers: Callers) -> Rating
     ensures { result ≡ rating mode callers }
 {

@@ -1,5 +1,5 @@
-//! NAKs: of all gaps at each NAK interval, else of the gaps that an event brought (draft-sharabayko-srt-01, sections
-//! 3.2.5 and 4.8.2).
+//! NAKs: of all gaps at each NAK interval, else of the gaps that appeared with an event (draft-sharabayko-srt-01,
+//! sections 3.2.5 and 4.8.2).
 
 ghost use Rattle.std.specs.Prelude.{◌≡◌, List, ◌∷◌, true, false, if◌then◌else◌};
 ghost use Rattle.srt_seq.specs.Given.{given};
@@ -24,7 +24,7 @@ impl Publisher {
     ghost use Rattle.srt_pub.specs.Changes.{Becomes, HoldsOf, Writes, nak_words, with_sent};
 
     /// Writes the NAK that is due: of all gaps at each NAK interval, else of the new gaps (section 4.8.2). Returns
-    /// whether one is; if not, `packet` is unchanged.
+    /// whether one is due; if not, `packet` is unchanged.
     pub(crate) fn nak(&mut self, time: u64, packet: &mut EncodedPacket) -> bool
         ensures stands { Becomes self.old self.new (λ terms initial m. with_sent time (naks terms time m) m) }
         ensures opening { opening_of self.new ≡ opening_of self.old }
@@ -49,7 +49,7 @@ impl Publisher {
         true
     }
 
-    /// The runs that a NAK reports: of all gaps, or of those above the numbers received before this event.
+    /// Returns the runs that a NAK reports: of all gaps, or of those above the numbers received before this event.
     fn runs(&self, all: bool) -> ArrayVec<(Seq31, Seq31), 32>
         ensures { HoldsOf self.now (λ terms initial m. words_of result.items ≡ nak_words all terms initial m) }
     {
@@ -61,7 +61,7 @@ impl Publisher {
         }
     }
 
-    /// Ends the event: the received numbers of now count as known for the next NAK of new gaps.
+    /// Ends the event: the next NAK of new gaps starts at the current end of the received numbers.
     pub(crate) fn see(&mut self)
         ensures stands { Becomes self.old self.new (λ terms initial m. record m { seen = end_of m.receiving.arrivals }) }
         ensures opening { opening_of self.new ≡ opening_of self.old }
@@ -81,7 +81,7 @@ impl Log {
         time.saturating_sub(self.nak) >= self.rtt.values().nak_interval()
     }
 
-    /// Notes that a NAK is sent, of all gaps or of new ones only.
+    /// Records that a NAK is sent, of all gaps or of new ones only.
     pub fn nak(&mut self, time: u64, all: bool)
         ensures { (rs : List Run) → LogBecomes self.old self.new (λ notes. Sent time (nak_report all rs) ∷ notes) }
     {
@@ -90,14 +90,14 @@ impl Log {
     }
 }
 
-/// How many numbers are from `first` to `last`, both included.
+/// Returns the number of numbers from `first` to `last`, inclusive.
 fn numbers_between(first: Seq31, last: Seq31) -> u64
     ensures { result ≡ numbers_between first last }
 {
     u64::from(steps(first, last)) + 1
 }
 
-/// How many numbers are in these runs, each given by its first and its last number. Stops at 2^64 - 1.
+/// Returns the number of numbers in these runs, each a pair of its first and its last number. Stops at 2^64 - 1.
 fn numbers_in(runs: &ArrayVec<(Seq31, Seq31), 32>) -> u64
     ensures { result ≡ capped (numbers_in_pairs runs.now.items) }
 {
@@ -109,7 +109,7 @@ fn numbers_in(runs: &ArrayVec<(Seq31, Seq31), 32>) -> u64
     count
 }
 
-/// `time` if `all`, else `before`.
+/// Returns `time` if `all`, else `before`.
 fn later_if(all: bool, time: u64, before: u64) -> u64
     ensures { result ≡ (if all then time else before) }
 {

@@ -1,4 +1,5 @@
-//! What a route asks of a publisher's session: whether something is left to deliver, and how long ago data came.
+//! The state that a route polls of a publisher's session: whether a payload is left to deliver, and the time since the
+//! last data packet.
 
 ghost use Rattle.std.specs.Prelude.{◌≡◌, ◌-◌};
 ghost use Rattle.srt_pub.specs.Publishing.{has_undelivered, last_came};
@@ -9,8 +10,8 @@ use srt_seq::Mode;
 impl Publisher {
     ghost use Rattle.srt_pub.specs.Changes.{HoldsOf, HoldsOfAt};
 
-    /// Whether something that was received is still to be delivered: in live mode any packet, whatever is missing
-    /// before it; in buffer mode the next one in order. O(1).
+    /// Whether a received packet is still to be delivered: in live mode any packet, also after missing ones; in buffer
+    /// mode the next one in order. O(1).
     pub fn has_undelivered(&self) -> bool
         ensures { HoldsOf self.now (λ terms initial m. result ≡ has_undelivered terms.mode m.receiving) }
     {
@@ -20,8 +21,8 @@ impl Publisher {
         }
     }
 
-    /// How long ago an unencrypted data packet came last, in microseconds; if none came, how long ago the opening was.
-    /// O(1).
+    /// Returns the time since the last unencrypted data packet, in microseconds; since the opening if none has
+    /// arrived. O(1).
     pub fn silent_for(&self, now: u64) -> u64
         ensures { HoldsOfAt now self.now (λ terms time m. result ≡ time - last_came m.notes) }
     {

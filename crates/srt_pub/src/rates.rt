@@ -1,5 +1,6 @@
-//! How fast data packets come: the last words of a Full ACK (draft-sharabayko-srt-01, section 3.2.4). In buffer mode,
-//! where the callers speak libsrt, its congestion control sends as fast as these words say; all other sessions say 0.
+//! Measured packet rates: the last words of a Full ACK (draft-sharabayko-srt-01, section 3.2.4). In buffer mode, the
+//! congestion control of callers that use libsrt sends at the rate that these words report; all other sessions report
+//! 0.
 
 ghost use Rattle.std.specs.Prelude.{◌≡◌, ℕ, ◌<◌, ◌≤◌, List, [], ◌∷◌, IfOk, vec_len, nat_lt, slice_get};
 ghost use Rattle.srt_seq.specs.Capped.{one_if};
@@ -11,41 +12,41 @@ use srt_packet::Rates;
 use srt_recvbuf::Put;
 use std::alloc::{AllocError, Global};
 
-/// The number of times that are kept: of the latest new packet and of the 16 before it.
+/// Number of stored times: of the latest new packet and of the 16 before it.
 const TIMES_KEPT: usize = 17;
 
-/// The number of intervals between the times that are kept.
+/// Number of intervals between the stored times.
 const INTERVALS: usize = 16;
 
-/// How many of these are shorter than their median at most: it is the ninth of them by length (our choice).
+/// Maximum number of intervals that are shorter than the median, which is the ninth by length (our choice).
 const MOST_SHORTER: usize = 8;
 
-/// What counts as the interval before a packet that is missing, in microseconds (our choice, as in libsrt).
+/// The interval before a packet that is missing, in microseconds (our choice, as in libsrt).
 const MISSING_INTERVAL_US: u64 = 1_000_000;
 
-/// The least packets receiving rate that a Full ACK says, in packets per second (our choice).
+/// Minimum packets receiving rate that a Full ACK reports, in packets per second (our choice).
 const MIN_PACKET_RATE: u64 = 1000;
 
-/// The least link capacity that a Full ACK says, in packets per second (our choice).
+/// Minimum link capacity that a Full ACK reports, in packets per second (our choice).
 const MIN_LINK_CAPACITY: u32 = 100_000;
 
-/// Whether a session measures how fast packets come.
+/// Whether a session measures packet rates.
 #[derive(Clone, Copy, Debug, PartialEq, Eq)]
 pub enum Rating {
-    /// It doesn't: its Full ACKs say 0.
+    /// Not measured: its Full ACKs report 0.
     Unmeasured,
-    /// It does: its Full ACKs say what it measured.
+    /// Measured: its Full ACKs report the measured rates.
     Measured,
 }
 
-/// When the last new data packets came, in microseconds since the opening.
+/// The times at which the last new data packets arrived, in microseconds since the opening.
 #[derive(Drop)]
 pub struct Meter {
-    /// Whether times are kept.
+    /// Whether times are stored.
     rating: Rating,
     /// The index at which the next time is stored. The latest is at the index before, modulo 17.
     at: usize,
-    /// The times; None where fewer than 17 packets came.
+    /// The times; None where fewer than 17 packets arrived.
     times: Vec<Option<u64>>,
     ghost at_in: { at < 17 },
     ghost places: { vec_len times ≡ 17 },
@@ -56,7 +57,7 @@ impl Meter {
     ghost use Rattle.srt_pub.specs.declared.rates.Rating.{Rating as TheRating};
     ghost use Rattle.srt_pub.specs.declared.rates.Rating.TheVariants.{Unmeasured};
 
-    /// A meter that measures nothing. The only call that allocates; the error is a failed allocation.
+    /// Allocates a meter that measures nothing. The only call that allocates; the error is a failed allocation.
     pub fn open(alloc: Global) -> Result<Meter, AllocError>
         ensures { IfOk result (λ meter. MeterStandsFor Unmeasured meter []) }
     {
@@ -67,7 +68,7 @@ impl Meter {
         })
     }
 
-    /// Forgets all times, as at an opening.
+    /// Discards all times, as at an opening.
     pub fn start(&mut self, rating: Rating)
         ensures { MeterStandsFor rating self.new [] }
     {
@@ -76,7 +77,8 @@ impl Meter {
         self.times.fill(None);
     }
 
-    /// Notes that a data packet came at a time, of which this became. Only the first copy of a number counts.
+    /// Records the arrival of a data packet at a time; `put` is the buffer's result for it. Only the first copy of a
+    /// number is counted.
     pub fn come(&mut self, put: Put, time: u64)
         ensures { (rating : TheRating) (times : List ℕ) → MeterStandsFor rating self.old times → MeterStandsFor rating self.new (if_new put time times) }
     {
@@ -90,7 +92,7 @@ impl Meter {
         }
     }
 
-    /// Keeps a time.
+    /// Stores a time.
     fn keep(&mut self, time: u64)
         ensures { (rating : TheRating) (times : List ℕ) → MeterStandsFor rating self.old times → MeterStandsFor rating self.new (time ∷ times) }
     {
@@ -98,7 +100,7 @@ impl Meter {
         self.at = (self.at + 1) % TIMES_KEPT;
     }
 
-    /// What a Full ACK says of the rates. O(1).
+    /// Returns the rates that a Full ACK reports. O(1).
     pub fn rates(&self) -> Rates
         ensures { (rating : TheRating) (times : List ℕ) → MeterStandsFor rating self.now times → result ≡ rates_in rating times }
     {
@@ -112,7 +114,7 @@ impl Meter {
         }
     }
 
-    /// The packets receiving rate, from the last 17 times: the least one while fewer than ten are there.
+    /// Returns the packets receiving rate, from the last 17 times: the minimum rate if there are fewer than ten.
     fn packet_rate(&self) -> u32
         ensures value { (times : List ℕ) → AreLatest self.now.at self.now.times.items times → result ≡ packet_rate times }
         ensures most { result ≤ 1_000_000 }
@@ -120,7 +122,8 @@ impl Meter {
         rate_at(self.median_interval())
     }
 
-    /// When the new packet of a place came: the latest is at place 0. None where fewer came. O(1).
+    /// Returns the arrival time of the new packet at a place; the latest is at place 0. None where fewer arrived.
+    /// O(1).
     fn came_at(&self, place: usize) -> Option<u64>
         requires { place ≤ 16 }
         ensures { (times : List ℕ) → AreLatest self.now.at self.now.times.items times → result ≡ slice_get times place }
@@ -128,8 +131,8 @@ impl Meter {
         self.times[(self.at + (INTERVALS - place)) % TIMES_KEPT]
     }
 
-    /// The interval from the packet before it to the new packet of a place, in microseconds; a second where one is missing.
-    /// O(1).
+    /// Returns the interval between the packet before it and the new packet at a place, in microseconds; a second if
+    /// one of them is missing. O(1).
     fn interval(&self, place: usize) -> u64
         requires { place < 16 }
         ensures { (times : List ℕ) → AreLatest self.now.at self.now.times.items times → result ≡ interval times place }
@@ -137,7 +140,7 @@ impl Meter {
         time_between(self.came_at(place), self.came_at(place + 1))
     }
 
-    /// How many of the latest 16 intervals are shorter than a time in microseconds.
+    /// Returns how many of the latest 16 intervals are shorter than a time in microseconds.
     fn shorter(&self, time: u64) -> usize
         ensures { (times : List ℕ) → AreLatest self.now.at self.now.times.items times → result ≡ shorter times time 16 }
     {
@@ -148,7 +151,7 @@ impl Meter {
         count
     }
 
-    /// The interval of a place, in microseconds; 0 if it is longer than the median.
+    /// Returns the interval of a place, in microseconds; 0 if it is longer than the median.
     fn up_to_median(&self, place: usize) -> u64
         requires { place < 16 }
         ensures { (times : List ℕ) → AreLatest self.now.at self.now.times.items times → result ≡ up_to_median times place }
@@ -161,7 +164,7 @@ impl Meter {
         }
     }
 
-    /// The median of the latest 16 intervals, in microseconds. 256 comparisons.
+    /// Returns the median of the latest 16 intervals, in microseconds. 256 comparisons.
     fn median_interval(&self) -> u64
         ensures { (times : List ℕ) → AreLatest self.now.at self.now.times.items times → result ≡ median_interval times }
     {
@@ -173,7 +176,7 @@ impl Meter {
     }
 }
 
-/// The time between two packets, in microseconds; a second where one is missing.
+/// Returns the time between two packets, in microseconds; a second if one of them is missing.
 fn time_between(later: Option<u64>, earlier: Option<u64>) -> u64
     ensures { result ≡ time_between later earlier }
 {
@@ -183,7 +186,7 @@ fn time_between(later: Option<u64>, earlier: Option<u64>) -> u64
     }
 }
 
-/// 1 if an interval is shorter than a time, else 0.
+/// Returns 1 if an interval is shorter than a time, else 0.
 fn one_if_shorter(interval: u64, time: u64) -> usize
     ensures value { result ≡ one_if (nat_lt interval time) }
     ensures small { result ≤ 1 }
@@ -191,7 +194,7 @@ fn one_if_shorter(interval: u64, time: u64) -> usize
     if interval < time { 1 } else { 0 }
 }
 
-/// The packets receiving rate where packets come at this interval in microseconds.
+/// Returns the packets receiving rate for packets that arrive at this interval in microseconds.
 fn rate_at(interval: u64) -> u32
     ensures value { result ≡ rate_at interval }
     ensures most { result ≤ 1_000_000 }
@@ -199,7 +202,7 @@ fn rate_at(interval: u64) -> u32
     (1_000_000 / interval.max(1)).max(MIN_PACKET_RATE) as u32
 }
 
-/// What a Full ACK says of this packets receiving rate.
+/// Returns the rates that a Full ACK reports for this packets receiving rate.
 fn rates_with(rate: u32) -> Rates
     requires { rate ≤ 1_000_000 }
     ensures { result ≡ rates_with rate }

@@ -1,4 +1,4 @@
-//! Where the number of a data packet lies, seen from the window (draft-sharabayko-srt-01, section 3.1).
+//! The position of a data packet's number relative to the window (draft-sharabayko-srt-01, section 3.1).
 
 ghost use Rattle.std.specs.Prelude.{◌≡◌};
 ghost use Rattle.srt_seq.specs.Window.{counted_from};
@@ -8,21 +8,21 @@ use crate::session::{Publisher, steps};
 use srt_seq::Seq31;
 use srt_seq::limits::RANGE_END;
 
-/// Where the number of a data packet lies.
+/// The position of a data packet's number relative to the window.
 #[derive(Clone, Copy, Debug, PartialEq, Eq)]
 pub enum Region {
     /// In the window.
     Inside,
     /// At or past the window's end, by fewer than 2^30.
     Ahead,
-    /// Anywhere else: below the window's front.
+    /// Anywhere else, that is, below the window's front.
     Late,
 }
 
 impl Publisher {
     ghost use Rattle.srt_pub.specs.Changes.{HoldsOf};
 
-    /// Where a number lies. A word with its top bit set, which no data packet has for a number, counts as late.
+    /// Returns the region of a number. A word with its top bit set, which is no sequence number, is late.
     pub(crate) fn region_of(&self, word: u32) -> Region
         ensures { HoldsOf self.now (λ terms initial m. result ≡ region_in terms.width (counted_from initial word) m.receiving) }
     {

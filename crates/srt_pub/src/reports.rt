@@ -1,7 +1,7 @@
-//! Which packets a publisher's session sends at the end of an event.
+//! The packets that a publisher's session sends at the end of an event.
 
-/// Which of the packets given to `Publisher::transmit` were written. Those are sent, in the order of the fields; the
-/// others are unchanged.
+/// Which of the buffers passed to `Publisher::transmit` have a packet. Send these in the order of the fields; the
+/// other buffers are unchanged.
 #[derive(Clone, Copy)]
 pub struct Reports {
     /// A Full ACK or a Light ACK (section 3.2.4).

@@ -1,5 +1,5 @@
-//! A publisher's session: its beginning, data, ACKACKs, drop requests and delivery (draft-sharabayko-srt-01, sections
-//! 3.1, 3.2.8, 3.2.9, 4.5 and 4.6).
+//! A publisher's session: its start, data, ACKACKs, drop requests and delivery (draft-sharabayko-srt-01, sections 3.1,
+//! 3.2.8, 3.2.9, 4.5 and 4.6).
 
 ghost use Rattle.std.specs.Prelude.{◌≡◌, ℕ, ◌+◌, ◌-◌, ◌%◌, ◌^◌, ◌<◌, ◌≤◌, is_some, length, option_copied, IfOk, IfSome};
 ghost use Rattle.srt_seq.specs.Window.{word_of};
@@ -29,16 +29,16 @@ struct DataPacket<'a> {
     payload: PayloadRef<'a>,
 }
 
-/// A publisher's session. Moments are microseconds of the route's clock, which doesn't go back; they are below 2^62.
+/// A publisher's session. Times are microseconds of the route's clock, which never decreases; they are below 2^62.
 #[derive(Drop)]
 pub struct Publisher {
-    /// What the session was opened with.
+    /// The parameters of the opening.
     pub(crate) agreed: Agreed,
     /// The packets that are received and not yet delivered.
     pub(crate) buffer: RecvBuf,
     /// ACKs, round trips and the times of the last packets.
     pub(crate) log: Log,
-    /// What was counted since the opening.
+    /// Counters since the opening.
     pub(crate) counts: Counts,
 }
 
@@ -48,8 +48,8 @@ impl Publisher {
     ghost use Rattle.srt_pub.specs.Changes.{HoldsOfAt, HearsAt, ReceivesAt, lost_by, data_from, range_between};
     ghost use Rattle.srt_recvbuf.specs.Changes.{payload_in};
 
-    /// A session with a window of `width` packets, 32 to 8192; `start` begins it. The only call that allocates;
-    /// the error is a refused allocation. O(width).
+    /// Allocates a session with a window of `width` packets, 32 to 8192; `start` begins it. The only call that
+    /// allocates; the error is a failed allocation. O(width).
     pub fn open(alloc: Global, width: u32) -> Result<Publisher, AllocError>
         requires least { 32 ≤ width }
         requires most { width ≤ 8192 }
@@ -69,7 +69,7 @@ impl Publisher {
         })
     }
 
-    /// Begins a session and forgets the one before. O(width).
+    /// Begins a session and discards the previous one. O(width).
     pub fn start(&mut self, opening: Opening)
         ensures stands { HasBegun opening (width_of self.old) self.new }
         ensures opening { opening_of self.new ≡ opening.now }
@@ -86,10 +86,10 @@ impl Publisher {
         self.counts = Counts::none();
     }
 
-    /// Takes a packet from the caller that comes at `now`: a data packet, an ACKACK, a drop request or a SHUTDOWN;
-    /// other kinds change nothing here. Returns why it ends the session, or None if the session goes on.
-    /// Doesn't allocate; a payload is copied once. A drop request is linear in the numbers of the window that it names,
-    /// other kinds are O(1) on average.
+    /// Processes a packet of the caller that arrives at `now`: a data packet, an ACKACK, a drop request or a SHUTDOWN.
+    /// Other kinds change nothing. Returns why the packet ends the session, or None if the session continues. Doesn't
+    /// allocate; a payload is copied once. A drop request is linear in the numbers of the window that it covers, other
+    /// kinds are O(1) on average.
     pub fn datagram(&mut self, packet: &PacketRef<'_>, now: u64) -> Option<PubEnd>
         requires { now < 2 ^ 62 }
         ensures stands { HearsAt now packet.now.stamp self.old self.new (λ initial. heard_from initial (body_of packet.now.kind)) }
@@ -126,7 +126,7 @@ impl Publisher {
         }
     }
 
-    /// Takes a data packet (section 3.1). An encrypted one changes nothing (our choice).
+    /// Processes a data packet (section 3.1). An encrypted one changes nothing (our choice).
     fn data(&mut self, packet: DataPacket<'_>, stamp: u32, now: u64) -> Option<PubEnd>
         requires { now < 2 ^ 62 }
         ensures stands { HearsAt now stamp self.old self.new
@@ -144,7 +144,7 @@ impl Publisher {
         if lost { Some(PubEnd::WindowLost) } else { None }
     }
 
-    /// Takes an unencrypted data packet. One whose number has its top bit set is counted and not stored.
+    /// Processes an unencrypted data packet. One whose number has its top bit set is counted and not stored.
     fn receive(&mut self, word: u32, payload: PayloadRef<'_>, stamp: u32, now: u64)
         requires { now < 2 ^ 62 }
         ensures stands { ReceivesAt now stamp word payload.entry.bytes.now self.old self.new }
@@ -166,8 +166,8 @@ impl Publisher {
         self.follow(front, point, false);
     }
 
-    /// Notes how far the front and the acknowledgement point moved from these to the buffer's current ones, and counts
-    /// what the front passed: a packet that is delivered if `is_due`, and numbers that are given up.
+    /// Records how far the front and the acknowledgement point moved from these values to the buffer's current ones.
+    /// Counts what the front passed: a delivered packet if `is_due`, and numbers that are given up.
     fn follow(&mut self, front: Seq31, point: Seq31, is_due: bool)
         ensures stands { CatchesUp front point is_due self.old self.new }
         ensures opening { opening_of self.new ≡ opening_of self.old }
@@ -178,7 +178,7 @@ impl Publisher {
         self.counts.count_passed(front_steps, is_due);
     }
 
-    /// Takes an ACKACK (section 3.2.8).
+    /// Processes an ACKACK (section 3.2.8).
     fn ack_ack(&mut self, number: u32, now: u64)
         ensures stands { BecomesAt now self.old self.new (λ terms time m. confirmed_at time (confirmed_by number m.notes) m) }
         ensures opening { opening_of self.new ≡ opening_of self.old }
@@ -187,7 +187,7 @@ impl Publisher {
             .confirm(number, now.saturating_sub(self.agreed.opening));
     }
 
-    /// Takes a drop request (section 3.2.9). In buffer mode it changes nothing (our choice).
+    /// Processes a drop request (section 3.2.9). In buffer mode it changes nothing (our choice).
     fn drop_request(&mut self, first: u32, last: u32)
         ensures stands { Becomes self.old self.new (λ terms initial m. with_request terms.mode terms (range_between initial first last) m) }
         ensures opening { opening_of self.new ≡ opening_of self.old }
@@ -198,7 +198,7 @@ impl Publisher {
         }
     }
 
-    /// Drops the numbers from `first` to `last`, both in. Nothing changes if one of them has its top bit set.
+    /// Drops the numbers from `first` to `last`, inclusive. Nothing changes if one of them has its top bit set.
     fn drop_range(&mut self, first: u32, last: u32)
         ensures stands { DropsInLiveMode first last self.old self.new }
         ensures opening { opening_of self.new ≡ opening_of self.old }
@@ -215,14 +215,14 @@ impl Publisher {
         self.follow(front, point, false);
     }
 
-    /// The payload that is to be delivered next, 1 to 1456 bytes, if one is due at `now` (sections 4.5 and 4.6). O(1),
-    /// and no byte is copied. It counts as delivered once `note_delivered` is called. In live mode a missing packet is
-    /// given up once a later one is due, and `room` doesn't count. In buffer mode payloads come without gaps, and none
-    /// if `room` is 0: it is the number of payloads that every subscriber can still take, and 0 without a subscriber
-    /// (section 4.2.2; our choice).
+    /// Returns the payload that is to be delivered next, 1 to 1456 bytes, if one is due at `now` (sections 4.5 and
+    /// 4.6). O(1), and no byte is copied. The payload stays in the buffer until `note_delivered` is called. In live
+    /// mode a missing packet is given up once a later one is due, and `room` is ignored. In buffer mode payloads are
+    /// delivered without gaps, and only if `room` isn't 0. It is the number of payloads for which every subscriber has
+    /// room, and 0 without a subscriber (section 4.2.2; our choice).
     ///
-    /// An event delivers at most 64 payloads (our choice): that limit is the caller's, who looks and notes until there
-    /// is none or 64 are delivered.
+    /// An event delivers at most 64 payloads (our choice). The caller enforces that limit: it calls `next_due` and
+    /// `note_delivered` until there is no payload or 64 are delivered.
     pub fn next_due(&self, now: u64, room: u32) -> Option<&[u8]>
         requires early { now < 2 ^ 62 }
         ensures payload { HoldsOfAt now self.now (λ terms time m. option_copied result ≡ payload_in (next_delivery terms time room m)) }
@@ -232,8 +232,8 @@ impl Publisher {
         self.buffer.next_due(now, self.room_that_counts(room))
     }
 
-    /// Notes that the payload that `next_due` returns at this moment and for this room was delivered, or, of a
-    /// publisher that stands by, is passed over. Returns whether there was one; if not, nothing changes.
+    /// Removes the payload that `next_due` returns for the same `now` and `room`: it was delivered, or is skipped
+    /// because the publisher is on standby. Returns whether there was one; if not, nothing changes.
     pub fn note_delivered(&mut self, now: u64, room: u32) -> bool
         requires early { now < 2 ^ 62 }
         ensures stands { BecomesAt now self.old self.new (λ terms time m. after_delivery terms (next_delivery terms time room m) m) }
@@ -248,8 +248,9 @@ impl Publisher {
         is_due
     }
 
-    /// The room for which the first packet that is due is the next to be delivered: 1 in live mode, where the room
-    /// doesn't count; in buffer mode `room`, or 0 if the front's number is missing, since no gap is skipped there.
+    /// Returns the room with which the buffer yields the payload that is to be delivered next: 1 in live mode, where
+    /// the room is ignored; in buffer mode `room`, or 0 if the front's number is missing, since no gap is skipped
+    /// there.
     fn room_that_counts(&self, room: u32) -> u32
         ensures { HoldsOf self.now (λ terms initial m. CountsAs terms room result m) }
     {
@@ -259,7 +260,7 @@ impl Publisher {
         }
     }
 
-    /// The same in buffer mode.
+    /// Returns that room for buffer mode.
     fn room_in_order(&self, room: u32) -> u32
         ensures { HoldsOf self.now (λ terms initial m. terms.mode ≡ Mode.Buffer → CountsAs terms room result m) }
     {
@@ -270,7 +271,7 @@ impl Publisher {
     }
 }
 
-/// The number of packets from `from` on to `to`; 0 if that is 2^31 or more.
+/// Returns the number of packets from `from` on to `to`; 0 if that is 2^31 or more.
 pub(crate) fn steps(from: Seq31, to: Seq31) -> u32
     ensures { (a b : ℕ) → a ≤ b → b < a + 2 ^ 31 → word_of from ≡ a % 2 ^ 31 → word_of to ≡ b % 2 ^ 31 → result ≡ b - a }
 {

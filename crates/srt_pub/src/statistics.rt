@@ -1,20 +1,21 @@
-//! What a look at a publisher's session shows. A look changes nothing.
+//! A snapshot of a publisher's session. Taking it changes nothing.
 
 use crate::counts::Counts;
 use crate::session::{Publisher, steps};
 
-/// The state of a publisher's session and its counts.
+/// The state of a publisher's session and its counters.
 #[derive(Clone, Copy, Debug, PartialEq, Eq)]
 pub struct Statistics {
-    /// What was counted since the opening.
+    /// Counters since the opening.
     pub counts: Counts,
-    /// The places of the window in use: from the front to the highest received number, gaps included, in packets.
+    /// Number of places of the window in use: from the front to the highest received number, gaps included, in
+    /// packets.
     pub in_use: u32,
-    /// The available buffer size in packets, as an ACK would say it (section 3.2.4).
+    /// The available buffer size in packets, as an ACK reports it (section 3.2.4).
     pub available: u32,
     /// The smoothed round-trip time (section 4.10), in microseconds.
     pub rtt: u32,
-    /// Its variance, in microseconds.
+    /// Variance of the round-trip time, in microseconds.
     pub variance: u32,
 }
 
@@ -22,7 +23,7 @@ impl Publisher {
     ghost use Rattle.srt_pub.specs.Changes.{HoldsOf};
     ghost use Rattle.srt_pub.specs.Viewing.{AreStatistics};
 
-    /// The session's state and its counts. O(1).
+    /// Returns the session's state and its counters. O(1).
     pub fn statistics(&self) -> Statistics
         ensures { HoldsOf self.now (λ terms initial m. AreStatistics terms m result) }
     {

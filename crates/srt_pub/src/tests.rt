@@ -13,13 +13,13 @@ use std::alloc::Global;
 use std::process::Abort;
 use std::test::Fail;
 
-/// When each session was opened, in microseconds.
+/// Time of each session's opening, in microseconds.
 const OPENING: u64 = 1_000_000;
 
-/// The socket ID of the session, which what comes is for.
+/// Socket ID of the session: the destination of received packets.
 const SESSION: u32 = 0x10_0000;
 
-/// The socket ID of the caller, which what is sent is for.
+/// Socket ID of the caller: the destination of sent packets.
 const CALLER: u32 = 1;
 
 fn session(
@@ -48,7 +48,7 @@ fn session(
     Ok(publisher)
 }
 
-/// A data packet with this sequence number, message number, timestamp in microseconds and payload.
+/// Returns a data packet with this sequence number, message number, timestamp in microseconds and payload.
 fn media<'a>(number: u32, message: u32, stamp: u32, payload: &'a [u8]) -> Sample<'a> {
     data_packet(number)
         .flags(0xe000_0000 | message)
@@ -57,12 +57,13 @@ fn media<'a>(number: u32, message: u32, stamp: u32, payload: &'a [u8]) -> Sample
         .payload(payload)
 }
 
-/// The same, sent again.
+/// Returns the same packet with the retransmission flag.
 fn media_again<'a>(number: u32, message: u32, stamp: u32, payload: &'a [u8]) -> Sample<'a> {
     media(number, message, stamp, payload).flags(0xe400_0000 | message)
 }
 
-/// A Full ACK with this number, acknowledgement point and available buffer size, while no round trip was measured.
+/// Returns a Full ACK with this number, acknowledgement point and available buffer size, before any round trip was
+/// measured.
 fn acknowledges<'a>(number: u32, point: u32, available: u32) -> Sample<'a> {
     full_ack(
         number,
@@ -75,17 +76,17 @@ fn acknowledges<'a>(number: u32, point: u32, available: u32) -> Sample<'a> {
     )
 }
 
-/// An event and its expected result. The first field is its time, in microseconds since the opening; what is sent has
-/// it as its timestamp, and the caller's socket ID.
+/// An event and its expected result. The first field is its time, in microseconds since the opening. Packets that are
+/// sent have it as their timestamp, and the caller's socket ID as their destination.
 #[derive(Clone, Copy)]
 enum Event<'a> {
-    /// A packet comes and doesn't end the session.
+    /// A packet arrives and doesn't end the session.
     Comes(u32, Sample<'a>),
-    /// A packet comes and ends the session.
+    /// A packet arrives and ends the session.
     Ends(u32, Sample<'a>, PubEnd),
-    /// With this room, this payload is delivered; no bytes if none is.
+    /// With this room, this payload is delivered; empty if none is.
     Delivers(u32, u32, &'a [u8]),
-    /// Whether a payload is passed over.
+    /// Whether a payload is skipped.
     PassesOver(u32, bool),
     /// An ACK is sent and nothing else.
     SendsAck(u32, Sample<'a>),
@@ -219,7 +220,7 @@ fn assert_events(
     Ok(())
 }
 
-/// A data packet of one byte, with this number, comes 9 ms after the opening. Its timestamp is 9 ms too.
+/// Passes a data packet of one byte, with this number, 9 ms after the opening. Its timestamp is 9 ms too.
 fn hear_number(
     alloc: Global,
     publisher: &mut Publisher,
@@ -269,7 +270,7 @@ fn a_light_ack_after_64_packets(rt: HostRuntime) -> Result<(), Fail> {
     )
 }
 
-/// Number 2 and every second one up to 66 come: there are 33 runs, and the NAK leaves out the last.
+/// Number 2 and every second one up to 66 arrive: there are 33 runs, and the NAK omits the last.
 #[test]
 fn a_nak_of_32_runs(rt: HostRuntime) -> Result<(), Fail> {
     let mut publisher = session(rt.alloc(), 128, 0, Mode::Live, 1_000_000)?;
@@ -337,7 +338,7 @@ fn numbers_go_round(rt: HostRuntime) -> Result<(), Fail> {
             Event::Comes(12_000, media_again(2_147_483_646, 0, 1_000, b"a")),
         ],
     )?;
-    // The NAK names the numbers 1 to 29.
+    // The NAK reports the numbers 1 to 29.
     let counts = publisher.statistics().counts;
     assert_eq!(rt; (counts.came, counts.received), (5, 3));
     assert_eq!(rt; (counts.late, counts.ahead), (1, 1));
@@ -363,7 +364,8 @@ fn a_full_window_in_buffer_mode(rt: HostRuntime) -> Result<(), Fail> {
     )
 }
 
-/// Each of the 32 numbers comes twice, so that a Light ACK is due before the Full ACKs. It says nothing of the window.
+/// Each of the 32 numbers arrives twice, so that a Light ACK is due before the Full ACKs. It doesn't report the
+/// window.
 #[test]
 fn full_acks_of_a_full_window_are_counted(rt: HostRuntime) -> Result<(), Fail> {
     let mut publisher = session(rt.alloc(), 32, 100, Mode::Buffer, 0)?;
@@ -429,7 +431,7 @@ fn a_packet_behind_a_gap_is_delivered_at_its_moment(rt: HostRuntime) -> Result<(
     )
 }
 
-/// As in the test before, but for a publisher that stands by.
+/// The same as the previous test, for a standby publisher.
 #[test]
 fn payloads_are_passed_over_as_they_are_delivered(rt: HostRuntime) -> Result<(), Fail> {
     let mut publisher = session(rt.alloc(), 1024, 7, Mode::Live, 100_000)?;
@@ -493,8 +495,8 @@ fn a_keep_alive_after_a_second(rt: HostRuntime) -> Result<(), Fail> {
     )
 }
 
-/// Number 9 comes twice, 6 is below the window, and the fourth packet is encrypted. The sender drops 8 to 10, and 7
-/// never comes: so 7, 8 and 10 are given up once 9 is due.
+/// Number 9 arrives twice, 6 is below the window, and the fourth packet is encrypted. The sender drops 8 to 10, and 7
+/// never arrives: so 7, 8 and 10 are given up once 9 is due.
 #[test]
 fn what_a_session_counts(rt: HostRuntime) -> Result<(), Fail> {
     let mut publisher = session(rt.alloc(), 32, 7, Mode::Live, 100_000)?;
@@ -538,7 +540,7 @@ fn what_a_session_counts(rt: HostRuntime) -> Result<(), Fail> {
     Ok(())
 }
 
-/// A session of callers that speak libsrt, with 32 places and the initial number 7.
+/// Returns a session of callers that use libsrt, with 32 places and the initial number 7.
 fn libsrt_session(alloc: Global, mode: Mode) -> Result<Publisher, Fail> {
     let Some(initial) = Seq31::new(7) else {
         return Err(Fail::from("a word with its top bit set"));
@@ -556,7 +558,7 @@ fn libsrt_session(alloc: Global, mode: Mode) -> Result<Publisher, Fail> {
     Ok(publisher)
 }
 
-/// This number of packets, from number 7 on, arrive with this number of microseconds from one to the next.
+/// Passes this number of packets, from number 7 on, with this number of microseconds between them.
 fn come(alloc: Global, publisher: &mut Publisher, packets: u32, apart: u32) -> Result<(), Fail> {
     for at in 0..packets {
         let bytes = media(at.saturating_add(7), 1, 0, b"a").bytes(alloc)?;
@@ -573,7 +575,7 @@ fn assert_no_end(end: Option<PubEnd>) -> Result<(), Fail> {
     }
 }
 
-/// 17 packets, 100 microseconds from one to the next, which is 10,000 in a second.
+/// 17 packets, 100 microseconds apart: 10,000 per second.
 #[test]
 fn rates_of_17_packets(rt: HostRuntime) -> Result<(), Fail> {
     let mut publisher = libsrt_session(rt.alloc(), Mode::Buffer)?;
@@ -591,7 +593,7 @@ fn rates_of_10_packets(rt: HostRuntime) -> Result<(), Fail> {
     assert_sent(&rt, &mut publisher, 10_000, [Some(told), None, None])
 }
 
-/// Nine packets are too few, and the least rate is told.
+/// Nine packets are too few, and the minimum rate is reported.
 #[test]
 fn rates_of_9_packets(rt: HostRuntime) -> Result<(), Fail> {
     let mut publisher = libsrt_session(rt.alloc(), Mode::Buffer)?;
@@ -600,8 +602,8 @@ fn rates_of_9_packets(rt: HostRuntime) -> Result<(), Fail> {
     assert_sent(&rt, &mut publisher, 10_000, [Some(told), None, None])
 }
 
-/// Packets from number 7 on arrive: the first at the opening, each other one this number of microseconds after the one
-/// before it.
+/// Passes packets from number 7 on: the first at the opening, each further one this number of microseconds after the
+/// previous one.
 fn come_after(alloc: Global, publisher: &mut Publisher, intervals: &[u32]) -> Result<(), Fail> {
     come(alloc, publisher, 1, 0)?;
     let mut number = 7u32;
@@ -616,12 +618,12 @@ fn come_after(alloc: Global, publisher: &mut Publisher, intervals: &[u32]) -> Re
     Ok(())
 }
 
-/// Two bursts of packets 100 microseconds apart, a pause of 10 ms after each.
+/// Two bursts of packets 100 microseconds apart, with a pause of 10 ms after each.
 const BURSTS: [u32; 16] = [
     100, 100, 100, 100, 100, 100, 100, 10_000, 100, 100, 100, 100, 100, 100, 100, 10_000,
 ];
 
-/// Fourteen of 16 intervals are of 100 microseconds, which is 10,000 packets in a second, whatever the pauses are.
+/// Fourteen of 16 intervals are 100 microseconds, 10,000 packets per second. The length of the pauses has no effect.
 #[test]
 fn rates_of_bursts(rt: HostRuntime) -> Result<(), Fail> {
     let mut publisher = libsrt_session(rt.alloc(), Mode::Buffer)?;
@@ -635,7 +637,7 @@ const AS_MANY_SHORT: [u32; 16] = [
     50, 400, 50, 400, 50, 400, 50, 400, 50, 400, 50, 400, 50, 400, 50, 400,
 ];
 
-/// The ninth interval by length is one of 400 microseconds, which is 2500 packets in a second.
+/// The ninth interval by length is 400 microseconds: 2500 packets per second.
 #[test]
 fn rates_of_as_many_short_intervals(rt: HostRuntime) -> Result<(), Fail> {
     let mut publisher = libsrt_session(rt.alloc(), Mode::Buffer)?;
@@ -649,7 +651,7 @@ const MORE_SHORT: [u32; 18] = [
     400, 400, 50, 400, 50, 400, 50, 400, 50, 400, 50, 400, 50, 400, 50, 400, 50, 50,
 ];
 
-/// The ninth interval by length is one of 50 microseconds, which is 20,000 packets in a second.
+/// The ninth interval by length is 50 microseconds: 20,000 packets per second.
 #[test]
 fn rates_of_more_short_intervals(rt: HostRuntime) -> Result<(), Fail> {
     let mut publisher = libsrt_session(rt.alloc(), Mode::Buffer)?;
@@ -658,7 +660,7 @@ fn rates_of_more_short_intervals(rt: HostRuntime) -> Result<(), Fail> {
     assert_sent(&rt, &mut publisher, 10_000, [Some(told), None, None])
 }
 
-/// 17 packets at once: the greatest rate is told, and the capacity is no less.
+/// 17 packets at once: the maximum rate is reported, and the capacity is at least as large.
 #[test]
 fn rates_of_packets_at_once(rt: HostRuntime) -> Result<(), Fail> {
     let mut publisher = libsrt_session(rt.alloc(), Mode::Buffer)?;
@@ -670,7 +672,7 @@ fn rates_of_packets_at_once(rt: HostRuntime) -> Result<(), Fail> {
     assert_sent(&rt, &mut publisher, 10_000, [Some(told), None, None])
 }
 
-/// In live mode no rates are told. The first round trip, of 4 ms, replaces the values before it.
+/// In live mode the reported rates are 0. The first round trip, of 4 ms, replaces the initial values.
 #[test]
 fn first_round_trip(rt: HostRuntime) -> Result<(), Fail> {
     let mut publisher = libsrt_session(rt.alloc(), Mode::Live)?;
@@ -681,12 +683,12 @@ fn first_round_trip(rt: HostRuntime) -> Result<(), Fail> {
     let seen = publisher.statistics();
     assert_eq!(rt; (seen.rtt, seen.variance), (4_000, 2_000));
     assert!(rt; publisher.has_undelivered());
-    // The last packet came 1.6 ms after the opening.
+    // The last packet arrived 1.6 ms after the opening.
     assert_eq!(rt; publisher.silent_for(OPENING + 10_000), 8_400);
     Ok(())
 }
 
-/// Number 9 is left behind the gap of 7 and 8 until it is delivered. After that 8 is late, and 10 is dropped on request.
+/// Number 9 waits after the gap of 7 and 8 until it is delivered. After that 8 is late, and 10 is dropped on request.
 #[test]
 fn what_is_left_to_deliver_in_live_mode(rt: HostRuntime) -> Result<(), Fail> {
     let mut publisher = session(rt.alloc(), 32, 7, Mode::Live, 100_000)?;
@@ -704,7 +706,7 @@ fn what_is_left_to_deliver_in_live_mode(rt: HostRuntime) -> Result<(), Fail> {
     Ok(())
 }
 
-/// Number 8 is left once 7 is there, and not before.
+/// Number 8 can be delivered once 7 has arrived, and not before.
 #[test]
 fn what_is_left_to_deliver_in_buffer_mode(rt: HostRuntime) -> Result<(), Fail> {
     let mut publisher = session(rt.alloc(), 32, 7, Mode::Buffer, 0)?;

@@ -1,6 +1,6 @@
-//! What a publisher's session sends at the end of an event: an ACK, a NAK and a KEEPALIVE (draft-sharabayko-srt-01,
-//! sections 3.2.3 to 3.2.5). Each packet has the session's time as its timestamp, and the caller's socket ID as its
-//! destination (section 3).
+//! The packets that a publisher's session sends at the end of an event: an ACK, a NAK and a KEEPALIVE
+//! (draft-sharabayko-srt-01, sections 3.2.3 to 3.2.5). The timestamp of each is the session's time, and its
+//! destination is the caller's socket ID (section 3).
 
 ghost use Rattle.std.specs.Prelude.{◌≡◌, ℕ, ◌+◌, ◌^◌, ◌<◌, true, false};
 ghost use Rattle.srt_seq.specs.Given.{given};
@@ -20,9 +20,9 @@ impl Publisher {
     ghost use Rattle.srt_pub.specs.Sent.{packets_of};
     ghost use Rattle.srt_pub.specs.Changes.{Becomes, BecomesAt, Writes, WritesAt, IsPacketIf, KeptIfNot, with_sent};
 
-    /// Ends an event. Writes the ACK, the NAK and the KEEPALIVE that are due at `now`, each into its place, and
-    /// returns which were written. They are sent in this order, and the other places are unchanged. Linear in the
-    /// distance from the first missing to the highest received number at most; doesn't allocate.
+    /// Ends an event. Writes the ACK, the NAK and the KEEPALIVE that are due at `now` into their buffers, and returns
+    /// which were written. They are sent in this order; the other buffers are unchanged. At most linear in the
+    /// distance from the first missing to the highest received number; doesn't allocate.
     pub fn transmit(
         &mut self,
         now: u64,
@@ -49,7 +49,7 @@ impl Publisher {
         }
     }
 
-    /// Writes the ACK that is due. Returns whether one is; if not, `packet` is unchanged.
+    /// Writes the ACK that is due. Returns whether one is due; if not, `packet` is unchanged.
     fn ack(&mut self, time: u64, packet: &mut EncodedPacket) -> bool
         ensures stands { Becomes self.old self.new (λ terms initial m. with_sent time (acks terms time m) m) }
         ensures opening { opening_of self.new ≡ opening_of self.old }

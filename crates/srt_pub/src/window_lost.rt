@@ -1,4 +1,4 @@
-//! When a live publisher's session ends since its window is lost (our choice).
+//! The end of a live publisher's session whose window is lost (our choice).
 
 ghost use Rattle.std.specs.Prelude.{◌≡◌, ℕ, List};
 ghost use Rattle.srt_seq.specs.Window.{counted_from};

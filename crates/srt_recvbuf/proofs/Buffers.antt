@@ -1,4 +1,4 @@
--- A window of cells and the record that it represents.
+-- The cells of a window and the record that they represent.
 use Rattle.std.proofs.Common.{◌≡◌, ◌≢◌, ℕ, zero, suc, ◌+◌, ◌-◌, ◌%◌, ◌^◌, ◌<◌, ◌≤◌, ◌==◌, ℤ, pos, ◌+ℤ◌, Bool, true, false, not, ◌||◌, ◌&&◌}
 use Rattle.std.proofs.Common.{if◌then◌else◌, Option, None, Some, List, [], ◌∷◌, refl, sym, ap, subst, ◌∙◌, inl, inr, ◌⊎◌, max, min, arith}
 use Rattle.std.specs.Prelude.{is_some, option_map, filter_map, int_le, nat_le, nat_lt}
@@ -24,7 +24,7 @@ use Rattle.srt_recvbuf.specs.Stands.{StandsFor, cell_for, IsWindowOf, own_range}
 use Rattle.srt_recvbuf.specs.OneByOne.{NothingBeyond, NothingDroppedBeyond}
 use Rattle.srt_recvbuf.proofs.OneByOne.{found, skipped, found_number, number_or}
 
--- if none of the first n passes, and the next one does or is past the last place
+-- the least number, if none of the first `steps` numbers passes, and the next one passes or is past the last place
 pub least_is : (test : ℕ → Bool) (from places steps : ℕ) → steps ≤ places → ((k : ℕ) → k < steps → test (from + k) ≡ false)
     → (steps < places → test (from + steps) ≡ true)
     → least_from test from places ≡ from + steps
@@ -75,7 +75,7 @@ module _ (width initial origin front end point : ℕ) (cells : ℕ → Cell) (r 
   pub point_is : point ≤ width → ack_point width r ≡ r.front + point
   point_is le = least_is (is_missing width r) r.front width point le (λ k lt. cell_missing k ∙ h.not_missing k lt) (λ lt. cell_missing point ∙ h.missing lt)
 
--- nothing is received past the window
+-- no number past the window is received
 pub window_ends : (width initial origin : ℕ) (b : RecvBuf) (r : Receiving) → StandsFor width initial origin b r → NothingBeyond width r
 window_ends width initial origin b r h n le =
     let w = b.window in
@@ -94,7 +94,7 @@ drops_end width initial origin b r h n le =
     let none = ap (λ p. cell_is_dropped (cell_of p (payload_at w.payloads d))) past in
     ap (is_dropped width r) (sym e) ∙ cell_dropped width initial origin _ _ _ _ r h.1 d ∙ none
 
--- the number of a window that has this sequence number
+-- the number of a sequence number of the window, counted from the initial one: none, or the front's plus the offset
 pub own_none : (initial position width word front : ℕ) → front ≡ number_word initial position
     → ((a : ℕ) → a % 2 ^ 31 ≡ front → option_map (λ d. a + d) None ≡ in_window word a width)
     → in_window (counted_from initial word) position width ≡ None
@@ -107,7 +107,7 @@ pub own_some : (initial position width word front d : ℕ) → front ≡ number_
 unfolding in_window
 own_some initial position width word front d e h = let k = h (initial + position) (sym e) in grind (arith, nat_tests)
 
--- a new packet at a place
+-- a new packet is stored at a place
 pub with_packet : (width initial origin front end point point' d : ℕ) (cells cells' : ℕ → Cell) (r : Receiving) (payload : List ℕ)
     (due time : ℤ)
     → IsWindowOf width initial origin front cells end point r → due ≡ pos origin +ℤ time
@@ -139,7 +139,7 @@ with_packet width initial origin front end point point' d cells cells' r payload
     kept k lt (inl lo) (inl same) = ap cell_is_missing (c k) ∙ rw (eq-eqb _ _ same) refl
     kept k lt (inl lo) (inr other) = ap cell_is_missing (c k) ∙ rw (ne_eqb _ _ other) (h.not_missing k lo)
 
--- what becomes of a packet
+-- the record after a repeated packet is unchanged
 pub repeated : (r : Receiving) (n : ℕ) (payload : List ℕ) (time : ℤ) → is_received r n ≡ true → with_number (Some n) payload time r ≡ r
 repeated r n payload time e = rw e refl
 
@@ -164,7 +164,7 @@ with_fields width initial origin front front' end end' point w w' r r' ef ew ee 
     let S : Receiving → Type 0 = λ x. IsWindowOf width initial origin front (cell_at w) end point x in
     subst P (sym ef) (subst Q (sym ew) (subst R (sym ee) (subst S (sym er) h)))
 
--- the front moves on by n places
+-- the front moves on by `count` places
 pub shifted : (width initial origin front front' end point point' count : ℕ) (cells cells' : ℕ → Cell) (r : Receiving)
     → IsWindowOf width initial origin front cells end point r → front' ≡ number_word initial (r.front + count)
     → ((d : ℕ) → cells' d ≡ cells (d + count)) → ((d : ℕ) → point - count ≤ d → d < point' → cell_is_missing (cells' d) ≡ false)
@@ -184,7 +184,7 @@ shifted width initial origin front front' end point point' count cells cells' r 
     kept d lt (inr hi) = before d hi lt
     kept d lt (inl lo) = ap cell_is_missing (c d) ∙ h.not_missing (d + count) (omega (arith, lo))
 
--- past dropped numbers
+-- the number of leading dropped places determines the settled front
 pub settled_is : (width initial origin front end point steps : ℕ) (cells : ℕ → Cell) (r : Receiving)
     → IsWindowOf width initial origin front cells end point r → steps ≤ width → ((k : ℕ) → k < steps → not (cell_is_dropped (cells k)) ≡ false)
     → (steps < width → not (cell_is_dropped (cells steps)) ≡ true)
@@ -198,7 +198,7 @@ none_there : (o : Option Arrival) → is_some o ≡ false → o ≡ None
 none_there None e = refl
 none_there (Some a) e = cc
 
--- nothing waits
+-- without a received place, nothing waits
 pub nothing_waits : (width initial origin front end point : ℕ) (cells : ℕ → Cell) (r : Receiving)
     → IsWindowOf width initial origin front cells end point r → ((k : ℕ) → k < end → cell_is_received (cells k) ≡ false) → waiting r ≡ []
 nothing_waits width initial origin front end point cells r h none =
@@ -209,7 +209,7 @@ nothing_waits width initial origin front end point cells r h none =
     let z : c - c ≡ 0 = omega arith in
     s ∙ ap (λ x. filter_map (arrival_of r.arrivals) (numbers_from (r.front + c) x)) z
 
--- the first packet that waits
+-- the first waiting packet and its place
 pub record IsFirstWaiting (origin at : ℕ) (cells : ℕ → Cell) (r : Receiving) : Type 0 where
   pub first : Arrival
   pub more : List Arrival
@@ -258,7 +258,7 @@ its_turn time a more e = rw e refl
 pub not_yet : (time : ℕ) (a : Arrival) (more : List Arrival) → int_le a.due (pos time) ≡ false → first_due time (a ∷ more) ≡ None
 not_yet time a more e = rw e refl
 
--- offsets that a sequence number has, or hasn't
+-- the offset that a sequence number has; none if it is outside the window
 pub offset_found : (word a width d : ℕ) → option_map (λ d. a + d) (Some d) ≡ in_window word a width → (d ≡ offset_of word a) × (d < width)
 unfolding in_window
 offset_found word a width d e = grind (arith, nat_tests)
@@ -304,7 +304,7 @@ range_requested width initial first last r f l short =
     let e = tested q.first q.last (span q) (own_small initial (word_of first) f) (own_small initial (word_of last) l) (omega (arith, s, short)) in
     rw e refl
 
--- the places that a range names
+-- the places that a range covers
 pub taken : (width initial position front from end sp d : ℕ) (first last : Seq31) → word_of first < 2 ^ 31 → word_of last < 2 ^ 31
     → front ≡ number_word initial position → sp ≡ offset_of (word_of last) (word_of first) → end ≤ width
     → (d < width → (nat_le from d && nat_lt d end) ≡ nat_le (offset_of (front + d) (word_of first)) sp)
@@ -341,7 +341,7 @@ stays_known true Dropped e = refl
 stays_known true (Received due payload) e = refl
 stays_known false x e = e
 
--- what is dropped counts as received if it did before
+-- a drop doesn't change whether a place is received
 pub received_still : (b : Bool) (x : Cell) → cell_is_received (if b then after_drop x else x) ≡ cell_is_received x
 received_still true Missing = refl
 received_still true Dropped = refl
@@ -370,7 +370,7 @@ with_dropped width initial origin front end point point' cells cells' given q r 
     kept d lt (inr hi) = before d hi lt
     kept d lt (inl lo) = ap cell_is_missing (c d) ∙ stays_known (given d) (cells d) (h.not_missing d lo)
 
--- the places of a window that a range names, if it begins in the window
+-- the places of a window that a range covers, if the range begins in the window
 pub begins_inside : (front first span width from end d : ℕ) → front < 2 ^ 31 → first < 2 ^ 31 → span < 2 ^ 30 → width ≤ 8192
     → span + 1 ≤ offset_of front first → from ≡ offset_of first front → from < width → end ≡ min (from + span + 1) width → d < width
     → (nat_le from d && nat_lt d end) ≡ nat_le (offset_of (front + d) first) span
@@ -389,7 +389,7 @@ begins_inside front first span width from end d f g s w out from_is inside end_i
     right : (from d span width : ℕ) → from ≤ d → d < width → (nat_le from d && nat_lt d (min (from + span + 1) width)) ≡ nat_le (d - from) span
     right from d span width x y = grind (arith, nat_tests)
 
--- none, if it neither has the front nor begins in the window
+-- none, if the range neither contains the front nor begins in the window
 pub stands_outside : (front first span width d : ℕ) → front < 2 ^ 31 → first < 2 ^ 31 → span < 2 ^ 30 → width ≤ 8192
     → span + 1 ≤ offset_of front first → width ≤ offset_of first front → d < width
     → (nat_le 0 d && nat_lt d 0) ≡ nat_le (offset_of (front + d) first) span
@@ -400,6 +400,6 @@ stands_outside front first span width d f g s w out far lt =
     none : (d span o : ℕ) → span < o → (nat_le 0 d && nat_lt d 0) ≡ nat_le o span
     none d span o x = grind (arith, nat_tests)
 
--- moments and times
+-- comparison of times since the origin and of the clock's times
 pub same_test : (origin time now : ℕ) (own due : ℤ) → now ≡ origin + time → due ≡ pos origin +ℤ own → int_le own (pos time) ≡ int_le due (pos now)
 same_test origin time now own due n e = grind (arith, ints, common_steps)

@@ -1,4 +1,4 @@
--- Delivering payloads one by one is the same as delivering them together.
+-- Delivering payloads one by one has the same result as delivering them together.
 use Rattle.std.proofs.Common.{◌≡◌, ◌≢◌, ℕ, zero, suc, ◌+◌, ◌-◌, ◌<◌, Bool, true, false, not, ◌&&◌, Option, None, Some, List, [], ◌∷◌, refl}
 use Rattle.std.proofs.Common.{sym, ap, ◌∙◌, ◌⊎◌, inl, inr, arith}
 use Rattle.std.specs.Prelude.{filter_map, is_some}
@@ -27,7 +27,7 @@ abbrev tail_of : List Arrival → List Arrival
 tail_of [] = []
 tail_of (x ∷ ys) = ys
 
--- the number of the first one, and what follows it
+-- the number of the first packet, and the packets after it
 record IsFirst (xs : List Arrival) (p c : ℕ) (a : Arrival) (more : List Arrival) : Type 0 where
   place : ℕ
   number_is : a.number ≡ p + place
@@ -67,7 +67,7 @@ first_of_all xs p (suc c) a more e = by (arrival_of xs p) refl (first_of_all xs 
               ∙ ap (λ y. filter_map (arrival_of xs) (numbers_from (p + 0 + 1) y)) d;
         }
 
--- numbers without a packet can be left out
+-- numbers without a packet can be omitted
 pub skipped : (xs : List Arrival) (q c j : ℕ) → ((i : ℕ) → i < j → arrival_of xs (q + i) ≡ None)
     → filter_map (arrival_of xs) (numbers_from q c) ≡ filter_map (arrival_of xs) (numbers_from (q + j) (c - j))
 skipped xs q c zero none =

@@ -8,7 +8,7 @@ use Rattle.srt_recvbuf.specs.declared.window.NumberState.{NumberState}
 use Rattle.srt_recvbuf.specs.declared.window.NumberState.TheVariants.{Missing, Dropped, Received}
 use Rattle.srt_recvbuf.specs.Cells.{cell_of, cell_in, cell_is_received}
 
--- past the last place the payload doesn't matter
+-- past the last place the payload has no effect
 pub same_inside : (ps : List NumberState) (d : ℕ) (t u : List ℕ) → (d < length ps → t ≡ u) → cell_of (get_or ps d Missing) t ≡ cell_of (get_or ps d Missing) u
 same_inside ps d t u same = elim (cases_lt d (length ps)) [
   | inl lt ↦ ap (cell_of (get_or ps d Missing)) (same lt)
@@ -31,7 +31,7 @@ filled ps qs w n at d p bytes here set kept = elim (cases_eq d at) [
       rw b (ap (λ x. cell_of x (payload_at n d)) e ∙ same_inside ps d _ _ (λ lt. kept lt other))
 ]
 
--- if no packet is at a place, its payload doesn't matter
+-- without a packet at a place, its payload has no effect
 free_same : (p : NumberState) (t u : List ℕ) → cell_is_received (cell_of p t) ≡ false → cell_of p t ≡ cell_of p u
 free_same Missing t u e = refl
 free_same Dropped t u e = refl

@@ -14,7 +14,7 @@ record IsLeastOf (test : ℕ → Bool) (from places least : ℕ) : Type 0 where
   before : (n : ℕ) → from ≤ n → n < least → test n ≡ false
   here : least < from + places → test least ≡ true
 
--- the same, for the number that it is
+-- the least number, under an equation
 is_least : (test : ℕ → Bool) (from places a b : ℕ) → a ≡ b → IsLeastOf test from places b → IsLeastOf test from places a
 is_least test from places a b same h = let P : ℕ → Type 0 = λ x. IsLeastOf test from places x in subst P (sym same) h
 

@@ -1,4 +1,4 @@
--- Worked examples, by computation.
+-- Computed examples.
 use Rattle.std.proofs.Common.{◌≡◌, ℕ, ◌+◌, ◌^◌, pos, true, false, None, Some, [], ◌∷◌, length, refl}
 use Rattle.srt_seq.specs.Window.{counted_from, in_window, number_word}
 use Rattle.srt_recvbuf.specs.declared.buffer.Put.TheVariants.{New, Repeat, Outside}
@@ -31,7 +31,7 @@ repeats : (received 32 2 (7 ∷ []) (pos 1) two_received ≡ two_received) × (p
 unfolding in_window
 repeats = (refl, refl, refl, refl)
 
--- from 7fffffff on
+-- sequence numbers counted from 7fffffff
 abbrev round_end : ℕ → ℕ
 round_end word = counted_from 0x7fff_ffff word
 
@@ -42,12 +42,12 @@ goes_round : (number_word 0x7fff_ffff (ack_point 32 two_round_end) ≡ 1) × (in
 unfolding in_window
 goes_round = (refl, refl, refl)
 
--- a gap that reaches across the wrap
+-- a gap across the wrap of sequence numbers
 says : said_runs 32 0x7fff_ffff 0x7fff_ffff (received 32 3 (9 ∷ []) (pos 0) nothing_yet) ≡ (0x7fff_ffff, 1) ∷ []
 unfolding in_window
 says = refl
 
--- a dropped number that comes later is received; the front goes past dropped ones
+-- a dropped number that arrives later is received; the front moves past dropped numbers
 abbrev two_dropped : Receiving
 two_dropped = requested 32 (record { first = 1; last = 4 }) two_received
 

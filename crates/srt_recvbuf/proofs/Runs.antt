@@ -5,7 +5,7 @@ use Rattle.std.specs.Prelude.{filter}
 use Rattle.std.proofs.lemmas.Bool.{not-true, cases_eq, cases_lt, eq-eqb, ne_eqb}
 use Rattle.srt_seq.specs.Runs.{Run, run_before, runs, numbers_from}
 
--- numbers that don't pass can be left out
+-- numbers that don't pass can be omitted
 pub passed_over : (test : ℕ → Bool) (p m c : ℕ)
     → ((i : ℕ) → i < m → test (p + i) ≡ false) → filter test (numbers_from p (m + c)) ≡ filter test (numbers_from (p + m) c)
 passed_over test p zero c none =
@@ -101,7 +101,7 @@ one_run test p (suc m) c pass stop =
     ∙ ap (λ x. record { low = p; high = x } ∷ runs (filter test (numbers_from (p + 1 + (m + 1)) c))) h
     ∙ ap (λ x. record { low = p; high = p + suc m } ∷ runs (filter test (numbers_from x c))) e
 
--- the next run from a place on
+-- the next run of passing numbers from a place on
 pub next_run : (test : ℕ → Bool) (p at low high end : ℕ) → at ≤ low → low < high → high ≤ end
     → ((d : ℕ) → at ≤ d → d < low → test (p + d) ≡ false) → ((d : ℕ) → low ≤ d → d < high → test (p + d) ≡ true)
     → (high < end → test (p + high) ≡ false)
@@ -125,7 +125,7 @@ next_run test p at low high end al lh he out inside stop =
     ∙ ap (λ x. record { low = p + low; high = x } ∷ runs (filter test (numbers_from (p + low + ((high - low - 1) + 1)) (end - high)))) d
     ∙ ap (λ x. record { low = p + low; high = p + (high - 1) } ∷ runs (filter test (numbers_from x (end - high)))) e
 
--- no run is left
+-- without a passing number there is no run
 pub none_left : (test : ℕ → Bool) (p at end : ℕ) → ((d : ℕ) → at ≤ d → d < end → test (p + d) ≡ false) → filter test (numbers_from (p + at) (end - at)) ≡ []
 none_left test p at end out =
     let a : end - at ≡ (end - at) + 0 = omega arith in
@@ -164,7 +164,7 @@ strictly empty low high end le lt here stop = elim (cases_lt low high) [
 pub same_pair : (a b c d : ℕ) → a ≡ c → b ≡ d → ◌≡◌ {A = ℕ × ℕ} (a, b) (c, d)
 same_pair a b c d e f = let l : ℕ → ℕ × ℕ = λ x. (x, b) in let m : ℕ → ℕ × ℕ = λ x. (c, x) in ap l e ∙ ap m f
 
--- nothing is missing before the point, so the search may begin there
+-- nothing before the acknowledgement point is missing, so the search may begin there
 pub from_point : (test : ℕ → Bool) (p offset at point end top : ℕ) → end ≡ top - p → at ≡ min (max offset point) end
     → ((d : ℕ) → d < point → test (p + d) ≡ false)
     → filter test (numbers_from (p + offset) (top - (p + offset))) ≡ filter test (numbers_from (p + at) (end - at))

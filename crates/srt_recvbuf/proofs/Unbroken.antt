@@ -46,7 +46,7 @@ at_once test from width e =
     let z : from + 0 ≡ from = omega arith in
     least_is test from width 0 (omega arith) (λ k lt. absurd (omega (arith, lt))) (λ lt. rw z e) ∙ z
 
--- the first packet and the rest, if the first has the front's number
+-- the first packet and the others, if the first has the front's number
 first_and_rest : (width front : ℕ) (xs : List Arrival) (a : Arrival)
     → let r : Receiving = record { arrivals = xs; requests = []; front = front } in
     NothingBeyond width r → front < ack_point width r → arrival_of xs front ≡ Some a → is_some (arrival_of xs front) ≡ true
@@ -74,7 +74,7 @@ first_and_rest width front xs a beyond lt is some =
           ∙ ap (λ n. a ∷ filter_map (arrival_of xs) (numbers_from n (least_from (is_missing width r) n width - n))) (sym next),
     )
 
--- a record without a dropped number
+-- the same for a record without drop requests
 of_record : (width front : ℕ) (xs : List Arrival)
     → let r : Receiving = record { arrivals = xs; requests = []; front = front } in
     NothingBeyond width r → front < ack_point width r

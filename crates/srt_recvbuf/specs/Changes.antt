@@ -1,4 +1,5 @@
--- What clauses say of a buffer, whatever it represents: how it changes, and what holds of it.
+-- The forms of the buffer's clauses: how a call changes the record that a buffer represents, and which facts hold of
+-- the record.
 use Rattle.std.specs.Prelude.{◌≡◌, ℕ, ◌+◌, ◌-◌, ℤ, pos, ◌+ℤ◌, Bool, Option, List, option_map, map, filter, take}
 use Rattle.srt_seq.specs.Window.{word_of, counted_from, number_word}
 use Rattle.srt_seq.specs.Runs.{runs, numbers_from}
@@ -15,7 +16,7 @@ Becomes old new change =
     (width initial origin : ℕ) (r : Receiving)
     → StandsFor width initial origin old r → StandsFor width initial origin new (change width initial r)
 
--- the same at a moment, which is a time after the origin
+-- the same at the clock's time `now`, which is the origin plus `time`
 abbrev pub BecomesAt : (now : ℕ) → (old new : RecvBuf) → (change : (width time : ℕ) → Receiving → Receiving) → Type 0
 BecomesAt now old new change =
     (width initial origin time : ℕ) (r : Receiving)
@@ -25,18 +26,18 @@ BecomesAt now old new change =
 abbrev pub HoldsOf : RecvBuf → (fact : (width initial : ℕ) → Receiving → Type 0) → Type 0
 HoldsOf b fact = (width initial origin : ℕ) (r : Receiving) → StandsFor width initial origin b r → fact width initial r
 
--- the same at a moment, which is a time after the origin
+-- the same at the clock's time `now`, which is the origin plus `time`
 abbrev pub HoldsOfAt : (now : ℕ) → RecvBuf → (fact : (origin time : ℕ) → Receiving → Type 0) → Type 0
 HoldsOfAt now b fact = (width initial origin time : ℕ) (r : Receiving) → now ≡ origin + time → StandsFor width initial origin b r → fact origin time r
 
--- a packet with this sequence number, which is due at this moment, is put into the buffer
+-- a packet with this sequence number and payload, due at the clock's time `due`, is put into the buffer
 abbrev pub Stores : (word : ℕ) → (due : ℤ) → (payload : List ℕ) → (old new : RecvBuf) → Type 0
 Stores word due payload old new =
     (width initial origin : ℕ) (r : Receiving) (time : ℤ) → due ≡ pos origin +ℤ time → StandsFor width initial origin old r
     → StandsFor width initial origin new (received width (counted_from initial word) payload time r)
 
--- these are the first 32 runs of missing places from a place on. `test` is any test of numbers that the places of
--- missing numbers pass, and `front` the number of the front
+-- `found` are the first 32 runs of missing places from the place `from` on, as pairs of sequence numbers. `test` is
+-- any test of numbers that is true exactly at the numbers of missing places, and `front` is the front's number
 abbrev pub AreRunsFrom : (from : ℕ) → RecvBuf → List (Seq31 × Seq31) → Type 0
 AreRunsFrom from b found =
     (initial front : ℕ) (test : ℕ → Bool) → word_of b.front ≡ number_word initial front → ((d : ℕ) → test (front + d) ≡ cell_is_missing (cell_at b.window d))

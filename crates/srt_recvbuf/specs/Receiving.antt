@@ -1,5 +1,5 @@
--- What a receiver got of one stream, and all results that follow from it. Numbers count from the initial one, without
--- a wrap. Lists have the newest first.
+-- The record of everything that a receiver received of one stream, and all results computed from it. Numbers count
+-- from the initial sequence number, without a wrap. Lists have the newest first.
 use Rattle.std.specs.Prelude.{ℕ, ◌+◌, ◌-◌, ◌^◌, ℤ, pos, int_le, Bool, false, Option, None, Some, List, [], ◌∷◌, filter, find, filter_map}
 use Rattle.std.specs.Prelude.{take, take_while, min, max, not, is_some, nat_lt, nat_le, ◌==◌, ◌&&◌, ◌||◌, if◌then◌else◌}
 use Rattle.srt_seq.specs.Window.{in_window}
@@ -13,22 +13,22 @@ pub record Arrival : Type 0 where
   pub payload : List ℕ
   pub due : ℤ
 
--- a drop request: the front when it came, and its range
+-- a drop request (section 3.2.9): the front at its arrival, and its range
 pub record Request : Type 0 where
   pub front : ℕ
   pub range : Range
 
--- all arrivals and drop requests, and the front: the number from which on packets are taken
+-- all arrivals and drop requests, and the front: the first number that is still accepted
 pub record Receiving : Type 0 where
   pub arrivals : List Arrival
   pub requests : List Request
   pub front : ℕ
 
--- a stream of which nothing was received yet
+-- the record of a stream before its first packet
 abbrev pub nothing_yet : Receiving
 nothing_yet = record { arrivals = []; requests = []; front = 0 }
 
--- the packet of a number, if it was received
+-- the packet with the number `n`, if it was received
 abbrev pub arrival_of : List Arrival → ℕ → Option Arrival
 arrival_of arrivals n = find (λ a. a.number == n) arrivals
 
@@ -36,20 +36,20 @@ arrival_of arrivals n = find (λ a. a.number == n) arrivals
 abbrev pub is_received : Receiving → ℕ → Bool
 is_received r n = is_some (arrival_of r.arrivals n)
 
--- whether a drop request names a number of the window that it came for
+-- whether a drop request covers a number. It covers only numbers of the window at its arrival
 abbrev pub names : (width : ℕ) → Request → ℕ → Bool
 names width q n = nat_le q.front n && nat_lt n (q.front + width) && is_in q.range n
 
--- whether any drop request names a number
+-- whether any drop request covers a number
 abbrev pub is_requested : (width : ℕ) → List Request → ℕ → Bool
 is_requested width [] n = false
 is_requested width (q ∷ qs) n = names width q n || is_requested width qs n
 
--- dropped on request and not received (section 3.2.9)
+-- covered by a drop request and not received (section 3.2.9)
 abbrev pub is_dropped : (width : ℕ) → Receiving → ℕ → Bool
 is_dropped width r n = is_requested width r.requests n && not (is_received r n)
 
--- neither received nor dropped
+-- neither received nor covered by a drop request
 abbrev pub is_missing : (width : ℕ) → Receiving → ℕ → Bool
 is_missing width r n = not (is_received r n || is_requested width r.requests n)
 
@@ -66,7 +66,7 @@ top r = max r.front (end_of r.arrivals)
 abbrev pub gaps : (width : ℕ) → Receiving → List ℕ
 gaps width r = filter (is_missing width r) (numbers_from r.front (end_of r.arrivals - r.front))
 
--- the gaps from `from` on
+-- the gaps at or above `from`
 abbrev pub gaps_from : (width from : ℕ) → Receiving → List ℕ
 gaps_from width from r = gaps width (record r { front = from })
 
@@ -78,65 +78,65 @@ ack_point width r = least_from (is_missing width r) r.front width
 abbrev pub available : (width : ℕ) → Receiving → ℕ
 available width r = r.front + width - ack_point width r
 
--- whether a received number is at or above the front
+-- whether any received number is at or above the front
 abbrev pub is_waiting : Receiving → Bool
 is_waiting r = nat_lt r.front (end_of r.arrivals)
 
--- what is received at or above the front, lowest number first
+-- the received packets at or above the front, lowest number first
 abbrev pub waiting : Receiving → List Arrival
 waiting r = filter_map (arrival_of r.arrivals) (numbers_from r.front (end_of r.arrivals - r.front))
 
--- the most payloads that one event delivers (our choice)
+-- the maximum number of payloads that one event delivers (our choice)
 abbrev pub most : ℕ
 most = 64
 
--- what an event delivers in live mode: the first waiting packets that are due, up to the first that isn't (sections
--- 4.5 and 4.6)
+-- the packets that an event delivers in live mode: the first waiting packets that are due, up to the first that isn't
+-- (sections 4.5 and 4.6)
 abbrev pub deliverable : (time : ℕ) → Receiving → List Arrival
 deliverable time r = take most (take_while (λ a. int_le a.due (pos time)) (waiting r))
 
--- what is received from the front on without a gap
+-- the received packets from the front on without a gap
 abbrev pub unbroken : (width : ℕ) → Receiving → List Arrival
 unbroken width r = filter_map (arrival_of r.arrivals) (numbers_from r.front (ack_point width r - r.front))
 
--- what an event delivers in buffer mode: the packets without a gap, at most `room` of them (section 4.2.2)
+-- the packets that an event delivers in buffer mode: those without a gap, at most `room` of them (section 4.2.2)
 abbrev pub in_order : (width room : ℕ) → Receiving → List Arrival
 in_order width room r = take (min most room) (unbroken width r)
 
--- the front after these are delivered: past the last of them
+-- the front after the delivery of these packets: the number after the last of them
 abbrev pub next_after : ℕ → List Arrival → ℕ
 next_after front [] = front
 next_after front (a ∷ arrivals) = next_after (a.number + 1) arrivals
 
--- the same stream with another front
+-- the same record with another front
 abbrev pub moved_to : ℕ → Receiving → Receiving
 moved_to front r = record r { front = front }
 
--- with the front moved past dropped numbers
+-- the record with its front moved past dropped numbers
 abbrev pub settled : (width : ℕ) → Receiving → Receiving
 settled width r = moved_to (least_from (λ n. not (is_dropped width r n)) r.front width) r
 
--- after these are delivered: missing numbers before the last of them are given up (section 4.6), and the front
--- moves past dropped numbers
+-- the record after the delivery of these packets. Missing numbers before the last of them are given up (section 4.6),
+-- and the front moves past dropped numbers
 abbrev pub passed : (width : ℕ) → List Arrival → Receiving → Receiving
 passed width arrivals r = settled width (moved_to (next_after r.front arrivals) r)
 
--- the same, for the number of the window that the packet has; None if it has none of the window
+-- the record after a packet with the number `Some n` of the window. None means a number outside the window
 abbrev pub with_number : Option ℕ → List ℕ → ℤ → Receiving → Receiving
 with_number None payload due r = r
 with_number (Some n) payload due r = if is_received r n then r else record r { arrivals = record { number = n; payload = payload; due = due } ∷ r.arrivals }
 
--- after a data packet: only the first copy of a number of the window counts (section 3.1)
+-- the record after a data packet: only the first copy of a number of the window is stored (section 3.1)
 abbrev pub received : (width word : ℕ) → List ℕ → ℤ → Receiving → Receiving
 received width word payload due r = with_number (in_window word r.front width) payload due r
 
--- what became of a packet with this number, or with one outside the window
+-- the result of `put` for a packet with the number `Some n` of the window; None means a number outside the window
 abbrev pub put_of : Option ℕ → Receiving → Put
 put_of None r = Outside
 put_of (Some n) r = if is_received r n then Repeat else New
 
--- after a drop request; one with a top bit set, or whose last number is 2^30 or more past its first, changes nothing
--- (section 3.2.9; our choice)
+-- the record after a drop request. A range with a top bit set, or whose last number is 2^30 or more past its first,
+-- changes nothing (section 3.2.9; our choice)
 abbrev pub requested : (width : ℕ) → Range → Receiving → Receiving
 requested width q r =
     if nat_lt q.first (2 ^ 31) && nat_lt q.last (2 ^ 31) && nat_lt (span q) (2 ^ 30)
@@ -148,17 +148,17 @@ abbrev pub first_due : (time : ℕ) → List Arrival → Option Arrival
 first_due time [] = None
 first_due time (a ∷ more) = if int_le a.due (pos time) then Some a else None
 
--- the next packet to be delivered, if there is room
+-- the next packet to deliver, if there is room
 abbrev pub next_due : (time room : ℕ) → Receiving → Option Arrival
 next_due time room r = if room == 0 then None else first_due time (waiting r)
 
--- after that packet is delivered
+-- the record after the delivery of that packet
 abbrev pub after_next : (width : ℕ) → Option Arrival → Receiving → Receiving
 after_next width None r = r
 after_next width (Some a) r = passed width (a ∷ []) r
 
--- what a NAK reports from a number on: the first 32 runs of gaps. None if the number is outside the window and isn't
--- its end (section 4.8.2; our choice)
+-- the runs that a NAK reports from a number on: the first 32 runs of gaps. None means a number that is outside
+-- the window and isn't its end (section 4.8.2; our choice)
 abbrev pub runs_from : (width : ℕ) → Option ℕ → Receiving → List Run
 runs_from width None r = []
 runs_from width (Some n) r = take 32 (runs (gaps_from width n r))

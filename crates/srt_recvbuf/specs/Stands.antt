@@ -1,6 +1,6 @@
--- What a buffer's fields represent. The buffer has 31-bit sequence numbers; the record's numbers count from the
--- initial one. The buffer has moments of a clock; the record has times since an origin, a moment that the user
--- chooses: a packet's due moment is the origin plus its due time.
+-- Which record a buffer's fields represent. The buffer has 31-bit sequence numbers; the record's numbers count from
+-- the initial one. The buffer has times of a clock; the record has times since an origin, which is any time of that
+-- clock. A packet's due time on the clock is the origin plus its due time in the record.
 use Rattle.std.specs.Prelude.{◌≡◌, ℕ, ◌+◌, ◌-◌, ◌%◌, ◌^◌, ◌<◌, pos, ◌+ℤ◌, Bool, true, false, Option, None, Some, List, map, if◌then◌else◌}
 use Rattle.srt_seq.specs.Window.{word_of, counted_from, in_window, number_word}
 use Rattle.srt_seq.specs.Runs.{Range, Run, range_from}
@@ -9,14 +9,13 @@ use Rattle.srt_recvbuf.specs.Receiving.{Arrival, Receiving, arrival_of, is_reque
 use Rattle.srt_recvbuf.specs.Cells.{Cell, Missing, Dropped, Received, cell_is_missing, cell_at, width_of}
 use Rattle.srt_recvbuf.specs.declared.buffer.RecvBuf.{RecvBuf}
 
--- the state of a place, from the arrival of its number and whether that was dropped
+-- the state of a place, from the arrival with its number and whether a drop request covers it
 abbrev pub cell_for : (origin : ℕ) → Option Arrival → (requested : Bool) → Cell
 cell_for origin None requested = if requested then Dropped else Missing
 cell_for origin (Some a) requested = Received (pos origin +ℤ a.due) a.payload
 
--- these fields have the values that the definitions give: the front's sequence number, the state of the place at
--- each distance from it, the distance of the end of the received numbers, and the distance of the acknowledgement
--- point
+-- the fields have the values that the record defines: the sequence number of the front, the state of the place at each
+-- distance from it, the distance of the end of the received numbers, and the distance of the acknowledgement point
 pub record IsWindowOf (width initial origin front : ℕ) (cells : ℕ → Cell) (end point : ℕ) (r : Receiving) : Type 0 where
   pub front_is : front ≡ (initial + r.front) % 2 ^ 31
   pub cells_are : (d : ℕ) → cells d ≡ cell_for origin (arrival_of r.arrivals (r.front + d)) (is_requested width r.requests (r.front + d))
@@ -36,7 +35,7 @@ StandsFor width initial origin b r = (places_of b ≡ width) × IsWindowOf width
 abbrev pub own_range : (initial : ℕ) → (first last : Seq31) → Range
 own_range initial first last = range_from initial (record { first = word_of first; last = word_of last })
 
--- the place of the next packet to be delivered; None if there is none
+-- the place of the next packet to deliver; None if there is none
 abbrev pub IsNextDue : (origin time room : ℕ) → (cells : ℕ → Cell) → Receiving → Option ℕ → Type 0
 IsNextDue origin time room cells r None = next_due time room r ≡ None
 IsNextDue origin time room cells r (Some d) =
@@ -46,7 +45,7 @@ IsNextDue origin time room cells r (Some d) =
 abbrev pub words_of : List (Seq31 × Seq31) → List (ℕ × ℕ)
 words_of pairs = map (λ p. (word_of p.0, word_of p.1)) pairs
 
--- the pair of sequence numbers of a run that counts from the initial number
+-- the pair of sequence numbers of a run, whose numbers count from the initial one
 abbrev pub run_words : (initial : ℕ) → Run → ℕ × ℕ
 run_words initial run = (number_word initial run.low, number_word initial run.high)
 

@@ -1,4 +1,4 @@
-//! The receiver buffer: what is received, delivered and dropped, and the acknowledgement point. What is missing is in
+//! The receiver buffer: reception, delivery and drops, and the acknowledgement point. Missing numbers are in
 //! `gaps.rt`.
 
 ghost use Rattle.std.specs.Prelude.{◌≡◌, ◌≢◌, ℕ, ◌+◌, ◌-◌, ◌^◌, ◌<◌, ◌≤◌, ◌+ℤ◌, Option, None, Some, IfOk, IfSome, is_some, option_copied};
@@ -11,32 +11,32 @@ use srt_seq::limits::RANGE_END;
 use srt_seq::{PayloadRef, Seq31};
 use std::alloc::{AllocError, Global};
 
-/// What became of a data packet that was given to `RecvBuf::put` (section 3.1).
+/// Result of `RecvBuf::put`: what was done with a data packet (section 3.1).
 #[derive(Clone, Copy, Debug, PartialEq, Eq)]
 pub enum Put {
     /// The first copy of its number; it was stored.
     New,
     /// The packet of this number is already stored; nothing changed.
     Repeat,
-    /// Its number isn't in the window, which is the `width` numbers from the front on; nothing changed. Delivered
-    /// numbers are outside too.
+    /// Its number isn't in the window, which is the `width` numbers from the front on; nothing changed. This includes
+    /// delivered numbers.
     Outside,
 }
 
 /// The packets of one stream that are received and not yet delivered: a window of 32 to 8192 sequence numbers from
 /// the front on, each of which is received, dropped by the sender, or missing.
 ///
-/// `end`, `point` and `next` are kept incrementally, so a stream with few losses costs O(1) a packet at any width. At
-/// worst `put` and `note_delivered` are linear in the places that they search, as each of their comments says. `start`
-/// is linear in the width. Times are microseconds of one clock that the caller chooses, the same for `put` and
+/// `end`, `point` and `next` are kept incrementally, so a stream with few losses costs O(1) a packet at any width. The
+/// worst case of `put` and `note_delivered` is linear in the places that they search; their comments state the bounds.
+/// `start` is linear in the width. Times are microseconds of one clock of the caller's choice, the same for `put` and
 /// `next_due`.
 #[derive(Drop)]
 pub struct RecvBuf {
     pub(crate) front: Seq31,
     pub(crate) window: Window,
-    /// The number of places from the front to the highest received number, both in; 0 if nothing received is left.
+    /// Number of places from the front to the highest received number, inclusive; 0 if nothing received is left.
     pub(crate) end: usize,
-    /// The number of places from the front on before the first missing one.
+    /// Number of places from the front on before the first missing one.
     pub(crate) point: usize,
     /// The place of the first packet after the front's place; `end` or more if there is none.
     next: usize,
@@ -53,8 +53,8 @@ impl RecvBuf {
     ghost use Rattle.srt_recvbuf.specs.Receiving.{nothing_yet, put_of, requested, settled, moved_to, top, ack_point, available, is_waiting};
     ghost use Rattle.srt_recvbuf.specs.Receiving.{next_due, after_next};
 
-    /// An empty buffer of `width` packets, 32 to 8192, for a stream with the initial number 0; `start` begins any
-    /// other. The only call that allocates; the error is a refused allocation. O(width).
+    /// Allocates an empty buffer of `width` packets, 32 to 8192, for a stream with the initial number 0; `start`
+    /// begins any other. The only call that allocates; the error is a failed allocation. O(width).
     pub fn open(alloc: Global, width: u32) -> Result<RecvBuf, AllocError>
         requires least { 32 ≤ width }
         requires most { width ≤ 8192 }
@@ -69,7 +69,7 @@ impl RecvBuf {
         })
     }
 
-    /// Forgets everything and starts a stream whose first sequence number is `initial`. O(width).
+    /// Discards everything and starts a stream whose first sequence number is `initial`. O(width).
     pub fn start(&mut self, initial: Seq31)
         ensures stands { (origin : ℕ) → StandsFor (places_of self.old) (word_of initial) origin self.new nothing_yet }
         ensures narrow { places_of self.old ≤ 8192 }
@@ -82,8 +82,8 @@ impl RecvBuf {
     }
 
     /// Stores a data packet that is due at `due`, in microseconds; it may be in the past, or negative. The payload is
-    /// at most 1456 bytes and is copied once. A number that was dropped and comes later is received all the same.
-    /// O(1), but for a packet that fills the first gap: it is linear in the distance to the next missing number.
+    /// at most 1456 bytes and is copied once. A number that was dropped and arrives later is received all the same.
+    /// O(1), except for a packet that fills the first gap: linear in the distance to the next missing number.
     pub fn put(&mut self, number: Seq31, due: i64, payload: PayloadRef<'_>) -> Put
         ensures stands { Stores (word_of number) due payload.entry.bytes.now self.old self.new }
         ensures answer { HoldsOf self.old (λ width initial r. result ≡ put_of (in_window (counted_from initial (word_of number)) r.front width) r) }
@@ -116,14 +116,14 @@ impl RecvBuf {
             .find(Seek::NothingThere, self.point, self.window.width());
     }
 
-    /// The number of sequence numbers in the window, 32 to 8192.
+    /// Returns the number of sequence numbers in the window, 32 to 8192.
     pub fn width(&self) -> u32
         ensures { HoldsOf self.now (λ width initial r. result ≡ width) }
     {
         self.window.width() as u32
     }
 
-    /// The first sequence number of the window: all before it are delivered, dropped or given up.
+    /// Returns the first sequence number of the window. All numbers before it are delivered, dropped or given up.
     pub fn front(&self) -> Seq31
         ensures { HoldsOf self.now (λ width initial r. word_of result ≡ number_word initial r.front) }
     {
@@ -131,23 +131,23 @@ impl RecvBuf {
         front
     }
 
-    /// The number after the highest received one, or the front if nothing received is left in the window.
+    /// Returns the number after the highest received one, or the front if nothing received is left in the window.
     pub fn top(&self) -> Seq31
         ensures { HoldsOf self.now (λ width initial r. word_of result ≡ number_word initial (top r)) }
     {
         self.front.add(self.end as u32)
     }
 
-    /// The acknowledgement point: the least missing number from the front on, or the window's end if none is missing
-    /// (section 4.8.1). O(1).
+    /// Returns the acknowledgement point: the least missing number from the front on, or the window's end if none is
+    /// missing (section 4.8.1). O(1).
     pub fn ack_point(&self) -> Seq31
         ensures { HoldsOf self.now (λ width initial r. word_of result ≡ number_word initial (ack_point width r)) }
     {
         self.front.add(self.point as u32)
     }
 
-    /// The available buffer size in packets: the places of the window from the acknowledgement point on (section
-    /// 3.2.4). O(1).
+    /// Returns the available buffer size in packets: the number of places from the acknowledgement point to the
+    /// window's end (section 3.2.4). O(1).
     pub fn available(&self) -> u32
         ensures { HoldsOf self.now (λ width initial r. result ≡ available width r) }
     {
@@ -161,13 +161,13 @@ impl RecvBuf {
         0 < self.end
     }
 
-    /// The payload that is to be delivered next, at most 1456 bytes: the one of the least received number, if it is due
-    /// at `now` (microseconds, below 2^62) and `room` isn't 0 (sections 4.5 and 4.6). None if there is none: a packet
-    /// that isn't due holds back those behind it. O(1), and no byte is copied. It counts as delivered once
-    /// `note_delivered` is called.
+    /// Returns the payload that is to be delivered next, at most 1456 bytes. It is the payload of the least received
+    /// number, if that is due at `now` (microseconds, below 2^62) and `room` isn't 0 (sections 4.5 and 4.6). None if
+    /// there is none: a packet that isn't due holds back those after it. O(1), and no byte is copied. The payload
+    /// stays in the buffer until `note_delivered` is called.
     ///
-    /// `room` only counts as 0 or not. In buffer mode let it be 0 unless the acknowledgement point is past the front;
-    /// else a gap would be skipped.
+    /// Only whether `room` is 0 matters. In buffer mode pass 0 unless the acknowledgement point is past the front;
+    /// otherwise a gap is skipped.
     pub fn next_due(&self, now: u64, room: u32) -> Option<&[u8]>
         requires { now < 2 ^ 62 }
         ensures answer { HoldsOfAt now self.now (λ origin time r. option_copied result ≡ payload_in (next_due time room r)) }
@@ -179,10 +179,11 @@ impl RecvBuf {
         Some(self.window.payload(at))
     }
 
-    /// Notes that the payload that `next_due` returns at this moment and for this room was delivered, or is left out
-    /// since nobody takes it. The front then moves past its number, which gives up missing numbers before it, and past
-    /// dropped numbers after it (sections 4.5 and 4.6). Returns whether there was one; if not, nothing changes. Linear
-    /// in the places that the front and the acknowledgement point pass, and in the distance to the next packet.
+    /// Removes the payload that `next_due` returns for the same `now` and `room`, whether it was delivered or is
+    /// omitted because no subscriber needs it. The front moves past its number, which gives up missing numbers before
+    /// it, and past dropped numbers after it (sections 4.5 and 4.6). Returns whether there was one; if not, nothing
+    /// changes. Linear in the places that the front and the acknowledgement point pass, and in the distance to the
+    /// next packet.
     pub fn note_delivered(&mut self, now: u64, room: u32) -> bool
         requires { now < 2 ^ 62 }
         ensures stands { BecomesAt now self.old self.new (λ width time r. after_next width (next_due time room r) r) }
@@ -197,8 +198,8 @@ impl RecvBuf {
         }
     }
 
-    /// The place of the first packet, if it is due at `now` and `room` isn't 0. None if there is no packet, or it
-    /// isn't due yet.
+    /// Returns the place of the first packet, if it is due at `now` and `room` isn't 0. None if there is no packet, or
+    /// it isn't due yet.
     fn first_due(&self, now: u64, room: u32) -> Option<usize>
         requires { now < 2 ^ 62 }
         ensures first { HoldsOfAt now self.now (λ origin time r. IsNextDue origin time room (cell_at self.now.window) r result) }
@@ -224,7 +225,7 @@ impl RecvBuf {
         self.settle();
     }
 
-    /// The place of the first packet; `end` or more if there is none. O(1).
+    /// Returns the place of the first packet; `end` or more if there is none. O(1).
     fn first_packet(&self) -> usize
         ensures before { (d : ℕ) → d < result → cell_is_received (cell_at self.now.window d) ≡ false }
         ensures here { result < self.now.end → cell_is_received (cell_at self.now.window result) ≡ true }
@@ -236,7 +237,7 @@ impl RecvBuf {
         }
     }
 
-    /// The place of the first packet after the front's place, once there is one at `at`.
+    /// Returns the place of the first packet after the front's place, if a packet is stored at `at`.
     fn next_with(&self, at: usize) -> usize
         ensures apart { (d : ℕ) → 0 < d → d < result → d ≢ at }
         ensures between { (d : ℕ) → 0 < d → d < result → cell_is_received (cell_at self.now.window d) ≡ false }
@@ -252,8 +253,8 @@ impl RecvBuf {
         }
     }
 
-    /// The place of the first packet after a place; `end` or more if there is none. O(1) if the place is before
-    /// `next`, else linear in the distance to that packet.
+    /// Returns the place of the first packet after a place; `end` or more if there is none. O(1) if the place is
+    /// before `next`, else linear in the distance to that packet.
     fn packet_after(&self, at: usize) -> usize
         requires { at ≤ places_of self.now }
         ensures low { at < result }
@@ -268,10 +269,10 @@ impl RecvBuf {
         }
     }
 
-    /// A drop request for the numbers `first` to `last`, both in (section 3.2.9). Those of the window that aren't
-    /// received count as dropped, and the front moves past dropped numbers. Received packets stay. If `last` is 2^30
-    /// or more past `first`, as it is in a backward range, nothing changes. Linear in the numbers of the window that
-    /// it names; doesn't allocate.
+    /// Processes a drop request for the numbers `first` to `last`, inclusive (section 3.2.9). Its numbers in the
+    /// window that aren't received are dropped, and the front moves past dropped numbers. Received packets stay. If
+    /// `last` is 2^30 or more past `first`, as in a backward range, nothing changes. Linear in the number of places
+    /// that the range covers; doesn't allocate.
     pub fn dropped(&mut self, first: Seq31, last: Seq31)
         ensures { Becomes self.old self.new (λ width initial r. requested width (own_range initial first last) r) }
     {
@@ -307,8 +308,8 @@ impl RecvBuf {
     }
 }
 
-/// The places of the window from `front` on whose numbers are in the range of `span` + 1 numbers from `first` on:
-/// from the first result on and before the second. (0, 0) if there are none.
+/// Returns the places of the window from `front` on whose numbers are in the range of `span` + 1 numbers from `first`
+/// on: from the first result on and before the second. (0, 0) if there are none.
 fn overlap(front: Seq31, first: Seq31, span: u32, width: u32) -> (u32, u32)
     requires short { span < 2 ^ 30 }
     requires narrow { width ≤ 8192 }

@@ -1,4 +1,4 @@
-//! The gaps: which runs of missing numbers a NAK reports (draft-sharabayko-srt-01, section 4.8.2), lowest first and at
+//! Gaps: the runs of missing numbers that a NAK reports (draft-sharabayko-srt-01, section 4.8.2), lowest first and at
 //! most 32.
 
 ghost use Rattle.std.specs.Prelude.{◌≡◌, ◌+◌, ◌-◌, ◌≤◌, nat_lt};
@@ -23,10 +23,10 @@ impl RecvBuf {
         self.point < self.end
     }
 
-    /// The first 32 runs of missing numbers from `from` on and below the highest received number, lowest first: what
-    /// a NAK reports (section 4.8.2). Each is a pair of its first and its last number. Empty if `from` is outside
-    /// front..=front + width. Linear in the distance from the first missing number, or from `from` if that is
-    /// greater, to the highest received one; doesn't allocate.
+    /// Returns the runs that a NAK reports (section 4.8.2): the first 32 runs of missing numbers from `from` on and
+    /// below the highest received number, lowest first. Each is a pair of its first and its last number. Empty if
+    /// `from` is outside front..=front + width. Linear in the distance from the first missing number, or from `from`
+    /// if that is greater, to the highest received one; doesn't allocate.
     pub fn runs(&self, from: Seq31) -> ArrayVec<(Seq31, Seq31), 32>
         ensures { HoldsOf self.now (λ width initial r. words_of result.items ≡ said_runs width initial (word_of from) r) }
     {
@@ -36,7 +36,7 @@ impl RecvBuf {
         }
     }
 
-    /// The first 32 runs of places that are missing, from `from` on and before `end`.
+    /// Returns the first 32 runs of missing places from `from` on and before `end`.
     fn runs_at(&self, from: usize) -> ArrayVec<(Seq31, Seq31), 32>
         requires { from ≤ self.now.end }
         ensures { AreRunsFrom from self.now result.items }

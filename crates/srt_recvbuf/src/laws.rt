@@ -8,7 +8,7 @@ ghost use Rattle.std.specs.Prelude.{ℕ};
 
 use crate::RecvBuf;
 
-/// Delivering payloads one by one gives the same as delivering them together.
+/// Delivering payloads one by one has the same result as delivering them together.
 pub fn one_by_one()
     ensures wait { OthersWait }
     ensures pass { PassesOneByOne }
@@ -22,7 +22,7 @@ pub fn ack_points()
     ensures settled { SettlesAtTheLeast }
 {}
 
-/// No number past the window is received or dropped in anything that a buffer stands for.
+/// No number past the window is received or dropped in any record that a buffer represents.
 pub fn window_ends(buffer: &RecvBuf)
     ensures dropped { (width initial origin : ℕ) (r : Receiving) → StandsFor width initial origin buffer.now r → NothingDroppedBeyond width r }
     ensures received { (width initial origin : ℕ) (r : Receiving) → StandsFor width initial origin buffer.now r → NothingBeyond width r }

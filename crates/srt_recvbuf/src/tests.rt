@@ -1,4 +1,4 @@
-//! Worked examples of receiving: across the wrap of sequence numbers, behind a gap, and after drop requests.
+//! Computed examples of reception: across the wrap of sequence numbers, after a gap, and after drop requests.
 
 mod plain;
 mod random;
@@ -20,7 +20,7 @@ fn buffer(rt: &HostRuntime, initial: u32) -> Result<RecvBuf, Fail> {
     Ok(buffer)
 }
 
-/// Whether these bytes are due; they are then noted as delivered.
+/// Whether these bytes are due; if so, marks them as delivered.
 fn is_given(buffer: &mut RecvBuf, now: u32, bytes: &[u8]) -> bool {
     let now = u64::from(now);
     let is_due = match buffer.next_due(now, 64) {

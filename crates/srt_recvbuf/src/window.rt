@@ -13,13 +13,13 @@ use std::alloc::{AllocError, Global};
 pub enum NumberState {
     /// Neither received nor dropped.
     Missing,
-    /// The sender dropped the number, and no packet of it came (section 3.2.9).
+    /// The sender dropped the number, and no packet with it has arrived (section 3.2.9).
     Dropped,
     /// A packet was received. It is due at `due`, in microseconds.
     Received { due: i64 },
 }
 
-/// Which states a search looks for.
+/// The states that a search accepts.
 #[derive(Clone, Copy, Debug, PartialEq, Eq)]
 pub enum Seek {
     /// Missing.
@@ -46,7 +46,7 @@ impl Window {
     ghost use Rattle.srt_recvbuf.specs.Cells.{place_at, cell_at, due_of, after_drop, cell_is_received, is_sought, payload_of, width_of};
     ghost use Rattle.srt_recvbuf.specs.Cells.Cell.{Missing, Dropped, Received};
 
-    /// A window of `width` missing places. The only call that allocates; the error is a refused allocation.
+    /// Allocates a window of `width` missing places. The only call that allocates; the error is a failed allocation.
     /// O(width).
     pub fn open(alloc: Global, width: usize) -> Result<Window, AllocError>
         requires some { 0 < width }
@@ -63,7 +63,7 @@ impl Window {
         })
     }
 
-    /// The number of places, 1 to 8192.
+    /// Returns the number of places, 1 to 8192.
     pub fn width(&self) -> usize
         ensures value { result ≡ width_of self.now }
         ensures some { 0 < result }
@@ -72,7 +72,7 @@ impl Window {
         self.places.len()
     }
 
-    /// The state of a place; Missing past the last.
+    /// Returns the state of a place; Missing past the last.
     pub fn place(&self, at: usize) -> NumberState
         ensures value { result ≡ place_at self.now at }
     {
@@ -82,7 +82,7 @@ impl Window {
         }
     }
 
-    /// When the packet of a place is due, in microseconds. None if no packet is there.
+    /// Returns the time at which the packet of a place is due, in microseconds. None if no packet is there.
     pub fn due(&self, at: usize) -> Option<i64>
         ensures { result ≡ due_of (cell_at self.now at) }
     {
@@ -92,8 +92,8 @@ impl Window {
         }
     }
 
-    /// The bytes of a place's payload, at most 1456. They are the packet's if the place has one, and else without
-    /// meaning.
+    /// Returns the bytes of a place's payload, at most 1456. They are the packet's if the place has one, and undefined
+    /// otherwise.
     pub fn payload(&self, at: usize) -> &[u8]
         requires { at < width_of self.now }
         ensures packet { cell_is_received (cell_at self.now at) ≡ true → result.now ≡ payload_of (cell_at self.now at) }
@@ -103,7 +103,8 @@ impl Window {
         self.payloads.payload(at)
     }
 
-    /// Gives a place the first warm buffer, by an exchange, if no packet is in either place. See `PayloadRing`.
+    /// Moves the first warm buffer to a place, by an exchange, unless one of the two places has a packet. See
+    /// `PayloadRing`.
     fn warm_up(&mut self, at: usize)
         requires inside { at < width_of self.old }
         ensures width { width_of self.new ≡ width_of self.old }
@@ -116,7 +117,7 @@ impl Window {
         }
     }
 
-    /// Stores a packet at a place, over what was there. Its payload is at most 1456 bytes. One copy.
+    /// Stores a packet at a place and overwrites its previous state. The payload is at most 1456 bytes. One copy.
     pub fn fill(&mut self, at: usize, due: i64, payload: PayloadRef<'_>)
         requires inside { at < width_of self.old }
         ensures width { width_of self.new ≡ width_of self.old }
@@ -139,7 +140,7 @@ impl Window {
         }
     }
 
-    /// Marks a place as dropped, unless a packet is there.
+    /// Marks a place as dropped, unless it has a packet.
     fn drop_at(&mut self, at: usize)
         requires inside { at < width_of self.old }
         ensures width { width_of self.new ≡ width_of self.old }
@@ -189,7 +190,7 @@ impl Window {
         }
     }
 
-    /// Whether the state of a place is one that `seek` looks for.
+    /// Whether `seek` accepts the state of a place.
     pub fn is(&self, at: usize, seek: Seek) -> bool
         ensures { result ≡ is_sought seek (cell_at self.now at) }
     {
@@ -209,8 +210,8 @@ impl Window {
         }
     }
 
-    /// The first place from `from` on and before `end` that `seek` looks for; `end` if there is none. Linear in the
-    /// places that it passes.
+    /// Returns the first place from `from` on and before `end` that `seek` accepts; `end` if there is none. Linear in
+    /// the places that it passes.
     pub fn find(&self, seek: Seek, from: usize, end: usize) -> usize
         requires { from ≤ end }
         ensures low { from ≤ result }
@@ -226,7 +227,7 @@ impl Window {
         end
     }
 
-    /// Marks the places from `from` on and before `end` as dropped, unless a packet is there.
+    /// Marks the places from `from` on and before `end` as dropped, except those that have a packet.
     pub fn drop_range(&mut self, from: usize, end: usize)
         requires order { from ≤ end }
         requires inside { end ≤ width_of self.old }

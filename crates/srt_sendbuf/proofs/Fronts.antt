@@ -12,7 +12,7 @@ use Rattle.srt_sendbuf.specs.Sending.{Queued, Sending, front, base, is_marked, a
 use Rattle.srt_sendbuf.specs.Places.{Kept, is_old}
 use Rattle.srt_sendbuf.specs.Stands.{IsInOrder, IsKept, IsMoved, kept_as}
 
--- an ACK that leaves the front where it is
+-- an ACK that doesn't move the front
 pub acked_below : (behind back steps message : ℕ) (r : Sending) → behind ≡ min (front r - r.acked) 16384 → back ≡ min behind 8192
     → steps < back → message ≡ message_number (base r + steps)
     → IsMoved 0 (back - steps) message r (acknowledged (base r + steps) r)
@@ -125,7 +125,7 @@ expired_moved before behind behind2 back back2 count steps message r b k b2 k2 s
       message_is = let e : base (expired_before before r) ≡ base r + steps = omega (arith, b, k, b2, k2, s, f) in m ∙ ap message_number (sym e);
     }
 
--- an expiry that leaves the front where it is changes no field
+-- an expiry that doesn't move the front changes no field
 pub expired_none : (before : ℤ) (initial word behind queued flying low high base_message end_message : ℕ) (kept : ℕ → Option Kept)
     (lost : ℕ → Bool) (r : Sending)
     → IsKept initial word behind queued flying low high base_message end_message kept lost r → front (expired_before before r) ≡ front r

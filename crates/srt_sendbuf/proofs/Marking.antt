@@ -1,4 +1,4 @@
--- Buffers of which a call marked some packets as lost.
+-- Buffers after calls that marked packets as lost.
 use Rattle.std.proofs.Common.{◌≡◌, ℕ, ◌+◌, ◌-◌, ◌*◌, ◌/◌, ◌<◌, ◌≤◌, min, max, Bool, true, false, ◌&&◌, ◌||◌, if◌then◌else◌, Some, List, []}
 use Rattle.std.proofs.Common.{inl, inr, ◌⊎◌, refl, sym, ap, ◌∙◌, arith}
 use Rattle.std.specs.Prelude.{nat_lt, nat_le}
@@ -31,7 +31,7 @@ nothing_marked b =
       lowest = λ h. h;
     }
 
--- one call after the other
+-- two calls in sequence
 pub both_marked : (p q : ℕ → Bool) (a b c : SendBuf) → HasMarked p a b → HasMarked q b c → HasMarked (λ d. p d || q d) a c
 both_marked p q a b c m n =
     record {
@@ -66,7 +66,7 @@ marked_as p q a b e m =
       lowest = m.lowest;
     }
 
--- a loss list that names the places that were marked
+-- the record after a loss list whose numbers in flight are those of the marked places
 pub asked_stands : (width initial : ℕ) (a b : SendBuf) (named : ℕ → Bool) (ranges : List Range) (r : Sending) → StandsFor width initial a r
     → HasMarked named a b → ((d : ℕ) → d < a.sent → is_asked ranges (front r + d) ≡ named d)
     → StandsFor width initial b (asked ranges r)
@@ -106,7 +106,7 @@ asked_stands width initial a b named ranges r h m e =
         ∙ ap (λ t. is_asked ranges (front r + d) || t) (h.fields.lost_is d lt)
         ∙ mixed (is_asked ranges (front r + d)) (is_marked r.marks (front r + d)) (is_in_span (front r) (next r) (front r + d)) (flies d lt)
 
--- one part: the places that are marked, and the bounds of those that are lost
+-- one part: the places that are marked, and the bounds of the lost places
 pub part_lost : (first last d : ℕ) (lost lost2 : Bool)
     → lost2 ≡ (if nat_le first d && nat_lt d (last + 1) then true else lost) → lost2 ≡ (is_in_part (Some (first, last)) d || lost)
 part_lost first last d lost lost2 ls = ls ∙ either (nat_le first d) (nat_lt d (last + 1)) (nat_le d last) lost upto
@@ -166,7 +166,7 @@ part_lowest first last low high low2 high2 lost lost2 le ls some none lowest = l
     lowest2 (inl c) (inr a) = let s = some c in let e : low2 ≡ first = omega (arith, s.0, a) in ap lost2 e ∙ at_first
     lowest2 (inr c) a = let s = none c in ap lost2 s.0 ∙ at_first
 
--- ranges that are taken off a loss list
+-- ranges that are read from a loss list
 pub taken_nothing : (b : SendBuf) (list left : List Range) → left ≡ list → TakesParts b b list left
 taken_nothing b list left e =
     (λ d. false, nothing_marked b, λ initial from place w lt. ap (λ xs. is_asked (ranges_from initial xs) (from + place)) (sym e))
@@ -187,7 +187,7 @@ taken_all width initial a b list left r h t e =
     asked_stands width initial a b t.0 (ranges_from initial list) r h t.1
     (λ d lt. t.2 initial (front r) d (sym h.fields.word_is) lt ∙ ap (λ xs. t.0 d || is_asked (ranges_from initial xs) (front r + d)) e ∙ alone (t.0 d))
 
--- each turn makes at most as many marks as there are packets in flight
+-- each step makes at most as many marks as there are packets in flight
 pub one_turn_more : (turns first before after sent sent2 : ℕ)
     → before ≤ first + turns * sent → after ≤ before + sent2 → sent2 ≡ sent → after ≤ first + (turns + 1) * sent
 one_turn_more turns first before after sent sent2 b a e =

@@ -1,4 +1,4 @@
--- Ranges that are taken off a loss list, as parts of a window.
+-- Ranges that are read from a loss list, as parts of a window.
 use Rattle.std.proofs.Common.{◌≡◌, ℕ, suc, ◌+◌, ◌%◌, ◌^◌, ◌<◌, ◌≤◌, Bool, true, false, ◌||◌, Option, None, Some, List, [], ◌∷◌, length}
 use Rattle.std.proofs.Common.{refl, sym, ap, ◌∙◌, arith}
 use Rattle.std.specs.Prelude.{All, IfSome, slice_index_or}
@@ -20,7 +20,7 @@ in_more : (parts : List (ℕ × ℕ)) (part : Option (ℕ × ℕ)) (d : ℕ) →
 in_more parts None d = sym (alone (is_in_parts parts d))
 in_more parts (Some p) d = list_any-append (λ q. is_in_part (Some q) d) parts (p ∷ []) ∙ ap (λ b. is_in_parts parts d || b) (alone (is_in_part (Some p) d))
 
--- the list's next range is taken, and its part is named if it has one
+-- the list's next range is read, and its part is appended if it has one
 pub taken_more : (word width : ℕ) (list left : List Range) (x : Range) (parts : List (ℕ × ℕ)) (part : Option (ℕ × ℕ)) → x.first < 2 ^ 31
     → x.last < 2 ^ 31 → ((n : ℕ) → n % 2 ^ 31 ≡ word → IsPartOf x n width part) → IsTaken word width list (x ∷ left) (is_in_parts parts)
     → IsTaken word width list left (is_in_parts (with_part parts part))
@@ -40,7 +40,7 @@ pub length_more : (parts : List (ℕ × ℕ)) (part : Option (ℕ × ℕ)) → l
 length_more parts None = omega arith
 length_more parts (Some p) = let h = length_last parts p in omega (arith, h)
 
--- ascending parts: those after the first ascend, and begin no earlier than it
+-- of ascending parts, those after the first ascend and begin no earlier than it
 pub rest_ascends : (x : ℕ × ℕ) (xs : List (ℕ × ℕ)) → IsNonDecreasingBy (λ p. p.0) (x ∷ xs) → IsNonDecreasingBy (λ p. p.0) xs
 rest_ascends x xs up i j d le lt = up (suc i) (suc j) d (omega (arith, le)) (omega (arith, lt))
 

@@ -1,4 +1,4 @@
--- The part of a window that a range names.
+-- The part of a window that a range covers.
 use Rattle.std.proofs.Common.{◌≡◌, ℕ, zero, suc, ◌+◌, ◌-◌, ◌%◌, ◌^◌, ◌<◌, ◌≤◌, min, Bool, true, false, ◌||◌, Option, None, Some, List, []}
 use Rattle.std.proofs.Common.{◌∷◌, refl, sym, ap, ◌∙◌, arith}
 use Rattle.std.specs.List.{list_any}
@@ -34,7 +34,7 @@ none_at test from (suc places) off =
     ap (λ t. t || list_any test (numbers_from (from + 1) places)) b
     ∙ none_at test (from + 1) places (λ d l. let m : (from + 1) + d ≡ from + suc d = omega arith in rw m (off (suc d) (omega (arith, l))))
 
--- if a range has a part of a window, it names one of its numbers
+-- a range that has a part of a window contains one of its numbers
 pub asks_part : (initial from places first last : ℕ) (x : Range) → x.first < 2 ^ 31 → x.last < 2 ^ 31
     → IsPartOf x (initial + from) places (Some (first, last)) → first ≤ last → last < places
     → list_any (is_in (range_from initial x)) (numbers_from from places) ≡ true
@@ -88,7 +88,7 @@ pub some_asked : (test : ℕ → Bool) (from places : ℕ) → list_any test (nu
 some_asked test from zero e = absurd (true≢false (sym e))
 some_asked test from (suc places) e = omega arith
 
--- where the base stands: as many numbers before the front as the buffer keeps
+-- the place of the base: the buffer's distance before the front
 pub record IsBase (initial word back sent : ℕ) (r : Sending) : Type 0 where
   pub behind : back ≡ front r - base r
   pub near : (initial + base r + back) % 2 ^ 31 ≡ word

@@ -26,7 +26,7 @@ module _ {X : Type 0} where
   length_last [] x = refl
   length_last (y ∷ xs) x = let h = length_last xs x in omega (arith, h)
 
--- past the last place the payload doesn't matter
+-- past the last place the payload has no effect
 pub same_inside : (ps : List PacketRecord) (d : ℕ) (t u : List ℕ) → (d < length ps → t ≡ u) → kept_of (slice_get ps d) t ≡ kept_of (slice_get ps d) u
 same_inside ps d t u same = elim (cases_lt d (length ps)) [
   | inl lt ↦ ap (kept_of (slice_get ps d)) (same lt)

@@ -1,4 +1,4 @@
--- Worked examples of the definitions, by computing.
+-- Computed examples of the definitions.
 use Rattle.std.proofs.Common.{◌≡◌, ℕ, pos, true, false, None, Some, List, [], ◌∷◌, refl}
 use Rattle.std.specs.Prelude.{option_map}
 use Rattle.srt_seq.specs.Window.{in_window, counted_from}
@@ -28,21 +28,21 @@ sent_first = refl
 then_nothing : due 8192 flying ≡ None
 then_nothing = refl
 
--- if a NAK names it, it is sent again, even with a flow window of 0
+-- if a NAK reports it, it is sent again, even with a flow window of 0
 sent_again : option_map (told 9) (due 0 (asked nine flying)) ≡ Some again
 sent_again = refl
 
 sent_again_once : due 8192 (after_due 8192 (asked nine flying)) ≡ None
 sent_again_once = refl
 
--- it expires a microsecond after its own time, and then a NAK for it is answered by a drop request
+-- it expires a microsecond after its queueing time; then a NAK of it causes a drop request
 not_yet : gone_for 9 nine (expired_before (pos 1_000_000) flying) ≡ None
 not_yet = refl
 
 now_gone : gone_for 9 nine (expired_before (pos 1_000_001) flying) ≡ Some (record { first = 9; last = 9; message = 1 })
 now_gone = refl
 
--- the greatest number that an ACK may name is the first number not sent
+-- the greatest number that an ACK may have is the first number not sent
 brought : acknowledged_by (counted_from 9 10) flying ≡ Some 1
 unfolding in_window
 brought = refl
@@ -64,6 +64,6 @@ both_lost = refl
 second : option_map (told 0x7fff_ffff) (due 8192 (queued 1_000_000 (0x61 ∷ []) flying)) ≡ Some (packet 0 2)
 second = refl
 
--- an ACK may name a number 8192 before the front
+-- an ACK's number may be 8192 before the front
 far : base (record { queue = []; acked = 5; expired = 9000; marks = [] }) ≡ 808
 far = refl

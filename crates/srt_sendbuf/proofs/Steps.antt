@@ -1,4 +1,4 @@
--- What each call does to the record that the fields represent.
+-- The effect of each call on the record that the fields represent.
 use Rattle.std.proofs.Common.{◌≡◌, ◌≢◌, ℕ, zero, suc, ◌+◌, ◌-◌, ◌%◌, ◌^◌, ◌<◌, ◌≤◌, ◌==◌, max, Bool, true, false, if◌then◌else◌, Option}
 use Rattle.std.proofs.Common.{None, Some, List, [], ◌∷◌, ◌++◌, length, inl, inr, ◌⊎◌, refl, sym, ap, subst, ◌∙◌, arith}
 use Rattle.std.specs.Prelude.{All, filter, slice_get, nat_lt}
@@ -178,7 +178,7 @@ sent_next initial word behind count flying low high base_message end_message kep
     inside d k b (inl same) = absurd (true≢false (sym b ∙ ls d ∙ ap (λ t. if t then false else lost d) (eq-eqb _ _ same)))
     inside d k b (inr other) = h.within d (omega (arith, k, other)) (sym (ls d ∙ ap (λ t. if t then false else lost d) (ne_eqb _ _ other)) ∙ b)
 
--- other marks, which end at the same number sent
+-- other marks with the same highest number sent
 remarked : (initial word behind count flying low high base_message end_message low2 high2 : ℕ) (kept kept2 : ℕ → Option Kept)
     (lost lost2 : ℕ → Bool) (marks2 : List Mark) (r : Sending)
     → IsKept initial word behind count flying low high base_message end_message kept lost r → sent_end marks2 ≡ sent_end r.marks
@@ -256,7 +256,7 @@ none_lost initial word behind count flying low high base_message end_message kep
     ∙ none_of (is_marked r.marks) (front r) flying
     (λ k l. sym (h.lost_is k l) ∙ false_from_ne_true (lost_ones k) (λ b. let i = h.within k l b in omega (arith, le, i.0, i.1)))
 
--- the number that is due
+-- the number of the next packet
 pub due_again : (window low : ℕ) (r : Sending) → ((ns : List ℕ) × (lost r ≡ (front r + low) ∷ ns)) → due_number window (lost r) r ≡ Some (front r + low, true)
 due_again window low r f = ap (λ ns. due_number window ns r) f.1
 

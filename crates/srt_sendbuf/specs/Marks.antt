@@ -1,4 +1,4 @@
--- Whether a packet counts as lost, so that it is sent again.
+-- Whether a packet is marked as lost, so that it is sent again.
 use Rattle.std.specs.Prelude.{Bool, false, Option, None, Some}
 use Rattle.srt_sendbuf.specs.declared.ring.PacketRecord.{PacketRecord}
 

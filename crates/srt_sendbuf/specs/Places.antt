@@ -1,4 +1,4 @@
--- The places of a ring and the packet of each.
+-- The places of a ring and their packets.
 use Rattle.std.specs.Prelude.{◌≡◌, ℕ, ◌/◌, ◌<◌, ◌==◌, if◌then◌else◌, ℤ, pos, int_lt, Bool, false, Option, None, Some, List, length, slice_get}
 use Rattle.srt_seq.specs.Counts.{message_of}
 use Rattle.srt_ring.specs.declared.ring.PayloadRing.{PayloadRing}
@@ -8,7 +8,7 @@ use Rattle.srt_sendbuf.specs.declared.ring.PacketRecord.{PacketRecord}
 use Rattle.srt_sendbuf.specs.Marks.{is_lost}
 use Rattle.srt_sendbuf.specs.declared.ring.Ring.{Ring}
 
--- a packet that is kept: when it was queued, its message number and its payload
+-- a stored packet: its queueing time, its message number and its payload
 pub record Kept : Type 0 where
   pub origin : ℕ
   pub message : ℕ
@@ -29,29 +29,29 @@ kept_at r at = kept_in r.places.items r.payloads at
 abbrev pub lost_at : Ring → ℕ → Bool
 lost_at r at = is_lost (slice_get r.places.items at)
 
--- the number of packets that are kept
+-- the number of stored packets
 abbrev pub length_of : Ring → ℕ
 length_of r = length r.places.items
 
--- the number of places
+-- the number of places of a ring
 abbrev pub width_of : Ring → ℕ
 width_of r = r.places.capacity
 
--- how often a place was marked as lost or as not lost
+-- the number of times that a place was marked as lost or as not lost
 abbrev pub marks_of : Ring → ℕ
 marks_of r = r.marks
 
--- a packet was put behind the last one
+-- a packet was appended
 abbrev pub IsPut : Kept → (before after : Ring) → Type 0
 IsPut k before after =
     (d : ℕ) → kept_at after d ≡ (if d == length_of before then Some k else kept_at before d)
 
--- no place whose slot is in this block of 64 is lost
+-- no place whose slot is in this block of 64 slots is lost
 abbrev pub IsFree : (block : ℕ) → Ring → Type 0
 IsFree block r =
     (d : ℕ) → d < width_of r → slot_of (width_of r) (first_of r.payloads) d / 64 ≡ block → lost_at r d ≡ false
 
--- two rings hold the same packets, but for which of them are lost
+-- two rings hold the same packets, except that their loss marks may differ
 pub record HasSame (before after : Ring) : Type 0 where
   pub width : width_of after ≡ width_of before
   pub length : length_of after ≡ length_of before

@@ -1,12 +1,12 @@
--- What a sender keeps of one stream, and all results that follow from it. Numbers count from the initial one, without
--- a wrap.
+-- The record of a sender's stream, and all results computed from it. Numbers count from the initial sequence number,
+-- without a wrap.
 use Rattle.std.specs.Prelude.{ℕ, ◌+◌, ◌-◌, ℤ, pos, int_lt, Bool, true, false, Option, None, Some, List, [], ◌∷◌, ◌++◌, All, filter, length}
 use Rattle.std.specs.Prelude.{count_by, slice_get, max, nat_lt, nat_le, ◌==◌, ◌&&◌, ◌||◌, if◌then◌else◌, ◌≤◌}
 use Rattle.std.specs.List.{list_any}
 use Rattle.srt_seq.specs.Window.{in_window, counted_from}
 use Rattle.srt_seq.specs.Runs.{Range, is_in, is_asked, numbers_from}
 
--- a payload and the time when it was queued
+-- a payload and its queueing time in microseconds
 pub record Queued : Type 0 where
   pub origin : ℕ
   pub payload : List ℕ
@@ -15,20 +15,20 @@ pub record Queued : Type 0 where
 pub data Mark : Type 0 where
   -- a number was sent
   Sent : (number : ℕ) → Mark
-  -- a NAK named these ranges; of them, the numbers from low on and before high count
+  -- a NAK reported these ranges; only numbers from `low` on and before `high` are marked
   Asked : (low high : ℕ) (ranges : List Range) → Mark
-  -- all numbers from low on and before high count as lost
+  -- all numbers from `low` on and before `high` are marked as lost
   All_of : (low high : ℕ) → Mark
 
--- the k-th payload of the queue has the number k. `acked` is the least number not acknowledged, `expired` the least
--- not expired; marks have the newest first
+-- the queue, where the k-th payload has the number k; the least number not acknowledged, the least number not expired,
+-- and the marks, newest first
 pub record Sending : Type 0 where
   pub queue : List Queued
   pub acked : ℕ
   pub expired : ℕ
   pub marks : List Mark
 
--- a stream of which nothing was queued yet
+-- the record of a stream before its first payload
 abbrev pub nothing_yet : Sending
 nothing_yet = record { queue = []; acked = 0; expired = 0; marks = [] }
 
@@ -36,7 +36,7 @@ nothing_yet = record { queue = []; acked = 0; expired = 0; marks = [] }
 abbrev pub front : Sending → ℕ
 front s = max s.acked s.expired
 
--- the base: the least number that an ACK may name, at most 8192 before the front (our choice)
+-- the base: the least number that an ACK may have, at most 8192 before the front (our choice)
 abbrev pub base : Sending → ℕ
 base s = max s.acked (front s - 8192)
 
@@ -55,7 +55,7 @@ next s = max (front s) (sent_end s.marks)
 abbrev pub room : (width : ℕ) → Sending → ℕ
 room width s = width - (length s.queue - front s)
 
--- whether everything that was queued is acknowledged
+-- whether all queued payloads are acknowledged
 abbrev pub is_all_acknowledged : Sending → Bool
 is_all_acknowledged s = s.acked == length s.queue
 
@@ -63,11 +63,11 @@ is_all_acknowledged s = s.acked == length s.queue
 abbrev pub in_flight : Sending → ℕ
 in_flight s = next s - front s
 
--- from low on and before high
+-- whether a number is at or above `low` and below `high`
 abbrev pub is_in_span : (low high n : ℕ) → Bool
 is_in_span low high n = nat_le low n && nat_lt n high
 
--- marked as lost since it was last sent (section 4.8.2)
+-- whether a number was marked as lost since it was last sent (section 4.8.2)
 abbrev pub is_marked : List Mark → ℕ → Bool
 is_marked [] n = false
 is_marked (Sent k ∷ marks) n = if k == n then false else is_marked marks n
@@ -78,29 +78,29 @@ is_marked (All_of low high ∷ marks) n = is_in_span low high n || is_marked mar
 abbrev pub lost : Sending → List ℕ
 lost s = filter (is_marked s.marks) (numbers_from (front s) (in_flight s))
 
--- after a payload is queued at the time `origin`
+-- the record after a payload is queued at the time `origin`
 abbrev pub queued : (origin : ℕ) → List ℕ → Sending → Sending
 queued origin payload s = record s { queue = s.queue ++ record { origin = origin; payload = payload } ∷ [] }
 
--- the number that an ACK names; `word` is its sequence number, counted from the initial one. None if it is outside
--- base..=next (section 3.2.4)
+-- the number of an ACK; `word` is its sequence number, counted from the initial one. None if it is outside base..=next
+-- (section 3.2.4)
 abbrev pub acknowledged_by : (word : ℕ) → Sending → Option ℕ
 acknowledged_by word s = in_window word (base s) (next s - base s + 1)
 
--- the same of a sequence number of a stream with this initial number
+-- the same for a sequence number of a stream with this initial number
 abbrev pub acknowledged_at : (initial word : ℕ) → Sending → Option ℕ
 acknowledged_at initial word s = acknowledged_by (counted_from initial word) s
 
--- after all numbers below n were acknowledged
+-- the record after all numbers below n are acknowledged
 abbrev pub acknowledged : ℕ → Sending → Sending
 acknowledged n s = record s { acked = max s.acked n }
 
--- after an ACK; nothing changes if its number is outside base..=next
+-- the record after an ACK; unchanged if the ACK's number is outside base..=next (None)
 abbrev pub after_ack : Option ℕ → Sending → Sending
 after_ack None s = s
 after_ack (Some n) s = acknowledged n s
 
--- whether an ACK acknowledges more than those before
+-- whether an ACK acknowledges more than all earlier ones
 abbrev pub is_growth : Option ℕ → Sending → Bool
 is_growth None s = false
 is_growth (Some n) s = nat_lt s.acked n
@@ -109,32 +109,32 @@ is_growth (Some n) s = nat_lt s.acked n
 abbrev pub queued_before : ℤ → List Queued → ℕ
 queued_before before queue = count_by (λ q. int_lt (pos q.origin) before) queue
 
--- after those queued before this time expired
+-- the record after the expiry of all payloads that were queued before this time
 abbrev pub expired_before : ℤ → Sending → Sending
 expired_before before s = record s { expired = queued_before before s.queue }
 
--- after a loss list: the numbers in flight that it names are marked (section 3.2.5)
+-- the record after a loss list: its numbers in flight are marked (section 3.2.5)
 abbrev pub asked : List Range → Sending → Sending
 asked ranges s = record s { marks = Asked (front s) (next s) ranges ∷ s.marks }
 
--- whether a range names a number from the base up to the front
+-- whether a range contains a number from the base up to the front
 abbrev pub range_asks_for_gone : Range → Sending → Bool
 range_asks_for_gone range s = list_any (is_in range) (numbers_from (base s) (front s - base s))
 
--- whether a loss list names a number from the base up to the front
+-- whether a loss list contains a number from the base up to the front
 abbrev pub asks_for_gone : List Range → Sending → Bool
 asks_for_gone ranges s = list_any (is_asked ranges) (numbers_from (base s) (front s - base s))
 
--- after all numbers in flight were marked as lost
+-- the record after all numbers in flight are marked as lost
 abbrev pub all_lost : Sending → Sending
 all_lost s = record s { marks = All_of (front s) (next s) ∷ s.marks }
 
--- after a number was sent
+-- the record after a number is sent
 abbrev pub sent : ℕ → Sending → Sending
 sent n s = record s { marks = Sent n ∷ s.marks }
 
--- the next number to be sent, and whether it is sent again: the lowest lost one, or if none is lost, the next new one
--- if the flow window has room for it (sections 3.2.4 and 4.8.2)
+-- the next number to send, and whether it was sent before: the lowest lost number, or if none is lost, the next new
+-- one if the flow window has room for it (sections 3.2.4 and 4.8.2)
 abbrev pub due_number : (window : ℕ) → (lost_ones : List ℕ) → Sending → Option (ℕ × Bool)
 due_number window [] s = if nat_lt (in_flight s) window && nat_lt (next s) (length s.queue) then Some (next s, false) else None
 due_number window (n ∷ ns) s = Some (n, true)
@@ -154,15 +154,15 @@ abbrev pub due_at : List Queued → Option (ℕ × Bool) → Option Due
 due_at queue None = None
 due_at queue (Some p) = due_of p.0 p.1 (slice_get queue p.0)
 
--- the next packet to be sent
+-- the next packet to send
 abbrev pub due : (window : ℕ) → Sending → Option Due
 due window s = due_at s.queue (due_number window (lost s) s)
 
--- the next new packet, whatever is lost
+-- the next new packet to send, also if others are lost
 abbrev pub due_new : (window : ℕ) → Sending → Option Due
 due_new window s = due_at s.queue (due_number window [] s)
 
--- the packet that is this many numbers behind the front, as one to be sent
+-- the packet `at` numbers after the front, as one to be sent
 abbrev pub due_past : (at : ℕ) → (again : Bool) → Sending → Option Due
 due_past at again s = due_of (front s + at) again (slice_get s.queue (front s + at))
 
@@ -170,15 +170,15 @@ abbrev pub sent_number : Option (ℕ × Bool) → Sending → Sending
 sent_number None s = s
 sent_number (Some p) s = sent p.0 s
 
--- after the next packet was sent
+-- the record after the next packet is sent
 abbrev pub after_due : (window : ℕ) → Sending → Sending
 after_due window s = sent_number (due_number window (lost s) s) s
 
--- after the next new packet was sent
+-- the record after the next new packet is sent
 abbrev pub after_new : (window : ℕ) → Sending → Sending
 after_new window s = sent_number (due_number window [] s) s
 
--- no payload was queued later than this time
+-- no payload was queued later than `now`
 abbrev pub IsTimely : (now : ℕ) → Sending → Type 0
 IsTimely now s = All (λ q. q.origin ≤ now) s.queue
 

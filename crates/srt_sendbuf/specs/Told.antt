@@ -1,4 +1,4 @@
--- Results of the code in the numbers of the packets (sections 3.1 and 3.2.9).
+-- The buffer's results as packets and drop requests have them (sections 3.1 and 3.2.9).
 use Rattle.std.specs.Prelude.{ℕ, ◌-◌, Bool, Option, None, Some, List, option_map, if◌then◌else◌}
 use Rattle.srt_seq.specs.Window.{word_of, number_word}
 use Rattle.srt_seq.specs.Counts.{message_number, message_of}
@@ -15,7 +15,7 @@ pub record Told : Type 0 where
   pub origin : ℕ
   pub payload : List ℕ
 
--- the same of a packet whose number counts from the initial one
+-- the packet of a `Due`, whose number counts from the initial one
 abbrev pub told : (initial : ℕ) → Due → Told
 told initial d = record { number = number_word initial d.number; message = message_number d.number; again = d.again; origin = d.origin; payload = d.payload }
 
@@ -27,25 +27,26 @@ told_due initial window s = option_map (told initial) (due window s)
 abbrev pub told_new : (initial window : ℕ) → Sending → Option Told
 told_new initial window s = option_map (told initial) (due_new window s)
 
--- a packet that `next_due` or `next_new` returned
+-- the packet of a result of `next_due` or `next_new`
 abbrev pub told_by : Out → Told
 told_by o = record { number = word_of o.number; message = message_of o.message; again = o.again; origin = o.origin; payload = o.payload.now }
 
--- the contents of a drop request: the first sequence number, the last, and the message number of the first
+-- the contents of a drop request (section 3.2.9): the first sequence number, the last, and the message number of the
+-- first
 pub record Gone : Type 0 where
   pub first : ℕ
   pub last : ℕ
   pub message : ℕ
 
--- all numbers from the base up to the front
+-- the drop request for all numbers from the base up to the front
 abbrev pub gone : (initial : ℕ) → Sending → Gone
 gone initial s = record { first = number_word initial (base s); last = number_word initial (front s - 1); message = message_number (base s) }
 
--- the drop request that answers a loss list: None if the list names no number from the base up to the front (our
+-- the drop request that a loss list causes: None if the list contains no number from the base up to the front (our
 -- choice)
 abbrev pub gone_for : (initial : ℕ) → List Range → Sending → Option Gone
 gone_for initial ranges s = if asks_for_gone ranges s then Some (gone initial s) else None
 
--- a result of `lose`
+-- the drop request of a result of `lose`
 abbrev pub gone_by : DropRun → Gone
 gone_by d = record { first = word_of d.first; last = word_of d.last; message = message_of d.message }

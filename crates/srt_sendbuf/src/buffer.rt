@@ -1,4 +1,4 @@
-//! The sender buffer: what is queued and neither acknowledged nor expired, and which packets of it are lost
+//! The sender buffer: payloads that are queued and neither acknowledged nor expired, and which packets are lost
 //! (draft-sharabayko-srt-01, sections 4.6 and 4.8.2).
 
 ghost use Rattle.std.specs.Prelude.{◌≡◌, ℕ, ◌+◌, ◌-◌, ◌*◌, ◌/◌, ◌<◌, ◌≤◌, ◌↔◌, true, false, Some, [], length, max, option_map, nat_lt, IsErr, IfOk, OnErr};
@@ -27,31 +27,31 @@ pub struct Out<'a> {
     pub number: Seq31,
     /// Its message number (section 3.1).
     pub message: Msg26,
-    /// Whether it was sent before, so that the packet has the flag R (section 3.1).
+    /// Whether it was sent before. Then the packet has the flag R (section 3.1).
     pub again: bool,
-    /// The time that `queue` was given with its payload, in microseconds.
+    /// The time at which its payload was queued: the parameter `now` of `queue`, in microseconds.
     pub origin: u64,
     /// The bytes of its payload, at most 1456. They stay in the buffer.
     pub payload: &'a [u8],
 }
 
 /// The contents of a drop request (section 3.2.9): all sequence numbers from the base up to the front, which are
-/// expired and not acknowledged. `SendBuf::lose` returns it if a loss list names any of them.
+/// expired and not acknowledged. `SendBuf::lose` returns it if a loss list contains any of them.
 #[derive(Clone, Copy, Debug, PartialEq, Eq)]
 pub struct DropRun {
     /// The first number.
     pub first: Seq31,
-    /// The last number, which belongs to the run.
+    /// The last number, inclusive.
     pub last: Seq31,
     /// The message number of the first number.
     pub message: Msg26,
 }
 
-/// `queue` refused a payload: all places are taken.
+/// Error of `queue`: no place is free.
 #[derive(Clone, Copy, Debug, PartialEq, Eq)]
 pub struct Full;
 
-/// The message number `steps` packets later. O(steps).
+/// Returns the message number `steps` packets later. O(steps).
 pub(crate) fn message_after(message: Msg26, steps: usize) -> Msg26
     ensures { (k : ℕ) → message_of message ≡ message_number k → message_of result ≡ message_number (k + steps) }
 {
@@ -63,28 +63,27 @@ pub(crate) fn message_after(message: Msg26, steps: usize) -> Msg26
 }
 
 /// The payloads of one stream that are queued and neither acknowledged nor expired, 8192 at most. The first of them
-/// are in flight, the others wait to be sent. The k-th payload that is queued, from 0, has the initial sequence
-/// number + k.
+/// are in flight, the others wait to be sent. The k-th queued payload, from 0, has the initial sequence number + k.
 ///
-/// The *front* is the least number that is neither acknowledged nor expired; *next* is the first number not sent; an
-/// ACK may name the numbers from *base*, which is the least number not acknowledged but at most 8192 before the
-/// front, up to next. Times are microseconds of one clock that the caller chooses; they don't go back.
+/// The *front* is the least number that is neither acknowledged nor expired. *Next* is the first number not sent. The
+/// *base* is the least number not acknowledged, but at most 8192 before the front. An ACK's number is from base to
+/// next, inclusive. Times are microseconds of one clock of the caller's choice and never decrease.
 #[derive(Drop)]
 pub struct SendBuf {
     pub(crate) ring: Ring,
-    /// The sequence number of the first place.
+    /// Sequence number of the first place.
     pub(crate) front: Seq31,
-    /// The distance from the least number not acknowledged to the front, at most `BEHIND_END`.
+    /// Distance from the least number not acknowledged to the front, at most `BEHIND_END`.
     pub(crate) behind: usize,
-    /// The number of packets in flight: the places below this one.
+    /// Number of packets in flight: they have the places below it.
     pub(crate) sent: usize,
     /// The first lost place, if `low` is below `high`.
     pub(crate) low: usize,
     /// No place from this one on is lost.
     pub(crate) high: usize,
-    /// The message number of the base.
+    /// Message number of the base.
     pub(crate) message: Msg26,
-    /// The message number of the payload that is queued next.
+    /// Message number of the payload that is queued next.
     next_message: Msg26,
     ghost queue_in: { length_of ring ≤ 8192 },
     ghost behind_in: { behind ≤ 16384 },
@@ -99,8 +98,8 @@ impl SendBuf {
     ghost use Rattle.srt_sendbuf.specs.Told.{gone_for, gone_by};
     ghost use Rattle.srt_sendbuf.specs.Stands.{StandsFor, ForWhatever, Becomes, BecomesIf, MovesFront, HasMarked, TakesParts, marks};
 
-    /// An empty buffer of `width` packets, 32 to 8192, for a stream with the initial number 0; `start` begins any
-    /// other. The only call that allocates; the error is a refused allocation. O(width).
+    /// Allocates an empty buffer of `width` packets, 32 to 8192, for a stream with the initial number 0; `start`
+    /// begins any other. The only call that allocates; the error is a failed allocation. O(width).
     pub fn open(alloc: Global, width: u32) -> Result<SendBuf, AllocError>
         requires some { 32 ≤ width }
         requires narrow { width ≤ 8192 }
@@ -119,8 +118,8 @@ impl SendBuf {
         })
     }
 
-    /// Forgets everything and starts a stream whose first sequence number is `initial`. Linear in the packets that
-    /// were kept.
+    /// Discards everything and starts a stream whose first sequence number is `initial`. Linear in the number of
+    /// packets in the buffer.
     pub fn start(&mut self, initial: Seq31)
         ensures { (width before : ℕ) (r : Sending) → StandsFor width before self.old r → StandsFor width (word_of initial) self.new nothing_yet }
     {
@@ -135,7 +134,7 @@ impl SendBuf {
         self.next_message = Msg26::first();
     }
 
-    /// The number of payloads that can still be queued. O(1).
+    /// Returns the number of payloads that can still be queued. O(1).
     pub fn room(&self) -> u32
         ensures { ForWhatever self.now (λ width initial r. result ≡ room width r) }
     {
@@ -143,7 +142,7 @@ impl SendBuf {
     }
 
     /// Queues a payload, 0 to 1456 bytes, with the next sequence number. `now` is the current time in microseconds,
-    /// not before that of any earlier call; it comes back as `Out::origin`. `Full` if no place is free; then nothing
+    /// not before that of any earlier call; `Out::origin` returns it. `Full` if no place is free; then nothing
     /// changes. O(1), one copy.
     pub fn queue(&mut self, payload: &[u8], now: u64) -> Result<(), Full>
         requires { length payload.now ≤ 1456 }
@@ -160,7 +159,7 @@ impl SendBuf {
         Ok(())
     }
 
-    /// The number of packets in flight: sent, and neither acknowledged nor expired. O(1).
+    /// Returns the number of packets in flight: sent, and neither acknowledged nor expired. O(1).
     pub fn in_flight(&self) -> u32
         ensures { ForWhatever self.now (λ width initial r. result ≡ in_flight r) }
     {
@@ -168,7 +167,7 @@ impl SendBuf {
         flying as u32
     }
 
-    /// Whether everything that was queued is acknowledged. O(1).
+    /// Whether all queued payloads are acknowledged. O(1).
     pub fn is_all_acknowledged(&self) -> bool
         ensures { ForWhatever self.now (λ width initial r. result ≡ is_all_acknowledged r) }
     {
@@ -178,7 +177,7 @@ impl SendBuf {
         self.ring.len() == 0
     }
 
-    /// Whether any packet in flight counts as lost. O(1).
+    /// Whether any packet in flight is marked as lost. O(1).
     pub fn any_lost(&self) -> bool
         ensures { ForWhatever self.now (λ width initial r. result ≡ nat_lt 0 (length (lost r))) }
     {
@@ -186,8 +185,8 @@ impl SendBuf {
         span > 0
     }
 
-    /// Moves the front on by `count` packets. `behind` and `message` are the fields' values after that. O(count), and
-    /// the search for the next lost packet.
+    /// Moves the front on by `count` packets, and sets the fields `behind` and `message`. O(count), and the search for
+    /// the next lost packet.
     #[inline(never)]
     pub(crate) fn move_front(&mut self, count: usize, behind: usize, message: Msg26)
         requires inside { count ≤ length_of self.old.ring }
@@ -206,8 +205,8 @@ impl SendBuf {
     }
 
     /// Drops the packets that were queued before a time, in microseconds, sent or not (section 4.6). A time of 0 or
-    /// less drops nothing, and times don't go back. Returns the number of packets that it dropped. Linear in that
-    /// number; if it is 0, looks at the first packet alone.
+    /// less drops nothing. The times of successive calls never decrease. Returns the number of dropped packets. Linear
+    /// in that number; if it is 0, inspects only the first packet.
     #[inline(always)]
     pub fn expire(&mut self, before: i64) -> u32
         ensures stands { BecomesIf (IsLater before) self.old self.new (expired_before before) }
@@ -248,7 +247,7 @@ impl SendBuf {
         }
     }
 
-    /// Marks the packets of some parts as lost, each once, however much the parts overlap.
+    /// Marks the packets of all parts as lost, each once, however the parts overlap.
     fn lose_parts(&mut self, parts: &[(u32, u32)])
         requires within { AreWithin self.old.sent parts.now }
         requires ascending { IsNonDecreasingBy (λ part. part.0) parts.now }
@@ -263,7 +262,7 @@ impl SendBuf {
         }
     }
 
-    /// Marks the numbers of a list's next ranges that are in flight as lost. True if more ranges may be left.
+    /// Marks the numbers in flight in a list's next ranges as lost. True if more ranges may remain.
     fn lose_next(&mut self, ranges: &mut Ranges<'_>) -> bool
         ensures lost { TakesParts self.old self.new ranges.old ranges.new }
         ensures marks { marks_of self.new.ring ≤ marks_of self.old.ring + self.old.sent }
@@ -275,11 +274,11 @@ impl SendBuf {
         parts.len() == PARTS
     }
 
-    /// A loss list (NAK, sections 3.2.5 and 4.8.2): marks the numbers in flight that it names as lost. If it names
-    /// any number from the base up to the front, which are expired and not acknowledged, returns the run of all of
-    /// these, for a drop request (our choice). Linear in the numbers in flight that it names and in its n ranges, or
-    /// O(n log n) if they neither ascend nor descend. However much up to 364 ranges overlap, as many as a datagram has,
-    /// each number in flight is marked at most once (`marks`). Doesn't allocate.
+    /// Processes a loss list (NAK, sections 3.2.5 and 4.8.2): marks its numbers in flight as lost. If it contains any
+    /// number from the base up to the front, which are expired and not acknowledged, returns the run of all of these
+    /// for a drop request (our choice). Linear in its numbers in flight and in its n ranges, or O(n log n) if they
+    /// neither ascend nor descend. Up to 364 ranges, the maximum of a datagram, mark each number in flight at most
+    /// once, however they overlap (`marks`). Doesn't allocate.
     pub fn lose(&mut self, losses: &LossRef<'_>) -> Option<DropRun>
         ensures stands { Becomes self.old self.new (λ initial r. asked (ranges_from initial losses.now) r) }
         ensures answer { ForWhatever self.old (λ width initial r. option_map gone_by result ≡ gone_for initial (ranges_from initial losses.now) r) }

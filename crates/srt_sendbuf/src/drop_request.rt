@@ -1,5 +1,6 @@
-//! Drop requests: whether a NAK names numbers that are gone, which are expired and not acknowledged, and the run of
-//! them for a drop request (draft-sharabayko-srt-01, sections 3.2.5 and 3.2.9; which run is our choice).
+//! Drop requests: whether a NAK requests numbers that are gone, that is, expired and not acknowledged, and the run of
+//! such numbers that a drop request announces (draft-sharabayko-srt-01, sections 3.2.5 and 3.2.9; which run is our
+//! choice).
 
 ghost use Rattle.std.specs.Prelude.{◌≡◌, ◌^◌, ◌<◌};
 ghost use Rattle.srt_seq.specs.Runs.{span, ranges_from, range_from};
@@ -14,7 +15,8 @@ impl SendBuf {
     ghost use Rattle.srt_sendbuf.specs.Told.{gone, gone_by};
     ghost use Rattle.srt_sendbuf.specs.Stands.{ForWhatever};
 
-    /// Whether a range names a number from the base up to the front: one that is expired and not acknowledged.
+    /// Whether a range contains a number from the base up to the front, that is, an expired number that isn't
+    /// acknowledged.
     fn asks_gone(&self, range: (Seq31, Seq31)) -> bool
         requires short { span (range_of range) < 2 ^ 30 }
         ensures { ForWhatever self.now (λ width initial r. result ≡ range_asks_for_gone (range_from initial (range_of range)) r) }
@@ -26,7 +28,7 @@ impl SendBuf {
         }
     }
 
-    /// Whether any range of a list does. Linear in its ranges.
+    /// Whether any range of a loss list contains such a number. Linear in its ranges.
     pub(crate) fn asks_any_gone(&self, losses: &LossRef<'_>) -> bool
         ensures { ForWhatever self.now (λ width initial r. result ≡ asks_for_gone (ranges_from initial losses.now) r) }
     {
@@ -39,7 +41,7 @@ impl SendBuf {
         false
     }
 
-    /// The numbers from the base up to the front. Only for a base below the front.
+    /// Returns the run of numbers from the base up to the front. Only for a base below the front.
     pub(crate) fn gone(&self) -> DropRun
         ensures { ForWhatever self.now (λ width initial r. base r < front r → gone_by result ≡ gone initial r) }
     {

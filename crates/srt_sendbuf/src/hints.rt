@@ -2,10 +2,10 @@
 
 ghost use Rattle.std.specs.Prelude.{◌≡◌, ℕ, ◌<◌, ◌≤◌, ◌/◌, ◌==◌, true, false, if◌then◌else◌};
 
-/// The number of slots in a block.
+/// Number of slots in a block.
 pub const BLOCK: usize = 64;
 
-/// The number of blocks: 8192 slots in all.
+/// Number of blocks: 8192 slots in all.
 const BLOCKS: usize = 128;
 
 /// A flag for each block of 64 slots. If it is off, no packet of the block is lost; if it is on, some may be.
@@ -17,7 +17,7 @@ pub struct Hints {
 impl Hints {
     ghost use Rattle.srt_sendbuf.specs.inside.Hints.{hint_at};
 
-    /// All flags off.
+    /// Returns hints with all flags off.
     pub fn new() -> Hints
         ensures { (slot : ℕ) → hint_at result slot ≡ false }
     {
@@ -26,7 +26,7 @@ impl Hints {
         }
     }
 
-    /// The flag of a slot's block. The slot is below 8192. O(1).
+    /// Returns the flag of a slot's block. The slot is below 8192. O(1).
     pub fn get(&self, slot: usize) -> bool
         requires { slot < 8192 }
         ensures { result ≡ hint_at self.now slot }
@@ -34,8 +34,8 @@ impl Hints {
         self.blocks[slot / BLOCK]
     }
 
-    /// The first slot after `slot` and before `end` whose block's flag is on; `end` if there is none. Linear in the
-    /// blocks that it passes.
+    /// Returns the first slot after `slot` and before `end` whose block's flag is on; `end` if there is none. Linear
+    /// in the blocks that it passes.
     pub fn skip(&self, slot: usize, end: usize) -> usize
         requires order { slot < end }
         requires inside { end ≤ 8192 }

@@ -2,7 +2,7 @@
 
 ghost use Rattle.srt_sendbuf.specs.OneByOne.{ExpiryGoesOn, LostOneByOne, NewOneByOne, TimesGoOn};
 
-/// The conditions on the times of `queue` and `expire` keep holding, as long as time doesn't go back.
+/// The conditions on the times of `queue` and `expire` remain true as long as the times never decrease.
 pub fn times()
     ensures queueing { TimesGoOn }
     ensures expiry { ExpiryGoesOn }

@@ -1,21 +1,22 @@
 //! The sender buffer of a subscriber's session (draft-sharabayko-srt-01, sections 3.2.4, 3.2.5, 3.2.9, 4.6 and 4.8).
 //!
-//! It holds the payloads of one stream that are queued and neither acknowledged nor expired, in 32 to 8192 places,
-//! and which of the sent ones are lost. It has no clock and writes no packet: when expiry and resends are due, and
-//! what packets look like, is in `srt_sub`; loss lists are read by `srt_loss`; payload bytes are kept by `srt_ring`.
+//! It stores the payloads of one stream that are queued and neither acknowledged nor expired, in 32 to 8192 places,
+//! and records which of the sent packets are lost. It has no clock and writes no packet. `srt_sub` decides when
+//! packets expire and are resent, and encodes them; `srt_loss` decodes loss lists; `srt_ring` stores the payload
+//! bytes.
 //!
 //! Types: [`SendBuf`], the buffer; [`Out`], a packet to be sent; [`DropRun`], the contents of a drop request;
-//! [`Full`], the refusal of a payload.
+//! [`Full`], the error of `queue` without a free place.
 //!
-//! Calls: `SendBuf::open` once; `start` for each session; `queue` for each payload; `ack` and `lose` for what the
-//! peer reports; `expire` for what is too old, and `lose_all` to resend all; `next_due` until it returns None, which
-//! gives lost packets first and then new ones, and `note_sent` after each.
+//! Calls: `SendBuf::open` once; `start` for each session; `queue` for each payload. `ack` and `lose` process the
+//! peer's reports; `expire` drops old payloads, and `lose_all` marks everything for resending. `next_due` returns lost
+//! packets first and then new ones; call `note_sent` after each, until `next_due` returns None.
 //!
-//! Files: `buffer.rt` has the types, queueing, expiry, and what a NAK marks as lost; `acknowledging.rt` which numbers
-//! an ACK may name, and what it does; `drop_request.rt` which numbers a drop request names; `next_due.rt` the next
-//! packet to send. Under them, `ring.rt` is the ring of packets, `hints.rt` speeds up its search for lost ones, and
-//! `parts.rt` sorts long loss lists. `laws.rt` has facts about the definitions; `specs/Sending.antt` defines all
-//! results, and `specs/Stands.antt` says how the fields represent them.
+//! Files: `buffer.rt` has the types, queueing, expiry, and the loss marks of a NAK; `acknowledging.rt` the numbers
+//! that an ACK may have, and its effect; `drop_request.rt` the numbers of a drop request; `next_due.rt` the next
+//! packet to send. They use `ring.rt`, the ring of packets; `hints.rt`, which speeds up its search for lost packets;
+//! and `parts.rt`, which sorts long loss lists. `laws.rt` states facts about the definitions; `specs/Sending.antt`
+//! defines all results, and `specs/Stands.antt` defines how the fields represent them.
 #![tactic(auto)]
 
 mod acknowledging;

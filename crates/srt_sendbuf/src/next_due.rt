@@ -11,7 +11,7 @@ impl SendBuf {
     ghost use Rattle.srt_sendbuf.specs.Told.{told, told_by, told_due, told_new};
     ghost use Rattle.srt_sendbuf.specs.Stands.{ForWhatever, Becomes};
 
-    /// The packet of a place.
+    /// Returns the packet of a place.
     fn out(&self, at: usize, again: bool) -> Option<Out<'_>>
         requires { at < length_of self.now.ring }
         ensures answer { ForWhatever self.now (λ width initial r. option_map told_by result ≡ option_map (told initial) (due_past at again r)) }
@@ -27,7 +27,7 @@ impl SendBuf {
         })
     }
 
-    /// Notes that the lowest lost packet was sent again.
+    /// Records that the lowest lost packet was sent again.
     fn sent_again(&mut self)
         requires { self.old.low < self.old.high }
         ensures { Becomes self.old self.new (λ initial r. sent (front r + self.old.low) r) }
@@ -36,7 +36,7 @@ impl SendBuf {
         self.low = self.ring.find_lost(self.low + 1, self.high);
     }
 
-    /// Notes that the first packet not in flight was sent.
+    /// Records that the first packet not in flight was sent.
     fn sent_new(&mut self)
         requires { self.old.sent < length_of self.old.ring }
         ensures { Becomes self.old self.new (λ initial r. sent (front r + self.old.sent) r) }
@@ -53,9 +53,9 @@ impl SendBuf {
         self.sent < window as usize && self.sent < self.ring.len()
     }
 
-    /// The next packet to be sent: the lowest lost one (section 4.8.2), or if none is lost, the next new one if fewer
-    /// than `window` (the flow window, in packets) are in flight (section 3.2.4). None if no packet is due. O(1), and
-    /// no byte is copied. It counts as sent once `note_sent` is called.
+    /// Returns the next packet to be sent: the lowest lost one (section 4.8.2). If none is lost, the next new one,
+    /// provided that fewer than `window` packets (the flow window) are in flight (section 3.2.4). None if no packet is
+    /// due. O(1), and no byte is copied. The packet is counted as sent once `note_sent` is called.
     pub fn next_due(&self, window: u32) -> Option<Out<'_>>
         ensures answer { ForWhatever self.now (λ width initial r. option_map told_by result ≡ told_due initial window r) }
         ensures fits { IfSome result (λ o. length o.payload.now ≤ 1456) }
@@ -67,8 +67,8 @@ impl SendBuf {
         }
     }
 
-    /// Notes that the packet that `next_due` returns for this flow window was sent. Changes nothing if none is due. The
-    /// cost is that of the search for the next lost packet, see `Ring::find_lost`.
+    /// Records that the packet that `next_due` returns for this flow window was sent. Changes nothing if none is due.
+    /// The cost is that of the search for the next lost packet, see `Ring::find_lost`.
     pub fn note_sent(&mut self, window: u32)
         ensures { Becomes self.old self.new (λ initial r. after_due window r) }
     {
@@ -79,9 +79,9 @@ impl SendBuf {
         }
     }
 
-    /// The next new packet to be sent, whatever is lost: None if none waits, or if `window` (the flow window, in
-    /// packets) or more are in flight (section 3.2.4). O(1), and no byte is copied. It counts as sent once
-    /// `note_new_sent` is called.
+    /// Returns the next new packet to be sent, also if others are lost. None if no new packet waits, or if `window`
+    /// packets (the flow window) or more are in flight (section 3.2.4). O(1), and no byte is copied. The packet is
+    /// counted as sent once `note_new_sent` is called.
     pub fn next_new(&self, window: u32) -> Option<Out<'_>>
         ensures answer { ForWhatever self.now (λ width initial r. option_map told_by result ≡ told_new initial window r) }
         ensures fits { IfSome result (λ o. length o.payload.now ≤ 1456) }
@@ -93,8 +93,8 @@ impl SendBuf {
         }
     }
 
-    /// Notes that the packet that `next_new` returns for this flow window was sent. Changes nothing if there is none.
-    /// O(1).
+    /// Records that the packet that `next_new` returns for this flow window was sent. Changes nothing if there is
+    /// none. O(1).
     pub fn note_new_sent(&mut self, window: u32)
         ensures { Becomes self.old self.new (λ initial r. after_new window r) }
     {

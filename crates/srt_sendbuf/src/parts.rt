@@ -1,4 +1,4 @@
-//! Loss lists in parts: which places they name, in ascending order, so that no place is marked twice.
+//! Loss lists as parts: the places that their ranges cover, in ascending order, so that no place is marked twice.
 
 ghost use Rattle.std.specs.Prelude.{◌≡◌, ◌+◌, ◌^◌, ◌<◌, ◌≤◌, ◌∷◌, [], IfSome, IfNone, length};
 ghost use Rattle.std.specs.List.Sorted.{IsPermutation, IsNonDecreasingBy};
@@ -9,8 +9,8 @@ use arrayvec::ArrayVec;
 use srt_loss::{Ranges, part_in};
 use srt_seq::Seq31;
 
-/// The most parts that are taken off a list at once. One datagram's loss list has fewer: at most 364 ranges, in 1456
-/// bytes.
+/// Maximum number of parts that are read from a list at once. One datagram's loss list has fewer: at most 364 ranges,
+/// in 1456 bytes.
 pub const PARTS: usize = 365;
 
 /// Appends a part, if there is one.
@@ -23,8 +23,8 @@ fn put(parts: &mut ArrayVec<(u32, u32), PARTS>, part: Option<(u32, u32)>)
     }
 }
 
-/// Takes ranges off a list until there are `PARTS` that name places of a window, or none is left. The window begins at
-/// the number `front` and has `width` places.
+/// Reads ranges from a list until `PARTS` of them cover places of a window, or none remains. The window begins at the
+/// number `front` and has `width` places.
 fn first_parts(ranges: &mut Ranges<'_>, front: Seq31, width: u32) -> ArrayVec<(u32, u32), PARTS>
     requires narrow { width ≤ 2 ^ 30 }
     ensures named { IsTaken (word_of front) width ranges.old ranges.new (is_in_parts result.items) }
@@ -50,10 +50,10 @@ fn sort(parts: &mut ArrayVec<(u32, u32), PARTS>)
     parts.as_mut_slice().sort_unstable_by_key(|part| part.0);
 }
 
-/// Takes ranges off a list until there are `PARTS` that name places of a window, or none is left. The window begins at
-/// the number `front` and has `width` places, at most 2^30. The parts are those places, as the first and the last place
-/// of each range, and come in ascending order of their first places. O(n log n) in the ranges, and linear if the list
-/// ascends or descends; doesn't allocate.
+/// Reads ranges from a list until `PARTS` of them cover places of a window, or none remains. The window begins at the
+/// number `front` and has `width` places, at most 2^30. A part is the first and the last place of a range in the
+/// window. The parts are sorted by their first places. O(n log n) in the ranges, and linear if the list ascends or
+/// descends; doesn't allocate.
 pub fn next_parts(ranges: &mut Ranges<'_>, front: Seq31, width: u32) -> ArrayVec<(u32, u32), PARTS>
     requires narrow { width ≤ 2 ^ 30 }
     ensures named { IsTaken (word_of front) width ranges.old ranges.new (is_in_parts result.items) }

@@ -1,4 +1,4 @@
-//! The ring of packets that are kept, with their payloads.
+//! The ring of stored packets, with their payloads.
 
 ghost use Rattle.std.specs.Prelude.{◌≡◌, ℕ, ◌+◌, ◌-◌, ◌^◌, ◌<◌, ◌≤◌, ◌/◌, min, max, length, IfOk, vec_len, slice_get, nat_le, nat_lt, ◌==◌};
 ghost use Rattle.std.specs.Prelude.{◌&&◌, true, false, Some, None, if◌then◌else◌};
@@ -14,14 +14,14 @@ use srt_ring::PayloadRing;
 use srt_seq::Msg26;
 use std::alloc::{AllocError, Global};
 
-/// What is kept of a packet beside its payload.
+/// The data of a packet except its payload.
 #[derive(Clone, Copy, Debug, PartialEq, Eq)]
 pub struct PacketRecord {
-    /// When its payload was queued, in microseconds.
+    /// The time at which its payload was queued, in microseconds.
     pub origin: u64,
     /// Its message number.
     pub message: Msg26,
-    /// Whether it counts as lost, so that it is sent again.
+    /// Whether it is marked as lost, so that it is sent again.
     pub lost: bool,
 }
 
@@ -34,16 +34,16 @@ pub struct Marked {
     pub end: usize,
 }
 
-/// The packets that are kept, oldest first, and a payload for each place of the width. A *place* is a distance from
+/// The stored packets, oldest first, and a payload buffer for each place of the width. A *place* is a distance from
 /// the oldest packet.
 #[derive(Drop)]
 pub struct Ring {
     places: HeapCircularBuffer<PacketRecord>,
     payloads: PayloadRing,
-    /// Which blocks of slots the search for lost packets can skip.
+    /// Flags for the blocks of slots that the search for lost packets can skip.
     hints: Hints,
-    /// How often `mark` was called since `open`; stops at 2^64 - 1. No code reads it: contracts bound by it how much
-    /// work a loss list makes.
+    /// Number of calls of `mark` since `open`; stops at 2^64 - 1. No code reads it: contracts use it to bound the work
+    /// for a loss list.
     marks: u64,
     ghost fits: { length places.items ≤ places.capacity },
     ghost as_many: { width_in payloads ≡ places.capacity },
@@ -55,7 +55,8 @@ impl Ring {
     ghost use Rattle.srt_ring.specs.Ring.{payload_at};
     ghost use Rattle.srt_sendbuf.specs.Places.{kept_at, kept_of, lost_at, length_of, width_of, marks_of, is_old, IsPut, IsFree};
 
-    /// An empty ring of `width` places. The only call that allocates; the error is a refused allocation. O(width).
+    /// Allocates an empty ring of `width` places. The only call that allocates; the error is a failed allocation.
+    /// O(width).
     pub fn open(alloc: Global, width: usize) -> Result<Ring, AllocError>
         requires some { 0 < width }
         requires narrow { width ≤ 8192 }
@@ -69,7 +70,7 @@ impl Ring {
         })
     }
 
-    /// The number of packets that are kept.
+    /// Returns the number of stored packets.
     pub fn len(&self) -> usize
         ensures value { result ≡ length_of self.now }
         ensures fits { result ≤ width_of self.now }
@@ -78,7 +79,7 @@ impl Ring {
         self.places.len()
     }
 
-    /// The number of places, 1 to 8192.
+    /// Returns the number of places, 1 to 8192.
     pub fn width(&self) -> usize
         ensures value { result ≡ width_of self.now }
         ensures some { 0 < result }
@@ -87,7 +88,7 @@ impl Ring {
         self.places.capacity()
     }
 
-    /// The bytes of a place's payload.
+    /// Returns the bytes of a place's payload.
     pub fn payload(&self, at: usize) -> &[u8]
         requires { at < width_of self.now }
         ensures value { result.now ≡ payload_at self.now.payloads at }
@@ -109,7 +110,7 @@ impl Ring {
         self.push(origin, message, payload);
     }
 
-    /// Gives the first free place a warm buffer, if there is one. See `PayloadRing`.
+    /// Moves a warm buffer to the first free place, if there is one. See `PayloadRing`.
     fn warm_up(&mut self)
         requires room { length_of self.old < width_of self.old }
         ensures width { width_of self.new ≡ width_of self.old }
@@ -185,7 +186,7 @@ impl Ring {
         }
     }
 
-    /// Sets that the packet of a place isn't lost. O(1).
+    /// Marks the packet of a place as not lost. O(1).
     pub fn unmark(&mut self, at: usize)
         requires { at < length_of self.old }
         ensures width { width_of self.new ≡ width_of self.old }
@@ -206,7 +207,7 @@ impl Ring {
         }
     }
 
-    /// The first lost place from `from` on and before `end`; `end` if there is none. Looks at each place.
+    /// Returns the first lost place from `from` on and before `end`; `end` if there is none. Inspects each place.
     fn walk(&self, from: usize, end: usize) -> usize
         requires { from ≤ end }
         ensures low { from ≤ result }
@@ -222,7 +223,7 @@ impl Ring {
         end
     }
 
-    /// The place after the last one whose slot is in the same block, before the ring's slots wrap.
+    /// Returns the place after the last one whose slot is in the same block, before the ring's slots wrap.
     fn block_end(&self, at: usize) -> usize
         requires { at < width_of self.now }
         ensures { at < result }
@@ -232,7 +233,7 @@ impl Ring {
         at + left.min(self.places.capacity() - slot)
     }
 
-    /// Whether no place of a slot's block is lost. Looks at each of its 64 slots.
+    /// Whether no place of a slot's block is lost. Inspects each of its 64 slots.
     fn is_free(&self, slot: usize) -> bool
         requires { slot < width_of self.now }
         ensures { result ≡ true → IsFree (slot / 64) self.now }
@@ -261,8 +262,8 @@ impl Ring {
         }
     }
 
-    /// The next place after `at` whose block's flag is on; at most `end`, or the place where the ring's slots wrap.
-    /// Nothing before it is lost.
+    /// Returns the next place after `at` whose block's flag is on; at most `end`, or the place where the ring's slots
+    /// wrap. No place before it is lost.
     fn skip(&self, at: usize, end: usize) -> usize
         requires order { at < end }
         requires inside { end ≤ width_of self.now }
@@ -276,8 +277,8 @@ impl Ring {
         at + (self.hints.skip(slot, last) - slot)
     }
 
-    /// For a place that isn't lost: the next place at which the search for a lost one continues. Nothing before it is
-    /// lost. Skips blocks whose flag is off, and turns off the flag of a block that it searched in vain.
+    /// Returns the place at which the search for a lost place continues after `at`, which isn't lost. No place before
+    /// it is lost. Skips blocks whose flag is off, and turns off the flag of a block in which it found no lost place.
     fn next_candidate(&mut self, at: usize, end: usize) -> usize
         requires order { at < end }
         requires inside { end ≤ length_of self.old }
@@ -301,8 +302,8 @@ impl Ring {
         found
     }
 
-    /// The first lost place from `from` on and before `end`; `end` if there is none. Linear in the blocks that it
-    /// skips, and in the places of blocks that had a lost place since a search last went through them.
+    /// Returns the first lost place from `from` on and before `end`; `end` if there is none. Linear in the blocks that
+    /// it skips, and in the places of blocks that had a lost place since a search last passed them.
     pub fn find_lost(&mut self, from: usize, end: usize) -> usize
         requires order { from ≤ end }
         requires inside { end ≤ length_of self.old }
@@ -340,9 +341,9 @@ impl Ring {
         }
     }
 
-    /// Marks the places from `from` on and before `end` as lost. `run` is an interval that is marked already and
+    /// Marks the places from `from` on and before `end` as lost. `run` is an interval that is already marked and
     /// doesn't begin later: only places past its end are marked. It grows to the greater end, or becomes the new
-    /// interval if that one begins past its end. So each place is marked once by calls with one `run`.
+    /// interval if that one begins past its end. So calls with the same `run` mark each place once.
     pub fn mark_past(&mut self, run: &mut Marked, from: usize, end: usize)
         requires order { from ≤ end }
         requires inside { end ≤ length_of self.old }
@@ -379,8 +380,8 @@ impl Ring {
         }
     }
 
-    /// The number of oldest packets that were queued before a time, in microseconds, up to the first that wasn't.
-    /// Linear in the result.
+    /// Returns the number of oldest packets that were queued before a time, in microseconds, up to the first that
+    /// wasn't. Linear in the result.
     #[inline(always)]
     pub fn count_before(&self, before: i64) -> usize
         ensures fits { result ≤ length_of self.now }
@@ -396,7 +397,7 @@ impl Ring {
         end
     }
 
-    /// The record of the packet of a place. None past the last.
+    /// Returns the stored data of the packet of a place. None past the last.
     pub fn place(&self, at: usize) -> Option<PacketRecord>
         ensures { result ≡ slice_get self.now.places.items at }
     {

@@ -1,4 +1,4 @@
-//! Worked examples of queueing, sending, loss, acknowledgement and expiry.
+//! Computed examples of queueing, sending, loss, acknowledgement and expiry.
 
 mod plain;
 mod random;
@@ -31,7 +31,7 @@ enum Answer {
     Full,
     Count(u32),
     Is(bool),
-    /// Its sequence number, its message number, whether it is sent again, its time, and its one byte.
+    /// Sequence number, message number, whether it is sent again, queueing time, and the one byte.
     Packet(u32, u32, bool, u64, u8),
     /// A drop request: the first number, the last, and the message number.
     Gone(u32, u32, u32),
@@ -51,7 +51,7 @@ fn queued(buffer: &mut SendBuf, byte: u8, now: u64) -> Answer {
     }
 }
 
-/// The packet that is due, as an answer.
+/// Returns the packet that is due, as an answer.
 fn next(buffer: &SendBuf, window: u32) -> Result<Answer, Fail> {
     match buffer.next_due(window) {
         Some(out) => match out.payload {
@@ -68,7 +68,7 @@ fn next(buffer: &SendBuf, window: u32) -> Result<Answer, Fail> {
     }
 }
 
-/// The packet that is due, which is sent.
+/// Returns the packet that is due, and marks it as sent.
 fn due(buffer: &mut SendBuf, window: u32) -> Result<Answer, Fail> {
     let answer = next(buffer, window)?;
     buffer.note_sent(window);
@@ -110,7 +110,7 @@ fn taken(buffer: &mut SendBuf, step: Step) -> Result<Answer, Fail> {
     }
 }
 
-/// The index of the first row whose result differs from the expected one.
+/// Returns the index of the first test vector whose result differs from the expected one.
 fn other(buffer: &mut SendBuf, rows: &[(Step, Answer)]) -> Result<Option<usize>, Fail> {
     for at in 0..rows.len() {
         let (step, expected) = rows[at];
@@ -148,7 +148,7 @@ fn one_packet(rt: HostRuntime) -> Result<(), Fail> {
         (Step::AnyLost, Answer::Is(false)),
         (Step::Room, Answer::Count(32)),
         (Step::Lose(9, 9), Answer::Gone(9, 9, 1)),
-        // Once it is acknowledged, no drop request names it.
+        // After its acknowledgement no drop request contains it.
         (Step::Grows(10), Answer::Is(true)),
         (Step::Ack(10), Answer::Is(true)),
         (Step::Lose(9, 9), Answer::Nothing),
@@ -170,7 +170,7 @@ fn acknowledgements_and_losses(rt: HostRuntime) -> Result<(), Fail> {
         (Step::Due(2), Answer::Packet(10, 2, false, 5, 2)),
         (Step::Due(2), Answer::Nothing),
         (Step::Due(3), Answer::Packet(11, 3, false, 6, 3)),
-        // 9 to 11 are in flight: an ACK may name 9 to 12.
+        // 9 to 11 are in flight: an ACK's number may be 9 to 12.
         (Step::Ack(8), Answer::Is(false)),
         (Step::Ack(13), Answer::Is(false)),
         (Step::Grows(13), Answer::Is(false)),
@@ -182,7 +182,7 @@ fn acknowledgements_and_losses(rt: HostRuntime) -> Result<(), Fail> {
         (Step::Due(0), Answer::Packet(11, 3, true, 6, 3)),
         (Step::Due(0), Answer::Nothing),
         (Step::LoseAll, Answer::Nothing),
-        // What is acknowledged is no longer lost.
+        // An acknowledged number is no longer lost.
         (Step::Ack(11), Answer::Is(true)),
         (Step::Ack(10), Answer::Is(false)),
         (Step::Room, Answer::Count(30)),
@@ -213,7 +213,7 @@ fn unsent_packets_expire(rt: HostRuntime) -> Result<(), Fail> {
         (Step::Expire(-1), Answer::Count(0)),
         (Step::Expire(13), Answer::Count(3)),
         (Step::InFlight, Answer::Count(0)),
-        // 0 was never sent; the drop request names all expired numbers.
+        // 0 was never sent; the drop request contains all expired numbers.
         (Step::Lose(0, 0), Answer::Gone(0x7fff_ffff, 1, 1)),
         (Step::Lose(2, 2), Answer::Nothing),
         (Step::Due(8192), Answer::Packet(2, 4, false, 13, 4)),

@@ -1,4 +1,4 @@
--- The counts of a session follow what it is fed, sends and hears.
+-- The counters of a session represent what it is fed, sends and receives.
 use Rattle.std.proofs.Common.{◌≡◌, ℕ, ◌+◌, Bool, true, false, ◌&&◌, not, if◌then◌else◌, Option, Some, None, List, [], ◌∷◌, ◌++◌, length}
 use Rattle.std.proofs.Common.{length-append, refl, sym, ap, subst, ◌∙◌, arith}
 use Rattle.std.specs.Prelude.{nat_lt, slice_get}
@@ -16,7 +16,7 @@ use Rattle.srt_sub.specs.declared.counts.Sendings.{Sendings}
 more : (n count step : ℕ) → n ≡ capped count → capped (n + step) ≡ capped (count + step)
 more n count step e = omega (arith, e)
 
--- one payload more
+-- one more payload
 bytes_put : (queue : List Queued) (q : Queued) → bytes_in (queue ++ q ∷ []) ≡ bytes_in queue + length q.payload
 bytes_put [] q = omega arith
 bytes_put (x ∷ queue) q = let h = bytes_put queue q in omega (arith, h)
@@ -56,7 +56,7 @@ counts_misdirected c m h =
       misdirected_is = more c.misdirected (misdirected_in m.notes) 1 h.misdirected_is;
     }
 
--- an ACK changes no count
+-- an ACK changes no counter
 told_none : (rest : List ℕ) (notes : List Note) → misdirected_in (told rest ++ notes) ≡ misdirected_in notes
 told_none [] notes = refl
 told_none (rtt ∷ []) notes = refl
@@ -93,7 +93,7 @@ pub sends : (time : ℕ) (again : Bool) (c : Sendings) (r : Report) (notes : Lis
     → AreSendings (with_sent again c) (fresh_in (Sent time r ∷ notes)) (again_in (Sent time r ∷ notes))
 sends time again c r notes m e h = rw m (sent_more again c r notes e h)
 
--- a data packet that is due is sent again if a packet counts as lost
+-- a due data packet is a resend if a packet is lost
 again_of : (n : ℕ) (again : Bool) (o : Option Queued) (d : Due) → due_of n again o ≡ Some d → d.again ≡ again
 again_of n again None d e = cc
 again_of n again (Some q) d e =
@@ -112,7 +112,7 @@ again_is w s d e = by (lost s) e
     by [] k = fresh (nat_lt (in_flight s) w && nat_lt (next s) (length s.queue)) k
     by (n ∷ ns) k = again_of n true (slice_get s.queue n) d k ∙ sym (lt-ltb 0 (length (n ∷ ns)) (omega arith))
 
--- that the credit for resends is raised changes no count
+-- raising the credit for resends changes no counter
 pub counts_renewed : (percent : Option ℕ) (time : ℕ) (c : Counts) (m : Subscribing)
     → Counted c m → Counted c (record m { notes = renewed_notes percent time m.notes })
 counts_renewed percent time c m h = by (renewal_due percent time m.notes)

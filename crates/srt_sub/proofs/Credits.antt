@@ -1,4 +1,4 @@
--- The credit for packets that are sent again, and the bound that it keeps.
+-- The credit for packets that are sent again, and the bound that it ensures.
 use Rattle.std.proofs.Common.{◌≡◌, ℕ, suc, ◌+◌, ◌-◌, ◌*◌, ◌<◌, ◌≤◌, min, Bool, true, false, ◌&&◌, if◌then◌else◌, Option, None, Some}
 use Rattle.std.proofs.Common.{List, [], ◌∷◌, ◌++◌, refl, sym, ap, subst, ◌∙◌, arith}
 use Rattle.std.specs.Prelude.{nat_lt, nat_le}
@@ -16,7 +16,7 @@ use Rattle.srt_sub.specs.declared.session.Phase.{Phase}
 use Rattle.srt_sub.specs.declared.session.Phase.TheVariants.{Lost, New}
 use Rattle.srt_sendbuf.specs.Sending.{Sending}
 
--- the bound, at first and later
+-- the bound at the opening and later
 pub credited_first : (percent : Option ℕ) (time : ℕ) → AreCredited percent time []
 credited_first percent time =
     record { before = omega arith; rare = omega arith; bounded = λ p e. omega arith; spent = λ p e lt. absurd (omega (arith, lt)) }
@@ -25,7 +25,7 @@ pub credited_later : (percent : Option ℕ) (time later : ℕ) (notes : List Not
 credited_later percent time later notes le h =
     record { before = omega (arith, h.before, le); rare = omega (arith, h.rare, le); bounded = h.bounded; spent = h.spent }
 
--- after an ACK
+-- the bound after an ACK
 pub credited_told : (percent : Option ℕ) (time : ℕ) (rest : List ℕ) (notes : List Note)
     → AreCredited percent time notes → AreCredited percent time (told rest ++ notes)
 credited_told percent time [] notes h = h
@@ -38,7 +38,7 @@ pub credited_grown : (percent : Option ℕ) (time : ℕ) (grows : Bool) (notes :
 credited_grown percent time true notes h = h
 credited_grown percent time false notes h = h
 
--- after a packet was sent again
+-- the bound after a resend
 has_credit : (p : ℕ) (percent : Option ℕ) (notes : List Note) → percent ≡ Some p → may_resend percent notes ≡ true → 100 ≤ credit p notes
 has_credit p percent notes e m =
     let b : may_resend (Some p) notes ≡ true = subst (λ (o : Option ℕ). may_resend o notes ≡ true) e m in
@@ -63,7 +63,7 @@ credited_again percent time n origin payload notes m h =
       spent = λ p e lt. h.rare;
     }
 
--- after a new one
+-- the bound after a new packet
 bound_new : (a c p x y r : ℕ) → x ≡ y + p → 100 * a + c ≤ 6_400 + y + 100 * r → 100 * (a + 0) + min (c + p) 819_200 ≤ 6_400 + x + 100 * r
 bound_new a c p x y r e le = omega (arith, e, le)
 
@@ -91,7 +91,7 @@ pub credited_media : (percent : Option ℕ) (time n origin : ℕ) (again : Bool)
 credited_media percent time n origin true payload notes may h = credited_again percent time n origin payload notes (may refl) h
 credited_media percent time n origin false payload notes may h = credited_new percent time n origin payload notes h
 
--- after the credit was raised
+-- the bound after the credit was raised
 pub credited_renewed : (percent : Option ℕ) (time : ℕ) (notes : List Note)
     → AreCredited percent time notes → AreCredited percent time (renewed_notes percent time notes)
 credited_renewed None time notes h = h
@@ -112,7 +112,7 @@ credited_renewed (Some p) time notes h = by (nat_lt (credit p notes) 100) (nat_l
     by true false low long = h
     by false b low long = h
 
--- how many packets may be sent again
+-- the number of packets that may be sent again
 pub resends_one : (percent : Option ℕ) (q time n origin : ℕ) (payload : List ℕ) (notes : List Note) → may_resend percent notes ≡ true
     → resends percent (suc q) notes ≡ suc (resends percent q (Sent time (Media n true origin payload) ∷ notes))
 resends_one None q time n origin payload notes m = refl
@@ -165,7 +165,7 @@ renewal_gave (Some p) time (Media n again origin payload) notes m =
     ap (λ b. nat_lt (credit_after p (Media n again origin payload) (credit p notes)) 100 && b) (none_since time) ∙ false_last _
 renewal_gave (Some p) time KeepAlive notes m = absurd (true≢false (sym m))
 
--- whether it is raised, by what is left of it and by the time since the last data packet
+-- whether the credit is raised, by its value and by the time since the last data packet
 pub renewal_early : (percent : Option ℕ) (time : ℕ) (notes : List Note) → time - last_media notes < 20_000 → renewed_notes percent time notes ≡ notes
 renewal_early None time notes lt = refl
 renewal_early (Some p) time notes lt =

@@ -1,4 +1,4 @@
--- The data packet that is due, as the buffer gives it.
+-- The data packet that is due in the session, from the buffer's result.
 use Rattle.std.proofs.Common.{◌≡◌, ℕ, zero, suc, ◌<◌, ◌≤◌, Bool, true, false, ◌&&◌, if◌then◌else◌, Option, None, Some, List, [], ◌∷◌}
 use Rattle.std.proofs.Common.{length, refl, sym, ap, ◌∙◌, arith}
 use Rattle.std.specs.Prelude.{All, option_map, slice_get, nat_lt}
@@ -31,7 +31,7 @@ no_told_due initial (Some d) e = absurd cc
 abbrev number : Sending → Bool → Option (ℕ × Bool)
 number s b = if b then Some (next s, false) else None
 
--- if no packet is due, no number is
+-- if no packet is due, no number is due
 new_none : (w : ℕ) (s : Sending) → due_new w s ≡ None → due_number w [] s ≡ None
 new_none w s e = fresh (nat_lt (in_flight s) w) (nat_lt (next s) (length s.queue)) refl refl e
   where
@@ -67,7 +67,7 @@ got s n again (Some q) d g e =
     let same : x ≡ d = cc in
     (ap (λ y. y.number) same, (q, g, ap (λ y. y.payload) same))
 
--- the next packet was queued, and counts as sent
+-- the next packet was queued, and is recorded as sent
 number_sent : (s : Sending) (d : Due) (o : Option (ℕ × Bool)) → due_at s.queue o ≡ Some d → sent_number o s ≡ sent d.number s
 number_sent s d None k = absurd cc
 number_sent s d (Some p) k = let g = got s p.0 p.1 (slice_get s.queue p.0) d refl k in ap (λ n. sent n s) g.0
@@ -84,7 +84,7 @@ number_some s d (Some p) a k =
     let h = some_at s.queue p.0 g.0 a g.1 in
     omega (arith, h, ap (λ (xs : List ℕ). length xs) g.2)
 
--- in each phase
+-- the same in each phase
 pub nothing_next_sent : (phase : Phase) (w : ℕ) (s : Sending) → next s ≤ length s.queue → next_in phase w s ≡ None → after_next phase w s ≡ s
 nothing_next_sent Lost w s le e = nothing_due_sent w s le e
 nothing_next_sent New w s le e = ap (λ o. sent_number o s) (new_none w s e)

@@ -1,4 +1,4 @@
--- A payload is queued, or this subscriber doesn't get it.
+-- A payload is queued, or isn't.
 use Rattle.std.proofs.Common.{◌≡◌, ℕ, ◌<◌, true, false, List, refl, arith}
 use Rattle.srt_seq.specs.declared.shared.Mode.{Mode}
 use Rattle.srt_seq.specs.declared.shared.Mode.TheVariants.{Live, Buffer}
@@ -11,7 +11,7 @@ roomy : (mode : Mode) (terms : Terms) (time : ℕ) (s : Sending) → mode ≡ Bu
 roomy Live terms time s e some = absurd cc
 roomy Buffer terms time s e some = some
 
--- in buffer mode nothing is too late, so if there was no room, there is none after expiry
+-- in buffer mode no packet is too late, so without room before the expiry there is none after it
 pub still_full : (mode : Mode) (terms : Terms) (time : ℕ) (s : Sending)
     → mode ≡ Buffer → room terms.width s ≡ 0 → room terms.width (expired_in mode terms time s) ≡ 0
 still_full Live terms time s e none = absurd cc

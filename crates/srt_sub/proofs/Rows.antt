@@ -1,4 +1,4 @@
--- What a session sends, computed from bytes.
+-- Computed examples of what a session sends, as bytes.
 use Rattle.std.proofs.Common.{◌≡◌, ℕ, None, List, [], ◌∷◌, ◌++◌, refl}
 use Rattle.std.specs.Prelude.{map}
 use Rattle.srt_seq.specs.declared.shared.Mode.TheVariants.{Live}
@@ -9,7 +9,7 @@ use Rattle.srt_sub.specs.Heard.{heard_from}
 use Rattle.srt_sub.specs.Subscribing.{Terms, Subscribing, opened, expired, took, answers, fed_all, reports, reported}
 use Rattle.srt_sub.specs.Says.{says}
 
--- an event: its time since the opening, what was received, and what is fed
+-- an event: its time since the opening, the packet that was received, and the payloads that are fed
 record Event : Type 0 where
   time : ℕ
   body : Body
@@ -18,7 +18,7 @@ record Event : Type 0 where
 abbrev before_reports : Terms → (initial : ℕ) → Event → Subscribing → Subscribing
 before_reports terms initial e s = fed_all terms e.time e.payloads (took e.time (heard_from initial e.body) (expired terms e.time s))
 
--- the session after events, the newest first, and the datagrams of the newest
+-- the session after events, the newest first. Below it: the datagrams of the newest event
 abbrev after : Terms → (initial : ℕ) → List Event → Subscribing
 after terms initial [] = opened
 after terms initial (e ∷ events) = reported terms e.time (before_reports terms initial e (after terms initial events))
@@ -40,7 +40,7 @@ feeds time = record { time = time; body = KeepAlive; payloads = (0x68 ∷ 0x69 �
 abbrev asks : (time : ℕ) → Event
 asks time = record { time = time; body = Nak (0 ∷ 0 ∷ 0 ∷ 9 ∷ []); payloads = [] }
 
--- a packet, and the same again
+-- a packet, and its resend
 fed_packet : sends (live 120_000) 9 2 (feeds 1_000_000 ∷ [])
     ≡ (0 ∷ 0 ∷ 0 ∷ 9 ∷ 0xe0 ∷ 0 ∷ 0 ∷ 1 ∷ 0 ∷ 0xf ∷ 0x42 ∷ 0x40 ∷ 0 ∷ 0 ∷ 0 ∷ 2 ∷ 0x68 ∷ 0x69 ∷ []) ∷ []
 unfolding in_window
@@ -51,13 +51,13 @@ resent_packet : sends (live 120_000) 9 2 (asks 2_000_000 ∷ feeds 1_000_000 ∷
 unfolding in_window
 resent_packet = refl
 
--- a microsecond later it is expired
+-- a microsecond later it has expired
 gone_packet : sends (live 120_000) 9 2 (asks 2_000_001 ∷ asks 2_000_000 ∷ feeds 1_000_000 ∷ [])
     ≡ (0x80 ∷ 7 ∷ 0 ∷ 0 ∷ 0 ∷ 0 ∷ 0 ∷ 1 ∷ 0 ∷ 0x1e ∷ 0x84 ∷ 0x81 ∷ 0 ∷ 0 ∷ 0 ∷ 2 ∷ 0 ∷ 0 ∷ 0 ∷ 9 ∷ 0 ∷ 0 ∷ 0 ∷ 9 ∷ []) ∷ []
 unfolding in_window
 gone_packet = refl
 
--- the last moment at which it is kept and the first at which it is expired, with a delay of 2 s
+-- the last time at which it is stored and the first at which it has expired, with a delay of 2 s
 kept_then_gone : (front (after (live 2_000_000) 9 (still 3_500_000 ∷ feeds 1_000_000 ∷ [])).sending ≡ 0) ×
     (front (after (live 2_000_000) 9 (still 3_500_001 ∷ feeds 1_000_000 ∷ [])).sending ≡ 1)
 unfolding in_window
@@ -75,7 +75,7 @@ full_ack time mark number =
 abbrev acknowledged : List Event
 acknowledged = full_ack 1_020_000 1 10 ∷ feeds 1_000_000 ∷ []
 
--- Full ACKs are answered, even if their number is outside the range that an ACK may name and they change nothing
+-- Full ACKs are answered, even if their number is outside the range that an ACK may have and they change nothing
 answered : sends (live 120_000) 9 2 acknowledged ≡ (0x80 ∷ 6 ∷ 0 ∷ 0 ∷ 0 ∷ 0 ∷ 0 ∷ 1 ∷ 0 ∷ 0xf ∷ 0x90 ∷ 0x60 ∷ 0 ∷ 0 ∷ 0 ∷ 2 ∷ []) ∷ []
 unfolding in_window
 answered = refl
@@ -94,7 +94,7 @@ second_packet : sends (live 120_000) 9 2 second ≡ (0 ∷ 0 ∷ 0 ∷ 10 ∷ 0x
 unfolding in_window
 second_packet = refl
 
--- the round-trip time of an ACK determines when all is sent again
+-- the round-trip time in an ACK determines when all packets are sent again
 too_early : sends (live 120_000) 9 2 (still 1_109_999 ∷ second) ≡ []
 unfolding in_window
 too_early = refl
@@ -104,7 +104,7 @@ in_time : sends (live 120_000) 9 2 (still 1_110_000 ∷ still 1_109_999 ∷ seco
 unfolding in_window
 in_time = refl
 
--- without any ACK
+-- the same without any ACK
 not_yet : sends (live 120_000) 9 2 (still 319_999 ∷ feeds 0 ∷ []) ≡ []
 unfolding in_window
 not_yet = refl
@@ -119,7 +119,7 @@ alive : sends (live 120_000) 9 2 (still 1_000_000 ∷ still 999_999 ∷ []) ≡ 
 unfolding in_window
 alive = refl
 
--- a loss list of 2^30 numbers asks for it, and one of more has a fault
+-- a loss list of 2^30 numbers requests it, and a longer one is invalid
 abbrev asks_many : (last : ℕ) → Event
 asks_many last = record { time = 1_100_000; body = Nak (0x80 ∷ 0 ∷ 0 ∷ 9 ∷ 0x40 ∷ 0 ∷ 0 ∷ last ∷ []); payloads = [] }
 
@@ -132,8 +132,8 @@ too_many_asked : sends (live 120_000) 9 2 (asks_many 9 ∷ feeds 1_000_000 ∷ [
 unfolding in_window
 too_many_asked = refl
 
--- an ACK that acknowledges more puts off the resending of all, even if the numbers that it acknowledges are expired
--- already
+-- an ACK that acknowledges more delays the resending of all, even if the numbers that it acknowledges have already
+-- expired
 abbrev gone_first : List Event
 gone_first = still 2_000_001 ∷ feeds 1_900_000 ∷ feeds 1_000_000 ∷ []
 

@@ -1,4 +1,4 @@
--- What always holds of a session keeps holding.
+-- The invariants of a session remain true.
 use Rattle.std.proofs.Common.{◌≡◌, ℕ, ◌-◌, ◌^◌, ◌<◌, ◌≤◌, Bool, true, false, Option, None, Some, List, [], ◌∷◌, length, refl, sym, ap, subst, ◌∙◌, arith}
 use Rattle.std.specs.Prelude.{◌≤ℤ◌, nat_lt}
 use Rattle.std.proofs.lemmas.Bool.{lt-ltb}
@@ -109,7 +109,7 @@ pub some_is : (o : Option ℕ) → is_some o ≡ true → (n : ℕ) × (o ≡ So
 some_is None e = absurd cc
 some_is (Some n) e = (n, refl)
 
--- whether a loss list asks for expired numbers, and the drop request for it
+-- whether a loss list requests expired numbers, and the drop request for it
 pub is_gone : (b : Bool) (g x : Gone) → Some g ≡ (if b then Some x else None) → (b ≡ true) × (g ≡ x)
 is_gone true g x e = (refl, cc)
 is_gone false g x e = absurd cc
@@ -153,7 +153,7 @@ pub changed : (terms : Terms) (initial opening caller time given : ℕ) (s : Sub
 changed terms initial opening caller time given s m h later count g b x n given_is buffer history sound k counts phase credited =
     rephased terms initial opening caller time given s m h later count g b x n given_is buffer history sound k counts s.phase phase credited
 
--- a data packet that comes changes nothing in what is remembered
+-- a received data packet doesn't change the history
 pub history_misdirected : (initial : ℕ) (agreed : Terms) (x : History) (notes : List Note)
     → IsHistory initial agreed x notes → IsHistory initial agreed x (Misdirected ∷ notes)
 history_misdirected initial agreed x notes h =
@@ -174,7 +174,7 @@ stands_later terms initial opening caller last later s m h le =
     h.history_is (sound_later terms (last - opening) (later - opening) m.sending (omega (arith, le)) h.sound) s.counts h.counts_are h.phase_is
     (credited_later terms.resend_percent (last - opening) (later - opening) m.notes (omega (arith, le)) h.credited)
 
--- the session at its own time, which is the moment less the opening
+-- the session at its own time, which is the clock's time less the opening
 pub record IsAtTime (terms : Terms) (initial opening caller now time : ℕ) (s : Subscriber) (m : Subscribing) : Type 0 where
   pub time_is : time ≡ now - opening
   pub stands : StandsIn terms initial opening caller time 0 s m
@@ -201,7 +201,7 @@ false_last : (a : Bool) → (a && false) ≡ false
 false_last true = refl
 false_last false = refl
 
--- which payloads fit
+-- the payloads that fit
 pub doesnt_fit : (mode : Mode) (terms : Terms) (payload : List ℕ) (s : Sending) → is_short mode terms.mtu payload ≡ false → fits mode terms payload s ≡ false
 doesnt_fit Live terms payload s e = rw e (false_last _)
 doesnt_fit Buffer terms payload s e = absurd cc

@@ -37,7 +37,8 @@ quiet time [] r notes = let e : nat_le 1_000_000 (time - time) ≡ false = grind
 made : Sending → List Note → Subscribing
 made sending notes = record { sending = sending; notes = notes }
 
--- the first packet, and those after it: before it p data packets may be sent, of which x are sent again, and q and y after
+-- the first packet, and those after it: before it `p` data packets may be sent, at most `x` of them again, and after
+-- it `q` and `y`
 pub record Parts (p x q y : ℕ) (terms : Terms) (time : ℕ) (s t : Subscribing) (r : Report) : Type 0 where
   pub reports_are : reports_of p x terms time s ≡ r ∷ reports_of q y terms time t
   pub end_is : sent_of p x terms time s ≡ sent_of q y terms time t
@@ -83,7 +84,7 @@ none_taken : (q : ℕ) → take {A = ℕ} q [] ≡ []
 none_taken zero = refl
 none_taken (suc q) = refl
 
--- a lost number
+-- a resend
 pub an_old_one : (p x q y : ℕ) (terms : Terms) (time : ℕ) (s : Subscribing) (n : ℕ) (more : List ℕ) (k : Queued) → p ≡ suc q → x ≡ suc y
     → untold s.notes ≡ None → lost s.sending ≡ n ∷ more → slice_get s.sending.queue n ≡ Some k
     → Parts p x q y terms time s (record { sending = sent n s.sending; notes = Sent time (Media n true k.origin k.payload) ∷ s.notes })
@@ -121,7 +122,7 @@ an_old_one p x q y terms time s n more k pq xy u l g =
         (fewer_again p q (length (again_of x b)) (length (again_of y t)) w (front b) (next b) (next t) (length queue) pq many same)
         ∙ ap (λ k. numbers_from k (min (q - length (again_of y t)) (min (w - (next t - front b)) (length queue - next t)))) (sym same)
 
--- a new number
+-- a new packet
 pub a_new_one : (p x q y : ℕ) (terms : Terms) (time : ℕ) (s : Subscribing) (k : Queued) → p ≡ suc q → untold s.notes ≡ None
     → again_of x s.sending ≡ [] → again_of y (sent (next s.sending) s.sending) ≡ []
     → in_flight s.sending < flow_window terms.window s.notes → next s.sending < length s.sending.queue
@@ -178,7 +179,7 @@ media_is p x q y terms time s d again n k f h =
     let same : given ≡ d = cc in
     subst (λ (z : Due). Parts p x q y terms time s (with_due time (Some z) s) (Media z.number z.again z.origin z.payload)) same h
 
--- a new one, if none is sent again before it or after it
+-- a new packet, if none is sent again before it or after it
 a_new_media : (p x q : ℕ) (terms : Terms) (time : ℕ) (s : Subscribing) (d : Due) → p ≡ suc q → untold s.notes ≡ None
     → again_of x s.sending ≡ [] → due_new (flow_window terms.window s.notes) s.sending ≡ Some d
     → Parts p x q 0 terms time s (with_due time (Some d) s) (Media d.number d.again d.origin d.payload)
@@ -200,7 +201,7 @@ a_new_media p x q terms time s d pq u old e =
     fresh true false f g k = absurd cc
     fresh false b f g k = absurd cc
 
--- a new one wasn't sent before
+-- a new packet wasn't sent before
 pub new_is_new : (w : ℕ) (s : Sending) (d : Due) → due_new w s ≡ Some d → d.again ≡ false
 new_is_new w s d e = by (nat_lt (in_flight s) w && nat_lt (next s) (length s.queue)) e
   where
@@ -279,7 +280,7 @@ pub some_there : (n : ℕ) (again : Bool) (o : Option Queued) (x : Queued) → o
 some_there n again None x e f = cc
 some_there n again (Some y) x e f = cc
 
--- no new one is
+-- no new packet is due
 no_new_there : (w : ℕ) (s : Sending) → due_new w s ≡ None → min (w - (next s - front s)) (length s.queue - next s) ≡ 0
 no_new_there w s e = fresh (nat_lt (in_flight s) w) (nat_lt (next s) (length s.queue)) refl refl e
   where
@@ -378,7 +379,7 @@ a_keep_alive p x terms time s u h k =
     ap (λ rs. made sending (noted time rs s.notes)) one ∙ sym (ap (λ rs. made sending (noted time rs (Sent time KeepAlive ∷ s.notes))) none) in
     record { reports_are = one ∙ ap (λ rs. KeepAlive ∷ rs) (sym none); end_is = whole }
 
--- nothing is left
+-- no packet remains
 pub record IsOver (p x : ℕ) (terms : Terms) (time : ℕ) (s : Subscribing) : Type 0 where
   pub reports_are : reports_of p x terms time s ≡ []
   pub end_is : sent_of p x terms time s ≡ s
@@ -394,7 +395,7 @@ over p x terms time s u h k =
     ap (λ rs. made sending (noted time rs s.notes)) none ∙ ap (λ z. made z s.notes) (nothing_sent p x terms s h) in
     record { reports_are = none; end_is = whole }
 
--- after what is too late was dropped, the credit was raised, and what is stale was presumed lost
+-- after too-late packets were dropped, the credit was raised, and packets in flight were marked as lost if due
 pub record IsSettled (terms : Terms) (time : ℕ) (s : Subscribing) : Type 0 where
   pub fresh : expired_in terms.mode terms time s.sending ≡ s.sending
   pub paid : renewal_due terms.resend_percent time s.notes ≡ false
@@ -478,7 +479,7 @@ settled_gave terms time n s r m h =
       calm = rw (m, none) (false_last _);
     }
 
--- the packet is the next one, and the others are left
+-- the packet is the next one, and the others remain
 pub goes_on : (terms : Terms) (initial opening caller time given later : ℕ) (phase : Phase) (p : EncodedPacket) (t : Subscriber)
     (middle m after : Subscribing) (left : List Report) (r : Report)
     → later ≤ most → StandsIn terms initial opening caller time later t after → IsSettled terms time after
@@ -517,7 +518,7 @@ pub wrote_none : (b : Bool) (p : EncodedPacket) (ts : List (List ℕ)) → b ≡
 wrote_none false p ts b e = e
 wrote_none true p ts b e = absurd cc
 
--- the bytes of a packet that was due
+-- the bytes of the drop request that was due
 pub drop_said : (o : Option Run) (f : Report → List ℕ) (t : List ℕ) → t ∷ [] ≡ map f (drops_of o) → (run : Run) × (o ≡ Some run) × (t ≡ f (Dropped run))
 drop_said None f t e = absurd cc
 drop_said (Some run) f t e = (run, refl, cc)
@@ -556,7 +557,7 @@ pub due_there : (p : ℕ) (phase : Phase) (terms : Terms) (s : Subscribing) (d :
 due_there zero phase terms s d e = absurd cc
 due_there (suc p) phase terms s d e = let b : (suc p == 0) ≡ false = ne_eqb _ _ (λ x. omega (arith, x)) in (omega arith, rw b at e)
 
--- what is known once no drop request was written
+-- the facts that hold if no drop request was written
 pub record NoDrop (terms : Terms) (initial opening caller time count : ℕ) (s : Subscriber) (middle m : Subscribing) (left : List Report) : Type 0 where
   pub silent : untold (prepared terms time middle).notes ≡ None
   pub stands : StandsIn terms initial opening caller time count s (prepared terms time middle)
@@ -582,7 +583,7 @@ no_drop terms initial opening caller time count before begun after middle m left
       left_is = subst (λ (f : Phase). IsLeft terms time count f middle m left) (sym (phase ∙ begins.1)) l;
     }
 
--- what is known once no data packet was written either
+-- the facts that hold if no data packet was written either
 pub record NoMedia (terms : Terms) (initial opening caller time count : ℕ) (phase : Phase) (s : Subscriber) (x : Subscribing) : Type 0 where
   pub silent : untold x.notes ≡ None
   pub none : due_in (64 - count) phase terms x ≡ None

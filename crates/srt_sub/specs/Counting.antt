@@ -1,4 +1,4 @@
--- What a subscriber's session counts, as numbers of all that it was fed, sent and heard.
+-- The counters of a subscriber's session, as functions of everything that it was fed, sent and received.
 use Rattle.std.specs.Prelude.{◌≡◌, ℕ, ◌+◌, ◌-◌, ◌^◌, Bool, true, false, List, [], ◌∷◌, length, min, not, if◌then◌else◌}
 pub use Rattle.srt_seq.specs.Capped.{capped, one_if}
 use Rattle.srt_sendbuf.specs.Sending.{Queued, Mark, Sent as MarkSent, Asked, All_of}
@@ -6,12 +6,12 @@ use Rattle.srt_sub.specs.Subscribing.{Subscribing, Report, Media, Note, Sent, Gr
 use Rattle.srt_sub.specs.declared.counts.Counts.{Counts}
 use Rattle.srt_sub.specs.declared.counts.Sendings.{Sendings}
 
--- the bytes of all queued payloads
+-- the total length of all queued payloads, in bytes
 abbrev pub bytes_in : List Queued → ℕ
 bytes_in [] = 0
 bytes_in (q ∷ queue) = length q.payload + bytes_in queue
 
--- the number of loss lists that were taken
+-- the number of loss lists that were processed
 abbrev pub naks_in : List Mark → ℕ
 naks_in [] = 0
 naks_in (MarkSent number ∷ marks) = naks_in marks
@@ -34,7 +34,7 @@ fresh_in (Missed run ∷ notes) = fresh_in notes
 fresh_in (Misdirected ∷ notes) = fresh_in notes
 fresh_in (Renewed time ∷ notes) = fresh_in notes
 
--- and of those that were sent again
+-- the number of data packets that were sent again
 abbrev pub again_in : List Note → ℕ
 again_in [] = 0
 again_in (Sent time report ∷ notes) = if is_media report then again_in notes + one_if (is_again report) else again_in notes
@@ -45,7 +45,7 @@ again_in (Missed run ∷ notes) = again_in notes
 again_in (Misdirected ∷ notes) = again_in notes
 again_in (Renewed time ∷ notes) = again_in notes
 
--- how often the credit for resends was raised to one packet
+-- the number of times that the credit for resends was raised to one packet
 abbrev pub renewals_in : List Note → ℕ
 renewals_in [] = 0
 renewals_in (Sent time report ∷ notes) = renewals_in notes
@@ -56,7 +56,7 @@ renewals_in (Missed run ∷ notes) = renewals_in notes
 renewals_in (Misdirected ∷ notes) = renewals_in notes
 renewals_in (Renewed time ∷ notes) = renewals_in notes + 1
 
--- the number of data packets that came from the caller
+-- the number of data packets received from the caller
 abbrev pub misdirected_in : List Note → ℕ
 misdirected_in [] = 0
 misdirected_in (Misdirected ∷ notes) = misdirected_in notes + 1
@@ -67,7 +67,7 @@ misdirected_in (Opened w ∷ notes) = misdirected_in notes
 misdirected_in (Missed run ∷ notes) = misdirected_in notes
 misdirected_in (Renewed time ∷ notes) = misdirected_in notes
 
--- these numbers are counted
+-- the counters have these values, each capped
 pub record AreCounts (c : Counts) (fed fed_bytes asked misdirected : ℕ) : Type 0 where
   pub queued_is : c.queued ≡ capped fed
   pub bytes_is : c.bytes ≡ capped fed_bytes
@@ -78,26 +78,26 @@ pub record AreSendings (c : Sendings) (first repeated : ℕ) : Type 0 where
   pub fresh_is : c.fresh ≡ capped first
   pub again_is : c.again ≡ capped repeated
 
--- these are the counts of what was queued, of the loss lists, and of the data packets that came
+-- the counters are those of the payloads queued, of the loss lists, and of the data packets received
 abbrev pub Counted : Counts → Subscribing → Type 0
 Counted c m = AreCounts c (length m.sending.queue) (bytes_in m.sending.queue) (naks_in m.sending.marks) (misdirected_in m.notes)
 
--- the counts after a payload of this length was queued
+-- the counters after a payload of this length is queued
 abbrev pub with_payload : (length : ℕ) → Counts → Counts
 with_payload length c = record c { queued = capped (c.queued + 1); bytes = capped (c.bytes + length) }
 
--- after a loss list was taken
+-- the counters after a loss list is processed
 abbrev pub with_list : Counts → Counts
 with_list c = record c { naks = capped (c.naks + 1) }
 
--- after a data packet came from the caller
+-- the counters after a data packet is received from the caller
 abbrev pub with_misdirected : Counts → Counts
 with_misdirected c = record c { misdirected = capped (c.misdirected + 1) }
 
--- after this many packets expired
+-- the counters after this many packets expire
 abbrev pub with_expired : (count : ℕ) → Counts → Counts
 with_expired count c = record c { given_up = capped (c.given_up + count) }
 
--- after a data packet was sent, for the first time or again
+-- the counters after a data packet is sent, for the first time or again
 abbrev pub with_sent : (again : Bool) → Sendings → Sendings
 with_sent again c = record { fresh = capped (c.fresh + one_if (not again)); again = capped (c.again + one_if again) }

@@ -1,4 +1,4 @@
--- What a packet leads to, and which payloads are short enough.
+-- The end of a session by a packet, and the maximum length of payloads.
 use Rattle.std.specs.Prelude.{ℕ, ◌-◌, Bool, true, false, List, length, nat_le}
 use Rattle.srt_seq.specs.declared.shared.Mode.{Mode}
 use Rattle.srt_seq.specs.declared.shared.Mode.TheVariants.{Live, Buffer}
@@ -6,13 +6,13 @@ use Rattle.srt_packet.specs.Grammar as grammar
 use Rattle.srt_sub.specs.declared.hearing.Took.{Took}
 use Rattle.srt_sub.specs.declared.hearing.Took.TheVariants.{Nothing, Answer, Ended}
 
--- the session ended
+-- whether the session ended
 abbrev pub is_ended : Took → Bool
 is_ended Ended = true
 is_ended Nothing = false
 is_ended Answer = false
 
--- the packet is a SHUTDOWN (section 3.2.7)
+-- whether the packet is a SHUTDOWN (section 3.2.7)
 abbrev pub is_shutdown : grammar.Body → Bool
 is_shutdown grammar.Shutdown = true
 is_shutdown _ = false

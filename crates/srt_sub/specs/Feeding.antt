@@ -1,4 +1,4 @@
--- What `feed` does with a payload at a moment, and what is dropped then since it is too late.
+-- The effect of `feed` with a payload at the clock's time `now`, and of the too-late drop.
 use Rattle.std.specs.Prelude.{◌≡◌, ℕ, ◌-◌, ◌<◌, ◌≤◌, Bool, false, List, length}
 use Rattle.srt_seq.specs.declared.shared.Mode.TheVariants.{Buffer}
 use Rattle.srt_sendbuf.specs.Sending.{room}
@@ -6,7 +6,7 @@ use Rattle.srt_sub.specs.Subscribing.{Terms, Subscribing, expired, fed, fits}
 use Rattle.srt_sub.specs.Stands.{StandsIn, StandsFor}
 use Rattle.srt_sub.specs.declared.session.Subscriber.{Subscriber}
 
--- what is too late was dropped and the payload was fed; it isn't empty, and in buffer mode there was room for it
+-- too-late packets were dropped and the payload was fed. It isn't empty, and in buffer mode there was room for it
 abbrev pub IsFed : (now : ℕ) → (payload : List ℕ) → (before after : Subscriber) → Type 0
 IsFed now payload before after =
     (terms : Terms) (initial opening caller last : ℕ) (m : Subscribing)
@@ -14,7 +14,7 @@ IsFed now payload before after =
     → 0 < length payload → (terms.mode ≡ Buffer → 0 < room terms.width m.sending)
     → StandsFor terms initial opening caller now after (fed terms (now - opening) payload (expired terms (now - opening) m))
 
--- a payload that comes in buffer mode where there is no room is refused
+-- in buffer mode without room, the payload is refused, and only too-late packets are dropped
 abbrev pub IsRefused : (now : ℕ) → (took : Bool) → (before after : Subscriber) → Type 0
 IsRefused now took before after =
     (terms : Terms) (initial opening caller last : ℕ) (m : Subscribing)
@@ -22,7 +22,7 @@ IsRefused now took before after =
     → terms.mode ≡ Buffer → room terms.width m.sending ≡ 0
     → (took ≡ false) × StandsFor terms initial opening caller now after (expired terms (now - opening) m)
 
--- the answer tells whether the subscriber gets the payload; in buffer mode there was room for it
+-- the result states whether the payload is queued; in buffer mode there was room for it
 abbrev pub TellsWhetherFed : (now : ℕ) → (payload : List ℕ) → (took : Bool) → (before : Subscriber) → Type 0
 TellsWhetherFed now payload took before =
     (terms : Terms) (initial opening caller last : ℕ) (m : Subscribing)
@@ -30,7 +30,7 @@ TellsWhetherFed now payload took before =
     → (terms.mode ≡ Buffer → 0 < room terms.width m.sending)
     → took ≡ fits terms.mode terms payload (expired terms (now - opening) m).sending
 
--- what is too late at a moment was dropped, also while an event's packets are written
+-- the packets that are too late at the clock's time `now` were dropped, also between the packets of an event's end
 abbrev pub DropsTooLate : (now : ℕ) → (before after : Subscriber) → Type 0
 DropsTooLate now before after =
     (terms : Terms) (initial opening caller time given : ℕ) (m : Subscribing)

@@ -1,13 +1,13 @@
--- Dropping what is too late a second time in one event changes nothing.
+-- Dropping too-late packets a second time in one event changes nothing.
 use Rattle.std.specs.Prelude.{◌≡◌, ℕ, List}
 use Rattle.srt_sub.specs.Heard.{Heard}
 use Rattle.srt_sub.specs.Subscribing.{Terms, Subscribing, expired, took, fed, fed_all}
 
--- nothing that is kept is too late at this time
+-- no packet in the buffer is too late at this time
 abbrev pub IsFresh : Terms → (time : ℕ) → Subscribing → Type 0
 IsFresh terms time s = expired terms time s ≡ s
 
--- after it is dropped, nothing that is kept is too late; nor after a packet or after payloads of that time
+-- after too-late packets are dropped, none in the buffer is too late, also after a packet or payloads at the same time
 pub record ExpiresOnce : Type 0 where
   pub once : (terms : Terms) (time : ℕ) (s : Subscribing) → IsFresh terms time (expired terms time s)
   pub heard : (terms : Terms) (time : ℕ) (h : Heard) (s : Subscribing) → IsFresh terms time s → IsFresh terms time (took time h s)

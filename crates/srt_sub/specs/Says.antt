@@ -5,13 +5,13 @@ use Rattle.srt_seq.specs.Counts.{message_number}
 use Rattle.srt_seq.specs.Window.{number_word}
 use Rattle.srt_sub.specs.Subscribing.{Report, Acked, Dropped, Media, KeepAlive}
 
--- a header and what follows it
+-- a packet of its four header words and the bytes after them
 abbrev pub packet_text : (word0 word1 stamp caller : ℕ) → List ℕ → List ℕ
 packet_text word0 word1 stamp caller rest = word word0 ++ word word1 ++ word stamp ++ word caller ++ rest
 
 -- the bytes of a packet to a caller's socket ID, of a session with this initial number, at a time since its opening.
--- A data packet has the time when its payload was queued as its timestamp; it is a message of its own, in order and
--- unencrypted, with R if it was sent before
+-- The timestamp of a data packet is the time at which its payload was queued. It is a complete message, in order and
+-- unencrypted, with the flag R if it was sent before
 abbrev pub says : (caller initial time : ℕ) → Report → List ℕ
 says d i t (Acked mark) = packet_text 0x8006_0000 mark (t % 2 ^ 32) d []
 says d i t (Dropped run) = packet_text 0x8007_0000 (message_number run.low) (t % 2 ^ 32) d (words (number_word i run.low ∷ number_word i run.high ∷ []))

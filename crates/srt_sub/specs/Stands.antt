@@ -1,4 +1,4 @@
--- What the fields of a subscriber's session represent.
+-- Which session the fields of a subscriber represent.
 use Rattle.std.specs.Prelude.{◌≡◌, ℕ, ◌+◌, ◌-◌, ◌*◌, ◌<◌, ◌≤◌, Option, None, Some, Bool, true, false, option_map, List, [], ◌∷◌, All, map, length}
 use Rattle.srt_seq.specs.Counts.{message_number}
 use Rattle.srt_seq.specs.Runs.{Run}
@@ -27,12 +27,12 @@ use Rattle.srt_sub.specs.declared.hearing.Took.TheVariants.{Nothing, Answer, End
 abbrev pub run_gone : (initial : ℕ) → Run → Gone
 run_gone initial run = record { first = number_word initial run.low; last = number_word initial run.high; message = message_number run.low }
 
--- the fields are the credit for resends, where a new packet brings this many hundredths of one (None: no limit)
+-- the fields are the credit for resends, where a new packet adds `percent` hundredths of a packet (None: no limit)
 pub record IsCredit (percent : Option ℕ) (c : Credit) (notes : List Note) : Type 0 where
   pub percent_is : c.percent ≡ percent
   pub hundredths_are : (p : ℕ) → percent ≡ Some p → c.hundredths ≡ credit p notes
 
--- the fields keep of these notes what the definitions give, in a session with this initial number and these terms
+-- the fields have the values that these notes define, in a session with this initial number and these terms
 pub record IsHistory (initial : ℕ) (terms : Terms) (h : History) (notes : List Note) : Type 0 where
   pub window_is : h.window ≡ flow_window terms.window notes
   pub round_trip_is : round_trip_of h.round_trip ≡ round_trip notes
@@ -43,32 +43,33 @@ pub record IsHistory (initial : ℕ) (terms : Terms) (h : History) (notes : List
   pub sendings_are : AreSendings h.sendings (fresh_in notes) (again_in notes)
   pub credit_is : IsCredit terms.resend_percent h.credit notes
 
--- no payload that is queued is empty
+-- no queued payload is empty
 abbrev pub HasBytes : Sending → Type 0
 HasBytes s = All (λ q. 0 < length q.payload) s.queue
 
--- what always holds of a session: no payload was queued later than this time, all expired payloads are too late at
--- it, and no payload is empty
+-- invariants of a session: no payload was queued later than this time, all expired payloads are too late at it, and no
+-- payload is empty
 pub record IsSound (terms : Terms) (time : ℕ) (s : Sending) : Type 0 where
   pub timely : IsTimely time s
   pub later : IsLater (too_late_at time terms.delay) s
   pub some : HasBytes s
 
--- the bound on the packets that were sent again, of which the record's numbers are these, and what it rests on: when
--- credit was raised last, at least 20 ms passed before, and a packet was sent again since if there is less now
+-- the bound on the packets sent again, for a record with these numbers, and the invariants for its proof: there were
+-- at least 20 ms for each raise of the credit, counted up to the last data packet if the credit is less than one packet
 pub record IsCredited (percent : Option ℕ) (time last again fresh renewals : ℕ) (credit : ℕ → ℕ) : Type 0 where
   pub before : last ≤ time
   pub rare : renewals * 20_000 ≤ time
   pub bounded : (p : ℕ) → percent ≡ Some p → 100 * again + credit p ≤ 6_400 + p * fresh + 100 * renewals
   pub spent : (p : ℕ) → percent ≡ Some p → credit p < 100 → renewals * 20_000 ≤ last
 
--- the same of these notes
+-- the same for these notes
 abbrev pub AreCredited : (percent : Option ℕ) → (time : ℕ) → List Note → Type 0
 AreCredited percent time notes =
     IsCredited percent time (last_media notes) (again_in notes) (fresh_in notes) (renewals_in notes) (λ p. credit p notes)
 
--- the fields represent a session of these terms, with this initial number, opened at a moment by a caller with this
--- socket ID; its last call was at this time since the opening, and `given` data packets were sent in this event
+-- the fields represent a session of these terms, with this initial number, opened at the clock's time `opening` by a
+-- caller with this socket ID. Its last call was at this time since the opening, and `given` data packets were sent in
+-- this event
 pub record StandsIn (terms : Terms) (initial opening caller time given : ℕ) (s : Subscriber) (m : Subscribing) : Type 0 where
   pub buffer_is : places.StandsFor terms.width initial s.buffer m.sending
   pub history_is : IsHistory initial terms s.history m.notes
@@ -83,11 +84,11 @@ pub record StandsIn (terms : Terms) (initial opening caller time given : ℕ) (s
   pub sound : IsSound terms time m.sending
   pub counts_are : Counted s.counts m
 
--- the same between two events; `last` is the moment of the last call
+-- the same between two events; `last` is the clock's time of the last call
 abbrev pub StandsFor : (terms : Terms) (initial opening caller last : ℕ) → Subscriber → Subscribing → Type 0
 StandsFor terms initial opening caller last s m = StandsIn terms initial opening caller (last - opening) 0 s m
 
--- it has places for `width` packets, whatever it represents
+-- the buffer has places for `width` packets
 abbrev pub IsWide : (width : ℕ) → Subscriber → Type 0
 IsWide width s = (initial : ℕ) × (kept : Sending) × places.StandsFor width initial s.buffer kept
 
@@ -97,25 +98,25 @@ texts_of Answer packet = bytes_of packet ∷ []
 texts_of Nothing packet = []
 texts_of Ended packet = []
 
--- the terms of a session that was opened with this, in a subscriber with `width` places
+-- the terms of a session with these parameters, in a subscriber with `width` places
 abbrev pub terms_of : (width : ℕ) → Opening → Terms
 terms_of width o = record { mode = o.mode; width = width; delay = o.delay; mtu = o.mtu; window = o.window; resend_percent = o.resend_percent }
 
--- the terms of a subscriber with `width` places that wasn't started yet
+-- the terms of a subscriber with `width` places before its first start
 abbrev pub unstarted : (width : ℕ) → Terms
 unstarted width = record { mode = Live; width = width; delay = 0; mtu = 0; window = 0; resend_percent = None }
 
--- a session begins with this
+-- a session begins with these parameters
 abbrev pub HasBegun : (width : ℕ) → Opening → Subscriber → Type 0
 HasBegun width o s = StandsFor (terms_of width o) (word_of o.initial) o.now o.caller o.now s opened
 
--- this holds of all that a session represents between two events
+-- for every session that a subscriber represents between two events, `P` holds
 abbrev pub ForWhatever : Subscriber → (P : Terms → (initial opening caller last : ℕ) → Subscribing → Type 0) → Type 0
 ForWhatever s P =
     (terms : Terms) (initial opening caller last : ℕ) (m : Subscribing)
     → StandsFor terms initial opening caller last s m → P terms initial opening caller last m
 
--- whatever a session represented before a call, it represents this function of it after the call, at the same time;
+-- if the subscriber represents a session before a call, it represents `f` of it after the call, at the same time;
 -- numbers count from the initial one
 abbrev pub Becomes : (before after : Subscriber) → (f : (initial : ℕ) → Subscribing → Subscribing) → Type 0
 Becomes before after f =
@@ -130,8 +131,8 @@ BecomesAt time before after f =
     → StandsIn terms initial opening caller time given before m
     → StandsIn terms initial opening caller time given after (f initial m)
 
--- the same of a call between two events, at a moment not before the last call's; f also takes the session's terms, and
--- the time since its opening
+-- the same for a call between two events, at a clock's time not before the last call's; `f` also depends on the
+-- session's terms and the time since its opening
 abbrev pub BecomesBy : (now : ℕ) → (before after : Subscriber) → (f : Terms → (initial time : ℕ) → Subscribing → Subscribing) → Type 0
 BecomesBy now before after f =
     (terms : Terms) (initial opening caller last : ℕ) (m : Subscribing)
@@ -145,50 +146,50 @@ WritesAt time before written reports =
     → StandsIn terms initial opening caller time given before m
     → written ≡ map (says caller initial time) (reports m)
 
--- a call between two events, at a moment not before the last call's, wrote the bytes of these reports
+-- a call between two events, at a clock's time not before the last call's, wrote the bytes of these reports
 abbrev pub WritesBy : (now : ℕ) → (before : Subscriber) → (written : List (List ℕ)) → (reports : (initial : ℕ) → List Report) → Type 0
 WritesBy now before written reports =
     (terms : Terms) (initial opening caller last : ℕ) (m : Subscribing)
     → StandsFor terms initial opening caller last before m → last ≤ now
     → written ≡ map (says caller initial (now - opening)) (reports initial)
 
--- this holds of all notes that the fields of a history represent
+-- for all notes that the fields of a history represent, `P` holds
 abbrev pub ForWhateverNotes : History → (P : (initial : ℕ) → Terms → List Note → Type 0) → Type 0
 ForWhateverNotes h P = (initial : ℕ) (agreed : Terms) (notes : List Note) → IsHistory initial agreed h notes → P initial agreed notes
 
--- whatever notes the fields of a history represented before a call, they represent this function of them after it
+-- if the fields of a history represent notes before a call, they represent `f` of them after it
 abbrev pub NotesBecome : (before after : History) → (f : List Note → List Note) → Type 0
 NotesBecome before after f =
     (initial : ℕ) (agreed : Terms) (notes : List Note) → IsHistory initial agreed before notes → IsHistory initial agreed after (f notes)
 
--- a call noted that a packet was sent at this time, whichever it is of those that are a data packet or not, and a drop
--- request or not
+-- a call recorded that a packet was sent at this time. `media` and `drop` state whether it is a data packet and
+-- whether it is a drop request
 abbrev pub NotesSent : (media drop : Bool) (time : ℕ) → (before after : History) → Type 0
 NotesSent media drop time before after =
     (initial : ℕ) (agreed : Terms) (notes : List Note) (r : Report) → is_media r ≡ media → is_drop r ≡ drop
     → IsHistory initial agreed before notes → IsHistory initial agreed after (Sent time r ∷ notes)
 
--- of a data packet, sent for the first time or again
+-- the same for a data packet, sent for the first time or again
 abbrev pub NotesMedia : (again : Bool) → (time : ℕ) → (before after : History) → Type 0
 NotesMedia again time before after =
     (initial : ℕ) (agreed : Terms) (notes : List Note) (r : Report) → is_media r ≡ true → is_drop r ≡ false → is_again r ≡ again
     → IsHistory initial agreed before notes → IsHistory initial agreed after (Sent time r ∷ notes)
 
--- of a drop request
+-- the same for a drop request
 abbrev pub NotesDrop : (time : ℕ) → (before after : History) → Type 0
 NotesDrop time before after = NotesSent false true time before after
 
--- of any other packet
+-- the same for any other packet
 abbrev pub NotesOther : (time : ℕ) → (before after : History) → Type 0
 NotesOther time before after = NotesSent false false time before after
 
--- a call noted that a NAK asked for these numbers, which are expired
+-- a call recorded that a NAK requested these numbers, which are expired
 abbrev pub NotesMissed : Gone → (before after : History) → Type 0
 NotesMissed gone before after =
     (initial : ℕ) (agreed : Terms) (notes : List Note) (r : Run) → gone ≡ run_gone initial r
     → IsHistory initial agreed before notes → IsHistory initial agreed after (Missed r ∷ notes)
 
--- a call at a time raised the credit for resends, if that is due
+-- a call raised the credit for resends at this time, if that is due
 abbrev pub NotesRenewal : (time : ℕ) → (before after : History) → Type 0
 NotesRenewal time before after =
     (initial : ℕ) (agreed : Terms) (notes : List Note)

@@ -1,5 +1,5 @@
--- A subscriber's session, defined by what it was fed, what it received and what it sent. It counts from its own
--- beginning: times in microseconds from its opening, and numbers from its initial number.
+-- A subscriber's session, defined by everything that it was fed, received and sent. Times are microseconds since its
+-- opening, and numbers count from its initial number.
 use Rattle.std.specs.Prelude.{ℕ, ◌+◌, ◌-◌, ◌/◌, Bool, true, false, Option, None, Some, List, [], ◌∷◌, ◌++◌, take, min, max, length, slice_get, nat_lt}
 use Rattle.std.specs.Prelude.{nat_le, ◌==◌, ◌&&◌, if◌then◌else◌}
 use Rattle.srt_seq.specs.Limits.{keep_alive_after_us}
@@ -12,9 +12,9 @@ use Rattle.srt_sendbuf.specs.Sending.{Queued, Sending, nothing_yet, front, base,
 use Rattle.srt_sendbuf.specs.Sending.{asks_for_gone, all_lost, queued, expired_before, sent}
 use Rattle.srt_sub.specs.Heard.{Heard, Ack, Nak, Data, Other}
 
--- what was agreed: the mode, the window's width in packets, the delay in microseconds, the most bytes of a packet
--- with all headers (the MTU), the flow window in packets, and how many packets may be sent again for each 100 new ones
--- (None: any number)
+-- the agreed terms: the mode, the window's width in packets, the delay in microseconds, the maximum size of a packet
+-- with all headers (the MTU), the flow window in packets, and the number of packets that may be sent again for each
+-- 100 new ones (None: any number)
 pub record Terms : Type 0 where
   pub mode : Mode
   pub width : ℕ
@@ -29,28 +29,28 @@ pub data Report : Type 0 where
   Acked : (mark : ℕ) → Report
   -- a drop request for expired numbers
   Dropped : (run : Run) → Report
-  -- a data packet: its number, whether it was sent before, when its payload was queued, and the payload
+  -- a data packet: its number, whether it was sent before, the time at which its payload was queued, and the payload
   Media : (number : ℕ) (again : Bool) (origin : ℕ) (payload : List ℕ) → Report
   KeepAlive : Report
 
--- an event that the session remembers
+-- an event that the session records
 pub data Note : Type 0 where
   -- a packet was sent
   Sent : (time : ℕ) (report : Report) → Note
-  -- an ACK acknowledged more than those before
+  -- an ACK acknowledged more than all earlier ones
   Grew : (time : ℕ) → Note
   -- an ACK reported a round-trip time and its variance
   Told : (round_trip : RoundTrip) → Note
   -- an ACK reported a flow window
   Opened : (window : ℕ) → Note
-  -- a NAK asked for expired numbers
+  -- a NAK requested expired numbers
   Missed : (run : Run) → Note
-  -- a data packet came from the caller
+  -- a data packet was received from the caller
   Misdirected : Note
-  -- the credit for resends, which was less, was raised to one packet
+  -- the credit for resends was less than one packet, and was raised to it
   Renewed : (time : ℕ) → Note
 
--- all that was queued and all that happened, the newest note first
+-- everything that was queued, and all notes, newest first
 pub record Subscribing : Type 0 where
   pub sending : Sending
   pub notes : List Note
@@ -59,8 +59,8 @@ pub record Subscribing : Type 0 where
 abbrev pub opened : Subscribing
 opened = record { sending = nothing_yet; notes = [] }
 
--- when the last packet was sent, the last data packet, and when an ACK last acknowledged more; the opening counts as
--- each
+-- the time of the last packet sent, and below it the times of the last data packet sent and of the last ACK that
+-- acknowledged more; 0, the opening, without one
 abbrev pub last_sent : List Note → ℕ
 last_sent [] = 0
 last_sent (Sent time report ∷ notes) = time
@@ -95,7 +95,7 @@ last_growth (Missed run ∷ notes) = last_growth notes
 last_growth (Misdirected ∷ notes) = last_growth notes
 last_growth (Renewed time ∷ notes) = last_growth notes
 
--- the round-trip time and its variance, as the last ACK reported them (section 4.10)
+-- the last round-trip time and variance that an ACK reported (section 4.10)
 abbrev pub round_trip : List Note → RoundTrip
 round_trip [] = start
 round_trip (Sent time report ∷ notes) = round_trip notes
@@ -117,16 +117,16 @@ flow_window agreed (Missed run ∷ notes) = flow_window agreed notes
 flow_window agreed (Misdirected ∷ notes) = flow_window agreed notes
 flow_window agreed (Renewed time ∷ notes) = flow_window agreed notes
 
--- after what is older than the threshold was dropped; in buffer mode nothing is (section 4.6)
+-- the buffer after packets older than the threshold are dropped; in buffer mode none are (section 4.6)
 abbrev pub expired_in : Mode → Terms → (time : ℕ) → Sending → Sending
 expired_in Live terms time s = expired_before (too_late_at time terms.delay) s
 expired_in Buffer terms time s = s
 
--- the session after that, as at the beginning of an event
+-- the session after that drop, as at the beginning of an event
 abbrev pub expired : Terms → (time : ℕ) → Subscribing → Subscribing
 expired terms time s = record s { sending = expired_in terms.mode terms time s.sending }
 
--- the notes of what an ACK reports besides its number
+-- the notes of the values that an ACK reports in addition to its number
 abbrev pub told : List ℕ → List Note
 told (rtt ∷ variance ∷ window ∷ more) = Opened window ∷ Told (record { time = rtt; variance = variance }) ∷ []
 told (rtt ∷ variance ∷ []) = Told (record { time = rtt; variance = variance }) ∷ []
@@ -139,31 +139,31 @@ grown time grows = if grows then Grew time ∷ [] else []
 abbrev pub growth : (time n : ℕ) → Sending → List Note
 growth time n s = grown time (nat_lt s.acked n)
 
--- after an ACK; if its number is outside the range that an ACK may name, nothing changes
+-- the session after an ACK; unchanged if its number is outside the range that an ACK may have (None)
 abbrev pub with_ack : (time : ℕ) → List ℕ → Option ℕ → Subscribing → Subscribing
 with_ack time more None s = s
 with_ack time more (Some n) s = record { sending = acknowledged n s.sending; notes = told more ++ (growth time n s.sending ++ s.notes) }
 
--- the ACKACK for an ACK with a number of its own, as a Full ACK has (section 3.2.8)
+-- the ACKACK for an ACK whose own number isn't 0, that is, a Full ACK (section 3.2.8)
 abbrev pub ack_reports : (mark : ℕ) → List Report
 ack_reports mark = if mark == 0 then [] else Acked mark ∷ []
 
--- with these packets sent, the first of them first
+-- the notes after these packets are sent, the first of them first
 abbrev pub noted : (time : ℕ) → List Report → List Note → List Note
 noted time [] notes = notes
 noted time (r ∷ rs) notes = noted time rs (Sent time r ∷ notes)
 
--- all numbers from the base up to the front: expired and not acknowledged
+-- all numbers from the base up to the front, which are expired and not acknowledged
 abbrev pub gone : Sending → Run
 gone s = record { low = base s; high = front s - 1 }
 
--- after a NAK; one whose loss list has a fault changes nothing
+-- the session after a NAK; unchanged if its loss list is invalid (None)
 abbrev pub with_nak : Option (List Range) → Subscribing → Subscribing
 with_nak None s = s
 with_nak (Some ranges) s =
     record { sending = asked ranges s.sending; notes = if asks_for_gone ranges s.sending then Missed (gone s.sending) ∷ s.notes else s.notes }
 
--- after a packet
+-- the session after a packet
 abbrev pub took : (time : ℕ) → Heard → Subscribing → Subscribing
 took time (Ack mark number more) s =
     let heard = with_ack time more (acknowledged_by number s.sending) s in
@@ -172,22 +172,22 @@ took time (Nak ranges) s = with_nak ranges s
 took time Data s = record s { notes = Misdirected ∷ s.notes }
 took time Other s = s
 
--- the packets that are sent at once
+-- the packets that are sent at once in response to a packet
 abbrev pub answers : Heard → List Report
 answers (Ack mark number more) = ack_reports mark
 answers _ = []
 
--- whether a subscriber gets a payload: in live mode if a place is free, and with its headers it fits in the agreed
+-- whether a payload is queued: in live mode if a place is free, and the payload with its headers fits in the agreed
 -- MTU
 abbrev pub fits : Mode → Terms → List ℕ → Sending → Bool
 fits Live terms payload s = nat_lt 0 (room terms.width s) && nat_le (length payload) (terms.mtu - 44)
 fits Buffer terms payload s = true
 
--- after a payload of the route
+-- the session after a payload of the route
 abbrev pub fed : Terms → (time : ℕ) → List ℕ → Subscribing → Subscribing
 fed terms time payload s = if fits terms.mode terms payload s.sending then record s { sending = queued time payload s.sending } else s
 
--- after these payloads, in order
+-- the session after these payloads, in order
 abbrev pub fed_all : Terms → (time : ℕ) → List (List ℕ) → Subscribing → Subscribing
 fed_all terms time [] s = s
 fed_all terms time (x ∷ xs) s = fed_all terms time xs (fed terms time x s)
@@ -196,7 +196,7 @@ abbrev pub is_drop : Report → Bool
 is_drop (Dropped run) = true
 is_drop _ = false
 
--- the drop request that is still to be sent: a NAK asked for expired numbers, and no drop request was sent since
+-- the pending drop request: a NAK requested expired numbers, and no drop request was sent since
 abbrev pub untold : List Note → Option Run
 untold [] = None
 untold (Sent time report ∷ notes) = if is_drop report then None else untold notes
@@ -207,7 +207,7 @@ untold (Missed run ∷ notes) = Some run
 untold (Misdirected ∷ notes) = untold notes
 untold (Renewed time ∷ notes) = untold notes
 
--- the drop request for a NAK that asked for expired numbers (section 3.2.9)
+-- the drop request for a NAK of expired numbers (section 3.2.9)
 abbrev pub drops_of : Option Run → List Report
 drops_of None = []
 drops_of (Some run) = Dropped run ∷ []
@@ -215,14 +215,14 @@ drops_of (Some run) = Dropped run ∷ []
 abbrev pub drops : List Note → List Report
 drops notes = drops_of (untold notes)
 
--- the most credit, in hundredths of a packet, and the first (our choice)
+-- the maximum credit, in hundredths of a packet, and below it the initial credit (our choice)
 abbrev pub most_credit : ℕ
 most_credit = 819_200
 
 abbrev pub first_credit : ℕ
 first_credit = 6_400
 
--- the credit after a packet: a new one brings this many hundredths, and one that is sent again costs a whole packet
+-- the credit after a packet: a new data packet adds `percent` hundredths, and one that is sent again costs a packet
 abbrev pub credit_after : (percent : ℕ) → Report → ℕ → ℕ
 credit_after percent (Acked mark) c = c
 credit_after percent (Dropped run) c = c
@@ -246,12 +246,12 @@ abbrev pub may_resend : Option ℕ → List Note → Bool
 may_resend None notes = true
 may_resend (Some percent) notes = nat_le 100 (credit percent notes)
 
--- the most packets that an event may send again, of this many places for data packets
+-- the maximum number of packets that an event may send again, with this many places for data packets
 abbrev pub resends : Option ℕ → (places : ℕ) → List Note → ℕ
 resends None places notes = places
 resends (Some percent) places notes = min places (credit percent notes / 100)
 
--- whether the credit is raised to one packet: it is less, and no data packet was sent for 20 ms (our choice)
+-- whether the credit is to be raised to one packet: it is less, and no data packet was sent for 20 ms (our choice)
 abbrev pub renewal_due : Option ℕ → (time : ℕ) → List Note → Bool
 renewal_due None time notes = false
 renewal_due (Some percent) time notes = nat_lt (credit percent notes) 100 && nat_le 20_000 (time - last_media notes)
@@ -262,18 +262,18 @@ renewed_notes percent time notes = if renewal_due percent time notes then Renewe
 abbrev pub renewed : Terms → (time : ℕ) → Subscribing → Subscribing
 renewed terms time s = record s { notes = renewed_notes terms.resend_percent time s.notes }
 
--- whether both the last data packet and the last growth are long ago (our choice)
+-- whether the last data packet and the last growth are both at least the timeout for resending all ago (our choice)
 abbrev pub has_waited : (time : ℕ) → List Note → Bool
 has_waited time notes = nat_le (resend_after (round_trip notes)) (time - max (last_media notes) (last_growth notes))
 
--- whether it is time to resend all: packets are in flight, none of them is lost, and both the last data packet and
--- the last growth are long ago (our choice)
+-- whether it is time to resend all: packets are in flight, none of them is lost, and both the last data packet and the
+-- last growth are long enough ago (our choice)
 abbrev pub resend_due : (time : ℕ) → Subscribing → Bool
 resend_due time s =
     nat_lt (front s.sending) (next s.sending) && (length (lost s.sending) == 0)
     && has_waited time s.notes
 
--- all in flight count as lost then
+-- the session after all packets in flight are marked as lost, if it is time to resend all
 abbrev pub presumed : (time : ℕ) → Subscribing → Subscribing
 presumed time s = if resend_due time s then record s { sending = all_lost s.sending } else s
 
@@ -281,7 +281,7 @@ presumed time s = if resend_due time s then record s { sending = all_lost s.send
 abbrev pub prepared : Terms → (time : ℕ) → Subscribing → Subscribing
 prepared terms time s = presumed time (renewed terms time s)
 
--- the most data packets that an event sends (our choice)
+-- the maximum number of data packets that an event sends (our choice)
 abbrev pub most : ℕ
 most = 64
 
@@ -289,7 +289,7 @@ most = 64
 abbrev pub again_of : (again : ℕ) → Sending → List ℕ
 again_of again s = take again (lost s)
 
--- the new numbers that are sent: as many as the places left, the flow window and the queue allow (section 3.2.4)
+-- the new numbers that are sent: as many as the remaining places, the flow window and the queue allow (section 3.2.4)
 abbrev pub new_of : (places again window : ℕ) → Sending → List ℕ
 new_of places again window s = numbers_from (next s) (min (places - length (again_of again s)) (min (window - (next s - front s)) (length s.queue - next s)))
 
@@ -301,33 +301,33 @@ abbrev pub media : Bool → List ℕ → List Queued → List Report
 media repeat [] queue = []
 media repeat (n ∷ ns) queue = media_of repeat n (slice_get queue n) ++ media repeat ns queue
 
--- a KEEPALIVE, if nothing else is sent and nothing was for a second (section 3.2.3)
+-- a KEEPALIVE, if nothing else is sent and nothing was sent for a second (section 3.2.3)
 abbrev pub keep_alives : (time : ℕ) → List Report → List Note → List Report
 keep_alives time (r ∷ rs) notes = []
 keep_alives time [] notes = if nat_le keep_alive_after_us (time - last_sent notes) then KeepAlive ∷ [] else []
 
--- all packets but the KEEPALIVE, with at most `places` data packets, of which at most `again` are sent again: a drop
--- request, those sent again, new ones
+-- all packets except the KEEPALIVE, with at most `places` data packets and at most `again` resends: a drop request,
+-- resends, new packets
 abbrev pub due_of : (places again : ℕ) → Terms → Subscribing → List Report
 due_of places again terms s =
     drops s.notes ++ media true (again_of again s.sending) s.sending.queue
     ++ media false (new_of places again (flow_window terms.window s.notes) s.sending) s.sending.queue
 
--- all packets, with at most `places` data packets, of which at most `again` are sent again
+-- all packets, with at most `places` data packets and at most `again` resends
 abbrev pub reports_of : (places again : ℕ) → Terms → (time : ℕ) → Subscribing → List Report
 reports_of places again terms time s = due_of places again terms s ++ keep_alives time (due_of places again terms s) s.notes
 
--- the packets that an event sends at its end, in order; if it is time to resend all, all in flight count as lost
--- first
+-- the packets that an event sends at its end, in order; before that, if it is time to resend all, all packets in
+-- flight are marked as lost
 abbrev pub reports : Terms → (time : ℕ) → Subscribing → List Report
 reports terms time s = reports_of most (resends terms.resend_percent most (prepared terms time s).notes) terms time (prepared terms time s)
 
--- after these numbers were sent, the first of them first
+-- the buffer after these numbers are sent, the first of them first
 abbrev pub sent_each : List ℕ → Sending → Sending
 sent_each [] s = s
 sent_each (n ∷ ns) s = sent_each ns (sent n s)
 
--- the session after these packets were sent
+-- the session after these packets are sent
 abbrev pub sent_of : (places again : ℕ) → Terms → (time : ℕ) → Subscribing → Subscribing
 sent_of places again terms time s =
     record {
@@ -335,6 +335,6 @@ sent_of places again terms time s =
       notes = noted time (reports_of places again terms time s) s.notes;
     }
 
--- the session after an event's end
+-- the session after the end of an event
 abbrev pub reported : Terms → (time : ℕ) → Subscribing → Subscribing
 reported terms time s = sent_of most (resends terms.resend_percent most (prepared terms time s).notes) terms time (prepared terms time s)

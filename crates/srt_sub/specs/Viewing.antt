@@ -1,4 +1,4 @@
--- What a look at a subscriber's session shows.
+-- The snapshot of a subscriber's session.
 use Rattle.std.specs.Prelude.{◌≡◌}
 use Rattle.srt_rtt.specs.RoundTrip.{RoundTrip}
 use Rattle.srt_sendbuf.specs.Sending.{room, in_flight}
@@ -9,7 +9,7 @@ use Rattle.srt_sub.specs.declared.statistics.Statistics.{Statistics}
 abbrev pub shown_round_trip : Statistics → RoundTrip
 shown_round_trip x = record { time = x.rtt; variance = x.variance }
 
--- these are the counts and the state of a session
+-- `x` has the counters and the state of the session
 pub record AreStatistics (terms : Terms) (m : Subscribing) (x : Statistics) : Type 0 where
   pub counts_are : Counted x.counts m
   pub sendings_are : AreSendings x.sendings (fresh_in m.notes) (again_in m.notes)

@@ -1,30 +1,30 @@
-//! What a subscriber's session counts: payloads that it is fed, data packets that it sends, loss lists, packets that
-//! expire, and data packets that come though nobody takes them.
+//! The counters of a subscriber's session: payloads queued, data packets sent, loss lists, packets expired, and data
+//! packets received although a subscriber has no use for them.
 
 ghost use Rattle.std.specs.Prelude.{◌≡◌, length};
 ghost use Rattle.srt_sub.specs.Counting.{one_if};
 
-/// Counts of a session since its opening. Each stops at 2^64 - 1.
+/// Counters of a session since its opening. Each stops at 2^64 - 1.
 #[derive(Clone, Copy, Debug, PartialEq, Eq)]
 pub struct Counts {
     /// Payloads that were queued.
     pub queued: u64,
-    /// Their bytes.
+    /// Bytes of these payloads.
     pub bytes: u64,
-    /// NAKs whose loss list was taken.
+    /// NAKs whose loss list was processed.
     pub naks: u64,
-    /// Packets that were dropped since they were too late, sent or not (section 4.6), and weren't acknowledged before.
-    /// No clause says what this counts; tests do.
+    /// Packets that were dropped because they were too late, sent or not (section 4.6), and weren't acknowledged
+    /// before. No clause defines this counter; tests check it.
     pub given_up: u64,
-    /// Data packets that came from the caller, encrypted or not. Nobody takes them: the caller asked to receive, as an
-    /// encoder does that leaves `m=publish` out of its Stream ID.
+    /// Data packets received from the caller, encrypted or not. They are ignored: the caller requested to receive, as
+    /// an encoder does that omits `m=publish` from its Stream ID.
     pub misdirected: u64,
 }
 
 impl Counts {
     ghost use Rattle.srt_sub.specs.Counting.{AreCounts, with_payload, with_list, with_expired, with_misdirected};
 
-    /// The counts of a session that has just begun.
+    /// Returns the counters of a session that has just begun.
     pub(crate) fn none() -> Counts
         ensures { AreCounts result 0 0 0 0 }
     {
@@ -45,14 +45,14 @@ impl Counts {
         self.bytes = self.bytes.saturating_add(payload.len() as u64);
     }
 
-    /// Counts a loss list that is taken.
+    /// Counts a loss list that is processed.
     pub(crate) fn ask(&mut self)
         ensures { self.new ≡ with_list self.old }
     {
         self.naks = self.naks.saturating_add(1);
     }
 
-    /// Counts a data packet that came from the caller.
+    /// Counts a data packet received from the caller.
     pub(crate) fn misdirect(&mut self)
         ensures { self.new ≡ with_misdirected self.old }
     {
@@ -67,19 +67,19 @@ impl Counts {
     }
 }
 
-/// Counts of the data packets that a session sent since its opening. Each stops at 2^64 - 1.
+/// Counters of the data packets that a session sent since its opening. Each stops at 2^64 - 1.
 #[derive(Clone, Copy, Debug, PartialEq, Eq)]
 pub struct Sendings {
-    /// Those that were sent for the first time.
+    /// Data packets sent for the first time.
     pub fresh: u64,
-    /// Those that were sent again, with the flag R (section 3.1).
+    /// Data packets sent again, with the flag R (section 3.1).
     pub again: u64,
 }
 
 impl Sendings {
     ghost use Rattle.srt_sub.specs.Counting.{AreSendings, with_sent};
 
-    /// The counts of a session that has just begun.
+    /// Returns the counters of a session that has just begun.
     pub(crate) fn none() -> Sendings
         ensures { AreSendings result 0 0 }
     {
@@ -95,7 +95,7 @@ impl Sendings {
     }
 }
 
-/// 1 if `yes`, else 0.
+/// Returns 1 if `yes`, else 0.
 fn one_if(yes: bool) -> u64
     ensures { result ≡ one_if yes }
 {

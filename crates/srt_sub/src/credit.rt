@@ -1,23 +1,23 @@
-//! How many packets may be sent again: a share of the new ones (our choice). What finds no credit stays lost until
-//! there is some.
+//! The limit on resends: a share of the new packets (our choice). A packet without credit stays lost until there is
+//! some.
 
 ghost use Rattle.std.specs.Prelude.{◌≡◌, ℕ, ◌+◌, ◌-◌, min, Option as TheOption, List, [], ◌∷◌, true, false};
 
-/// What sending a packet again costs, in hundredths of a packet.
+/// Cost of sending a packet again, in hundredths of a packet.
 const PACKET: u32 = 100;
 
-/// The credit of a session that has just begun, in hundredths of a packet: 64 packets (our choice).
+/// Credit of a session that has just begun, in hundredths of a packet: 64 packets (our choice).
 const FIRST_CREDIT: u32 = 6_400;
 
-/// The greatest credit, in hundredths of a packet: 8192 packets (our choice).
+/// Maximum credit, in hundredths of a packet: 8192 packets (our choice).
 const MAX_CREDIT: u32 = 819_200;
 
 /// The credit for packets that are sent again.
 #[derive(Clone, Copy, Debug, PartialEq, Eq)]
 pub struct Credit {
-    /// The hundredths of a packet that each new packet brings; None if there is no limit.
+    /// Hundredths of a packet that each new packet adds; None if there is no limit.
     percent: Option<u32>,
-    /// The credit, in hundredths of a packet; it doesn't count without a limit.
+    /// The credit, in hundredths of a packet; unused without a limit.
     hundredths: u32,
 }
 
@@ -26,7 +26,7 @@ impl Credit {
     ghost use Rattle.srt_sub.specs.Counting.{is_again};
     ghost use Rattle.srt_sub.specs.Subscribing.{credit, may_resend, is_media, Note, Report, Sent, Renewed};
 
-    /// The credit at the beginning of a session, each of whose new packets brings this many hundredths of a packet.
+    /// Returns the credit at the start of a session in which each new packet adds this many hundredths of a packet.
     pub fn start(percent: Option<u32>) -> Credit
         ensures { IsCredit percent result [] }
     {
@@ -46,7 +46,7 @@ impl Credit {
         }
     }
 
-    /// Notes that a data packet is sent, for the first time or again.
+    /// Records that a data packet is sent, for the first time or again.
     pub fn note_sent(&mut self, again: bool)
         ensures { (percent : TheOption ℕ) (notes : List Note) (time : ℕ) (r : Report) → is_media r ≡ true → is_again r ≡ again
             → IsCredit percent self.old notes → IsCredit percent self.new (Sent time r ∷ notes) }
@@ -71,7 +71,7 @@ impl Credit {
     }
 }
 
-/// The credit after a data packet, for the first time or again, where a new one brings `percent`.
+/// Returns the credit after a data packet, sent for the first time or again, where a new one adds `percent`.
 fn credit_after(again: bool, percent: u32, hundredths: u32) -> u32
     ensures again { again ≡ true → result ≡ hundredths - 100 }
     ensures new { again ≡ false → result ≡ min (hundredths + percent) 819_200 }

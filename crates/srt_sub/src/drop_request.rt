@@ -1,4 +1,4 @@
-//! Drop requests: a NAK asked for expired numbers, and the event's packets begin with a DROPREQ for them
+//! Drop requests: after a NAK of expired numbers, the event's packets begin with a DROPREQ for them
 //! (draft-sharabayko-srt-01, section 3.2.9).
 
 ghost use Rattle.std.specs.Prelude.{◌≡◌, true, false, option_map, IfSome, IfNone};
@@ -17,7 +17,7 @@ impl Subscriber {
     ghost use Rattle.srt_sub.specs.Stands.{BecomesAt, WritesAt};
     ghost use Rattle.srt_sub.specs.inside.Turns.{texts};
 
-    /// Writes the drop request that is to be sent. Returns whether there is one; if not, `packet` is unchanged.
+    /// Writes the pending drop request. Returns whether there is one; if not, `packet` is unchanged.
     pub(crate) fn next_drop(&mut self, time: u64, packet: &mut EncodedPacket) -> bool
         ensures stands { BecomesAt time self.old self.new (λ initial m. record m { notes = noted time (drops m.notes) m.notes }) }
         ensures answer { WritesAt time self.old (texts (written result packet.new)) (λ m. drops m.notes) }
@@ -36,15 +36,14 @@ impl Subscriber {
 impl History {
     ghost use Rattle.srt_sub.specs.Stands.{run_gone, ForWhateverNotes, NotesDrop, NotesMissed};
 
-    /// Notes that a NAK asked for expired numbers; `run` is the drop request for them. It replaces one that wasn't
-    /// sent yet.
+    /// Records that a NAK requested expired numbers; `run` is the drop request for them. It replaces a pending one.
     pub fn note_drop_request(&mut self, run: DropRun)
         ensures { NotesMissed (gone_by run) self.old self.new }
     {
         self.missed = Some(run);
     }
 
-    /// Takes the drop request that is to be sent, and notes that it is sent. None if there is none; then nothing
+    /// Removes and returns the pending drop request, and records that it is sent. None if there is none; then nothing
     /// changes.
     pub fn take_missed(&mut self, time: u64) -> Option<DropRun>
         ensures answer { ForWhateverNotes self.old (λ initial agreed notes. option_map gone_by result ≡ option_map (run_gone initial) (untold notes)) }

@@ -1,4 +1,4 @@
-//! The packets that a session sends at the end of an event, one by one: their order, and data packets.
+//! The packets that a session sends at the end of an event, one by one: their order, and the data packets.
 
 ghost use Rattle.std.specs.Prelude.{◌≡◌, ℕ, ◌^◌, ◌<◌, List, true, false, if◌then◌else◌};
 ghost use Rattle.srt_seq.specs.Given.{given as written};
@@ -17,7 +17,7 @@ impl Subscriber {
     ghost use Rattle.srt_sendbuf.specs.Sending.{Sending};
     ghost use Rattle.srt_sendbuf.specs.Stands as places;
 
-    /// Writes the data packet that is due, as long as the event has sent fewer than 64. Returns whether there is one.
+    /// Writes the data packet that is due, if the event has sent fewer than 64. Returns whether there is one.
     fn next_media(&mut self, time: u64, packet: &mut EncodedPacket) -> bool
         ensures stands { SendsMedia time self.old self.new }
         ensures answer { WritesMedia time self.old (texts (written result packet.new)) }
@@ -44,8 +44,8 @@ impl Subscriber {
         true
     }
 
-    /// Which packets are sent next: lost ones first, or new ones alone, since the credit for resends is used up or a
-    /// new one was sent before in this event.
+    /// Returns which data packets are sent next: lost ones first, or only new ones, because the credit for resends is
+    /// used up or this event has already sent a new one.
     fn phase_now(&self) -> Phase
         ensures { (agreed : Terms) (initial : ℕ) (notes : List Note) → IsHistory initial agreed self.now.history notes
             → result ≡ phase_now self.now.phase agreed.resend_percent notes }
@@ -62,7 +62,7 @@ impl Subscriber {
         }
     }
 
-    /// Whether the next data packet in this phase is one that was sent before.
+    /// Whether the next data packet in this phase was sent before.
     fn is_again(&self, phase: Phase) -> bool
         ensures { (width initial : ℕ) (r : Sending) → places.StandsFor width initial self.now.buffer r → result ≡ sends_lost phase r }
     {
@@ -72,8 +72,8 @@ impl Subscriber {
         }
     }
 
-    /// Begins the end of an event, or goes on with it: raises the credit for resends if that is due, and marks all
-    /// packets in flight as lost if it is time to resend all.
+    /// Begins or continues the end of an event: raises the credit for resends if that is due, and marks all packets in
+    /// flight as lost if it is time to resend all.
     fn prepare(&mut self, time: u64)
         ensures { PreparesAt time self.old self.new }
     {
@@ -81,7 +81,7 @@ impl Subscriber {
         self.presume(time);
     }
 
-    /// Writes the next packet of the event's end, after what is too late was dropped. `time` is in microseconds since
+    /// Writes the next packet of the event's end, after too-late packets were dropped. `time` is in microseconds since
     /// the opening.
     fn next_packet(&mut self, time: u64, packet: &mut EncodedPacket) -> bool
         ensures some { result ≡ true → WritesNextAt time self.old self.new packet.new }
@@ -104,17 +104,17 @@ impl Subscriber {
         false
     }
 
-    /// Writes the next packet that the session sends at the end of an event, and returns true; returns false once all
-    /// are written. That ends the event, and `packet` is unchanged then. Drops first what is too late; all calls for
-    /// one event have the same `now`.
+    /// Writes the next packet that the session sends at the end of an event, and returns true. Returns false once all
+    /// are written: the event is complete, and `packet` is unchanged. Drops too-late packets first. All calls for one
+    /// event have the same `now`.
     ///
-    /// The order is: a drop request (section 3.2.9), lost packets with the lowest number first (section 4.8.2), as far
-    /// as the credit for resends goes where there is a limit (our choice), new packets as the flow window allows
-    /// (section 3.2.4), or a KEEPALIVE if there is none of these and nothing was sent for a second (section 3.2.3).
-    /// There are at most 64 data packets, and 65 packets in all (our choice). All packets in flight count as lost first
-    /// if none of them is lost, and both the last data packet and the last ACK that acknowledged more are
-    /// RTT + 4 x variance + 20 ms ago (our choice). Doesn't allocate; a payload is copied once. The packets are written
-    /// one by one, so that 65 of up to 1472 bytes need no list.
+    /// The order is: a drop request (section 3.2.9); lost packets, lowest number first (section 4.8.2), while the
+    /// credit for resends lasts if there is a limit (our choice); new packets as the flow window allows (section
+    /// 3.2.4). If there is none of these and nothing was sent for a second, a KEEPALIVE (section 3.2.3). There are at
+    /// most 64 data packets, and 65 packets in all (our choice). Before that, all packets in flight are marked as lost
+    /// if none of them is lost, and both the last data packet and the last ACK that acknowledged more are RTT + 4 x
+    /// variance + 20 ms ago (our choice). Doesn't allocate; a payload is copied once. Since the packets are written
+    /// one by one, 65 packets of up to 1472 bytes need no list.
     pub fn emit(&mut self, now: u64, packet: &mut EncodedPacket) -> bool
         requires { now < 2 ^ 62 }
         ensures some { result ≡ true → WritesNext now self.old self.new packet.new }
@@ -128,7 +128,7 @@ impl Subscriber {
     }
 }
 
-/// Which packets follow one that was sent in this phase, for the first time or again.
+/// Returns which data packets follow one that was sent in this phase, for the first time or again.
 fn phase_after(again: bool, phase: Phase) -> Phase
     ensures { result ≡ (if again then phase else Phase.New) }
 {

@@ -1,5 +1,5 @@
-//! Which payloads a subscriber is sent: those that fit in the agreed MTU less 44; and which packets are dropped since
-//! they are too late (draft-sharabayko-srt-01, section 4.6).
+//! Which payloads a subscriber is sent, namely those that fit in the agreed MTU less 44, and which packets are dropped
+//! because they are too late (draft-sharabayko-srt-01, section 4.6).
 
 ghost use Rattle.std.specs.Prelude.{◌≡◌, ◌^◌, ◌<◌, ◌≤◌, length};
 ghost use Rattle.srt_sub.specs.Subscribing.{expired};
@@ -14,9 +14,9 @@ impl Subscriber {
     ghost use Rattle.srt_sub.specs.Feeding.{IsFed, IsRefused, TellsWhetherFed, DropsTooLate};
     ghost use Rattle.srt_sub.specs.Endings.{is_short};
 
-    /// Queues a payload, 1 to 1456 bytes, after dropping what is too late. Returns false if this subscriber doesn't
-    /// get it: in live mode if no place is free, or if it is longer than the agreed MTU less 44. In buffer mode the
-    /// caller asks for `room` first; without room it returns false there too. If false, the session is as after
+    /// Queues a payload, 1 to 1456 bytes, after dropping too-late packets. Returns false if the payload isn't queued:
+    /// in live mode if no place is free, or if it is longer than the agreed MTU less 44. In buffer mode the caller
+    /// checks `room` first; without room it returns false there too. If false, the session is the same as after
     /// `expire`. One copy.
     pub fn feed(&mut self, payload: &[u8], now: u64) -> bool
         requires early { now < 2 ^ 62 }
@@ -39,8 +39,8 @@ impl Subscriber {
         }
     }
 
-    /// Whether a payload fits in a packet of the agreed MTU. In buffer mode it always does: a smaller MTU than 1500
-    /// isn't accepted there.
+    /// Whether a payload fits in a packet of the agreed MTU. In buffer mode it always does: there, an MTU smaller than
+    /// 1500 isn't accepted.
     fn is_short(&self, payload: &[u8]) -> bool
         ensures { result ≡ is_short self.now.mode self.now.mtu payload.now }
     {
@@ -50,9 +50,9 @@ impl Subscriber {
         }
     }
 
-    /// Drops the packets that are too late, sent or not: in live mode those queued longer ago than the greater of
-    /// 1.25 times the delay and one second (too-late packet drop, section 4.6). A second call at the same moment
-    /// changes nothing. Linear in the packets that it drops.
+    /// Drops the packets that are too late, sent or not: in live mode those queued longer ago than the greater of 1.25
+    /// times the delay and one second (too-late packet drop, section 4.6). A second call with the same `now` changes
+    /// nothing. Linear in the number of dropped packets.
     pub fn expire(&mut self, now: u64)
         requires { now < 2 ^ 62 }
         ensures { BecomesBy now self.old self.new (λ terms initial time m. expired terms time m) }
@@ -60,7 +60,7 @@ impl Subscriber {
         self.drop_old(now);
     }
 
-    /// Drops the packets that are too late at a moment; in buffer mode none are.
+    /// Drops the packets that are too late at the clock's time `now`; in buffer mode none are.
     #[inline(always)]
     pub(crate) fn drop_old(&mut self, now: u64)
         requires { now < 2 ^ 62 }

@@ -1,4 +1,4 @@
-//! What a session takes from its caller: ACK, NAK and SHUTDOWN. Data packets, which it doesn't take, are counted.
+//! The packets that a session processes: ACK, NAK and SHUTDOWN. Data packets are ignored but counted.
 
 ghost use Rattle.std.specs.Prelude.{◌≡◌, ◌^◌, ◌<◌, ◌≤◌, length, false};
 ghost use Rattle.srt_seq.specs.Words.{word_at};
@@ -14,12 +14,12 @@ use crate::session::Subscriber;
 use srt_packet::{EncodedPacket, Kind, PacketRef};
 use srt_seq::{Seq31, read_word};
 
-/// What a packet from the caller leads to at once.
+/// The immediate result of a packet from the caller.
 #[derive(Clone, Copy, Debug, PartialEq, Eq)]
 pub enum Took {
-    /// There is nothing to send.
+    /// No packet is to be sent.
     Nothing,
-    /// The packet that was written into `answer`, an ACKACK, is to be sent.
+    /// The ACKACK that was written into `answer` is to be sent.
     Answer,
     /// The caller ended the session by a SHUTDOWN (section 3.2.7).
     Ended,
@@ -30,8 +30,8 @@ impl Subscriber {
     ghost use Rattle.srt_sub.specs.declared.hearing.Took.TheVariants.{Answer};
     ghost use Rattle.srt_sub.specs.Endings.{is_ended, is_shutdown};
 
-    /// Takes the body of an ACK (section 3.2.4); `time` is in microseconds since the opening. If its number is
-    /// outside the range that an ACK may name, nothing changes.
+    /// Processes the body of an ACK (section 3.2.4); `time` is in microseconds since the opening. If its number is
+    /// outside the range that an ACK may have, nothing changes.
     fn acknowledge(&mut self, info: &[u8], time: u64)
         requires { 4 ≤ length info.now }
         ensures { BecomesAt time self.old self.new (λ initial m. with_ack time (more_of info.now) (acknowledged_at initial (word_at info.now 0) m.sending) m) }
@@ -47,7 +47,7 @@ impl Subscriber {
     }
 
     /// Answers an ACK by an ACKACK with its number, `mark`, at a time in microseconds since the opening (section
-    /// 3.2.8). One with the number 0, a Light or Small ACK, isn't answered.
+    /// 3.2.8). An ACK with the number 0, which is a Light or Small ACK, isn't answered.
     fn answer(&mut self, mark: u32, time: u64, answer: &mut EncodedPacket) -> Took
         ensures stands { BecomesAt time self.old self.new (λ initial m. record m { notes = noted time (ack_reports mark) m.notes }) }
         ensures answer { WritesAt time self.old (texts_of result answer.new) (λ m. ack_reports mark) }
@@ -63,7 +63,7 @@ impl Subscriber {
         Took::Answer
     }
 
-    /// Takes the body of a NAK, a loss list (section 3.2.5). One that has a fault changes nothing.
+    /// Processes the body of a NAK, a loss list (section 3.2.5). An invalid one changes nothing.
     fn take_losses(&mut self, info: &[u8])
         ensures { Becomes self.old self.new (λ initial m. with_nak (asked_from initial (losses_in info.now)) m) }
     {
@@ -76,11 +76,11 @@ impl Subscriber {
         }
     }
 
-    /// Takes a packet from the caller, after dropping what is too late: an ACK, a NAK or a SHUTDOWN. A data packet is
-    /// counted and not taken; other kinds change nothing. An ACK whose second header word isn't 0 is answered by an
-    /// ACKACK with that word, even if its number is outside the range that an ACK may name (section 3.2.8). The answer
-    /// is written into `answer`, which is otherwise unchanged. Linear in the packets that it acknowledges, or in the
-    /// loss list and the numbers in flight that it names; doesn't allocate.
+    /// Processes a packet from the caller, after dropping too-late packets: an ACK, a NAK or a SHUTDOWN. A data packet
+    /// is counted and otherwise ignored; other kinds change nothing. An ACK whose second header word isn't 0 is
+    /// answered by an ACKACK with that word, even if its number is outside the range that an ACK may have (section
+    /// 3.2.8). The ACKACK is written into `answer`, which is otherwise unchanged. Linear in the packets that an ACK
+    /// acknowledges, or in a loss list and its numbers in flight; doesn't allocate.
     pub fn datagram(&mut self, packet: &PacketRef<'_>, now: u64, answer: &mut EncodedPacket) -> Took
         requires { now < 2 ^ 62 }
         ensures stands { BecomesBy now self.old self.new (λ terms initial time m. took time (heard_of initial packet.now.kind) (expired terms time m)) }

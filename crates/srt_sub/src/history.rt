@@ -1,5 +1,5 @@
-//! What a session remembers of its events, with what an ACK reports (draft-sharabayko-srt-01, section 3.2.4). Times are
-//! microseconds since the opening.
+//! The state that a session keeps of its events, including the values that an ACK reports (draft-sharabayko-srt-01,
+//! section 3.2.4). Times are microseconds since the opening.
 
 ghost use Rattle.std.specs.Prelude.{◌≡◌, ℕ, [], ◌++◌};
 ghost use Rattle.srt_sub.specs.Heard.{more_of};
@@ -11,11 +11,11 @@ use srt_rtt::Rtt;
 use srt_sendbuf::DropRun;
 use srt_seq::read_word;
 
-/// The time without a data packet sent after which a packet may be sent again, in microseconds (our choice).
+/// Time without a sent data packet after which a packet may be sent again, in microseconds (our choice).
 const RENEWAL_AFTER_US: u64 = 20_000;
 
-/// What the last ACKs reported, and when packets were last sent. Times are microseconds since the opening, which
-/// counts as the last packet, data packet and growth at first.
+/// The values that the last ACKs reported, and the times at which packets were last sent. Times are microseconds since
+/// the opening. At the opening, the times of the last packet, data packet and growth are 0.
 #[derive(Drop)]
 pub struct History {
     /// The flow window, in packets: the agreed one, or the available buffer size of the last ACK that had one
@@ -23,26 +23,25 @@ pub struct History {
     pub window: u32,
     /// The round-trip time and its variance, in microseconds, as the last ACK reported them (section 4.10).
     pub round_trip: Rtt,
-    /// When a packet of any kind was last sent.
+    /// Time at which a packet of any kind was last sent.
     pub sent: u64,
-    /// When a data packet was last sent.
+    /// Time at which a data packet was last sent.
     pub media: u64,
-    /// When an ACK last acknowledged more than those before.
+    /// Time at which an ACK last acknowledged more than all earlier ones.
     pub growth: u64,
-    /// The drop request that is still to be sent: a NAK asked for expired numbers, and no drop request was sent
-    /// since.
+    /// The pending drop request: a NAK requested expired numbers, and no drop request was sent since.
     pub missed: Option<DropRun>,
-    /// The data packets that were sent.
+    /// Counters of the data packets that were sent.
     pub sendings: Sendings,
-    /// How many packets may be sent again.
+    /// The credit for packets that are sent again.
     pub credit: Credit,
 }
 
 impl History {
     ghost use Rattle.srt_sub.specs.Stands.{IsHistory, NotesBecome, NotesMedia, NotesOther, NotesRenewal};
 
-    /// A session in which nothing has happened yet, with the agreed flow window in packets, and with how many packets
-    /// may be sent again for each 100 new ones.
+    /// Returns the state of a session without events, with the agreed flow window in packets, and the number of
+    /// packets that may be sent again for each 100 new ones.
     pub fn start(window: u32, resend_percent: Option<u32>) -> History
         ensures { (initial : ℕ) (agreed : Terms) → agreed.window ≡ window → agreed.resend_percent ≡ resend_percent → IsHistory initial agreed result [] }
     {
@@ -58,14 +57,14 @@ impl History {
         }
     }
 
-    /// Notes that a packet was sent that is neither a data packet nor a drop request.
+    /// Records that a packet was sent that is neither a data packet nor a drop request.
     pub fn say(&mut self, time: u64)
         ensures { NotesOther time self.old self.new }
     {
         self.sent = time;
     }
 
-    /// Notes that a data packet was sent, for the first time or again.
+    /// Records that a data packet was sent, for the first time or again.
     pub fn give(&mut self, again: bool, time: u64)
         ensures { NotesMedia again time self.old self.new }
     {
@@ -85,7 +84,7 @@ impl History {
         self.credit.renew();
     }
 
-    /// Notes whether an ACK acknowledged more than those before.
+    /// Records whether an ACK acknowledged more than all earlier ones.
     fn grow(&mut self, grows: bool, time: u64)
         ensures { NotesBecome self.old self.new (λ notes. grown time grows ++ notes) }
     {
@@ -94,9 +93,9 @@ impl History {
         }
     }
 
-    /// Takes what an ACK reports besides its number. `info` is its body: from 12 bytes on it has a round-trip time
-    /// and its variance, from 16 on an available buffer size, which becomes the flow window (section 3.2.4). The
-    /// bytes after these aren't read.
+    /// Records the values that an ACK reports in addition to its number. `info` is its body: from 12 bytes on it has a
+    /// round-trip time and its variance, from 16 on an available buffer size, which becomes the flow window (section
+    /// 3.2.4). The bytes after these aren't read.
     fn hear(&mut self, info: &[u8])
         ensures { NotesBecome self.old self.new (λ notes. told (more_of info.now) ++ notes) }
     {
@@ -108,8 +107,8 @@ impl History {
         }
     }
 
-    /// Notes an ACK whose number is in the window; `grows` if it acknowledged more than those before. `info` is its
-    /// body, `time` is in microseconds since the opening.
+    /// Records an ACK whose number is in the window; `grows` if it acknowledged more than all earlier ones. `info` is
+    /// its body, `time` is in microseconds since the opening.
     pub fn acknowledge(&mut self, grows: bool, info: &[u8], time: u64)
         ensures { NotesBecome self.old self.new (λ notes. told (more_of info.now) ++ (grown time grows ++ notes)) }
     {

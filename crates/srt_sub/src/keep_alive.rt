@@ -1,4 +1,4 @@
-//! A subscriber's KEEPALIVE: after a second in which nothing was sent (draft-sharabayko-srt-01, section 3.2.3).
+//! A subscriber's KEEPALIVE: sent after a second in which nothing was sent (draft-sharabayko-srt-01, section 3.2.3).
 
 ghost use Rattle.std.specs.Prelude.{◌≡◌, ◌-◌, [], true, false, nat_le};
 ghost use Rattle.srt_seq.specs.Given.{given as written};
@@ -16,7 +16,7 @@ impl Subscriber {
     ghost use Rattle.srt_sub.specs.Stands.{BecomesAt, WritesAt};
     ghost use Rattle.srt_sub.specs.inside.Turns.{texts};
 
-    /// Writes a KEEPALIVE if nothing was sent for a second. Returns whether it does; if not, `packet` is unchanged.
+    /// Writes a KEEPALIVE if nothing was sent for a second. Returns whether it did; if not, `packet` is unchanged.
     pub(crate) fn next_keep_alive(&mut self, time: u64, packet: &mut EncodedPacket) -> bool
         ensures stands { BecomesAt time self.old self.new (λ initial m. record m { notes = noted time (keep_alives time [] m.notes) m.notes }) }
         ensures answer { WritesAt time self.old (texts (written result packet.new)) (λ m. keep_alives time [] m.notes) }

@@ -8,8 +8,8 @@ ghost use Rattle.srt_sub.specs.Fresh.{ExpiresOnce};
 use crate::Subscriber;
 
 /// At the beginning of an event's end, all its packets are still to be written. A session that represents a record at
-/// one moment represents it at later ones too. Dropping what is too late a second time in one event, as each call
-/// does, changes nothing. An event sends at most 66 packets: one ACKACK, and 65 at its end.
+/// one time represents it at later times too. Dropping too-late packets a second time in one event, as each call does,
+/// changes nothing. An event sends at most 66 packets: one ACKACK, and 65 at its end.
 pub fn sessions()
     ensures emission { EmissionBegins }
     ensures later { StandsLater }
@@ -17,8 +17,8 @@ pub fn sessions()
     ensures most { SendsAtMost66 }
 {}
 
-/// A session with a limit on resends keeps it at every moment: a hundred times the packets that it sent again are at
-/// most 6400, the limit times its new packets, and a hundred for each 20 ms since its opening (our choice).
+/// A session with a limit on resends keeps it at all times: a hundred times the packets that it sent again are at most
+/// the sum of 6400, the limit times its new packets, and a hundred for each 20 ms since its opening (our choice).
 pub fn resends(subscriber: &Subscriber)
     ensures { KeepsResendLimit subscriber.now }
 {}

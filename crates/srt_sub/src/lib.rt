@@ -1,22 +1,23 @@
 //! A subscriber's session: which payloads it is sent, which are sent again, and which are too late
 //! (draft-sharabayko-srt-01, sections 3.2.4 to 3.2.9, 4.6, 4.8 and 4.10).
 //!
-//! It starts after the handshake and has no clock and no socket: moments come in as arguments, and packets are
-//! written into a place of the caller. The handshake is `srt_hs`; the five seconds after which a silent peer is given
-//! up are in `srt_route`; the queue of packets is `srt_sendbuf`.
+//! It starts after the handshake, and has no clock and no socket: times are arguments, and packets are written into a
+//! buffer that the caller passes. The handshake is in `srt_hs`; the timeout of five seconds for a silent peer is in
+//! `srt_route`; the queue of packets is `srt_sendbuf`.
 //!
-//! Types: [`Subscriber`], the session; [`Opening`], what it begins with; [`Took`], what a packet from the caller
-//! leads to; [`Statistics`], what a look at it shows, with its [`Counts`] and [`Sendings`].
+//! Types: [`Subscriber`], the session; [`Opening`], its parameters; [`Took`], the result of a packet from the caller;
+//! [`Statistics`], a snapshot of it, with its [`Counts`] and [`Sendings`].
 //!
-//! Calls: `Subscriber::open` once; `start` for each session; then for each event `expire`, `datagram` if a packet
-//! came, `feed` for each payload of the route, and `emit` until it returns false, which writes one packet each time.
+//! Calls: `Subscriber::open` once; `start` for each session. Then for each event: `expire`; `datagram` if a packet
+//! arrived; `feed` for each payload of the route; and `emit`, which writes one packet each time, until it returns
+//! false.
 //!
-//! Files: `feeding.rt` has the rules of feeding and of the too-late drop; `hearing.rt` of ACK, NAK and SHUTDOWN;
-//! `emission.rt` of the packets at an event's end and their order; `drop_request.rt` of drop requests; `resend_all.rt`
-//! of resending all; `credit.rt` of how many packets may be sent again; `keep_alive.rt` of KEEPALIVEs; `history.rt` of
-//! the flow window and of what else is remembered; `counts.rt` of what is counted, which `statistics.rt` shows;
-//! `session.rt` begins a session; `packets.rt` writes packets. `specs/Subscribing.antt` defines what a session sends,
-//! `specs/Says.antt` its bytes, `specs/Counting.antt` its counts; `laws.rt` has facts about these.
+//! Files: `feeding.rt` has the rules for feeding and the too-late drop; `hearing.rt` for ACK, NAK and SHUTDOWN;
+//! `emission.rt` for the packets at an event's end and their order; `drop_request.rt` for drop requests;
+//! `resend_all.rt` for resending everything; `credit.rt` for the limit on resends; `keep_alive.rt` for KEEPALIVEs.
+//! `history.rt` stores the flow window and other state; `counts.rt` has the counters, and `statistics.rt` the
+//! snapshot; `session.rt` begins a session; `packets.rt` writes packets. `specs/Subscribing.antt` defines what a
+//! session sends, `specs/Says.antt` its bytes, `specs/Counting.antt` its counters; `laws.rt` states facts about these.
 #![tactic(auto)]
 
 mod counts;

@@ -1,4 +1,4 @@
-//! Writing the packets that a session sends. Times are microseconds since the opening.
+//! The packets that a session sends, as bytes. Times are microseconds since the opening.
 
 ghost use Rattle.std.specs.Prelude.{◌≡◌, ℕ, ◌%◌, ◌^◌, ◌≤◌, length, option_map, true, false, IfSome};
 ghost use Rattle.srt_seq.specs.Given.{given};
@@ -17,7 +17,7 @@ use srt_packet::{Body, EncodedPacket, Packet};
 use srt_sendbuf::{DropRun, Out, SendBuf};
 use srt_seq::PayloadRef;
 
-/// The packet timestamp of a time: the time modulo 2^32.
+/// Returns the packet timestamp of a time: the time modulo 2^32.
 fn stamp(time: u64) -> u32
     ensures { result ≡ time % 2 ^ 32 }
 {
@@ -68,10 +68,10 @@ pub fn dropped(run: DropRun, time: u64, caller: u32, packet: &mut EncodedPacket)
     });
 }
 
-/// Writes this packet (section 3.1). Its timestamp is the time when its payload was queued. Returns false, with
-/// `packet` unchanged, if its payload is empty: no caller feeds an empty one, and so each packet can be written without
-/// a condition on what was fed. One copy of the payload. The flag R, of a packet that is sent again (section 3.1), is
-/// `out.again`: `srt_sendbuf` sets it for what is lost (`next_due.rt`).
+/// Writes this packet (section 3.1). Its timestamp is the time at which its payload was queued. Returns false, with
+/// `packet` unchanged, if its payload is empty. No caller feeds an empty payload; due to this check, a packet can be
+/// written without a precondition on the queue. One copy of the payload. The flag R of a packet that is sent again
+/// (section 3.1) is `out.again`: `srt_sendbuf` sets it for lost packets (`next_due.rt`).
 #[inline(always)]
 fn write(out: Out<'_>, caller: u32, packet: &mut EncodedPacket) -> bool
     requires { length out.payload.now ≤ 1456 }
@@ -98,7 +98,7 @@ fn write(out: Out<'_>, caller: u32, packet: &mut EncodedPacket) -> bool
     true
 }
 
-/// The data packet that is due in this phase, for this flow window in packets.
+/// Returns the data packet that is due in this phase, for this flow window in packets.
 #[inline(always)]
 fn next_in(buffer: &SendBuf, phase: Phase, window: u32) -> Option<Out<'_>>
     ensures answer { ForWhatever buffer.now (λ width initial r. option_map told_by result ≡ option_map (told initial) (next_in phase window r)) }
@@ -110,7 +110,7 @@ fn next_in(buffer: &SendBuf, phase: Phase, window: u32) -> Option<Out<'_>>
     }
 }
 
-/// Notes that the data packet that is due in this phase, for this flow window in packets, was sent.
+/// Records that the data packet that is due in this phase, for this flow window in packets, was sent.
 #[inline(always)]
 fn note_sent(buffer: &mut SendBuf, phase: Phase, window: u32)
     ensures { Becomes buffer.old buffer.new (λ initial r. after_next phase window r) }
@@ -141,8 +141,8 @@ fn write_due(
     }
 }
 
-/// Writes the data packet that is due in this phase, for this flow window in packets; it then counts as sent. Returns
-/// false, with `packet` unchanged, if none is due. One copy of the payload.
+/// Writes the data packet that is due in this phase, for this flow window in packets, and records that it was sent.
+/// Returns false, with `packet` unchanged, if none is due. One copy of the payload.
 #[inline(always)]
 pub fn media(
     packet: &mut EncodedPacket,

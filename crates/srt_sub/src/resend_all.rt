@@ -1,5 +1,5 @@
-//! When all packets in flight are sent again: after RTT + 4 x variance + 20 ms in which no data packet was sent and no
-//! ACK acknowledged more (our choice).
+//! Resending all packets in flight: after RTT + 4 x variance + 20 ms in which no data packet was sent and no ACK
+//! acknowledged more (our choice).
 
 ghost use Rattle.std.specs.Prelude.{◌≡◌};
 ghost use Rattle.srt_sub.specs.Subscribing.{presumed, has_waited};
@@ -10,7 +10,7 @@ use crate::session::Subscriber;
 impl Subscriber {
     ghost use Rattle.srt_sub.specs.Stands.{BecomesAt};
 
-    /// Marks all packets in flight as lost if none of them is yet and it is time to resend all; `time` is in
+    /// Marks all packets in flight as lost if none of them is lost and it is time to resend all; `time` is in
     /// microseconds since the opening.
     pub(crate) fn presume(&mut self, time: u64)
         ensures stands { BecomesAt time self.old self.new (λ initial m. presumed time m) }
@@ -31,8 +31,8 @@ impl Subscriber {
 impl History {
     ghost use Rattle.srt_sub.specs.Stands.{ForWhateverNotes};
 
-    /// Whether it is time to resend all: the last data packet sent and the last growth are both RTT + 4 x variance +
-    /// 20 ms ago, or longer (our choice).
+    /// Whether it is time to resend all: the last data packet and the last growth are both at least RTT + 4 x variance
+    /// + 20 ms ago (our choice).
     pub fn resend_due(&self, time: u64) -> bool
         ensures { ForWhateverNotes self.now (λ initial agreed notes. result ≡ has_waited time notes) }
     {

@@ -1,25 +1,26 @@
-//! What a look at a subscriber's session shows. A look changes nothing.
+//! A snapshot of a subscriber's session. Taking it changes nothing.
 
 use crate::counts::{Counts, Sendings};
 use crate::session::Subscriber;
 
-/// The state of a subscriber's session and its counts. The packets that it acknowledged are those that were queued less
-/// those that are kept and those that were given up.
+/// The state of a subscriber's session and its counters. The number of acknowledged packets is that of queued packets
+/// less those still stored and those given up.
 #[derive(Clone, Copy, Debug, PartialEq, Eq)]
 pub struct Statistics {
-    /// What was queued, asked for and given up since the opening.
+    /// Counters of payloads queued, loss lists and packets given up, since the opening.
     pub counts: Counts,
-    /// The data packets that were sent since the opening.
+    /// Counters of the data packets sent since the opening.
     pub sendings: Sendings,
-    /// The places that are free, in packets. The others keep what is queued and neither acknowledged nor given up.
+    /// Number of free places, in packets. The others store packets that are queued and neither acknowledged nor given
+    /// up.
     pub room: u32,
-    /// The packets in flight: sent, and neither acknowledged nor given up.
+    /// Number of packets in flight: sent, and neither acknowledged nor given up.
     pub in_flight: u32,
-    /// The flow window that the caller reported last, in packets (section 3.2.4).
+    /// The last flow window that the caller reported, in packets (section 3.2.4).
     pub flow_window: u32,
-    /// The round-trip time that the caller reported last, in microseconds (section 4.10).
+    /// The last round-trip time that the caller reported, in microseconds (section 4.10).
     pub rtt: u32,
-    /// Its variance, in microseconds.
+    /// Variance of the round-trip time, in microseconds.
     pub variance: u32,
 }
 
@@ -27,7 +28,7 @@ impl Subscriber {
     ghost use Rattle.srt_sub.specs.Stands.{ForWhatever};
     ghost use Rattle.srt_sub.specs.Viewing.{AreStatistics};
 
-    /// The session's state and its counts. O(1).
+    /// Returns the session's state and its counters. O(1).
     pub fn statistics(&self) -> Statistics
         ensures { ForWhatever self.now (λ terms initial opening caller last m. AreStatistics terms m result) }
     {

@@ -1,4 +1,4 @@
-//! Worked examples of a session, as the bytes that it receives and sends.
+//! Computed examples of a session, as the bytes that it receives and sends.
 
 ghost use Rattle.std.specs.Prelude.{◌^◌, ◌<◌};
 
@@ -13,16 +13,16 @@ use srt_seq::{MOMENT_END, Mode, Seq31};
 use std::alloc::Global;
 use std::test::Fail;
 
-/// The socket ID of the session, which what comes is for.
+/// Socket ID of the session: the destination of received packets.
 const SESSION: u32 = 0x10_0000;
 
-/// The socket ID of the caller, which what is sent is for.
+/// Socket ID of the caller: the destination of sent packets.
 const CALLER: u32 = 2;
 
-/// The loss list of the first packet of most sessions.
+/// Loss list of the first packet of most sessions.
 const LOST: [Loss; 1] = [Loss::Single(9)];
 
-/// A data packet that is sent to the caller, with this sequence number, message number and timestamp in microseconds.
+/// Returns a data packet to the caller, with this sequence number, message number and timestamp in microseconds.
 fn media<'a>(number: u32, message: u32, stamp: u32) -> Sample<'a> {
     data_packet(number)
         .flags(0xe000_0000 | message)
@@ -31,7 +31,7 @@ fn media<'a>(number: u32, message: u32, stamp: u32) -> Sample<'a> {
         .payload(b"a")
 }
 
-/// The same, sent again.
+/// Returns the same packet with the retransmission flag.
 fn media_again<'a>(number: u32, message: u32, stamp: u32) -> Sample<'a> {
     media(number, message, stamp).flags(0xe400_0000 | message)
 }
@@ -44,12 +44,12 @@ enum Step<'a> {
     StartBuffer(u64, u32),
     /// A payload of this many bytes `61`.
     Feed(usize),
-    /// A datagram comes.
+    /// A datagram arrives.
     Hear(Sample<'a>),
     Emit,
     Expire,
     Room,
-    /// Emits until nothing is left, and counts the packets.
+    /// Emits until no packet remains, and counts the packets.
     Drain,
 }
 
@@ -69,7 +69,7 @@ fn number(word: u32) -> Result<Seq31, Fail> {
     }
 }
 
-/// A payload of this many letters, at most 1456.
+/// Returns a payload of this many letters, at most 1456.
 fn payload(bytes: usize) -> ArrayVec<u8, 1456> {
     let mut payload = ArrayVec::new();
     for _ in 0..bytes {
@@ -78,7 +78,7 @@ fn payload(bytes: usize) -> ArrayVec<u8, 1456> {
     payload
 }
 
-/// A session, the packet that its calls write, and how the last one that was asked for differs from what was wanted.
+/// A session, the packet that its calls write, and how the last written packet differs from the expected one.
 #[derive(Drop)]
 struct Trial {
     alloc: Global,
@@ -87,7 +87,7 @@ struct Trial {
     difference: Option<Difference>,
 }
 
-/// Whether the packet that was written is the wanted one.
+/// Whether the packet that was written is the expected one.
 fn sends(trial: &mut Trial, answer: Answer<'_>) -> Result<bool, Fail> {
     match answer {
         Answer::Sends(sample) => {
@@ -99,7 +99,7 @@ fn sends(trial: &mut Trial, answer: Answer<'_>) -> Result<bool, Fail> {
     }
 }
 
-/// A session with 128 places that wasn't started yet.
+/// Returns a session with 128 places before its first start.
 fn unstarted(alloc: Global) -> Result<Trial, Fail> {
     Ok(Trial {
         alloc,
@@ -200,8 +200,8 @@ fn agrees(trial: &mut Trial, now: u64, step: Step<'_>, answer: Answer<'_>) -> Re
     }
 }
 
-/// The first row, of a moment, a step and its expected result, for which the session gives another result: its index,
-/// and how a packet that was sent differs from the wanted one.
+/// The first test vector (a time, a step and its expected result) for which the session has another result: its index,
+/// and how a packet that was sent differs from the expected one.
 type Other = Option<(usize, Option<Difference>)>;
 
 fn other_in(trial: &mut Trial, rows: &[(u64, Step<'_>, Answer<'_>)]) -> Result<Other, Fail> {
@@ -214,7 +214,7 @@ fn other_in(trial: &mut Trial, rows: &[(u64, Step<'_>, Answer<'_>)]) -> Result<O
     Ok(None)
 }
 
-/// The same for a session of width 128.
+/// Returns the first failing test vector for a session of width 128.
 fn other(alloc: Global, rows: &[(u64, Step<'_>, Answer<'_>)]) -> Result<Other, Fail> {
     let mut trial = unstarted(alloc)?;
     other_in(&mut trial, rows)
@@ -263,7 +263,7 @@ fn a_packet_again_and_gone(rt: HostRuntime) -> Result<(), Fail> {
         (7_500_001, Step::Expire, Answer::Nothing),
         (7_500_001, Step::Room, Answer::Count(128)),
         (7_500_001, Step::Hear(shutdown().to(SESSION)), Answer::Ends),
-        // In buffer mode nothing is ever too late, and sequence numbers wrap.
+        // In buffer mode no packet is ever too late, and sequence numbers wrap.
         (
             0,
             Step::StartBuffer(4_000_000, 0x7fff_ffff),
@@ -299,7 +299,7 @@ fn acknowledgements(rt: HostRuntime) -> Result<(), Fail> {
             Step::Hear(ack(1, &[10, 20_000, 10_000, 16, 0, 0, 0]).to(SESSION)),
             Answer::Sends(ack_ack(1).stamp(1_020_000).to(CALLER)),
         ),
-        // A number that no ACK may name: it is answered, and nothing changes.
+        // A number that no ACK may have: it is answered, and nothing changes.
         (
             5_020_000,
             Step::Hear(ack(2, &[12, 0, 0, 0, 0, 0, 0]).to(SESSION)),
@@ -422,7 +422,7 @@ fn hostile_loss_lists(rt: HostRuntime) -> Result<(), Fail> {
             Answer::Sends(media_again(9, 1, 1_000_000)),
         ),
         (5_100_000, Step::Emit, Answer::Nothing),
-        // The second range counts too.
+        // The second range is processed too.
         (
             5_100_000,
             Step::Hear(nak(&[Loss::Single(8), Loss::Single(10), Loss::Single(9)]).to(SESSION)),
@@ -459,7 +459,7 @@ fn many_packets(rt: HostRuntime) -> Result<(), Fail> {
         window: 100,
         resend_percent: None,
     });
-    // The MTU of 76 bytes counts all headers.
+    // The MTU of 76 bytes includes all headers.
     assert!(rt; !trial.session.feed(payload(33).as_slice(), 1_000_000));
     for _ in 0..70 {
         assert!(rt; trial.session.feed(payload(32).as_slice(), 1_000_000));
@@ -490,7 +490,7 @@ fn many_packets(rt: HostRuntime) -> Result<(), Fail> {
     Ok(())
 }
 
-/// Of two packets, 9 is sent again and acknowledged, and 10 expires. A loss list with a fault isn't counted. Its caller
+/// Of two packets, 9 is sent again and acknowledged, and 10 expires. An invalid loss list isn't counted. The caller
 /// sends two data packets, the second encrypted.
 #[test]
 fn what_a_session_counts(rt: HostRuntime) -> Result<(), Fail> {
@@ -567,8 +567,8 @@ fn what_a_session_counts(rt: HostRuntime) -> Result<(), Fail> {
     Ok(())
 }
 
-/// A session in buffer mode that was opened at 0 with the initial number 5, and in which each new packet brings half a
-/// packet that may be sent again.
+/// Returns a session in buffer mode that was opened at 0 with the initial number 5, and in which each new packet adds
+/// credit for half a resend.
 fn limited(alloc: Global) -> Result<Trial, Fail> {
     let mut trial = unstarted(alloc)?;
     trial.session.start(Opening {
@@ -584,7 +584,7 @@ fn limited(alloc: Global) -> Result<Trial, Fail> {
     Ok(trial)
 }
 
-/// Feeds this many payloads, and counts the packets that the event then sends.
+/// Feeds this many payloads. Returns the number of packets that the event then sends.
 fn fed_and_drained(trial: &mut Trial, payloads: u32, now: u64) -> u32
     requires { now < 2 ^ 62 }
 {
@@ -594,10 +594,10 @@ fn fed_and_drained(trial: &mut Trial, payloads: u32, now: u64) -> u32
     drained(trial, now)
 }
 
-/// All numbers from 5 to 74 are asked for.
+/// A loss list of all numbers from 5 to 74.
 const ALL_70: [Loss; 1] = [Loss::Range(5, 74)];
 
-/// Of 6400 hundredths, 50 come for each new packet and 100 go for each that is sent again.
+/// Starting from 6400 hundredths, each new packet adds 50 and each resend costs 100.
 #[test]
 fn limited_resends(rt: HostRuntime) -> Result<(), Fail> {
     let mut trial = limited(rt.alloc())?;
@@ -613,7 +613,7 @@ fn limited_resends(rt: HostRuntime) -> Result<(), Fail> {
     Ok(())
 }
 
-/// Without credit, lost packets stay lost until new ones bring some, in the next event, or until 20 ms have passed.
+/// Without credit, lost packets stay lost until new ones add some, in the next event, or until 20 ms have passed.
 #[test]
 fn spent_credit(rt: HostRuntime) -> Result<(), Fail> {
     let mut trial = limited(rt.alloc())?;

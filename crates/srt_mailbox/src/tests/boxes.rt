@@ -1,4 +1,4 @@
-//! How many boxes circulate: the route finds a free one wherever it needs one, so that no turn waits.
+//! The number of boxes in circulation: the route finds a free one whenever it needs one, so that no step waits.
 
 use crate::spares::{Boxes, Spent, open_boxes};
 use srt_route::Reply;
@@ -8,7 +8,7 @@ use std::mem;
 use std::process::Abort;
 use std::test::Fail;
 
-/// Counts the boxes that come without waiting.
+/// Counts the boxes that are available without waiting.
 fn free_boxes(boxes: &mut Boxes) -> usize {
     let mut count = 0usize;
     for _ in 0..10_000 {
@@ -20,7 +20,7 @@ fn free_boxes(boxes: &mut Boxes) -> usize {
     count
 }
 
-/// The places of an outbox, and its free boxes.
+/// Numbers of places of an outbox, and of its free boxes.
 const FREE: [(usize, usize); 7] = [
     (16, 19),
     (17, 20),
@@ -39,7 +39,7 @@ fn assert_free(rt: &(impl AllocGlobal + Abort), rows: &[(usize, usize)]) -> Resu
     Ok(())
 }
 
-/// As many boxes are free at first as the outbox has places, a batch (a sixteenth of that, 1 to 16), and two.
+/// The number of boxes free at first is that of the outbox's places, a batch (a sixteenth of that, 1 to 16), and two.
 #[test]
 fn a_new_route_has_a_box_for_each_place_a_batch_and_two(rt: HostRuntime) -> Result<(), Fail> {
     assert_free(&rt, &FREE)
@@ -78,7 +78,7 @@ impl Round {
         }
     }
 
-    /// The drain takes a reply.
+    /// The drain receives a reply.
     fn take(&mut self) {
         if let Some(reply) = self.outbox.pop_front() {
             let empty = mem::replace(&mut self.hand, reply);
@@ -86,7 +86,7 @@ impl Round {
         }
     }
 
-    /// Replies are put and drained n times; then the outbox is filled, and one reply more waits for a place. Returns
+    /// Replies are put and drained n times; then the outbox is filled, and one more reply waits for a place. Returns
     /// whether a box was always free.
     fn fills_after(&mut self, n: usize) -> Result<bool, Fail> {
         for _ in 0..n {
@@ -114,7 +114,7 @@ fn assert_fills(rt: &(impl AllocGlobal + Abort), rows: &[usize]) -> Result<(), F
     Ok(())
 }
 
-/// Whatever part of a batch the drain has, there are boxes for a full outbox and for the reply that waits.
+/// Whichever part of a batch the drain has, there are boxes for a full outbox and for the reply that waits.
 #[test]
 fn a_box_is_free_behind_a_full_outbox(rt: HostRuntime) -> Result<(), Fail> {
     assert_fills(&rt, &[16, 17, 64, 300])

@@ -1,5 +1,5 @@
-//! What comes to a route, and what it replies. The words were worked out from the draft by hand; a route doesn't check a
-//! conclusion's cookie, so it is arbitrary here.
+//! The datagrams that a route receives, and its replies. The words were derived from the draft by hand; a route
+//! doesn't check a conclusion's cookie, so it is arbitrary here.
 
 ghost use Rattle.std.specs.Prelude.{◌<◌, ◌^◌, IfOk};
 ghost use Rattle.srt_seq.specs.Items.{told, moment_of};
@@ -12,7 +12,7 @@ use srt_seq::{Item, MOMENT_END};
 use std::alloc::Global;
 use std::test::Fail;
 
-/// A datagram that comes: the port that it comes from, and when, in microseconds.
+/// A datagram that arrives: the port of its sender, and its arrival time in microseconds.
 #[derive(Clone, Copy)]
 pub struct Coming<'a> {
     pub port: u16,
@@ -40,7 +40,7 @@ impl Coming<'_> {
     }
 }
 
-/// A reply: the port that it goes to.
+/// A reply, and the port that it is sent to.
 #[derive(Clone, Copy)]
 pub struct Expected<'a> {
     pub port: u16,
@@ -61,7 +61,7 @@ const PUBLISHER_INITIAL: u32 = 5;
 
 const SUBSCRIBER_INITIAL: u32 = 9;
 
-/// The socket IDs of their sessions, in the first slot and in the second.
+/// Socket IDs of their sessions, in the first slot and in the second.
 const PUBLISHER_SESSION: u32 = 0x10_0000;
 
 const SUBSCRIBER_SESSION: u32 = 0x10_0001;
@@ -85,7 +85,7 @@ const RESPONSE: [Block<'static>; 1] = [Block::Response(Offer {
     sender_ms: 120,
 })];
 
-/// A conclusion of the caller with this ID and this initial number, with these blocks.
+/// Returns a conclusion of the caller with this ID and this initial number, with these blocks.
 fn conclusion_of<'a>(id: u32, initial: u32, blocks: &'a [Block<'a>]) -> Sample<'a> {
     handshake_packet(
         Handshake {
@@ -103,7 +103,7 @@ fn conclusion_of<'a>(id: u32, initial: u32, blocks: &'a [Block<'a>]) -> Sample<'
     )
 }
 
-/// The answer to a conclusion with this initial number, from the session with this ID.
+/// Returns the answer to a conclusion with this initial number, from the session with this ID.
 fn answer_to<'a>(initial: u32, session: u32) -> Sample<'a> {
     handshake_packet(
         Handshake {
@@ -121,7 +121,7 @@ fn answer_to<'a>(initial: u32, session: u32) -> Sample<'a> {
     )
 }
 
-/// The conclusion of a caller that asks to publish.
+/// Returns the conclusion of a caller that requests to publish.
 pub fn publisher_conclusion<'a>() -> Coming<'a> {
     Coming {
         port: PUBLISHER,
@@ -130,7 +130,7 @@ pub fn publisher_conclusion<'a>() -> Coming<'a> {
     }
 }
 
-/// The publisher's first data packet.
+/// Returns the publisher's first data packet.
 pub fn publisher_data<'a>() -> Coming<'a> {
     Coming {
         port: PUBLISHER,
@@ -143,7 +143,7 @@ pub fn publisher_data<'a>() -> Coming<'a> {
     }
 }
 
-/// The conclusion of a caller that asks for the stream.
+/// Returns the conclusion of a caller that requests the stream.
 pub fn subscriber_conclusion<'a>() -> Coming<'a> {
     Coming {
         port: SUBSCRIBER,
@@ -152,10 +152,10 @@ pub fn subscriber_conclusion<'a>() -> Coming<'a> {
     }
 }
 
-/// When the data packet is delivered, in microseconds.
+/// Time at which the data packet is delivered, in microseconds.
 pub const DELIVERY: u64 = 1_121_000;
 
-/// The answer to the publisher's conclusion.
+/// Returns the answer to the publisher's conclusion.
 pub fn publisher_answer<'a>() -> Expected<'a> {
     Expected {
         port: PUBLISHER,
@@ -163,7 +163,7 @@ pub fn publisher_answer<'a>() -> Expected<'a> {
     }
 }
 
-/// The answer to the subscriber's conclusion.
+/// Returns the answer to the subscriber's conclusion.
 pub fn subscriber_answer<'a>() -> Expected<'a> {
     Expected {
         port: SUBSCRIBER,
@@ -171,7 +171,7 @@ pub fn subscriber_answer<'a>() -> Expected<'a> {
     }
 }
 
-/// The Full ACK of the data packet with this number, at this timestamp, with this available buffer size.
+/// Returns the Full ACK of the data packet with this number, at this timestamp, with this available buffer size.
 fn acknowledgement<'a>(number: u32, stamp: u32, available: u32) -> Expected<'a> {
     let told = Acknowledged {
         point: PUBLISHER_INITIAL + 1,
@@ -185,7 +185,7 @@ fn acknowledgement<'a>(number: u32, stamp: u32, available: u32) -> Expected<'a> 
     }
 }
 
-/// The data packet as the subscriber gets it.
+/// Returns the data packet as sent to the subscriber.
 fn subscriber_data<'a>() -> Expected<'a> {
     Expected {
         port: SUBSCRIBER,

@@ -1,4 +1,5 @@
-//! Looks at a route: what they see, that none makes a turn, and that the route is claimed meanwhile and given back.
+//! Snapshots of a route: what they contain, that none makes a step, and that the route is claimed meanwhile and
+//! returned.
 
 use crate::gates::Served;
 use crate::observer::Observer;
@@ -11,7 +12,7 @@ use std::process::Abort;
 use std::sync::Wait;
 use std::test::Fail;
 
-/// What the last look saw.
+/// The state in the last snapshot.
 #[derive(Drop)]
 pub struct Eye {
     looks: u32,
@@ -48,7 +49,8 @@ impl Observer for Eye {
     }
 }
 
-/// Shows the route, and asserts its clock in microseconds, the replies that wait, and the session of its first slot.
+/// Shows the route, and asserts its clock in microseconds, the number of waiting replies, and the session of its first
+/// slot.
 fn assert_seen<C: Serve>(
     rt: &(impl Wait + Abort),
     cell: &C,
@@ -62,7 +64,7 @@ fn assert_seen<C: Serve>(
     assert!(rt; eye.session == session);
 }
 
-/// The conclusion stands in the inbox, is applied, and its answer is moved: of these three turns a look makes none.
+/// The conclusion is in the inbox, is processed, and its answer is moved: a snapshot makes none of these three steps.
 #[test]
 fn a_look_sees_the_session_and_makes_no_turn(rt: HostRuntime) -> Result<(), Fail> {
     let (mut ingress, mut clock, cell, _drain) = studio(rt.alloc())?;
@@ -81,7 +83,7 @@ fn a_look_sees_the_session_and_makes_no_turn(rt: HostRuntime) -> Result<(), Fail
     Ok(())
 }
 
-/// A look that serves and shows the route that it looks at.
+/// An observer that serves and shows the route of its snapshot.
 #[derive(Drop)]
 struct Inside<'a, R> {
     rt: &'a R,

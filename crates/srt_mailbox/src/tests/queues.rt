@@ -1,6 +1,6 @@
-//! Random offers, turns, visits and takes on a route's four ends and on a plain program, which must agree at each step:
-//! an offer is refused, a turn is blocked or idle and a take brings nothing exactly where the plain program's queue is
-//! full or empty. That a refusal comes of the queue a contract says, but not at which moment.
+//! Random offers, steps, batches and takes on a route's four ends and on a reference implementation, which must agree
+//! at each step: an offer is refused, a step is blocked or idle and a take returns no reply exactly where the queue of
+//! the reference is full or empty. A contract states which queue refused, but not at which time.
 
 ghost use Rattle.std.specs.Prelude.{◌<◌, ◌^◌, IfOk};
 ghost use Rattle.srt_seq.specs.Items.{told, moment_of};
@@ -26,7 +26,7 @@ struct Dice {
 }
 
 impl Dice {
-    /// A number below a count; 0 if the count is 0.
+    /// Returns a number below a count; 0 if the count is 0.
     fn below(&mut self, count: u32) -> u32 {
         self.state = self
             .state
@@ -37,7 +37,7 @@ impl Dice {
     }
 }
 
-/// What an item asks of the route.
+/// The reply that a message requests of the route.
 #[derive(Clone, Copy, Debug, PartialEq, Eq)]
 enum Asks {
     /// The publisher's answer.
@@ -48,7 +48,7 @@ enum Asks {
     Nothing,
 }
 
-/// A route between its queues as a plain program: lists, and what waits.
+/// A route between its queues as the reference implementation: lists, and the replies that wait.
 #[derive(Drop)]
 struct Plain {
     inbox: VecDeque<Asks>,
@@ -73,7 +73,7 @@ impl Plain {
         self.inbox.len() >= self.inbox_places
     }
 
-    /// Whether the item goes in.
+    /// Offers a message. Whether it is accepted.
     fn offer(&mut self, asks: Asks) -> Result<bool, AllocError> {
         if self.is_full() {
             return Ok(false);
@@ -122,7 +122,7 @@ impl Plain {
     }
 }
 
-/// A caller's conclusion, and the answer to it.
+/// The conclusion of a caller, and the answer to it.
 #[derive(Drop)]
 struct Caller {
     port: u16,
@@ -147,7 +147,7 @@ impl Caller {
         })
     }
 
-    /// The conclusion, offered at this moment in microseconds.
+    /// Returns the conclusion, offered at this time in microseconds.
     fn item(&self, alloc: Global, moment: u64) -> Result<Item, AllocError>
         requires { moment < 2 ^ 62 }
         ensures timely { IfOk result (λ item. moment_of (told item) < 2 ^ 62) }
@@ -160,7 +160,7 @@ impl Caller {
         })
     }
 
-    /// Whether this item is the conclusion, offered at this moment.
+    /// Whether this message is the conclusion, offered at this time.
     fn is_item(&self, item: &Item, moment: u64) -> bool {
         match item {
             Item::Datagram {
@@ -195,7 +195,7 @@ impl Callers {
     }
 }
 
-/// One route in both programs.
+/// One route in both implementations.
 #[derive(Drop)]
 struct Both {
     alloc: Global,
@@ -231,7 +231,7 @@ impl Both {
         }
     }
 
-    /// A moment before any timer of the route ends, in microseconds.
+    /// Returns a time before any timer of the route expires, in microseconds.
     fn moment(&mut self) -> u64
         ensures { result < 2 ^ 62 }
     {
@@ -250,7 +250,7 @@ impl Both {
         Ok(went_in == self.plain.offer(asks)?)
     }
 
-    /// Offers a conclusion as an item. What is returned must be as it was offered.
+    /// Offers a conclusion as an `Item`. What is returned must be unchanged.
     fn offer_item<R: Wait>(&mut self, rt: &R, asks: Asks) -> Result<bool, Fail> {
         let moment = self.moment();
         let item = self.callers.of(asks).item(self.alloc, moment)?;
@@ -312,8 +312,8 @@ impl Both {
         Ok(is_same)
     }
 
-    /// Does one operation. `offers` and `takes` of ten are offers and takes. Returns whether both programs gave the same
-    /// result.
+    /// Performs one operation. `offers` and `takes` of ten are offers and takes. Returns whether both implementations
+    /// had the same result.
     fn step<R: Wait>(&mut self, rt: &R, offers: u32, takes: u32) -> Result<bool, Fail> {
         let what = self.dice.below(10);
         if what < offers {
@@ -328,7 +328,7 @@ impl Both {
         }
     }
 
-    /// Offers something to the inbox.
+    /// Offers a datagram or a tick to the inbox.
     fn offer<R: Wait>(&mut self, rt: &R) -> Result<bool, Fail> {
         match self.dice.below(4) {
             0 => self.offer_datagram(rt, Asks::Publisher),
@@ -338,8 +338,8 @@ impl Both {
         }
     }
 
-    /// Does a hundred operations, in which each end is used as often as two numbers of the dice say. Returns how many
-    /// there were before both programs differed.
+    /// Performs a hundred operations, in which two random numbers define how often each end is used. Returns the
+    /// number of operations before both implementations differed.
     fn phase<R: Wait>(&mut self, rt: &R) -> Result<u32, Fail> {
         let offers = self.dice.below(7);
         let takes = self.dice.below(5);
@@ -352,7 +352,8 @@ impl Both {
     }
 }
 
-/// Plays 25,000 steps. How often each end is used changes every hundred steps, so that both queues fill and run empty.
+/// Performs 25,000 steps. The frequencies of the ends change every hundred steps, so that both queues become full and
+/// empty.
 fn assert_same(
     rt: &(impl AllocGlobal + Wait + Abort),
     seed: u64,

@@ -1,5 +1,5 @@
-//! Seats: each end is taken once, each owner's reader comes to the routes in their order, and a route whose ends were
-//! taken from a seat is served and settled as any other.
+//! Seats: each end is taken once, each owner's reader reaches the routes in their order, and a route whose ends were
+//! taken from a seat is served and finalised as any other.
 
 ghost use Rattle.std.specs.Prelude.{◌≡◌, ◌≤◌, [], Some, IfOk};
 ghost use Rattle.srt_mailbox.specs.Cells.{AreEndsOf};
@@ -21,7 +21,7 @@ use std::test::Fail;
 use std::thread;
 use std::thread::{Threads, join_mut};
 
-/// A number that goes with a route, to be found again.
+/// A number that is attached to a route, to recognise it.
 #[derive(Drop)]
 struct Mark(u32);
 
@@ -29,7 +29,7 @@ impl Attachment for Mark {
     ghost belongs = { λ terms index mark. mark.0 ≤ 100 };
 }
 
-/// A seat with a route of this index, and this mark.
+/// Returns a seat with a route of this index, and this mark.
 fn marked(alloc: Global, index: usize, mark: u32) -> Result<Seat<Mark>, Fail>
     requires { mark ≤ 100 }
 {
@@ -39,7 +39,7 @@ fn marked(alloc: Global, index: usize, mark: u32) -> Result<Seat<Mark>, Fail>
     }
 }
 
-/// The poller's ends that come to a seat, or to a reader.
+/// Returns the poller's ends of a seat, or of a reader; an error if there are none.
 fn are_there(ends: Option<PollerEnds<Mark>>) -> Result<PollerEnds<Mark>, Fail>
     ensures { IfOk result (λ e. ends ≡ Some e) }
 {
@@ -49,7 +49,7 @@ fn are_there(ends: Option<PollerEnds<Mark>>) -> Result<PollerEnds<Mark>, Fail>
     }
 }
 
-/// The clock's end, likewise.
+/// Returns the clock's end; an error if there is none.
 fn is_there(hand: Option<ClockHand>) -> Result<ClockHand, Fail>
     ensures { IfOk result (λ h. hand ≡ Some h) }
 {
@@ -91,7 +91,7 @@ fn a_seat_refuses_what_a_route_does(rt: HostRuntime) -> Result<(), Fail> {
     assert_unseated(&rt, 120, 511, OpenFault::Limits)
 }
 
-/// Offers a conclusion and a tick to the ends of a place's route, lets a worker make all turns, and drains the answer.
+/// Offers a conclusion and a tick to the ends of a place's route, lets a worker make all steps, and drains the answer.
 fn assert_goes_through(
     rt: &(impl AllocGlobal + Wait + Abort),
     place: &Place<Mark>,
@@ -109,7 +109,7 @@ fn assert_goes_through(
     assert_drained(rt, drain, publisher_answer())
 }
 
-/// The account of a seat's route, which these ends belong to.
+/// Returns the final counters of a seat's route, which these ends belong to.
 fn account_of<R: Wait>(
     rt: &R,
     seat: &Seat<Mark>,
@@ -125,7 +125,7 @@ fn account_of<R: Wait>(
     }
 }
 
-/// What the route of a place has done after a conclusion and a tick.
+/// Final counters of the route of a place after a conclusion and a tick.
 const ONE_ANSWER: Account = Account {
     taken: 2,
     left: 0,
@@ -134,8 +134,8 @@ const ONE_ANSWER: Account = Account {
     drained: 1,
 };
 
-/// An empty place is idle and shows nothing; one with a seat serves its route, shows it, and takes no other seat. Once
-/// the route is settled it is claimed for good.
+/// An empty place is idle and shows nothing; one with a seat serves its route, shows it, and accepts no other seat.
+/// Once the route is finalised it stays claimed.
 #[test]
 fn a_place_serves_the_route_of_its_seat(rt: HostRuntime) -> Result<(), Fail> {
     let place = Place::new();
@@ -162,7 +162,7 @@ fn a_place_serves_the_route_of_its_seat(rt: HostRuntime) -> Result<(), Fail> {
     Ok(())
 }
 
-/// A place with a seat hands another one back as it was.
+/// A place with a seat returns another one unchanged.
 #[test]
 fn a_place_has_one_seat(rt: HostRuntime) -> Result<(), Fail> {
     let place = Place::new();
@@ -174,7 +174,7 @@ fn a_place_has_one_seat(rt: HostRuntime) -> Result<(), Fail> {
     Ok(())
 }
 
-/// This many empty places.
+/// Returns this many empty places.
 fn empty_places(alloc: Global, count: usize) -> Result<Vec<Place<Mark>>, Fail> {
     let mut places = Vec::new(alloc);
     for _ in 0..count {
@@ -200,7 +200,7 @@ fn put_marked(
     Ok(())
 }
 
-/// The marks of the routes that come to the poller next, until none comes.
+/// Returns the marks of the routes that the poller reaches next, until there is none.
 fn next_marks(alloc: Global, poller: &mut SeatReader<'_, Mark>) -> Result<Vec<u32>, Fail> {
     let mut marks = Vec::new(alloc);
     for _ in 0..8 {
@@ -212,7 +212,7 @@ fn next_marks(alloc: Global, poller: &mut SeatReader<'_, Mark>) -> Result<Vec<u3
     Ok(marks)
 }
 
-/// The number of routes that come to the clock's thread next, until none comes.
+/// Returns the number of routes that the clock's thread reaches next, until there is none.
 fn next_clocks(clock: &mut SeatReader<'_, Mark>) -> usize {
     let mut count = 0usize;
     for _ in 0..8 {
@@ -224,7 +224,8 @@ fn next_clocks(clock: &mut SeatReader<'_, Mark>) -> usize {
     count
 }
 
-/// Asserts which marks come to the poller next; as many routes come to the clock, and this many have come to both.
+/// Asserts which marks the poller reaches next; the clock reaches as many routes, and this many have been reached by
+/// both.
 fn assert_come(
     rt: &(impl AllocGlobal + Abort),
     poller: &mut SeatReader<'_, Mark>,
@@ -239,7 +240,7 @@ fn assert_come(
     Ok(())
 }
 
-/// A route whose place is behind an empty one waits for that, and one with another index than its place doesn't come.
+/// A route whose place is after an empty one waits for that, and one with another index than its place isn't reached.
 #[test]
 fn routes_come_in_the_order_of_their_places(rt: HostRuntime) -> Result<(), Fail> {
     let places = empty_places(rt.alloc(), 4)?;
@@ -255,7 +256,7 @@ fn routes_come_in_the_order_of_their_places(rt: HostRuntime) -> Result<(), Fail>
     assert_come(&rt, &mut poller, &mut clock, &[], 2)
 }
 
-/// Takes the ends of the route that comes to both readers first, and settles it.
+/// Takes the ends of the route that both readers reach first, and finalises it.
 fn settle_first<'a, R: Wait>(
     rt: &R,
     poller: &mut SeatReader<'a, Mark>,
@@ -271,7 +272,7 @@ fn settle_first<'a, R: Wait>(
     account_of(rt, poller.seat(0), ingress, end, drain)
 }
 
-/// The ends that two readers took at one index are those of one route, which is settled by them.
+/// The ends that two readers took at one index are those of one route, which is finalised with them.
 #[test]
 fn what_two_readers_took_is_settled(rt: HostRuntime) -> Result<(), Fail> {
     let places = empty_places(rt.alloc(), 1)?;
@@ -283,14 +284,14 @@ fn what_two_readers_took_is_settled(rt: HostRuntime) -> Result<(), Fail> {
     Ok(())
 }
 
-/// What a clock's thread has: its reader, and the ends that have come.
+/// State of a clock's thread: its reader, and the ends that it has taken.
 #[derive(Drop)]
 struct ClockSide<'a> {
     reader: SeatReader<'a, Mark>,
     hands: Vec<ClockHand>,
 }
 
-/// Reads until this many ends have come, for a limited number of turns.
+/// Reads until this many ends have been taken, for a limited number of attempts.
 fn await_clocks(clock: &mut ClockSide<'_>, routes: usize) {
     for _ in 0..10_000_000 {
         if let Some(hand) = clock.reader.next_clock() {
@@ -303,7 +304,7 @@ fn await_clocks(clock: &mut ClockSide<'_>, routes: usize) {
     }
 }
 
-/// Puts three seats in turn, and takes the poller's ends of each at once.
+/// Puts three seats in sequence, and takes the poller's ends of each at once.
 fn put_three(
     rt: &(impl AllocGlobal + Abort),
     places: &[Place<Mark>],
@@ -331,7 +332,7 @@ fn come_beside<R: AllocGlobal + Threads + Wait + Abort + Sync>(
     put
 }
 
-/// Routes that open while the clock's thread runs come to it.
+/// Routes that are opened while the clock's thread runs are reached by it.
 #[test]
 fn routes_come_to_another_thread(rt: HostRuntime) -> Result<(), Fail> {
     let places = empty_places(rt.alloc(), 3)?;

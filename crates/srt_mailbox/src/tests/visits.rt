@@ -1,5 +1,5 @@
-//! What a gate is asked: before each turn, about the cell's own route, and never after it refused. A visit gives the
-//! route back, however many turns it made.
+//! The queries of a gate: before each step, for the cell's own route, and never after it refused. A batch returns the
+//! route to its cell, however many steps it made.
 
 use crate::gates::{Gate, Served, Visit};
 use crate::tests::{APPLIED, Ends, IDLE, assert_served, assert_visited, entry, tick};
@@ -9,8 +9,8 @@ use std::process::Abort;
 use std::sync::Wait;
 use std::test::Fail;
 
-/// A gate that lets a number of turns pass and then refuses. It notes the indexes that it was asked about as the digits
-/// of a number.
+/// A gate that permits a number of steps and then refuses. It records the indexes for which it was queried as the
+/// digits of a number.
 #[derive(Drop)]
 struct Noting {
     left: u32,
@@ -50,7 +50,7 @@ impl Gate for Noting {
     }
 }
 
-/// A route of this index, with an inbox of 300 places.
+/// Returns a route of this index, with an inbox of 300 places.
 fn wide(alloc: Global, index: usize) -> Result<Ends, Fail> {
     let mut wide = entry(alloc)?;
     wide.inbox = 300;
@@ -66,7 +66,7 @@ fn tick_times(rt: &(impl Wait + Abort), clock: &mut ClockEnd, n: usize) {
     }
 }
 
-/// The cell is visited with a gate that lets `passes` turns pass: asserts the visit, and the digits of what was asked.
+/// Makes a batch with a gate that permits `passes` steps: asserts the outcome, and the digits of the queries.
 fn assert_noted<C: Serve>(
     rt: &(impl Wait + Abort),
     cell: &C,
@@ -82,7 +82,7 @@ fn assert_noted<C: Serve>(
     assert_eq!(rt; gate.noted, noted);
 }
 
-/// Of seven items, three are applied, then none, then one, then the other three.
+/// Of seven messages, three are processed, then none, then one, then the other three.
 #[test]
 fn a_visit_asks_before_each_turn_and_ends_at_a_refusal(rt: HostRuntime) -> Result<(), Fail> {
     let (_ingress, mut clock, cell, _drain) = wide(rt.alloc(), 4)?;
@@ -107,8 +107,8 @@ fn a_long_visit_gives_the_route_back(rt: HostRuntime) -> Result<(), Fail> {
     Ok(())
 }
 
-/// Two items, and what a gate is asked at a route of this index, by two turns, of which it refuses the second, and then by
-/// a visit.
+/// Two messages, and the queries of a gate at a route of this index, by two steps, of which it refuses the second, and
+/// then by a batch.
 fn assert_asked_about(
     rt: &(impl AllocGlobal + Wait + Abort),
     index: usize,

@@ -1,11 +1,11 @@
-//! The reference: a slow receiver over plain lists. Its numbers count on past 2^31, it keeps all that arrived, and it
-//! computes each result from the whole list.
+//! The reference implementation: a slow receiver over plain lists. Its numbers don't wrap, it keeps all arrivals, and
+//! it computes each result from the whole list.
 
 use crate::Put;
 use srt_seq::Seq31;
 use std::alloc::{AllocError, Global};
 
-/// The number of sequence numbers before they wrap.
+/// Number of sequence numbers before they wrap.
 const CIRCLE: u64 = 1 << 31;
 
 /// A packet that arrived, with a payload of one byte.
@@ -24,7 +24,7 @@ pub(super) struct Plain {
     dropped: Vec<u64>,
 }
 
-/// The 31-bit sequence number of a number that counts on.
+/// Returns the 31-bit sequence number of a number that doesn't wrap.
 pub(super) fn wire(number: u64) -> Seq31 {
     Seq31::ZERO.add((number % CIRCLE) as u32)
 }
@@ -102,7 +102,7 @@ impl Plain {
         self.window_end().wrapping_sub(self.ack_point())
     }
 
-    /// The number from the front on and before an end that has this 31-bit sequence number.
+    /// Returns the number from the front on and before an end that has this 31-bit sequence number.
     fn number_before(&self, number: Seq31, end: u64) -> Option<u64> {
         for there in self.front..end {
             if wire(there) == number {
@@ -165,7 +165,7 @@ impl Plain {
         Some(first.byte)
     }
 
-    /// All runs of missing numbers from this one on.
+    /// Returns all runs of missing numbers from this one on.
     fn all_runs(&self, alloc: Global, from: u64) -> Result<Vec<(u64, u64)>, AllocError> {
         let mut runs = Vec::new(alloc);
         let mut low = None;
@@ -183,7 +183,7 @@ impl Plain {
         Ok(runs)
     }
 
-    /// The runs that a NAK reports from this 31-bit sequence number on.
+    /// Returns the runs that a NAK reports from this 31-bit sequence number on.
     pub(super) fn runs(&self, alloc: Global, from: Seq31) -> Result<Vec<(u64, u64)>, AllocError> {
         match self.number_before(from, self.window_end().wrapping_add(1)) {
             Some(from) => {

@@ -1,4 +1,4 @@
-//! Random operations on the buffer and on the reference program, which must agree.
+//! Random operations on the buffer and on the reference implementation, which must agree.
 
 ghost use Rattle.std.specs.Prelude.{◌≤◌};
 
@@ -8,12 +8,12 @@ use srt_seq::{PayloadRef, Seq31};
 use std::alloc::{AllocError, Global};
 use std::test::Fail;
 
-/// How a stream is delivered.
+/// The delivery mode of a stream.
 #[derive(Clone, Copy, PartialEq, Eq)]
 enum Delivery {
     /// Live mode: each packet when it is due.
     Live,
-    /// Buffer mode: without gaps.
+    /// Buffer mode: each packet when no number before it is missing.
     Buffer,
 }
 
@@ -24,7 +24,7 @@ struct Dice {
 }
 
 impl Dice {
-    /// A number below a count; 0 if the count is 0.
+    /// Returns a number below a count; 0 if the count is 0.
     fn below(&mut self, count: u32) -> u32 {
         self.state = self
             .state
@@ -35,7 +35,7 @@ impl Dice {
     }
 }
 
-/// One stream in both programs.
+/// One stream in both implementations.
 #[derive(Drop)]
 struct Both {
     alloc: Global,
@@ -70,7 +70,7 @@ impl Both {
         self.plain = Plain::new(self.alloc, self.width, initial);
     }
 
-    /// A sequence number near the window, or any other.
+    /// Returns a sequence number near the window, or any other.
     fn number(&mut self) -> Seq31 {
         let front = self.plain.front();
         let past = u64::from(self.dice.below(self.width));
@@ -132,7 +132,7 @@ impl Both {
         byte == plain && noted == plain.is_some()
     }
 
-    /// Does one operation. Returns whether both programs gave the same result.
+    /// Performs one operation. Returns whether both implementations had the same result.
     fn step(&mut self) -> Result<bool, AllocError> {
         self.now = self.now.wrapping_add(self.dice.below(3));
         match self.dice.below(40) {
@@ -166,7 +166,7 @@ impl Both {
         Ok(ours.len() == plain.len())
     }
 
-    /// The index of the first step after which the two differ.
+    /// Returns the index of the first step after which the two differ.
     fn difference(&mut self, steps: u32) -> Result<Option<u32>, AllocError> {
         self.start();
         for step in 0..steps {

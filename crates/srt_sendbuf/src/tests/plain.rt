@@ -1,13 +1,13 @@
-//! The reference: a slow sender over a plain list. Its numbers count on past 2^31, it keeps all that was queued, and
-//! it computes each result from the whole list.
+//! The reference implementation: a slow sender over a plain list. Its numbers don't wrap, it keeps everything that was
+//! queued, and it computes each result from the whole list.
 
 use srt_seq::Seq31;
 use std::alloc::{AllocError, Global};
 
-/// The number of sequence numbers before they wrap.
+/// Number of sequence numbers before they wrap.
 const CIRCLE: u64 = 1 << 31;
 
-/// How many packets before the front an ACK's number may be.
+/// Maximum distance of an ACK's number before the front, in packets.
 const REACH: u64 = 8192;
 
 /// A payload of one byte.
@@ -43,7 +43,7 @@ pub(super) struct Asked {
     pub last: Seq31,
 }
 
-/// The k-th payload that was queued has the initial number + k.
+/// A sender whose k-th queued payload has the initial number + k.
 #[derive(Drop)]
 pub(super) struct Plain {
     width: u64,
@@ -70,7 +70,7 @@ impl Plain {
         }
     }
 
-    /// The sequence number of the k-th.
+    /// Returns the sequence number of the k-th payload.
     pub(super) fn wire(&self, k: u64) -> Seq31 {
         Seq31::ZERO.add((self.initial.wrapping_add(k) % CIRCLE) as u32)
     }
@@ -111,7 +111,7 @@ impl Plain {
         self.first_lost().is_some()
     }
 
-    /// False if there is no room.
+    /// Queues a payload. False if there is no room.
     pub(super) fn push(&mut self, origin: u64, byte: u8) -> Result<bool, AllocError> {
         if self.room() == 0 {
             return Ok(false);
@@ -124,7 +124,7 @@ impl Plain {
         Ok(true)
     }
 
-    /// The number that an ACK names.
+    /// Returns the number that an ACK acknowledges up to.
     fn acknowledged(&self, number: Seq31) -> Option<u64> {
         for k in self.base()..self.next().wrapping_add(1) {
             if self.wire(k) == number {
@@ -151,7 +151,7 @@ impl Plain {
         }
     }
 
-    /// The number of packets that this expires.
+    /// Expires payloads that were queued before a time. Returns the number of expired packets.
     pub(super) fn expire(&mut self, before: i64) -> u64 {
         let front = self.front();
         let mut expired = 0u64;

@@ -1,4 +1,4 @@
-//! Random operations on the buffer and on the reference program, which must agree.
+//! Random operations on the buffer and on the reference implementation, which must agree.
 
 ghost use Rattle.std.specs.Prelude.{◌≤◌};
 
@@ -9,7 +9,7 @@ use srt_seq::Seq31;
 use std::alloc::{AllocError, Global};
 use std::test::Fail;
 
-/// What the peer does.
+/// Behaviour of the peer.
 #[derive(Clone, Copy, PartialEq, Eq)]
 enum Peer {
     Acknowledges,
@@ -24,7 +24,7 @@ struct Dice {
 }
 
 impl Dice {
-    /// A number below a count; 0 if the count is 0.
+    /// Returns a number below a count; 0 if the count is 0.
     fn below(&mut self, count: u32) -> u32 {
         self.state = self
             .state
@@ -35,7 +35,7 @@ impl Dice {
     }
 }
 
-/// One stream in both programs.
+/// One stream in both implementations.
 #[derive(Drop)]
 struct Both {
     alloc: Global,
@@ -67,7 +67,7 @@ fn gone_of(run: &DropRun) -> Gone {
     }
 }
 
-/// The bytes of a loss list of two ranges.
+/// Returns the bytes of a loss list of two ranges.
 fn bytes_of(one: Asked, two: Asked) -> [u8; 16] {
     let a = (one.first.get() | 1 << 31).to_be_bytes();
     let b = one.last.get().to_be_bytes();
@@ -103,7 +103,7 @@ impl Both {
         self.ours.start(self.plain.wire(0));
     }
 
-    /// A sequence number near those in flight, an expired one, or any other.
+    /// Returns a sequence number near those in flight, an expired one, or any other.
     fn number(&mut self) -> Seq31 {
         let plain = &self.plain;
         let flying = (plain.in_flight() & 0xffff) as u32;
@@ -124,7 +124,7 @@ impl Both {
         }
     }
 
-    /// A range near the numbers in flight, narrow or wide.
+    /// Returns a range near the numbers in flight, narrow or wide.
     fn asked(&mut self) -> Asked {
         let first = self.number();
         let few = self.dice.below(5);
@@ -157,7 +157,7 @@ impl Both {
         Ok(true)
     }
 
-    /// The peer stays silent: much is queued, and nothing of it is acknowledged.
+    /// Models a silent peer: many payloads are queued, and none is acknowledged.
     fn sleep(&mut self) -> Result<bool, AllocError> {
         for _ in 0..32 {
             if !self.fill()? || !self.expire() {
@@ -197,7 +197,7 @@ impl Both {
         self.ours.ack(number) == self.plain.ack(number)
     }
 
-    /// Expires what was queued before a time; these times don't go back.
+    /// Expires payloads that were queued before a time; these times never decrease.
     fn expire(&mut self) -> bool {
         let late = match self.peer {
             Peer::Acknowledges => 40,
@@ -223,7 +223,7 @@ impl Both {
         ours == self.plain.lose(&[one, two])
     }
 
-    /// Does one operation. Returns whether both programs gave the same result.
+    /// Performs one operation. Returns whether both implementations had the same result.
     fn step(&mut self) -> Result<bool, AllocError> {
         match self.dice.below(40) {
             0 if self.dice.below(40) == 0 => {
@@ -252,7 +252,7 @@ impl Both {
             && self.ours.any_lost() == self.plain.any_lost()
     }
 
-    /// The index of the first step after which the two differ.
+    /// Returns the index of the first step after which the two differ.
     fn difference(&mut self, steps: u32) -> Result<Option<u32>, AllocError> {
         self.start();
         for step in 0..steps {

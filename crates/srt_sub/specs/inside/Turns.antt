@@ -13,8 +13,8 @@ use Rattle.srt_sub.specs.declared.session.Subscriber.{Subscriber}
 use Rattle.srt_sub.specs.declared.session.Phase.{Phase}
 use Rattle.srt_sub.specs.declared.session.Phase.TheVariants.{Lost, New}
 
--- which packets are sent next: lost ones first, or new ones alone, since the credit is used up or a new one was sent
--- before in this event
+-- the data packets that are sent next: lost ones first, or only new ones, because the credit is used up or this event
+-- has already sent a new one
 abbrev pub phase_now : Phase → Option ℕ → List Note → Phase
 phase_now New percent notes = New
 phase_now Lost percent notes = if may_resend percent notes then Lost else New
@@ -24,12 +24,12 @@ abbrev pub next_in : Phase → (window : ℕ) → Sending → Option Due
 next_in Lost window r = due window r
 next_in New window r = due_new window r
 
--- whether that was sent before
+-- whether that packet was sent before
 abbrev pub sends_lost : Phase → Sending → Bool
 sends_lost Lost r = nat_lt 0 (length (lost r))
 sends_lost New r = false
 
--- the buffer after it
+-- the buffer after that packet is sent
 abbrev pub after_next : Phase → (window : ℕ) → Sending → Sending
 after_next Lost window r = after_due window r
 after_next New window r = after_new window r
@@ -39,17 +39,17 @@ abbrev pub due_in : (places : ℕ) → Phase → Terms → Subscribing → Optio
 due_in places phase terms s =
     if places == 0 then None else next_in (phase_now phase terms.resend_percent s.notes) (flow_window terms.window s.notes) s.sending
 
--- which packets follow it
+-- the phase after that packet is sent
 abbrev pub phase_after : Option Due → Phase → Phase
 phase_after None phase = phase
 phase_after (Some d) phase = if d.again then phase else New
 
--- after it was sent
+-- the session after that packet is sent
 abbrev pub with_due : (time : ℕ) → Option Due → Subscribing → Subscribing
 with_due time None s = s
 with_due time (Some d) s = record { sending = sent d.number s.sending; notes = Sent time (Media d.number d.again d.origin d.payload) ∷ s.notes }
 
--- the number of data packets that were sent, counting it
+-- the number of data packets that were sent, including that packet
 abbrev pub given_with : Option Due → ℕ → ℕ
 given_with None given = given
 given_with (Some d) given = given + 1
@@ -76,7 +76,7 @@ WritesMedia time before written =
     → StandsIn terms initial opening caller time given before m → given ≤ 64
     → written ≡ due_texts caller initial time (due_in (64 - given) before.phase terms m)
 
--- after a call the data packet that was due counts as sent, at a time since the opening
+-- after a call, the data packet that was due at a time since the opening is sent
 abbrev pub SendsMedia : (time : ℕ) → (before after : Subscriber) → Type 0
 SendsMedia time before after =
     (terms : Terms) (initial opening caller given : ℕ) (m : Subscribing)
@@ -85,7 +85,7 @@ SendsMedia time before after =
     (with_due time (due_in (64 - given) before.phase terms m) m)
     × (after.phase ≡ phase_after (due_in (64 - given) before.phase terms m) before.phase)
 
--- after a call the credit for resends was raised, if that was due, and all in flight counts as lost, if that was due
+-- after a call, the credit for resends is raised if that was due, and all packets in flight are lost if that was due
 abbrev pub PreparesAt : (time : ℕ) → (before after : Subscriber) → Type 0
 PreparesAt time before after =
     (terms : Terms) (initial opening caller given : ℕ) (m : Subscribing)

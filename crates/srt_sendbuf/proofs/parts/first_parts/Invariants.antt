@@ -3,7 +3,7 @@ use Rattle.srt_seq.specs.Window.{word_of}
 use Rattle.srt_sendbuf.specs.Parts.{is_in_parts, AreWithin, IsTaken}
 use Rattle.srt_sendbuf.proofs.parts.first_parts.Given as goal
 
--- the parts are those of the ranges that were taken
+-- the parts are those of the ranges that were read
 abbrev pub invariant-loop-front : goal.invariant-loop-front
 invariant-loop-front l =
     record {

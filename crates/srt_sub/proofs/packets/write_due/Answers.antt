@@ -13,7 +13,7 @@ use Rattle.srt_sub.specs.inside.Turns.{texts}
 use Rattle.srt_sub.proofs.Dues.{told_due, no_told_due, next_some}
 use Rattle.srt_sub.proofs.packets.write_due.Goals as goal
 
--- a packet was written, since one that isn't would have no bytes
+-- a packet was written, since one that isn't written would have no bytes
 said : (b : Bool) (p : EncodedPacket) (bytes : List ℕ) → (b ≡ true → bytes_of p ≡ bytes) → (b ≡ false → ⊥) → texts (given b p) ≡ bytes ∷ []
 said true p bytes is never = ap (λ xs. xs ∷ []) (is refl)
 said false p bytes is never = absurd (never refl)

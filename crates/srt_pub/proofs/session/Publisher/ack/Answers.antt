@@ -13,7 +13,7 @@ use Rattle.srt_pub.specs.Stands.{StandsFor}
 use Rattle.srt_pub.specs.declared.log.Log.{Log}
 use Rattle.srt_pub.specs.declared.session.Publisher.{Publisher}
 
--- a session whose log and counts alone have changed, by the ACK that is due
+-- a session in which only the log and the counters have changed, by the ACK that is due
 acked : (terms : Terms) (initial opening stamp caller time room : ℕ) (p : Publisher) (m : Publishing) (log : Log) (counts : Counts)
     (is_full : Bool)
     → StandsFor terms initial opening stamp caller p m → room ≡ available terms.width m.receiving → counts ≡ with_full_window is_full p.counts

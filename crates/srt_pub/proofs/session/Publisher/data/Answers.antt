@@ -6,7 +6,7 @@ use Rattle.srt_pub.specs.Changes.{HearsAt, data_from}
 use Rattle.srt_pub.specs.Publishing.{took}
 use Rattle.srt_pub.specs.Stands.{StandsFor}
 
--- what is received is a packet without encryption
+-- only an unencrypted packet is received
 heard : (c : After-receive)
     → HearsAt c.args.now c.args.stamp c.args.self.now c.receive.new.self
     (λ initial. data_from initial c.args.packet.word c.args.packet.encryption c.args.packet.payload.bytes.now)

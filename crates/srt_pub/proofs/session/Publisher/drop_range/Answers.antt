@@ -38,7 +38,7 @@ returns-clause-stands c terms initial opening stamp caller m live h =
     }) in
     subst (λ x. P x c.args.last) c.in-Some.ensures.value (subst (λ y. P (word_of first) y) c.in-Some-new.ensures.value all)
 
--- a word with its top bit set counts as 2^31
+-- a word with its top bit set is counted as at least 2^31
 top_counts : (initial word : ℕ) → 2 ^ 31 ≤ word → 2 ^ 31 ≤ counted_from initial word
 top_counts initial word high = subst (λ (b : Bool). 2 ^ 31 ≤ cond b (offset_of word initial) (2 ^ 31)) (sym (le-ltb word (2 ^ 31) high)) (omega arith)
 

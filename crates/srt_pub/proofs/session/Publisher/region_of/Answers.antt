@@ -10,7 +10,7 @@ pub returns-in_default : goal.returns-in_default
 returns-in_default c terms initial opening stamp caller m h =
     region_none terms.width initial c.args.word m.receiving (no_top c.args.word c.in_default.ensures.some.1)
 
--- the distance that is computed
+-- the computed distance
 far : (c : After-width-width) (terms : Terms) (initial opening stamp caller : ℕ) (m : Publishing)
     → StandsFor terms initial opening stamp caller c.args.self.now m
     → c.steps-distance.result ≡ offset_of (counted_from initial (word_of c.in-Some.number)) m.receiving.front

@@ -4,7 +4,7 @@ use Rattle.srt_sendbuf.specs.Sending.{Sending, asks_for_gone}
 use Rattle.srt_sendbuf.specs.Stands.{StandsFor}
 use Rattle.srt_sendbuf.proofs.buffer.SendBuf.asks_any_gone.Given as goal
 
--- the ranges that were read name no number from the base up to the front
+-- the ranges that were read contain no number from the base up to the front
 abbrev pub invariant-loop-range : goal.invariant-loop-range
 invariant-loop-range l =
     (width initial : ℕ) (r : Sending)

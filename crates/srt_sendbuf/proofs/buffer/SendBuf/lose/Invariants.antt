@@ -3,7 +3,7 @@ use Rattle.srt_sendbuf.specs.Places.{marks_of}
 use Rattle.srt_sendbuf.specs.Stands.{TakesParts}
 use Rattle.srt_sendbuf.proofs.buffer.SendBuf.lose.Given as goal
 
--- what the ranges that were taken name is marked, by as many turns as they need
+-- the packets in the ranges that were read are marked, in at most one step for each 365 ranges
 abbrev pub invariant-loop-ranges : goal.invariant-loop-ranges
 invariant-loop-ranges l =
     record {

@@ -6,7 +6,7 @@ use Rattle.srt_sendbuf.specs.Places.{lost_at, marks_of}
 use Rattle.srt_sendbuf.specs.Stands.{HasMarked}
 use Rattle.srt_sendbuf.proofs.buffer.SendBuf.lose_parts.Given as goal
 
--- the parts before the rest are marked, by no more marks than there are places before the run's end
+-- the parts before `rest` are marked, with at most as many marks as there are places before the end of `run`
 abbrev pub invariant-loop-next : goal.invariant-loop-next
 invariant-loop-next l =
     record {

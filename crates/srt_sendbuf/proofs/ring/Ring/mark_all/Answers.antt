@@ -4,7 +4,7 @@ use Rattle.std.proofs.lemmas.Bool.{cases_eq, eq-eqb, ne_eqb}
 use Rattle.std.proofs.lemmas.Bool.Decides.{nat_tests}
 use Rattle.srt_sendbuf.proofs.ring.Ring.mark_all.Goals as goal
 
--- one more is marked
+-- one more place is marked
 one_more : (from at d : ℕ) (new old before : Bool) → from ≤ at → new ≡ (if d == at then true else old)
     → old ≡ (if nat_le from d && nat_lt d at then true else before)
     → new ≡ (if nat_le from d && nat_lt d (at + 1) then true else before)

@@ -28,7 +28,7 @@ there given held now phase terms m o lt n w e =
     let b : ((64 - given) == 0) ≡ false = ne_eqb _ _ (λ x. omega (arith, x, lt)) in
     rw b (ap (λ f. next_in f (flow_window terms.window m.notes) m.sending) (sym n) ∙ ap (λ k. next_in now k m.sending) (sym w) ∙ e)
 
--- no packet was written: the buffer has none that is due, and so the session
+-- no packet was written: none is due in the buffer, and so none in the session
 nothing : (terms : Terms) (initial opening caller time given : ℕ) (now : Phase) (s : Subscriber) (m : Subscribing) (b : Bool) (p : EncodedPacket)
     → StandsIn terms initial opening caller time given s m → s.given < 64 → now ≡ phase_now s.phase terms.resend_percent m.notes → b ≡ false
     → texts (written b p)
@@ -39,7 +39,7 @@ nothing terms initial opening caller time given now s m b p h few n is answer =
     (λ d. says s.caller initial time (Media d.number d.again d.origin d.payload)) (wrote_none b p _ is answer) in
     (none, there given s.history.window now s.phase terms m None (omega (arith, few, h.given_is)) n h.history_is.window_is none)
 
--- a packet was written, which is due in the buffer, and so in the session
+-- a packet was written: it is due in the buffer, and so in the session
 one : (terms : Terms) (initial opening caller time given : ℕ) (now : Phase) (s : Subscriber) (m : Subscribing) (b : Bool) (p : EncodedPacket)
     → StandsIn terms initial opening caller time given s m → s.given < 64 → now ≡ phase_now s.phase terms.resend_percent m.notes → b ≡ true
     → texts (written b p)
