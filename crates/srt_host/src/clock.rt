@@ -1,14 +1,12 @@
-//! The clock of the routes: microseconds since the gateway's start.
+//! The routes' clock: microseconds since the gateway's start.
 
 ghost use Rattle.std.specs.Prelude.{◌≡◌, ◌<◌, ◌^◌};
 
+use crate::times::time_after;
 use std::time::{Clock, Instant};
 
-/// The bound of moments, in microseconds: they are below it.
-const MOMENTS: u128 = 1 << 62;
-
-/// A clock of the microseconds since the gateway's start. If the system's clock can't be read, it returns its last
-/// moment again.
+/// A clock of the microseconds since the gateway's start. If the system's clock can't be read, it returns its last time
+/// again.
 #[derive(Drop)]
 pub struct Since<'a, R> {
     rt: &'a R,
@@ -20,24 +18,22 @@ pub struct Since<'a, R> {
 impl<'a, R: Clock> Since<'a, R> {
     ghost use Rattle.srt_host.specs.Clock.{last_of};
 
-    /// A clock whose moment 0 was this one. Without a start it stays at 0.
+    /// Returns a clock that is 0 at `start`. Without a start it stays at 0.
     pub fn new(rt: &'a R, start: Option<Instant>) -> Since<'a, R>
         ensures { last_of result ≡ 0 }
     {
         Since { rt, start, last: 0 }
     }
 
-    /// The present moment, in microseconds since the start; below 2^62.
+    /// Returns the present time, in microseconds since the start; below 2^62.
     pub fn moment(&mut self) -> u64
         ensures bound { result < 2 ^ 62 }
         ensures told { result ≡ last_of self.new }
     {
         if let Some(start) = self.start {
             match start.elapsed(self.rt) {
-                Ok(passed) if passed.as_micros() < MOMENTS => {
-                    self.last = passed.as_micros() as u64;
-                }
-                _ => {}
+                Ok(passed) => self.last = time_after(self.last, passed),
+                Err(_) => {}
             }
         }
         self.last

@@ -1,6 +1,7 @@
-//! The machine as a watcher asks it, the configuration's file as it looks at it, and standard error as it writes to it.
+//! The machine, the configuration's file and standard error, as a watcher uses them.
 
 use crate::clock::Since;
+use crate::times::time_now;
 use srt_config::BindAddress;
 use srt_offline::{MAX_CONFIG, read_file};
 use srt_operate::{kernel_drops, resident_memory, stop_asked};
@@ -10,25 +11,14 @@ use std::fs::{Metadata, metadata};
 use std::io::{self, Error, ErrorKind, Write};
 use std::os::unix::fs::MetadataExt;
 use std::rt::Files;
-use std::time::{Clock, Duration, Instant, SystemTime};
+use std::time::{Clock, Duration, Instant};
 use std::{str, thread};
 
-/// The time between two questions of a watcher, in milliseconds.
+/// The time that a watcher sleeps between two polls, in milliseconds.
 const REST_MS: u64 = 20;
 
-/// The time between two looks at connections of the status page, in milliseconds.
+/// The time between two polls of the status page's connections, in milliseconds.
 const NAP_MS: u64 = 1;
-
-/// The present time, in microseconds since 1970; 0 if the system's clock can't be read.
-pub fn time_now(clock: &impl Clock) -> u64 {
-    let Ok(now) = SystemTime::now(clock) else {
-        return 0;
-    };
-    match now.duration_since(SystemTime::UNIX_EPOCH) {
-        Ok(since) => u64::try_from(since.as_micros()).unwrap_or(u64::MAX),
-        Err(_) => 0,
-    }
-}
 
 /// The machine that the gateway runs on.
 #[derive(Drop)]
@@ -39,7 +29,7 @@ pub struct Host<'a, R> {
 }
 
 impl<'a, R: Clock> Host<'a, R> {
-    /// Of a gateway that started at this moment, with its socket at this address.
+    /// Returns the machine of a gateway that started at `start`, with its socket at this address.
     pub fn new(rt: &'a R, start: Option<Instant>, bind: BindAddress) -> Host<'a, R> {
         Host {
             rt,
@@ -86,7 +76,7 @@ pub struct HostFile<'a, R> {
     path: &'a str,
 }
 
-/// Whether a pipe or a device is at this path: what comes of one can be read once, and reading may wait for ever.
+/// Whether a pipe or a device is at this path: its bytes can be read only once, and a read may wait forever.
 fn is_pipe_at(rt: &impl Files, path: &str) -> bool {
     match metadata(rt, path) {
         Ok(found) => !found.is_file() && !found.is_dir(),
@@ -95,7 +85,7 @@ fn is_pipe_at(rt: &impl Files, path: &str) -> bool {
 }
 
 impl<'a, R: Files> HostFile<'a, R> {
-    /// The one at this path. None if a pipe or a device is there, which can't be followed.
+    /// Returns the file at this path; `None` if it is a pipe or a device, which can't be followed.
     pub fn at(rt: &'a R, path: &'a str) -> Option<HostFile<'a, R>> {
         if is_pipe_at(rt, path) {
             return None;
@@ -104,8 +94,8 @@ impl<'a, R: Files> HostFile<'a, R> {
     }
 }
 
-/// When a file's content or attributes changed last, in nanoseconds since 1970, modulo 2^64. A time before 1970 counts as its
-/// beginning.
+/// Returns the time of the last change of a file's content or attributes, in nanoseconds since 1970, modulo 2^64. A time
+/// before 1970 counts as 0.
 fn changed_at(file: &Metadata) -> u64 {
     let whole = u64::try_from(file.ctime()).unwrap_or(0);
     let rest = u64::try_from(file.ctime_nsec()).unwrap_or(0);
@@ -139,7 +129,7 @@ pub struct Errors<'a, R> {
 }
 
 impl<'a, R> Errors<'a, R> {
-    /// That of this host.
+    /// Returns standard error of this host.
     pub fn new(rt: &'a R) -> Errors<'a, R> {
         Errors { rt }
     }

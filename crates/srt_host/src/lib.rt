@@ -1,24 +1,29 @@
-//! The machine that a gateway runs on, as its watcher (`srt_watch`) asks it: clock, memory, signals, the configuration's
-//! file, standard error, and the sockets of the status page.
+//! The machine that a gateway runs on, as its watcher (`srt_watch`) uses it: clock, memory, signals, the configuration's
+//! file, standard error, and the sockets of the program.
 //!
-//! It decides nothing: what is told and shown is `srt_watch`'s, what bytes of the page mean is `srt_status`'s, and what
-//! the kernel's texts say is `srt_operate`'s.
+//! It makes no decision: `srt_watch` chooses what is logged and shown, `srt_status` parses requests of the page, and
+//! `srt_operate` the kernel's texts.
 //!
 //! Types: `Since`, the routes' clock; `Host`, `HostFile` and `Errors`, the machine, the configuration's file and standard
 //! error; `StatusPage`, the page's sockets; `HostWatcher`, a watcher over all of these, and `WatcherFault`, why there is
 //! none.
 //!
-//! Calls: `open_watcher` for a run of a gateway; `time_now` is the system's time.
+//! Calls: `open_watcher` for a run of a gateway; `time_now` returns the system's time, and `socket_address` the socket
+//! address that a configuration names.
 //!
-//! Files: `clock.rt`, `host.rt` and `status_page.rt` have these types, and `watching.rt` joins them.
+//! Files: `clock.rt`, `times.rt`, `address.rt`, `host.rt` and `status_page.rt` have these, and `watching.rt` joins them.
 #![tactic(auto)]
 
+mod address;
 mod clock;
 mod host;
 mod status_page;
+mod times;
 mod watching;
 
+pub use address::socket_address;
 pub use clock::Since;
-pub use host::{Errors, Host, HostFile, time_now};
+pub use host::{Errors, Host, HostFile};
 pub use status_page::StatusPage;
+pub use times::time_now;
 pub use watching::{HostWatcher, WatcherFault, open_watcher};

@@ -1,12 +1,12 @@
-//! The sockets of the status page: who asks, and what is sent to whom. What bytes ask for, and what is answered, is
-//! `srt_status`'s.
+//! The sockets of the status page. Requests are parsed, and responses made, by `srt_status`.
 
+use crate::address::socket_address;
 use srt_config::BindAddress;
 use srt_status::{Connection, GatewayStatus, OVERVIEW, RouteStatus, request_in, respond};
 use srt_watch::StatusServer;
 use std::alloc::{AllocError, Global};
 use std::io::{self, ErrorKind, Read, Write};
-use std::net::{Ipv4Addr, SocketAddrV4, TcpListener, TcpStream};
+use std::net::{TcpListener, TcpStream};
 
 /// The most connections at once. Those beyond are closed as soon as they are accepted.
 const MAX_CONNECTIONS: usize = 16;
@@ -91,7 +91,7 @@ impl Client {
     }
 }
 
-/// The status page at its address; one without an address is asked by nobody.
+/// The status page at its address. Without an address it accepts no connection.
 #[derive(Drop)]
 pub struct StatusPage {
     alloc: Global,
@@ -99,11 +99,9 @@ pub struct StatusPage {
     clients: Vec<Client>,
 }
 
-/// A listener at an address, whose calls don't wait.
+/// Returns a non-blocking listener at an address.
 fn listen(machine: &HostRuntime, address: BindAddress) -> io::Result<TcpListener> {
-    let [a, b, c, d] = address.ip;
-    let address = SocketAddrV4::new(Ipv4Addr::new(a, b, c, d), address.port);
-    let listener = TcpListener::bind(machine, address)?;
+    let listener = TcpListener::bind(machine, socket_address(address))?;
     listener.set_nonblocking(true)?;
     Ok(listener)
 }

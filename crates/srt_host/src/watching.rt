@@ -26,11 +26,11 @@ pub enum WatcherFault {
     /// The status page's address can't be bound: the system's number of the error, if it has one. Standard error has its
     /// text.
     Page(Option<i32>),
-    /// Memory was refused.
+    /// Out of memory.
     OutOfMemory,
 }
 
-/// Binds the address of the status page, if the configuration has one. Says on standard error why it can't be bound.
+/// Binds the address of the status page, if the configuration has one. Prints on standard error why it can't be bound.
 fn open_page(machine: &HostRuntime, config: &Config) -> Result<StatusPage, WatcherFault> {
     match StatusPage::bind(machine, machine.alloc(), config.status) {
         Ok(page) => Ok(page),
@@ -47,7 +47,7 @@ fn open_page(machine: &HostRuntime, config: &Config) -> Result<StatusPage, Watch
     }
 }
 
-/// What a run of this configuration begins with.
+/// Returns the facts that the log and the page show of a run's beginning.
 fn beginning(machine: &HostRuntime, config: &Config, manner: Manner) -> Start {
     Start {
         ip: config.bind.ip,
@@ -59,7 +59,7 @@ fn beginning(machine: &HostRuntime, config: &Config, manner: Manner) -> Start {
     }
 }
 
-/// Has the watcher follow the configuration's file, and tell what is unwise in it.
+/// Lets the watcher follow the configuration's file, and log the warnings about it.
 fn tell_watcher<'a>(
     machine: &'a HostRuntime,
     path: &'a str,
@@ -79,9 +79,9 @@ fn tell_watcher<'a>(
     Ok(())
 }
 
-/// A watcher of a run that began at `start`, the moment 0 of its clock. It follows the configuration's file, which is at
-/// `path`, and tells what is unwise in it behind its first line. Binds the status page's address. Allocates some
-/// kilobytes for each route.
+/// Opens the watcher of a run whose clock is 0 at `start`. It follows the configuration's file, which is at `path`, and
+/// logs the warnings about it after its first line. Binds the status page's address. Allocates some kilobytes for each
+/// route.
 pub fn open_watcher<'a>(
     machine: &'a HostRuntime,
     path: &'a str,

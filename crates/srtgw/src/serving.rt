@@ -6,12 +6,13 @@ ghost use Rattle.std.specs.Vec.{vec_len};
 use crate::clocks::{ClockPoller, ClockTicker};
 use crate::faults::Fault;
 use srt_config::Config;
+use srt_host::socket_address;
 use srt_offline::OfflineFault;
 use srt_poller::{BindFault, MioSource, MioWire, Report, Ungated};
 use srt_serve::{Gates, run};
 use std::alloc::{AllocError, Global};
 use std::io;
-use std::net::{Ipv4Addr, Net, SocketAddrV4};
+use std::net::Net;
 use std::sync::Wait;
 use std::thread::Threads;
 use std::time::{Clock, Instant};
@@ -22,8 +23,7 @@ pub fn bind<'a, R: AllocGlobal + Net + Clock>(
     config: &Config,
     start: Option<Instant>,
 ) -> Result<(MioSource<ClockPoller<'a, R>>, MioWire), BindFault> {
-    let [a, b, c, d] = config.bind.ip;
-    let address = SocketAddrV4::new(Ipv4Addr::new(a, b, c, d), config.bind.port);
+    let address = socket_address(config.bind);
     MioSource::bind(rt, rt.alloc(), address, ClockPoller::new(rt, start))
 }
 
