@@ -1,2 +1,2 @@
 pub mod Clock
-pub mod Times
+pub mod inside

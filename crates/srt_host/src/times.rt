@@ -2,7 +2,7 @@
 
 ghost use Rattle.std.specs.Prelude.{◌≡◌, ◌/◌, ◌^◌, ◌-◌, min};
 ghost use Rattle.std.specs.Duration.{as_nanos};
-ghost use Rattle.srt_host.specs.Times.{time_after};
+ghost use Rattle.srt_host.specs.inside.Times.{time_after};
 
 use std::time::{Clock, Duration, SystemTime};
 
